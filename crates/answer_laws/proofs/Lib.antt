@@ -1,0 +1,4 @@
+pub mod LongerPolicy
+pub mod ImageAnswers
+pub mod GrantsExactly
+pub mod ImageQuestions

@@ -1,0 +1,261 @@
+-- What is true of every number below a bound, and loops that test it a byte at a time: one law for all of them, since each compares two bytes
+-- that are equal where the rule is true of the byte's eight numbers. Assumes nothing.
+use mathlib.Core.Path.{_≡_, refl, sym, ap, ap₂, _∙_, subst}
+use mathlib.Core.Bool.{Bool, true, false, not, _&&_, _||_, Bool·beq, or-true}
+use mathlib.Core.List.{List}
+use mathlib.Core.Logic.{⊎-elim}
+use Prim.Native.Nat.{ℕ, zero, suc, _+_, _-_, _*_, _^_, _≤_, _<_, max}
+use native.Mathlib.Nat.{not-suc-le-zero, le-of-suc-le-suc, eq-or-lt-of-le, max-eq-left, le-refl}
+use native.Mathlib.Decide.{decLt}
+use native.Mathlib.Omega.{arith}
+use lib.Bits.{bitAnd, and-lt}
+use lib.Dec.{ltb}
+use lib.ListN.{length, getD}
+use borrow.Author.Tests.{le-ltb, lt-ltb}
+use Rattle.bitset.specs.Sets.{bit, member, fromBits, setOf, maskOf, allBelow, meet, within, meets, equal}
+use Rattle.bitset.proofs.BitLaws.{bit-and, bit-zero, bit-fromBits, fromBits-lt, bits-same}
+use Rattle.bitset.proofs.SetLaws.{member-at, member-past, member-setOf, length-setOf, setOf-ext, setOf-member}
+
+-- a Bool is true or false, with the equation
+pub either {ℓ} : {P : Type ℓ} (b : Bool) → (b ≡ true → P) → (b ≡ false → P) → P
+either true f g = f refl
+either false f g = g refl
+
+clash : (b : Bool) → b ≡ true → b ≡ false → ⊥
+clash b p q = let z : _≡_ {A = ℕ} 0 1 = cc in omega arith
+
+beq-true : (a b : Bool) → Bool·beq a b ≡ true → a ≡ b
+beq-true true true e = refl
+beq-true true false e = sym e
+beq-true false true e = e
+beq-true false false e = refl
+
+beq-refl : (a : Bool) → Bool·beq a a ≡ true
+beq-refl true = refl
+beq-refl false = refl
+
+pub allBelow-of : (n : ℕ) (f : ℕ → Bool) → ((k : ℕ) → k < n → f k ≡ true) → allBelow n f ≡ true
+unfolding allBelow
+allBelow-of zero f h = refl
+allBelow-of (suc n) f h = ap₂ _&&_ (h n (omega arith)) (allBelow-of n f (λ k l. h k (omega arith)))
+
+pub allBelow-at : (n : ℕ) (f : ℕ → Bool) → allBelow n f ≡ true → (k : ℕ) → k < n → f k ≡ true
+unfolding allBelow
+allBelow-at zero f e k h = absurd (not-suc-le-zero h)
+allBelow-at (suc n) f e k h =
+    either (f n)
+    (λ p. ⊎-elim (λ q. ap f q ∙ p) (λ l. allBelow-at n f (sym (ap (λ (b : Bool). b && allBelow n f) p) ∙ e) k l) (eq-or-lt-of-le (le-of-suc-le-suc h)))
+    (λ p. absurd (clash (f n && allBelow n f) e (ap (λ (b : Bool). b && allBelow n f) p)))
+
+pub allBelow-ext : (n : ℕ) (f g : ℕ → Bool) → ((k : ℕ) → k < n → f k ≡ g k) → allBelow n f ≡ allBelow n g
+unfolding allBelow
+allBelow-ext zero f g h = refl
+allBelow-ext (suc n) f g h = ap₂ _&&_ (h n (omega arith)) (allBelow-ext n f g (λ k l. h k (omega arith)))
+
+-- ---- a loop that tests eight numbers a turn
+
+-- what it knows after i bytes
+pub AllTo : (ℕ → Bool) → ℕ → Type 0
+AllTo f i = allBelow (8 * i) f ≡ true
+
+pub all-none : (f : ℕ → Bool) → AllTo f 0
+unfolding AllTo allBelow
+all-none f = refl
+
+pub all-done : (f : ℕ → Bool) (w i : ℕ) → i ≤ w → w ≤ i → AllTo f i → allBelow (8 * w) f ≡ true
+unfolding AllTo
+all-done f w i a b h = let e : i ≡ w = omega arith in subst (λ (n : ℕ). allBelow (8 * n) f ≡ true) e h
+
+-- the two bytes x and y are compared, and the rule at each of the eight numbers says whether the bits are the same
+module _ (f : ℕ → Bool) (i x y : ℕ) (small-x : x < 256) (small-y : y < 256)
+    (bits : (k : ℕ) → k < 8 → f (8 * i + k) ≡ Bool·beq (bit x k) (bit y k)) where
+  pub all-more : AllTo f i → x ≡ y → AllTo f (i + 1)
+  unfolding AllTo
+  all-more h e = allBelow-of (8 * (i + 1)) f (λ n l. at n l (decLt n (8 * i)))
+    where
+      at : (n : ℕ) → n < 8 * (i + 1) → Dec (n < 8 * i) → f n ≡ true
+      at n l (yes m) = allBelow-at (8 * i) f h n m
+      at n l (no m) =
+          let s : n ≡ 8 * i + (n - 8 * i) = omega arith in
+          ap f s ∙ bits (n - 8 * i) (omega arith) ∙ ap (λ (v : ℕ). Bool·beq (bit v (n - 8 * i)) (bit y (n - 8 * i))) e ∙ beq-refl (bit y (n - 8 * i))
+
+  pub all-not : (w : ℕ) → i < w → (x ≡ y → ⊥) → allBelow (8 * w) f ≡ false
+  all-not w l n =
+      either (allBelow (8 * w) f)
+      (λ t. absurd (n (bits-same 8 x y small-x small-y
+      (λ k q. beq-true (bit x k) (bit y k) (sym (bits k q) ∙ allBelow-at (8 * w) f t (8 * i + k) (omega arith))))))
+      (λ e. e)
+
+-- ---- the three tests of a byte
+
+abbrev pub withinRule : ℕ → List ℕ → ℕ → Bool
+withinRule total s n = not (member s n) || ltb n total
+
+abbrev pub apartRule : List ℕ → List ℕ → ℕ → Bool
+apartRule a b n = not (member a n && member b n)
+
+abbrev pub sameRule : List ℕ → List ℕ → ℕ → Bool
+sameRule a b n = Bool·beq (member a n) (member b n)
+
+implies-and : (a b : Bool) → (not a || b) ≡ Bool·beq (a && b) a
+implies-and true true = refl
+implies-and true false = refl
+implies-and false b = refl
+
+not-beq : (a : Bool) → not a ≡ Bool·beq a false
+not-beq true = refl
+not-beq false = refl
+
+-- a byte is unchanged by the mask where none of its numbers reaches the total
+pub within-bits : (total : ℕ) (s : List ℕ) (i k : ℕ) → k < 8
+    → withinRule total s (8 * i + k) ≡ Bool·beq (bit (bitAnd (getD s i 0) (maskOf total i)) k) (bit (getD s i 0) k)
+unfolding maskOf
+within-bits total s i k l =
+    let b = getD s i 0 in
+    ap (λ (x : Bool). not x || ltb (8 * i + k) total) (member-at s i k l) ∙ implies-and (bit b k) (ltb (8 * i + k) total)
+    ∙ ap (λ (x : Bool). Bool·beq x (bit b k))
+    (ap (λ (x : Bool). bit b k && x) (sym (bit-fromBits 8 (λ j. ltb (8 * i + j) total) k l)) ∙ sym (bit-and b (fromBits 8 (λ j. ltb (8 * i + j) total)) k))
+
+pub mask-lt : (total i : ℕ) → maskOf total i < 256
+unfolding maskOf
+mask-lt total i = fromBits-lt 8 _
+
+-- two bytes have no bit in common where no number is in both
+pub apart-bits : (a b : List ℕ) (i k : ℕ) → k < 8
+    → apartRule a b (8 * i + k) ≡ Bool·beq (bit (bitAnd (getD a i 0) (getD b i 0)) k) (bit 0 k)
+apart-bits a b i k l =
+    not-beq (member a (8 * i + k) && member b (8 * i + k))
+    ∙ ap₂ Bool·beq (ap₂ _&&_ (member-at a i k l) (member-at b i k l) ∙ sym (bit-and (getD a i 0) (getD b i 0) k)) (sym (bit-zero k))
+
+pub same-bits : (a b : List ℕ) (i k : ℕ) → k < 8 → sameRule a b (8 * i + k) ≡ Bool·beq (bit (getD a i 0) k) (bit (getD b i 0) k)
+same-bits a b i k l = ap₂ Bool·beq (member-at a i k l) (member-at b i k l)
+
+-- ---- what the tests say, for callers
+
+-- every number in the set is below the total, and the other way round
+pub within-below : (total : ℕ) (s : List ℕ) → within total s ≡ true → (n : ℕ) → total ≤ n → member s n ≡ false
+unfolding within
+within-below total s e n l = at (decLt n (8 * length s))
+  where
+    at : Dec (n < 8 * length s) → member s n ≡ false
+    at (yes h) =
+        either (member s n)
+        (λ p. absurd (clash (withinRule total s n) (allBelow-at (8 * length s) (withinRule total s) e n h) (ap₂ (λ (x y : Bool). not x || y) p (le-ltb n total l))))
+        (λ p. p)
+    at (no h) = member-past s n (omega arith)
+
+pub within-of : (total : ℕ) (s : List ℕ) → ((n : ℕ) → total ≤ n → member s n ≡ false) → within total s ≡ true
+unfolding within
+within-of total s h = allBelow-of (8 * length s) (withinRule total s) (λ n l. at n (decLt n total))
+  where
+    at : (n : ℕ) → Dec (n < total) → withinRule total s n ≡ true
+    at n (yes q) = ap (λ (x : Bool). not (member s n) || x) (lt-ltb n total q) ∙ or-true (not (member s n))
+    at n (no q) = ap (λ (x : Bool). not x || ltb n total) (h n (omega arith))
+
+-- the rule says it of a set that is written by a rule
+pub within-setOf : (total w : ℕ) (f : ℕ → Bool) → within total (setOf w f) ≡ allBelow (8 * w) (λ n. not (f n) || ltb n total)
+unfolding within
+within-setOf total w f =
+    ap (λ (v : ℕ). allBelow (8 * v) (withinRule total (setOf w f))) (length-setOf w f)
+    ∙ allBelow-ext (8 * w) (withinRule total (setOf w f)) (λ n. not (f n) || ltb n total) (λ n l. ap (λ (b : Bool). not b || ltb n total) (member-setOf w f n l))
+
+pub equal-setOf : (w : ℕ) (f g : ℕ → Bool) → equal (setOf w f) (setOf w g) ≡ allBelow (8 * w) (λ n. Bool·beq (f n) (g n))
+unfolding equal
+equal-setOf w f g =
+    ap (λ (v : ℕ). allBelow (8 * v) (sameRule (setOf w f) (setOf w g)))
+    (ap₂ max (length-setOf w f) (length-setOf w g) ∙ max-eq-left (le-refl w))
+    ∙ allBelow-ext (8 * w) (sameRule (setOf w f) (setOf w g)) (λ n. Bool·beq (f n) (g n)) (λ n l. ap₂ Bool·beq (member-setOf w f n l) (member-setOf w g n l))
+
+-- the same members, whatever the number
+pub equal-members : (a b : List ℕ) → equal a b ≡ true → (n : ℕ) → member a n ≡ member b n
+unfolding equal
+equal-members a b e n = at (decLt n (8 * max (length a) (length b)))
+  where
+    at : Dec (n < 8 * max (length a) (length b)) → member a n ≡ member b n
+    at (yes l) = beq-true (member a n) (member b n) (allBelow-at (8 * max (length a) (length b)) (sameRule a b) e n l)
+    at (no l) = member-past a n (omega arith) ∙ sym (member-past b n (omega arith))
+
+pub equal-of : (a b : List ℕ) → ((n : ℕ) → member a n ≡ member b n) → equal a b ≡ true
+unfolding equal
+equal-of a b h =
+    allBelow-of (8 * max (length a) (length b)) (sameRule a b) (λ n l. ap (λ (x : Bool). Bool·beq x (member b n)) (h n) ∙ beq-refl (member b n))
+
+-- sets of one width are equal where their bytes are the same
+pub equal-bytes : (a b : List ℕ) → length a ≡ length b → ((i : ℕ) → getD a i 0 < 256) → ((i : ℕ) → getD b i 0 < 256) → equal a b ≡ true → a ≡ b
+equal-bytes a b l p q e =
+    sym (setOf-member a p) ∙ ap (λ (v : ℕ). setOf v (member a)) l
+    ∙ setOf-ext (length b) (member a) (member b) (λ n m. equal-members a b e n) ∙ setOf-member b q
+
+pub equal-self : (a : List ℕ) → equal a a ≡ true
+equal-self a = equal-of a a (λ n. refl)
+
+-- ---- a number of which two rules are both true
+
+-- there is none where at every number one of the two is false
+pub meet-apart : (n : ℕ) (f g : ℕ → Bool) → meet n f g ≡ not (allBelow n (λ k. not (f k && g k)))
+unfolding meet allBelow
+meet-apart zero f g = refl
+meet-apart (suc n) f g = ap (λ (b : Bool). f n && g n || b) (meet-apart n f g) ∙ or-not (f n && g n) (allBelow n (λ k. not (f k && g k)))
+  where
+    or-not : (a b : Bool) → (a || not b) ≡ not (not a && b)
+    or-not true b = refl
+    or-not false b = refl
+
+pub meet-ext : (n : ℕ) (f g h k : ℕ → Bool) → ((i : ℕ) → i < n → f i ≡ h i) → ((i : ℕ) → i < n → g i ≡ k i) → meet n f g ≡ meet n h k
+unfolding meet
+meet-ext zero f g h k p q = refl
+meet-ext (suc n) f g h k p q =
+    ap₂ _||_ (ap₂ _&&_ (p n (omega arith)) (q n (omega arith))) (meet-ext n f g h k (λ i l. p i (omega arith)) (λ i l. q i (omega arith)))
+
+pub meet-at : (n : ℕ) (f g : ℕ → Bool) (k : ℕ) → k < n → f k ≡ true → g k ≡ true → meet n f g ≡ true
+meet-at n f g k l p q =
+    meet-apart n f g
+    ∙ either (allBelow n (λ i. not (f i && g i)))
+    (λ t. absurd (clash (not (f k && g k)) (allBelow-at n (λ i. not (f i && g i)) t k l) (ap₂ (λ (x y : Bool). not (x && y)) p q)))
+    (ap not)
+
+pub meet-none : (n : ℕ) (f g : ℕ → Bool) → ((k : ℕ) → k < n → (f k && g k) ≡ false) → meet n f g ≡ false
+meet-none n f g h = meet-apart n f g ∙ ap not (allBelow-of n (λ k. not (f k && g k)) (λ k l. ap not (h k l)))
+
+-- where one of them is false from a total on, only the numbers below it count
+pub meet-bounded : (total n : ℕ) (f g : ℕ → Bool) → total ≤ n → ((k : ℕ) → total ≤ k → k < n → f k ≡ false) → meet n f g ≡ meet total f g
+meet-bounded total n f g l h =
+    meet-apart n f g ∙ ap not (either (allBelow n rule) (λ t. t ∙ sym (allBelow-of total rule (λ k m. allBelow-at n rule t k (omega arith)))) (λ e. e ∙ sym (fails e)))
+    ∙ sym (meet-apart total f g)
+  where
+    rule : ℕ → Bool
+    rule k = not (f k && g k)
+
+    fails : allBelow n rule ≡ false → allBelow total rule ≡ false
+    fails e =
+        either (allBelow total rule)
+        (λ t. absurd (clash (allBelow n rule) (allBelow-of n rule (λ k m. at k m t (decLt k total))) e))
+        (λ b. b)
+      where
+        at : (k : ℕ) → k < n → allBelow total rule ≡ true → Dec (k < total) → rule k ≡ true
+        at k m t (yes q) = allBelow-at total rule t k q
+        at k m t (no q) = ap (λ (b : Bool). not (b && g k)) (h k (omega arith) m)
+
+pub meets-setOf : (w : ℕ) (f g : ℕ → Bool) → meets (setOf w f) (setOf w g) ≡ meet (8 * w) f g
+unfolding meets
+meets-setOf w f g =
+    ap (λ (v : ℕ). meet (8 * v) (member (setOf w f)) (member (setOf w g))) (length-setOf w f)
+    ∙ meet-ext (8 * w) (member (setOf w f)) (member (setOf w g)) f g (member-setOf w f) (member-setOf w g)
+
+-- for the loop
+pub meets-apart : (a b : List ℕ) → meets a b ≡ not (allBelow (8 * length a) (apartRule a b))
+unfolding meets
+meets-apart a b = meet-apart (8 * length a) (member a) (member b)
+
+-- a number that is in both, and none
+pub meets-at : (a b : List ℕ) (n : ℕ) → member a n ≡ true → member b n ≡ true → meets a b ≡ true
+unfolding meets
+meets-at a b n p q = meet-at (8 * length a) (member a) (member b) n (inside (decLt n (8 * length a))) p q
+  where
+    inside : Dec (n < 8 * length a) → n < 8 * length a
+    inside (yes l) = l
+    inside (no l) = absurd (clash (member a n) p (member-past a n (omega arith)))
+
+pub meets-none : (a b : List ℕ) → ((n : ℕ) → (member a n && member b n) ≡ false) → meets a b ≡ false
+unfolding meets
+meets-none a b h = meet-none (8 * length a) (member a) (member b) (λ k l. h k)

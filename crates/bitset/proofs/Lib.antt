@@ -1,0 +1,13 @@
+pub mod AllLaws
+pub mod BitLaws
+pub mod CountLaws
+pub mod GrantLaws
+pub mod LoopLaws
+pub mod OperatorLaws
+pub mod PartLaws
+pub mod RelationLaws
+pub mod SetLaws
+pub mod StoreLaws
+pub mod Tests
+pub mod Turns
+pub mod Worked

@@ -1,0 +1,50 @@
+-- Loops that store every byte of a set in turn: each turn stores the byte that the result's rule tells. Assumes nothing.
+use mathlib.Core.Path.{_≡_, refl, sym, ap, ap₂, _∙_}
+use mathlib.Core.Bool.{Bool, false, not, _&&_}
+use mathlib.Core.List.{List}
+use Prim.Native.Nat.{ℕ, _+_, _-_, _*_, _<_}
+use native.Mathlib.Omega.{arith}
+use lib.Bits.{bitAnd, and-lt}
+use lib.Dec.{ltb}
+use lib.ListN.{length, getD, set}
+use Rattle.bitset.specs.Sets.{bit, member, fromBits, setOf, emptied, complementOf, maskOf}
+use Rattle.bitset.specs.Operators.{truth, combined, combinedByte}
+use Rattle.bitset.specs.declared.SetOp.{SetOp}
+use Rattle.bitset.proofs.BitLaws.{bit-and, bit-fromBits, fromBits-lt, bit-zero}
+use Rattle.bitset.proofs.SetLaws.{length-setOf, member-at, byte-eq}
+use Rattle.bitset.proofs.Tests.{bit-not}
+use Rattle.bitset.proofs.Turns.{Turned, turned-read, turned-more}
+
+-- a turn stores the byte whose bits the rule tells
+pub byte-turn : (f : ℕ → Bool) {d e : List ℕ} {i : ℕ} (v : ℕ) → Turned (setOf (length d) f) d e i → i < length e → v < 256
+    → ((k : ℕ) → k < 8 → bit v k ≡ f (8 * i + k)) → Turned (setOf (length d) f) d (set e i v) (i + 1)
+byte-turn f {d} {e} {i} v s h l bits =
+    turned-more v (length-setOf (length d) f) h s (byte-eq (length d) f i v (omega arith) l bits)
+
+-- the bits of the byte that comes next are still those of the set that was
+pub turned-bit : (f : ℕ → Bool) {d e : List ℕ} {i : ℕ} → Turned (setOf (length d) f) d e i → (k : ℕ) → k < 8 → bit (getD e i 0) k ≡ member d (8 * i + k)
+turned-bit f {d} {e} {i} s k l = ap (λ (b : ℕ). bit b k) (turned-read (length-setOf (length d) f) s) ∙ sym (member-at d i k l)
+
+pub combine-turn : (op : SetOp) (a b : List ℕ) {e : List ℕ} {i : ℕ} → Turned (combined op a b) a e i → i < length e
+    → Turned (combined op a b) a (set e i (combinedByte op (getD e i 0) (getD b i 0))) (i + 1)
+unfolding combined combinedByte
+combine-turn op a b {e} {i} s h =
+    let f : ℕ → Bool = λ n. truth op (member a n) (member b n) in
+    let g : ℕ → Bool = λ k. truth op (bit (getD e i 0) k) (bit (getD b i 0) k) in
+    byte-turn f (fromBits 8 g) s h (fromBits-lt 8 g)
+    (λ k l. bit-fromBits 8 g k l ∙ ap₂ (truth op) (turned-bit f s k l) (sym (member-at b i k l)))
+
+pub complement-turn : (total : ℕ) (d : List ℕ) {e : List ℕ} {i : ℕ} → Turned (complementOf total d) d e i → i < length e → getD e i 0 < 256
+    → Turned (complementOf total d) d (set e i (bitAnd (maskOf total i) (255 - getD e i 0))) (i + 1)
+unfolding complementOf maskOf
+complement-turn total d {e} {i} s h le =
+    let m = fromBits 8 (λ k. ltb (8 * i + k) total) in
+    byte-turn (λ n. ltb n total && not (member d n)) (bitAnd m (255 - getD e i 0)) s h
+    (and-lt 8 m (255 - getD e i 0) (fromBits-lt 8 (λ k. ltb (8 * i + k) total)) (omega arith))
+    (λ k l. bit-and m (255 - getD e i 0) k
+    ∙ ap₂ _&&_ (bit-fromBits 8 (λ k. ltb (8 * i + k) total) k l)
+    (bit-not (getD e i 0) k le l ∙ ap not (turned-bit (λ n. ltb n total && not (member d n)) s k l)))
+
+pub clear-turn : (d : List ℕ) {e : List ℕ} {i : ℕ} → Turned (emptied d) d e i → i < length e → Turned (emptied d) d (set e i 0) (i + 1)
+unfolding emptied
+clear-turn d s h = byte-turn (λ n. false) 0 s h (omega arith) (λ k l. bit-zero k)

@@ -1,0 +1,211 @@
+-- The bytes of a table at an offset: what is lent is the part, what comes back is put, and a part that lies apart is as it was.
+-- Assumes nothing.
+use mathlib.Core.Path.{_≡_, refl, sym, ap, ap₂, _∙_, subst}
+use mathlib.Core.List.{List, [], _∷_, _++_}
+use mathlib.Core.Bool.{Bool}
+use Prim.Native.Nat.{ℕ, _+_, _-_, _*_, _/_, _%_, _≤_, _<_, min}
+use native.Mathlib.Nat.{add-zero}
+use native.Mathlib.Decide.{decLt}
+use native.Mathlib.Omega.{arith}
+use lib.ListN.{length, getD, take, drop, length-append, length-take, length-drop, take-append-drop, List·getD-append, List·getD-eq-default}
+use lib.Seq.{ext-getD, length-take-le, getD-take, getD-drop, getD-append-add, drop-append-seam, take-append-seam}
+use borrow.Rule.Slice.PartMut.{putMid, post-is}
+use Rattle.bitset.specs.Sets.{member, bit, setOf}
+use Rattle.bitset.specs.Parts.{part, put}
+use Rattle.bitset.proofs.BitLaws.{fromBits-ext}
+use Rattle.bitset.proofs.SetLaws.{length-setOf, byte-setOf}
+
+-- ---- a part
+
+pub length-part-min : (t : List ℕ) (o w : ℕ) → length (part t o w) ≡ min w (length t - o)
+unfolding part
+length-part-min t o w = simp (length-take, length-drop)
+
+pub length-part : (t : List ℕ) (o w : ℕ) → o + w ≤ length t → length (part t o w) ≡ w
+length-part t o w h = omega (arith, length-part-min t o w)
+
+pub length-part-le : (t : List ℕ) (o w : ℕ) → length (part t o w) ≤ w
+length-part-le t o w = omega (arith, length-part-min t o w)
+
+pub getD-part : (t : List ℕ) (o w i : ℕ) → i < w → getD (part t o w) i 0 ≡ getD t (o + i) 0
+unfolding part
+getD-part t o w i h = rw (getD-take, getD-drop)
+
+-- a part of bytes has bytes
+pub small-part : (t : List ℕ) (o w : ℕ) → ((i : ℕ) → getD t i 0 < 256) → (i : ℕ) → getD (part t o w) i 0 < 256
+small-part t o w small i = at (decLt i w)
+  where
+    at : Dec (i < w) → getD (part t o w) i 0 < 256
+    at (yes h) = rw (getD-part t o w i h) (small (o + i))
+    at (no h) = let e : getD (part t o w) i 0 ≡ 0 = List·getD-eq-default (part t o w) 0 (omega (arith, length-part-le t o w)) in omega arith
+
+-- a list is cut at its end anyway
+take-cut : (n : ℕ) (l : List ℕ) → take (min n (length l)) l ≡ take n l
+take-cut n l =
+    ext-getD 0 (take (min n (length l)) l) (take n l) (simp length-take (omega arith))
+    (λ i h.
+    let m : i < min n (length l) = omega (arith, length-take (min n (length l)) l) in
+    getD-take (min n (length l)) l i 0 m ∙ sym (getD-take n l i 0 (omega arith)))
+
+-- from the same place on, or both from past the end on
+drop-same : (m n : ℕ) (l : List ℕ) → min m (length l) ≡ min n (length l) → drop m l ≡ drop n l
+drop-same m n l e =
+    ext-getD 0 (drop m l) (drop n l) (simp length-drop (omega arith))
+    (λ i h.
+    let k : m + i ≡ n + i = omega (arith, length-drop m l) in
+    getD-drop m l i 0 ∙ ap (λ (j : ℕ). getD l j 0) k ∙ sym (getD-drop n l i 0))
+
+cut-start : (o len : ℕ) → min (min o len) len ≡ min o len
+cut-start o len = omega arith
+
+cut-width : (o w len : ℕ) → min (o + w) len - min o len ≡ min w (len - o)
+cut-width o w len = omega arith
+
+-- what is lent from the cut start to the cut end is the part
+pub part-lent : (t : List ℕ) (o w start end : ℕ) → start ≡ min o (length t) → end ≡ min (o + w) (length t) → take (end - start) (drop start t) ≡ part t o w
+unfolding part
+part-lent t o w start end p q =
+    ap₂ (λ (n : ℕ) (l : List ℕ). take n l)
+    (ap₂ _-_ q p ∙ cut-width o w (length t) ∙ ap (min w) (sym (length-drop o t)))
+    (ap (λ (n : ℕ). drop n t) p ∙ drop-same (min o (length t)) o t (cut-start o (length t)))
+    ∙ take-cut w (drop o t)
+
+-- a part of a part
+pub part-part : (t : List ℕ) (o W p v : ℕ) → p + v ≤ W → part (part t o W) p v ≡ part t (o + p) v
+part-part t o W p v h =
+    ext-getD 0 (part (part t o W) p v) (part t (o + p) v)
+    (length-part-min (part t o W) p v ∙ ap (λ (n : ℕ). min v (n - p)) (length-part-min t o W) ∙ inner (length t) ∙ sym (length-part-min t (o + p) v))
+    (λ i l.
+    let k : i < v = omega (arith, length-part-le (part t o W) p v) in
+    let e : o + (p + i) ≡ o + p + i = omega arith in
+    getD-part (part t o W) p v i k ∙ getD-part t o W (p + i) (omega arith) ∙ ap (λ (n : ℕ). getD t n 0) e ∙ sym (getD-part t (o + p) v i k))
+  where
+    inner : (len : ℕ) → min v (min W (len - o) - p) ≡ min v (len - (o + p))
+    inner len = omega arith
+
+-- what stands between other bytes
+pub part-middle : (a b c : List ℕ) → part (a ++ (b ++ c)) (length a) (length b) ≡ b
+unfolding part
+part-middle a b c = rw (drop-append-seam a (b ++ c)) (take-append-seam b c)
+
+-- ---- and what is put there
+
+-- where s fits behind the offset
+module _ (t : List ℕ) (o : ℕ) (s : List ℕ) (h : o + length s ≤ length t) where
+  head : length (take o t) ≡ o
+  head = length-take-le o t (omega arith)
+
+  pub length-put : length (put t o s) ≡ length t
+  unfolding put
+  length-put = simp (length-append, length-drop) (omega (arith, head))
+
+  pub getD-put-in : (i : ℕ) → i < length s → getD (put t o s) (o + i) 0 ≡ getD s i 0
+  unfolding put
+  getD-put-in i l =
+      ap (λ (n : ℕ). getD (put t o s) (n + i) 0) (sym head) ∙ getD-append-add (take o t) (s ++ drop (o + length s) t) i 0
+      ∙ List·getD-append s (drop (o + length s) t) 0 i l
+
+  pub getD-put-before : (i : ℕ) → i < o → getD (put t o s) i 0 ≡ getD t i 0
+  unfolding put
+  getD-put-before i l = List·getD-append (take o t) (s ++ drop (o + length s) t) 0 i (omega (arith, head)) ∙ getD-take o t i 0 l
+
+  pub getD-put-after : (i : ℕ) → o + length s ≤ i → getD (put t o s) i 0 ≡ getD t i 0
+  unfolding put
+  getD-put-after i l =
+      let e : i ≡ length (take o t) + (length s + (i - (o + length s))) = omega (arith, head) in
+      let f : o + length s + (i - (o + length s)) ≡ i = omega arith in
+      ap (λ (n : ℕ). getD (put t o s) n 0) e
+      ∙ getD-append-add (take o t) (s ++ drop (o + length s) t) (length s + (i - (o + length s))) 0
+      ∙ getD-append-add s (drop (o + length s) t) (i - (o + length s)) 0
+      ∙ getD-drop (o + length s) t (i - (o + length s)) 0 ∙ ap (λ (n : ℕ). getD t n 0) f
+
+  -- the part that was put is what was put
+  pub part-put-same : part (put t o s) o (length s) ≡ s
+  part-put-same =
+      let long : length (part (put t o s) o (length s)) ≡ length s = length-part (put t o s) o (length s) (omega (arith, length-put)) in
+      ext-getD 0 (part (put t o s) o (length s)) s long
+      (λ i l. getD-part (put t o s) o (length s) i (omega arith) ∙ getD-put-in i (omega arith))
+
+  -- a part that lies before or behind it is as it was
+  pub part-put-before : (p v : ℕ) → p + v ≤ o → part (put t o s) p v ≡ part t p v
+  part-put-before p v l =
+      ext-getD 0 (part (put t o s) p v) (part t p v) (omega (arith, length-part-min (put t o s) p v, length-part-min t p v, length-put))
+      (λ i m.
+      let k : i < v = omega (arith, length-part-le (put t o s) p v) in
+      getD-part (put t o s) p v i k ∙ getD-put-before (p + i) (omega arith) ∙ sym (getD-part t p v i k))
+
+  pub part-put-after : (p v : ℕ) → o + length s ≤ p → part (put t o s) p v ≡ part t p v
+  part-put-after p v l =
+      ext-getD 0 (part (put t o s) p v) (part t p v) (omega (arith, length-part-min (put t o s) p v, length-part-min t p v, length-put))
+      (λ i m.
+      let k : i < v = omega (arith, length-part-le (put t o s) p v) in
+      getD-part (put t o s) p v i k ∙ getD-put-after (p + i) (omega arith) ∙ sym (getD-part t p v i k))
+
+-- nothing is put
+pub put-none : (t : List ℕ) (o : ℕ) → put t o [] ≡ t
+unfolding put
+put-none t o = rw add-zero (take-append-drop o t)
+
+-- what was lent from the cut start to the cut end comes back as what F makes of the part
+pub put-back : (t : List ℕ) (o w start end : ℕ) (F : List ℕ → List ℕ) (s : List ℕ)
+    → start ≡ min o (length t) → end ≡ min (o + w) (length t) → ((p : List ℕ) → length (F p) ≡ length p)
+    → s ≡ F (take (end - start) (drop start t)) → putMid start (end - start) t s ≡ put t o (F (part t o w))
+unfolding put
+put-back t o w start end F s p q keeps e =
+    let is : s ≡ F (part t o w) = e ∙ ap F (part-lent t o w start end p q) in
+    let long : length (F (part t o w)) ≡ min w (length t - o) = keeps (part t o w) ∙ length-part-min t o w in
+    ap₂ (λ (a b : List ℕ). a ++ b) (ap (λ (n : ℕ). take n t) p ∙ take-cut o t)
+    (ap₂ (λ (a b : List ℕ). a ++ b) is (post-is start end t (omega arith) ∙ drop-same end (o + length (F (part t o w))) t (cut-end end (length (F (part t o w))) q long)))
+  where
+    cut-end : (e n : ℕ) → e ≡ min (o + w) (length t) → n ≡ min w (length t - o) → min e (length t) ≡ min (o + n) (length t)
+    cut-end e n a b = omega arith
+
+-- ---- a part of a set is a set, with its numbers counted from the part's start
+
+pub member-part : (t : List ℕ) (o w n : ℕ) → n < 8 * w → member (part t o w) n ≡ member t (8 * o + n)
+unfolding member
+member-part t o w n h =
+    let q : (8 * o + n) / 8 ≡ o + n / 8 = omega arith in
+    let r : (8 * o + n) % 8 ≡ n % 8 = omega arith in
+    rw (q, r) (ap (λ (b : ℕ). bit b (n % 8)) (getD-part t o w (n / 8) (omega arith)))
+
+pub part-setOf : (W o w : ℕ) (f : ℕ → Bool) → o + w ≤ W → part (setOf W f) o w ≡ setOf w (λ n. f (8 * o + n))
+part-setOf W o w f h =
+    let long : length (part (setOf W f) o w) ≡ w = length-part (setOf W f) o w (omega (arith, length-setOf W f)) in
+    ext-getD 0 (part (setOf W f) o w) (setOf w (λ n. f (8 * o + n))) (long ∙ sym (length-setOf w (λ n. f (8 * o + n))))
+    (λ i l. getD-part (setOf W f) o w i (omega arith) ∙ byte-setOf W f (o + i) (omega arith)
+    ∙ fromBits-ext 8 (λ k. f (8 * (o + i) + k)) (λ k. f (8 * o + (8 * i + k))) (λ k q. ap f (regroup i k))
+    ∙ sym (byte-setOf w (λ n. f (8 * o + n)) i (omega arith)))
+  where
+    regroup : (i k : ℕ) → 8 * (o + i) + k ≡ 8 * o + (8 * i + k)
+    regroup i k = omega arith
+
+-- a set put into a set: h agrees with g in the part, and with f outside it
+pub put-setOf : (W o w : ℕ) (f g h : ℕ → Bool) → o + w ≤ W
+    → ((n : ℕ) → n < 8 * o → h n ≡ f n) → ((n : ℕ) → n < 8 * w → h (8 * o + n) ≡ g n) → ((n : ℕ) → 8 * (o + w) ≤ n → h n ≡ f n)
+    → put (setOf W f) o (setOf w g) ≡ setOf W h
+put-setOf W o w f g h l before within after =
+    let lf = length-setOf W f in
+    let lg = length-setOf w g in
+    let fits : o + length (setOf w g) ≤ length (setOf W f) = omega arith in
+    let long = length-put (setOf W f) o (setOf w g) fits in
+    ext-getD 0 (put (setOf W f) o (setOf w g)) (setOf W h) (long ∙ lf ∙ sym (length-setOf W h))
+    (λ j m. at fits j (omega arith) (decLt j o) (decLt j (o + w)))
+  where
+    regroup : (i k : ℕ) → 8 * o + (8 * i + k) ≡ 8 * (o + i) + k
+    regroup i k = omega arith
+
+    at : o + length (setOf w g) ≤ length (setOf W f) → (j : ℕ) → j < W → Dec (j < o) → Dec (j < o + w)
+        → getD (put (setOf W f) o (setOf w g)) j 0 ≡ getD (setOf W h) j 0
+    at fits j m (yes a) d =
+        getD-put-before (setOf W f) o (setOf w g) fits j a ∙ byte-setOf W f j m
+        ∙ fromBits-ext 8 (λ k. f (8 * j + k)) (λ k. h (8 * j + k)) (λ k q. sym (before (8 * j + k) (omega arith))) ∙ sym (byte-setOf W h j m)
+    at fits j m (no a) (yes b) =
+        let e : o + (j - o) ≡ j = omega arith in
+        subst (λ (x : ℕ). getD (put (setOf W f) o (setOf w g)) x 0 ≡ getD (setOf W h) x 0) e
+        (getD-put-in (setOf W f) o (setOf w g) fits (j - o) (omega (arith, length-setOf w g)) ∙ byte-setOf w g (j - o) (omega arith)
+        ∙ fromBits-ext 8 (λ k. g (8 * (j - o) + k)) (λ k. h (8 * (o + (j - o)) + k)) (λ k q. sym (within (8 * (j - o) + k) (omega arith)) ∙ ap h (regroup (j - o) k))
+        ∙ sym (byte-setOf W h (o + (j - o)) (omega arith)))
+    at fits j m (no a) (no b) =
+        getD-put-after (setOf W f) o (setOf w g) fits j (omega (arith, length-setOf w g)) ∙ byte-setOf W f j m
+        ∙ fromBits-ext 8 (λ k. f (8 * j + k)) (λ k. h (8 * j + k)) (λ k q. sym (after (8 * j + k) (omega arith))) ∙ sym (byte-setOf W h j m)

@@ -1,0 +1,145 @@
+-- Demand 3 of the definitions: what is accepted gives a table that answers as its statements do. Three steps are put together: reading leaves
+-- an accepted policy, the image of one is well-formed and answers as the statements do, and a table of a well-formed image is read back.
+-- Assumes nothing.
+use Prim.Native.Nat.{ℕ, _≤_}
+use native.Mathlib.Omega.{arith}
+use mathlib.Core.Path.{_≡_, refl, sym, ap, _∙_}
+use mathlib.Core.Bool.{Bool, true, false, not, _&&_, _||_, cond, false≢true}
+use mathlib.Core.List.{List, [], _∷_, _++_}
+use mathlib.Core.Option.{some}
+use lib.Dec.{leb}
+use lib.ListN.{length, take, drop}
+use Rattle.policy.specs.Statements.{Policy, Line, Reference, Constraint, constrain, declarations, Constrain, constrains}
+use Rattle.policy.specs.Reading.{Read, policy, refused}
+use Rattle.policy.specs.Meaning.{Context, stands, validIn, holds}
+use Rattle.policy.specs.Answer.{Question, Verdict, granted, denied, fails, refuses, Answer, unconsulted, ruling, firstFailing, decide, declaredQuestion, answer}
+use Rattle.policy.specs.Accepted.{Accepted}
+use Rattle.policy.specs.Image.{Image, imageOf}
+use Rattle.policy.specs.Encode.{encode}
+use Rattle.policy.specs.Sound.{wellFormed, imageIn}
+use Rattle.policy.specs.Outcome as outcomes
+use Rattle.policy.specs.Outcome.{policyOf, Compiled, compiles, compiled, fitted, Outcome, accepted, rejected, outcomeOf, afterOf, outcome, after}
+use Rattle.policy.specs.Questions.{Reply, changed, changeOn, asked, validOn, newRoleOn}
+use Rattle.reading_laws.proofs.ReadAccepted.{policy-accepted}
+use Rattle.image_laws.proofs.ImageWellFormed.{image-well-formed}
+use Rattle.image_laws.proofs.Fits.{image-fits}
+use Rattle.table_laws.proofs.WellFormedLaid.{table-back}
+use Rattle.answer_laws.proofs.ImageAnswers.{image-answers}
+use Rattle.answer_laws.proofs.ImageQuestions.{image-valid, image-new-role}
+use Rattle.answer_laws.specs.ByStatements.{validBy, newRoleBy}
+use Rattle.answer_laws.specs.Granting.{Grants}
+use Rattle.answer_laws.proofs.GrantsExactly.{grants-only, grants-when}
+use Rattle.answer_laws.proofs.LongerPolicy.{isDenied, denied-longer}
+use Rattle.demand_laws.specs.ByText.{isRefusal, TableAnswers}
+
+module _ (text : List ℕ) (p : Policy) (read : policyOf text ≡ policy p) (rest : List ℕ) where
+  reads : Accepted p
+  reads = policy-accepted text p read .0
+
+  -- the table holds the image of the statements, whatever stands behind it
+  pub table-read : imageIn (encode (imageOf p) ++ rest) ≡ some (imageOf p)
+  table-read = table-back (imageOf p) (image-well-formed p reads) rest
+
+  -- "the written table, unaltered and read without the text, gives the answer that the statements give"
+  pub table-answers : (q : Question) → changeOn (encode (imageOf p) ++ rest) q ≡ answer p q
+  unfolding changeOn
+  table-answers q = ap (changed q) table-read ∙ image-answers p (image-fits p reads) q
+
+  pub table-valid : (c : Context) → validOn (encode (imageOf p) ++ rest) c ≡ validBy p c
+  unfolding validOn
+  table-valid c = rw table-read (image-valid p (image-fits p reads) c)
+
+  pub table-new-role : (r y c : ℕ) → newRoleOn (encode (imageOf p) ++ rest) r y c ≡ newRoleBy p r y c
+  unfolding newRoleOn
+  table-new-role r y c = rw table-read (image-new-role p (image-fits p reads) r y c)
+
+  -- "It grants exactly when ..", of the table
+  pub table-grants-only : (q : Question) → changeOn (encode (imageOf p) ++ rest) q .verdict ≡ granted → Grants p q
+  table-grants-only q h = grants-only p q (ap (λ (a : Answer). a .verdict) (sym (table-answers q)) ∙ h)
+
+  pub table-grants-when : (q : Question) → declaredQuestion (declarations p) q ≡ true → Grants p q → changeOn (encode (imageOf p) ++ rest) q .verdict ≡ granted
+  table-grants-when q d g = ap (λ (a : Answer). a .verdict) (table-answers q) ∙ grants-when p q d g
+
+-- a failing constraint is a denial, and so is everything else that is no grant: no refusal but for undeclared numbers
+unrefused : {A : Type 0} (names truth : A → Bool) (i : ℕ) (xs : List A) → isRefusal (firstFailing names truth i xs .verdict) ≡ false
+unfolding firstFailing
+unrefused names truth i [] = refl
+unrefused names truth i (x ∷ xs) = by (names x) (truth x) (firstFailing names truth _ xs) (unrefused names truth _ xs)
+  where
+    by : (n b : Bool) (later : Answer) → isRefusal (later .verdict) ≡ false → isRefusal (ruling n b i later .verdict) ≡ false
+    by false b later h = h
+    by true false later h = refl
+    by true true later h = h
+
+decided : (s t r : Bool) (later : Answer) → isRefusal (later .verdict) ≡ false → isRefusal (decide true s t r later .verdict) ≡ false
+unfolding decide
+decided false t r later h = refl
+decided true false r later h = refl
+decided true true false later h = refl
+decided true true true later h = h
+
+pub declared-unrefused : (p : Policy) (q : Question) → declaredQuestion (declarations p) q ≡ true → isRefusal (answer p q .verdict) ≡ false
+unfolding answer
+declared-unrefused p q h = rw h (decided (validIn p (q .source)) (validIn p (q .target)) _ _ (unrefused _ _ 0 (constrains p)))
+
+-- "Add one constrain statement at the end: if the longer policy is accepted, its table denies every question that the first table denies",
+-- and by the same denial, constraint and number consulted
+pub longer-table-denies : (text text′ : List ℕ) (p : Policy) (l : Line) (c : ℕ) (ps : List ℕ) (e : Constraint Reference) → l .says ≡ constrain c ps e
+    → policyOf text ≡ policy p → policyOf text′ ≡ policy (p ++ (l ∷ []))
+    → (rest rest′ : List ℕ) (q : Question) → isDenied (changeOn (encode (imageOf p) ++ rest) q .verdict) ≡ true
+    → changeOn (encode (imageOf (p ++ (l ∷ []))) ++ rest′) q ≡ changeOn (encode (imageOf p) ++ rest) q
+longer-table-denies text text′ p l c ps e says read read′ rest rest′ q h =
+    rw (table-answers text′ (p ++ (l ∷ [])) read′ rest′ q, table-answers text p read rest q)
+    (denied-longer p l c ps e says q (rw (table-answers text p read rest q) at h))
+
+-- the first n bytes of a list that n bytes stand in front of
+front : (xs ys : List ℕ) → take (length xs) (xs ++ ys) ≡ xs
+front [] ys = refl
+front (x ∷ xs) ys = ap {B = List ℕ} (λ r. x ∷ r) (front xs ys)
+
+-- an acceptance is no refusal, and has one length
+abbrev isAccepted : Outcome → Bool
+isAccepted (accepted n) = true
+isAccepted (rejected n at) = false
+
+abbrev lengthIn : Outcome → ℕ
+lengthIn (accepted n) = n
+lengthIn (rejected n at) = 0
+
+-- what compiling gives, by what reading gives
+compiledBy : Read → ℕ → Compiled
+compiledBy r lent = elim r [ refused n at ↦ outcomes.refuses n at | policy p ↦ fitted lent (imageOf p) ]
+
+compiled-by : (text : List ℕ) (lent : ℕ) (r : Read) → policyOf text ≡ r → compiled text lent ≡ compiledBy r lent
+unfolding compiled compiledBy
+compiled-by text lent r e = ap (λ (s : Read). compiledBy s lent) e
+
+-- accepted, so it fits: the length is the table's, and the table stands in front
+fitting : (i : Image) (lent : List ℕ) (n : ℕ) → outcomeOf (fitted (length lent) i) ≡ accepted n
+    → (n ≡ length (encode i)) × (afterOf (fitted (length lent) i) lent ≡ encode i ++ drop (length (encode i)) lent)
+fitting i lent n h = by (leb (length (encode i)) (length lent)) h
+  where
+    by : (b : Bool) → outcomeOf (cond b (compiles i) (outcomes.refuses 10 (length (encode i)))) ≡ accepted n
+        → (n ≡ length (encode i)) × (afterOf (cond b (compiles i) (outcomes.refuses 10 (length (encode i)))) lent ≡ encode i ++ drop (length (encode i)) lent)
+    by true g = (sym (ap lengthIn g), refl)
+    by false g = absurd (false≢true (ap isAccepted g))
+
+-- DEMAND 3 in terms of the text and the lent memory alone
+pub demand-3 : (text lent : List ℕ) (n : ℕ) → outcome text (length lent) ≡ accepted n → TableAnswers text lent n
+unfolding outcome after compiledBy
+demand-3 text lent n h = by (policyOf text) refl
+  where
+    by : (r : Read) → policyOf text ≡ r → TableAnswers text lent n
+    by (refused k at) e = absurd (false≢true (ap isAccepted (ap outcomeOf (sym (compiled-by text (length lent) (refused k at) e)) ∙ h)))
+    by (policy p) e =
+        let fits = fitting (imageOf p) lent n (ap outcomeOf (sym (compiled-by text (length lent) (policy p) e)) ∙ h) in
+        let memory : after text lent ≡ encode (imageOf p) ++ drop (length (encode (imageOf p))) lent =
+        ap (λ (c : Compiled). afterOf c lent) (compiled-by text (length lent) (policy p) e) ∙ fits .1 in
+        let table : take n (after text lent) ≡ encode (imageOf p) =
+        rw (memory, fits .0) (front (encode (imageOf p)) (drop (length (encode (imageOf p))) lent)) in
+        record {
+          statements = p;
+          read = e;
+          answers = λ behind q. ap (λ (t : List ℕ). changeOn (t ++ behind) q) table ∙ table-answers text p e behind q;
+          never-refused = declared-unrefused p;
+        }

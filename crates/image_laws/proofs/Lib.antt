@@ -1,0 +1,9 @@
+pub mod AcceptedParts
+pub mod Fits
+pub mod WithinBytes
+pub mod RowCounts
+pub mod StackDepth
+pub mod Masks
+pub mod GoodRows
+pub mod GoodParts
+pub mod ImageWellFormed

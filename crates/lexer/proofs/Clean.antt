@@ -1,0 +1,248 @@
+-- What a clean scan says of a text's forms: they are balanced, at most 32 levels deep, and every word is a name.
+-- One induction over the bytes that are left: with so many parentheses open, so many rows are still to be closed, each of them with
+-- room for one level more than the row in it. Assumes nothing.
+use mathlib.Core.Path.{_≡_, refl, sym, ap, ap₂, subst, _∙_}
+use mathlib.Core.Bool.{Bool, true, false, _&&_, cond}
+use mathlib.Core.List.{List, [], _∷_, _++_}
+use Prim.Native.Nat.{ℕ, zero, suc, _+_, _-_, _≤_, _<_}
+use native.Mathlib.Omega.{arith}
+use native.Mathlib.Numerals.{add-one}
+use borrow.Author.Tests.{ltb-true, ltb-false, eqb-false, le-leb}
+use lib.Dec.{ltb, leb, eqb, eqb·suc-zero}
+use lib.ListN.{length, take, drop, length-drop, length-take, length-append}
+use lib.Seq.{take-add, drop-drop, length-take-le}
+use Rattle.lexer.specs.Class.{classOf, starts, goesOn, endsComment, maxName, allGoOn, isName}
+use Rattle.lexer.specs.Scan.{maxText, maxLevel, Mode, between, inComment, inName, State, going, stopped, commentThen, stepBetween, stepName, scanFrom, scan}
+use Rattle.lexer.specs.Token.{betweenThen, ownToken, modeThen, ending, tokensFrom, tokensAt}
+use Rattle.lexer.specs.Forms.{Forms, closed, ended, word, part, Frames, head, tail, step, build, framesAt, formsOf, trim, closes, balanced, namesGood}
+use Rattle.lexer.specs.declared.ByteClass.{ByteClass}
+use Rattle.lexer.specs.declared.ByteClass.the-variants.{Blank, LineFeed, Comment, Open, Close, Letter, Digit, Wrong}
+use Rattle.lexer.specs.declared.Scanned.{Scanned}
+use Rattle.lexer.specs.declared.Token.{Token}
+use Rattle.lexer.proofs.Ends.{rest}
+use Rattle.lexer.proofs.Scans.{halted}
+use Rattle.lexer.proofs.Trim.{uncut}
+
+-- ---- names
+
+pub both : (a b : Bool) → a ≡ true → b ≡ true → a && b ≡ true
+both a b e f = rw (e, f)
+
+pub fst : (a b : Bool) → a && b ≡ true → a ≡ true
+fst true b e = refl
+fst false b e = e
+
+pub snd : (a b : Bool) → a && b ≡ true → b ≡ true
+snd true b e = e
+snd false b e = cc
+
+all-more : (xs : List ℕ) (b : ℕ) → allGoOn xs ≡ true → goesOn (classOf b) ≡ true → allGoOn (xs ++ b ∷ []) ≡ true
+unfolding allGoOn
+all-more [] b e f = rw f
+all-more (x ∷ xs) b e f =
+    both (goesOn (classOf x)) (allGoOn (xs ++ b ∷ [])) (fst (goesOn (classOf x)) (allGoOn xs) e)
+    (all-more xs b (snd (goesOn (classOf x)) (allGoOn xs) e) f)
+
+-- a name with one byte more
+name-more : (xs : List ℕ) (b : ℕ) → isName xs ≡ true → goesOn (classOf b) ≡ true → length xs < maxName → isName (xs ++ b ∷ []) ≡ true
+unfolding isName
+name-more [] b e f h = cc
+name-more (x ∷ xs) b e f h =
+    let s = starts (classOf x) in
+    let d = fst (s && allGoOn xs) (leb (length (x ∷ xs)) maxName) e in
+    both (s && allGoOn (xs ++ b ∷ [])) (leb (length (x ∷ xs ++ b ∷ [])) maxName)
+    (both s (allGoOn (xs ++ b ∷ [])) (fst s (allGoOn xs) d) (all-more xs b (snd s (allGoOn xs) d) f))
+    (le-leb (length (x ∷ xs ++ b ∷ [])) maxName (omega (arith, length-append (x ∷ xs) (b ∷ []))))
+
+-- ---- rows
+
+-- a row that passes a test, has room for so many levels, and has names for words
+record Row (q : Forms → Bool) (f : Forms) (room : ℕ) : Type 0 where
+  pub shut : q f ≡ true
+  pub deep : trim f room ≡ f
+  pub names : namesGood f ≡ true
+
+-- the row at hand and the rows around it, where so many parentheses are open: they close, and the outermost is the text's own
+abbrev Rows : List Forms → ℕ → Forms → ℕ → Type 0
+Rows [] zero f room = Row balanced f room
+Rows (g ∷ gs) zero f room = ⊥
+Rows [] (suc level) f room = ⊥
+Rows (g ∷ gs) (suc level) f room = Row closes f room × Rows gs level g (suc room)
+
+abbrev Good : Frames → ℕ → ℕ → Type 0
+Good r level room = Rows (r .around) level (r .here) room
+
+part-row : (q : Forms → Bool) (p : ℕ) (f g : Forms) (room : ℕ) → q (part p f g) ≡ closes f && q g → Row closes f room → Row q g (suc room)
+    → Row q (part p f g) (suc room)
+unfolding namesGood
+part-row q p f g room e a b = record {
+  shut = e ∙ both (closes f) (q g) (a .shut) (b .shut);
+  deep = uncut p f g room (a .deep) (b .deep);
+  names = both (namesGood f) (namesGood g) (a .names) (b .names);
+}
+
+part-rows : (a : List Forms) (level room p : ℕ) (f : Forms) → Rows a (suc level) f room → Rows (tail a) level (part p f (head a)) (suc room)
+unfolding closes balanced
+part-rows [] level room p f r = absurd r
+part-rows (g ∷ []) zero room p f r = part-row balanced p f g room refl (r .0) (r .1)
+part-rows (g ∷ h ∷ hs) zero room p f r = absurd (r .1)
+part-rows (g ∷ []) (suc level) room p f r = absurd (r .1)
+part-rows (g ∷ h ∷ hs) (suc level) room p f r = (part-row closes p f g room refl (r .0) (r .1 .0), r .1 .1)
+
+word-rows : (a : List Forms) (level room s : ℕ) (b : List ℕ) (f : Forms) → 0 < level → isName b ≡ true → Rows a level f room → Rows a level (word s b f) room
+unfolding closes namesGood trim
+word-rows a zero room s b f l e r = absurd (omega arith)
+word-rows [] (suc level) room s b f l e r = absurd r
+word-rows (g ∷ gs) (suc level) room s b f l e r = (
+  record { shut = r .0 .shut; deep = ap (word s b) (r .0 .deep); names = both (isName b) (namesGood f) e (r .0 .names) },
+  r .1,
+)
+
+-- ---- the induction
+
+-- a name under way is a name so far, within parentheses
+abbrev Under : List ℕ → Mode → ℕ → ℕ → Type 0
+Under t between level at = Unit {0}
+Under t inComment level at = Unit {0}
+Under t (inName s n) level at = (0 < level) × (s + n ≡ at) × (at ≤ length t) × (isName (take n (drop s t)) ≡ true)
+
+comment-under : (t : List ℕ) (level at : ℕ) (k : ByteClass) → Under t (commentThen k) level at
+comment-under t level at k = go (endsComment k) refl
+  where
+    go : (q : Bool) → endsComment k ≡ q → Under t (commentThen k) level at
+    go true e = rw e tt
+    go false e = rw e tt
+
+never : (bs : List ℕ) (place at : ℕ) → scanFrom bs (stopped place) at ≡ Scanned.Clean → ⊥
+never bs place at h =
+    let g = halted bs place at in
+    let z : _≡_ {A = ℕ} 0 1 = cc in
+    omega arith
+
+module _ (t bs : List ℕ) (b at : ℕ) (left : drop at t ≡ b ∷ bs)
+    (ih : (m : Mode) (level room : ℕ) → Under t m level (at + 1) → scanFrom bs (going m level) (at + 1) ≡ Scanned.Clean → level + room ≡ maxLevel
+    → Good (build t (tokensFrom bs m (at + 1))) level room) where
+  within : at < length t
+  within = omega (arith, length-drop at t, ap length left)
+
+  opened : (level room : ℕ) (q : Bool) → ltb level maxLevel ≡ q → scanFrom bs (cond q (going between (level + 1)) (stopped at)) (at + 1) ≡ Scanned.Clean
+      → level + room ≡ maxLevel → Good (step t (Token.Open at) (build t (tokensFrom bs between (at + 1)))) level room
+  opened level room false e h r = absurd (never bs at (at + 1) h)
+  opened level zero true e h r = absurd (omega (arith, ltb-true level maxLevel e))
+  opened level (suc room) true e h r =
+      let f = build t (tokensFrom bs between (at + 1)) in
+      part-rows (f .around) level room at (f .here) (ih between (suc level) room tt (rw (add-one level) at h) (omega arith))
+
+  shut : (level room : ℕ) → scanFrom bs (stepBetween level at Close) (at + 1) ≡ Scanned.Clean → level + room ≡ maxLevel
+      → Good (step t (Token.Close at) (build t (tokensFrom bs between (at + 1)))) level room
+  unfolding closes namesGood trim
+  shut zero room h r = absurd (never bs at (at + 1) h)
+  shut (suc level) room h r =
+      let e : suc level - 1 ≡ level = omega arith in (
+        record { shut = refl; deep = refl; names = refl },
+        ih between level (suc room) tt (rw (eqb·suc-zero level, e) at h) (omega arith),
+      )
+
+  begun : (level room : ℕ) (q : Bool) → eqb level 0 ≡ q → classOf b ≡ Letter → scanFrom bs (cond q (stopped at) (going (inName at 1) level)) (at + 1) ≡ Scanned.Clean
+      → level + room ≡ maxLevel → Good (build t (tokensFrom bs (inName at 1) (at + 1))) level room
+  unfolding isName allGoOn
+  begun level room true e k h r = absurd (never bs at (at + 1) h)
+  begun level room false e k h r = ih (inName at 1) level room (omega (arith, eqb-false level 0 e), refl, omega (arith, within), rw (left, k)) h r
+
+  in-between : (level room : ℕ) (k : ByteClass) → classOf b ≡ k → scanFrom bs (stepBetween level at k) (at + 1) ≡ Scanned.Clean → level + room ≡ maxLevel
+      → Good (build t (ownToken at k ++ tokensFrom bs (betweenThen at k) (at + 1))) level room
+  unfolding build
+  in-between level room Blank e h r = ih between level room tt h r
+  in-between level room LineFeed e h r = ih between level room tt h r
+  in-between level room Comment e h r = ih inComment level room tt h r
+  in-between level room Open e h r = opened level room (ltb level maxLevel) refl h r
+  in-between level room Close e h r = shut level room h r
+  in-between level room Letter e h r = begun level room (eqb level 0) refl e h r
+  in-between level room Digit e h r = absurd (never bs at (at + 1) h)
+  in-between level room Wrong e h r = absurd (never bs at (at + 1) h)
+
+  longer : (level room s n : ℕ) (q : Bool) → ltb n maxName ≡ q → goesOn (classOf b) ≡ true → Under t (inName s n) level at
+      → scanFrom bs (cond q (going (inName s (n + 1)) level) (stopped s)) (at + 1) ≡ Scanned.Clean → level + room ≡ maxLevel
+      → Good (build t (tokensFrom bs (inName s (n + 1)) (at + 1))) level room
+  longer level room s n false e g u h r = absurd (never bs s (at + 1) h)
+  longer level room s n true e g u h r =
+      let l : length (take n (drop s t)) ≡ n = length-take-le n (drop s t) (omega (arith, length-drop s t)) in
+      let x : take (n + 1) (drop s t) ≡ take n (drop s t) ++ b ∷ []
+      = take-add n 1 (drop s t) ∙ ap (λ (d : List ℕ). take n (drop s t) ++ take 1 d) (drop-drop n s t ∙ ap (λ (i : ℕ). drop i t) (u .1) ∙ left) in
+      ih (inName s (n + 1)) level room
+      (u .0, omega arith, omega (arith, within), rw x (name-more (take n (drop s t)) b (u .3) g (omega (arith, ltb-true n maxName e))))
+      h r
+
+  in-name : (level room s n : ℕ) (k : ByteClass) → classOf b ≡ k → Under t (inName s n) level at → scanFrom bs (stepName s n level at k) (at + 1) ≡ Scanned.Clean
+      → level + room ≡ maxLevel → Good (build t (ending (inName s n) at k ++ tokensFrom bs (modeThen (inName s n) at k) (at + 1))) level room
+  unfolding build
+  in-name level room s n k e u h r = go (goesOn k) refl
+    where
+      go : (q : Bool) → goesOn k ≡ q → Good (build t (ending (inName s n) at k ++ tokensFrom bs (modeThen (inName s n) at k) (at + 1))) level room
+      go true g = rw g (longer level room s n (ltb n maxName) refl (ap goesOn e ∙ g) u (rw g at h) r)
+      go false g =
+          let f = build t (ownToken at k ++ tokensFrom bs (betweenThen at k) (at + 1)) in
+          rw g (word-rows (f .around) level room s (take n (drop s t)) (f .here) (u .0) (u .3) (in-between level room k e (rw g at h) r))
+
+-- the end of the text, where nothing is open
+at-end : (level room at : ℕ) → scanFrom [] (going between level) at ≡ Scanned.Clean → Good (record { here = ended; around = [] }) level room
+unfolding scanFrom balanced namesGood trim
+at-end zero room at h = record { shut = refl; deep = refl; names = refl }
+at-end (suc level) room at h =
+    let g : Scanned.Wrong at ≡ Scanned.Clean = rw (eqb·suc-zero level) at h in
+    let z : _≡_ {A = ℕ} 0 1 = cc in
+    absurd (omega arith)
+
+from : (t bs : List ℕ) (m : Mode) (level room at : ℕ) → drop at t ≡ bs → Under t m level at → scanFrom bs (going m level) at ≡ Scanned.Clean
+    → level + room ≡ maxLevel → Good (build t (tokensFrom bs m at)) level room
+unfolding scanFrom tokensFrom build
+from t [] between level room at e u h r = at-end level room at h
+from t [] inComment level room at e u h r = at-end level room at h
+from t [] (inName s n) zero room at e u h r = absurd (omega arith)
+from t [] (inName s n) (suc level) room at e u h r = absurd (at-end (suc level) room at h)
+from t (b ∷ bs) between level room at e u h r =
+    in-between t bs b at e (λ m l o v g s. from t bs m l o (at + 1) (rest t bs b at e) v g s) level room (classOf b) refl h r
+from t (b ∷ bs) inComment level room at e u h r =
+    from t bs (commentThen (classOf b)) level room (at + 1) (rest t bs b at e) (comment-under t level (at + 1) (classOf b)) h r
+from t (b ∷ bs) (inName s n) level room at e u h r =
+    in-name t bs b at e (λ m l o v g s. from t bs m l o (at + 1) (rest t bs b at e) v g s) level room s n (classOf b) refl u h r
+
+-- ---- the laws
+
+outermost : (a : List Forms) (f : Forms) (room : ℕ) → Rows a 0 f room → Row balanced f room
+outermost [] f room r = r
+outermost (g ∷ gs) f room r = absurd r
+
+not-long : (t : List ℕ) (q : Bool) → ltb maxText (length t) ≡ q → cond q Scanned.TooLong (scanFrom t (going between 0) 0) ≡ Scanned.Clean
+    → (length t ≤ maxText) × (scanFrom t (going between 0) 0 ≡ Scanned.Clean)
+not-long t true e g =
+    let z : _≡_ {A = ℕ} 0 1 = cc in
+    absurd (omega arith)
+not-long t false e g = (ltb-false maxText (length t) e, g)
+
+module _ (t : List ℕ) (h : scan t ≡ Scanned.Clean) where
+  scanned : (length t ≤ maxText) × (scanFrom t (going between 0) 0 ≡ Scanned.Clean)
+  unfolding scan
+  scanned = not-long t (ltb maxText (length t)) refl h
+
+  own-row : Row balanced (formsOf t) maxLevel
+  unfolding tokensAt framesAt formsOf
+  own-row =
+      let r = build t (tokensFrom t between 0) in
+      outermost (r .around) (r .here) maxLevel (from t t between 0 maxLevel 0 refl tt (scanned .1) refl)
+
+  -- "Text 65,535 bytes."
+  pub clean-short : length t ≤ maxText
+  clean-short = scanned .0
+
+  -- "The text is a row of parenthesised statements."
+  pub clean-balanced : balanced (formsOf t) ≡ true
+  clean-balanced = own-row .shut
+
+  -- "A part in parentheses may hold further parts, to 32 levels": a cut at 32 levels leaves the forms as they are
+  pub clean-uncut : trim (formsOf t) maxLevel ≡ formsOf t
+  clean-uncut = own-row .deep
+
+  -- "A name starts with a letter or `_`, goes on with letters, digits, `_`, `-`, and has 1 to 64 bytes."
+  pub clean-names : namesGood (formsOf t) ≡ true
+  clean-names = own-row .names

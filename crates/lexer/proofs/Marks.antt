@@ -1,0 +1,64 @@
+-- The table of byte classes: the mark of each class, and the law that carries a test of the whole table to every byte.
+-- Assumes nothing.
+use mathlib.Core.Path.{_≡_, refl, sym, ap, _∙_}
+use mathlib.Core.Bool.{cond}
+use mathlib.Core.List.{List, [], _∷_}
+use Prim.Native.Nat.{ℕ, zero, suc, _+_, _<_}
+use native.Mathlib.Nat.{add-zero, zero-add, add-suc, suc-add, le-of-suc-le-suc, not-suc-le-zero}
+use lib.ListN.{getD}
+use Rattle.lexer.specs.Class.{is}
+use Rattle.lexer.specs.Answers.{markOf}
+use Rattle.lexer.specs.declared.ByteClass.{ByteClass}
+use Rattle.lexer.specs.declared.ByteClass.the-variants.{Blank, LineFeed, Comment, Open, Close, Letter, Digit, Wrong}
+
+-- ---- a table that holds f at each place
+
+-- f at i, i + 1, and so on: n entries
+abbrev pub tabulate : (ℕ → ℕ) → ℕ → ℕ → List ℕ
+tabulate f i zero = []
+tabulate f i (suc n) = f i ∷ tabulate f (suc i) n
+
+from : (f : ℕ → ℕ) (n i k : ℕ) → k < n → getD (tabulate f i n) k 0 ≡ f (i + k)
+from f zero i k h = absurd (not-suc-le-zero h)
+from f (suc n) i zero h = rw add-zero
+from f (suc n) i (suc k) h = from f n (suc i) k (le-of-suc-le-suc h) ∙ rw (add-suc, suc-add)
+
+-- the whole table is f, so each entry is
+pub entry : (f : ℕ → ℕ) (n : ℕ) (xs : List ℕ) → xs ≡ tabulate f 0 n → (k : ℕ) → k < n → getD xs k 0 ≡ f k
+entry f n xs e k h = rw e (from f n 0 k h ∙ rw zero-add)
+
+-- ---- the marks
+
+-- the class of a mark
+abbrev classAt : ℕ → ByteClass
+classAt m =
+    cond (is "b" m) Blank
+    (cond (is "n" m) LineFeed
+    (cond (is ";" m) Comment
+    (cond (is "(" m) Open (cond (is ")" m) Close (cond (is "a" m) Letter (cond (is "d" m) Digit Wrong))))))
+
+class-of-mark : (x : ByteClass) → classAt (markOf x) ≡ x
+class-of-mark Blank = refl
+class-of-mark LineFeed = refl
+class-of-mark Comment = refl
+class-of-mark Open = refl
+class-of-mark Close = refl
+class-of-mark Letter = refl
+class-of-mark Digit = refl
+class-of-mark Wrong = refl
+
+-- a class whose mark is m
+pub marked : (x : ByteClass) (k m : ℕ) → k ≡ markOf x → k ≡ m → classAt m ≡ x
+marked x k m e f = ap classAt (sym f ∙ e) ∙ class-of-mark x
+
+-- a class that has none of the other marks
+pub unmarked : (x : ByteClass) (k : ℕ) → k ≡ markOf x → (k ≡ markOf Blank → ⊥) → (k ≡ markOf LineFeed → ⊥) → (k ≡ markOf Comment → ⊥)
+    → (k ≡ markOf Open → ⊥) → (k ≡ markOf Close → ⊥) → (k ≡ markOf Letter → ⊥) → (k ≡ markOf Digit → ⊥) → Wrong ≡ x
+unmarked Blank k e a b c d f g h = absurd (a e)
+unmarked LineFeed k e a b c d f g h = absurd (b e)
+unmarked Comment k e a b c d f g h = absurd (c e)
+unmarked Open k e a b c d f g h = absurd (d e)
+unmarked Close k e a b c d f g h = absurd (f e)
+unmarked Letter k e a b c d f g h = absurd (g e)
+unmarked Digit k e a b c d f g h = absurd (h e)
+unmarked Wrong k e a b c d f g h = refl

@@ -1,0 +1,34 @@
+-- What a cut of forms at some level leaves. Assumes nothing.
+use mathlib.Core.Path.{_≡_, ap, ap₂, _∙_}
+use mathlib.Core.Bool.{Bool, true, false}
+use Prim.Native.Nat.{ℕ, suc, _-_}
+use native.Mathlib.Omega.{arith}
+use borrow.Author.Tests.{ne-eqb, eq-eqb}
+use lib.Dec.{eqb}
+use Rattle.lexer.specs.Forms.{Forms, ended, part, trim}
+
+module _ (p : ℕ) (f g : Forms) (n : ℕ) where
+  -- a part of which a level is left
+  pub whole : (n ≡ 0 → ⊥) → trim (part p f g) n ≡ part p (trim f (n - 1)) (trim g n)
+  unfolding trim
+  whole h = ap (λ (b : Bool). elim b [ true ↦ ended | false ↦ part p (trim f (n - 1)) (trim g n) ]) (ne-eqb n 0 h)
+
+  -- a part of which none is
+  pub cut : n ≡ 0 → trim (part p f g) n ≡ ended
+  unfolding trim
+  cut h = ap (λ (b : Bool). elim b [ true ↦ ended | false ↦ part p (trim f (n - 1)) (trim g n) ]) (eq-eqb n 0 h)
+
+  -- what is false of an end and of every part is false of a part that is cut
+  pub cut-or-whole : (q : Forms → Bool) → q ended ≡ false → ((a b : Forms) → q (part p a b) ≡ false) → q (trim (part p f g) n) ≡ false
+  unfolding trim
+  cut-or-whole q e h = go (eqb n 0)
+    where
+      go : (b : Bool) → q (elim b [ true ↦ ended | false ↦ part p (trim f (n - 1)) (trim g n) ]) ≡ false
+      go true = e
+      go false = h (trim f (n - 1)) (trim g n)
+
+-- a part is left whole where a level more than its row needs is left, and its rest is left whole
+pub uncut : (p : ℕ) (f g : Forms) (n : ℕ) → trim f n ≡ f → trim g (suc n) ≡ g → trim (part p f g) (suc n) ≡ part p f g
+uncut p f g n d e =
+    whole p f g (suc n) (λ z. omega arith)
+    ∙ ap₂ (part p) (ap (trim f) (omega arith) ∙ d) e

@@ -1,0 +1,51 @@
+-- What an arm with several patterns tells of a byte's class: it is one of them. One law for every such arm. Assumes nothing.
+use mathlib.Core.Path.{_≡_, refl, subst⁻¹}
+use mathlib.Core.Bool.{Bool, true, false, not}
+use mathlib.Core.List.{List}
+use Prim.Native.Nat.{ℕ}
+use lib.Dec.{T}
+use types.Run.{OneOf, miss}
+use mir.Val.{hasKey}
+use denote.Enum.Declared.{tagOf}
+use Rattle.lexer.specs.declared.ByteClass.{ByteClass}
+use Rattle.lexer.specs.declared.ByteClass.the-variants.{Blank, LineFeed, Comment, Open, Close, Letter, Digit, Wrong}
+use Rattle.lexer.proofs.ByteClass.{the-type}
+
+-- the place of a class among the variants, as the check has it
+abbrev pub tag : ByteClass → ℕ
+tag k = tagOf the-type k
+
+abbrev pub When : Bool → Type 0 → Type 0
+When true X = X
+When false X = Unit {0}
+
+-- X where x is one of the numbers ks
+here : (ks : List ℕ) (x : ℕ) (X : Type 0) → When (hasKey ks x) X → OneOf ks x → X
+here ks x X w h = go (hasKey ks x) refl w
+  where
+    go : (b : Bool) → hasKey ks x ≡ b → When b X → X
+    go true e v = v
+    go false e v = absurd (miss ks x (subst⁻¹ (λ (q : Bool). T (not q)) e tt) h)
+
+-- P at each class whose place is among ks
+abbrev pub Each : List ℕ → (ByteClass → Type 0) → Type 0
+Each ks P =
+    When (hasKey ks 0) (P Blank)
+    × When (hasKey ks 1) (P LineFeed)
+    × When (hasKey ks 2) (P Comment)
+    × When (hasKey ks 3) (P Open)
+    × When (hasKey ks 4) (P Close)
+    × When (hasKey ks 5) (P Letter)
+    × When (hasKey ks 6) (P Digit)
+    × When (hasKey ks 7) (P Wrong)
+
+-- so P at a class that is one of them
+pub among : (ks : List ℕ) (P : ByteClass → Type 0) → Each ks P → (k : ByteClass) → OneOf ks (tag k) → P k
+among ks P a Blank h = here ks 0 (P Blank) (a .0) h
+among ks P a LineFeed h = here ks 1 (P LineFeed) (a .1) h
+among ks P a Comment h = here ks 2 (P Comment) (a .2) h
+among ks P a Open h = here ks 3 (P Open) (a .3) h
+among ks P a Close h = here ks 4 (P Close) (a .4) h
+among ks P a Letter h = here ks 5 (P Letter) (a .5) h
+among ks P a Digit h = here ks 6 (P Digit) (a .6) h
+among ks P a Wrong h = here ks 7 (P Wrong) (a .7) h

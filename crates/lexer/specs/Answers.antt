@@ -1,0 +1,42 @@
+-- What the answers of the lexer's own functions say of a text. Assumes nothing.
+use Prim.Native.Nat.{ℕ, _+_}
+use Prim.Native.Char.{code}
+use mathlib.Core.Bool.{Bool, true, false, not}
+use mathlib.Core.List.{List, [], _∷_}
+use lib.ListN.{drop}
+use Rattle.lexer.specs.Class.{classOf, goesOn, endsComment}
+use Rattle.lexer.specs.Scan.{between, inComment, inName, State, going, stopped}
+use Rattle.lexer.specs.declared.ByteClass.{ByteClass}
+use Rattle.lexer.specs.declared.ByteClass.the-variants.{Blank, LineFeed, Comment, Open, Close, Letter, Digit, Wrong}
+use Rattle.lexer.specs.declared.Step.{Step}
+
+-- the mark of a class in the table
+abbrev pub markOf : ByteClass → ℕ
+markOf Blank = code "b"
+markOf LineFeed = code "n"
+markOf Comment = code ";"
+markOf Open = code "("
+markOf Close = code ")"
+markOf Letter = code "a"
+markOf Digit = code "d"
+markOf Wrong = code "."
+
+-- the place of the first byte whose class passes the test, or the place after the last byte
+unfoldable pub firstFrom : List ℕ → (ByteClass → Bool) → ℕ → ℕ
+firstFrom [] test at = at
+firstFrom (b ∷ bs) test at = elim (test (classOf b)) [ true ↦ at | false ↦ firstFrom bs test (at + 1) ]
+
+-- where a comment ends that is under way at a place: at its LF, or with the text
+abbrev pub commentEnd : List ℕ → ℕ → ℕ
+commentEnd text at = firstFrom (drop at text) endsComment at
+
+-- where a word ends that is under way at a place: at the first byte that does not go on a name, or with the text
+abbrev pub wordEnd : List ℕ → ℕ → ℕ
+wordEnd text at = firstFrom (drop at text) (λ k. not (goesOn k)) at
+
+-- the state after a byte between names, at a level and a place, by the step that it is
+abbrev pub stateOf : ℕ → ℕ → Step → State
+stateOf level at (Step.Level l) = going between l
+stateOf level at Step.Comment = going inComment level
+stateOf level at Step.Name = going (inName at 1) level
+stateOf level at Step.Fault = stopped at

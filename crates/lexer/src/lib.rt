@@ -1,0 +1,256 @@
+// The lexer: what each byte of a text is, the scan for faults 1 and 2, and the tokens.
+ghost use mathlib.Core.Path.{_≡_};
+ghost use Prim.Native.Nat.{ℕ};
+ghost use Rattle.lexer.specs.Class.{classOf, goesOn, endsComment};
+ghost use Rattle.lexer.specs.Scan as spec;
+ghost use Rattle.lexer.specs.Scan.{stepBetween};
+ghost use Rattle.lexer.specs.Token.{tokenAt};
+ghost use Rattle.lexer.specs.Answers.{markOf, commentEnd, wordEnd, stateOf};
+
+// A text: how many bytes it may have.
+pub struct Text;
+
+impl Text {
+    pub const MAX: usize = 65_535;
+}
+
+// A name: how many bytes it may have.
+pub struct Name;
+
+impl Name {
+    pub const MAX: usize = 64;
+}
+
+// A level of parentheses: how deep it may lie.
+pub struct Level;
+
+impl Level {
+    pub const MAX: usize = 32;
+}
+
+// What a byte is. A line feed is a blank that also ends a comment.
+pub enum ByteClass {
+    Blank,
+    LineFeed,
+    Comment,
+    Open,
+    Close,
+    Letter,
+    Digit,
+    Wrong,
+}
+
+// What the scan says of a text: no fault, fault 1, or fault 2 at a place.
+pub enum Scanned {
+    Clean,
+    TooLong,
+    Wrong(usize),
+}
+
+// A parenthesis by its place, a word by the place of its first byte and its length, or the end of the text.
+pub enum Token {
+    Open(usize),
+    Close(usize),
+    Word { start: usize, len: usize },
+    End,
+}
+
+// What a byte between names does: it leads to a level, starts a comment or a name, or is a fault.
+enum Step {
+    Level(usize),
+    Comment,
+    Name,
+    Fault,
+}
+
+// The class of each byte, 32 bytes to a line: b blank, n line feed, ; comment, ( open, ) close, a letter, d digit, . wrong.
+const CLASSES: [u8; 256] = *b"\
+    .........bn..b..................\
+    b.......()...d..dddddddddd.;....\
+    .aaaaaaaaaaaaaaaaaaaaaaaaaa....a\
+    .aaaaaaaaaaaaaaaaaaaaaaaaaa.....\
+    ................................\
+    ................................\
+    ................................\
+    ................................";
+
+// The mark of a byte's class, by the table.
+fn mark_of(b: u8) -> u8
+    ensures { λ r. ⌜ r ≡ markOf (classOf b) ⌝ }
+{
+    CLASSES[b as usize]
+}
+
+// What a byte is.
+pub fn class_of(b: u8) -> ByteClass
+    ensures { λ r. ⌜ r ≡ classOf b ⌝ }
+{
+    let mark = mark_of(b);
+    match mark {
+        b'b' => ByteClass::Blank,
+        b'n' => ByteClass::LineFeed,
+        b';' => ByteClass::Comment,
+        b'(' => ByteClass::Open,
+        b')' => ByteClass::Close,
+        b'a' => ByteClass::Letter,
+        b'd' => ByteClass::Digit,
+        _ => ByteClass::Wrong,
+    }
+}
+
+// Whether a name goes on with a byte of the class.
+pub fn goes_on(class: ByteClass) -> bool
+    ensures { λ r. ⌜ r ≡ goesOn class ⌝ }
+{
+    match class {
+        ByteClass::Blank => false,
+        ByteClass::LineFeed => false,
+        ByteClass::Comment => false,
+        ByteClass::Open => false,
+        ByteClass::Close => false,
+        ByteClass::Letter => true,
+        ByteClass::Digit => true,
+        ByteClass::Wrong => false,
+    }
+}
+
+// Whether a byte of the class ends a comment.
+fn ends_comment(class: ByteClass) -> bool
+    ensures { λ r. ⌜ r ≡ endsComment class ⌝ }
+{
+    match class {
+        ByteClass::Blank => false,
+        ByteClass::LineFeed => true,
+        ByteClass::Comment => false,
+        ByteClass::Open => false,
+        ByteClass::Close => false,
+        ByteClass::Letter => false,
+        ByteClass::Digit => false,
+        ByteClass::Wrong => false,
+    }
+}
+
+// Where the comment ends that is under way at a place: at its line feed, or with the text.
+fn comment_end(text: &[u8], at: usize) -> usize
+    ensures { λ r. ⌜ r ≡ commentEnd (now (text .entry)) at ⌝ }
+{
+    let mut i = at;
+    while i < text.len() {
+        if ends_comment(class_of(text[i])) {
+            return i;
+        }
+        i += 1;
+    }
+    i
+}
+
+// Where the word ends that is under way at a place: at the first byte that does not go on a name, or with the text.
+fn word_end(text: &[u8], at: usize) -> usize
+    ensures { λ r. ⌜ r ≡ wordEnd (now (text .entry)) at ⌝ }
+{
+    let mut i = at;
+    while i < text.len() {
+        if !goes_on(class_of(text[i])) {
+            return i;
+        }
+        i += 1;
+    }
+    i
+}
+
+// What a byte between names does where so many parentheses are open.
+fn step_between(level: usize, class: ByteClass) -> Step
+    ensures { λ r. ⌜ ((at : ℕ) → stateOf level at r ≡ stepBetween level at class) ⌝ }
+{
+    match class {
+        ByteClass::Blank => Step::Level(level),
+        ByteClass::LineFeed => Step::Level(level),
+        ByteClass::Comment => Step::Comment,
+        ByteClass::Open => {
+            if level < Level::MAX {
+                return Step::Level(level + 1);
+            }
+            Step::Fault
+        }
+        ByteClass::Close => {
+            if level == 0 {
+                return Step::Fault;
+            }
+            Step::Level(level - 1)
+        }
+        ByteClass::Letter => {
+            if level == 0 {
+                return Step::Fault;
+            }
+            Step::Name
+        }
+        ByteClass::Digit => Step::Fault,
+        ByteClass::Wrong => Step::Fault,
+    }
+}
+
+// Faults 1 and 2 of a text: none, or the first.
+pub fn scan(text: &[u8]) -> Scanned
+    ensures { λ r. ⌜ r ≡ spec.scan (now (text .entry)) ⌝ }
+{
+    if Text::MAX < text.len() {
+        return Scanned::TooLong;
+    }
+    let mut at: usize = 0;
+    let mut level: usize = 0;
+    let place = 'text: loop {
+        if text.len() <= at {
+            if level == 0 {
+                return Scanned::Clean;
+            }
+            break 'text at;
+        }
+        let step = step_between(level, class_of(text[at]));
+        match step {
+            Step::Level(next) => {
+                level = next;
+                at += 1;
+            }
+            Step::Comment => at = comment_end(text, at + 1),
+            Step::Name => {
+                let start = at;
+                at += 1;
+                'name: while at < text.len() {
+                    if !goes_on(class_of(text[at])) {
+                        break 'name;
+                    }
+                    if Name::MAX <= at - start {
+                        break 'text start;
+                    }
+                    at += 1;
+                }
+            }
+            Step::Fault => break 'text at,
+        }
+    };
+    Scanned::Wrong(place)
+}
+
+// The first token at or after a place.
+pub fn next(text: &[u8], at: usize) -> Token
+    ensures { λ r. ⌜ r ≡ tokenAt (now (text .entry)) at ⌝ }
+{
+    let mut i = at;
+    while i < text.len() {
+        let class = class_of(text[i]);
+        match class {
+            ByteClass::Blank | ByteClass::LineFeed | ByteClass::Wrong => i += 1,
+            ByteClass::Comment => i = comment_end(text, i + 1),
+            ByteClass::Open => return Token::Open(i),
+            ByteClass::Close => return Token::Close(i),
+            ByteClass::Letter | ByteClass::Digit => {
+                let end = word_end(text, i + 1);
+                return Token::Word {
+                    start: i,
+                    len: end - i,
+                };
+            }
+        }
+    }
+    Token::End
+}

@@ -1,0 +1,15 @@
+pub mod ListLaws
+pub mod Counting
+pub mod Splitting
+pub mod FirstOf
+pub mod WithinDeclared
+pub mod DirectMention
+pub mod Reaching
+pub mod AttributePlaces
+pub mod FamilyCycle
+pub mod CyclePlace
+pub mod FinalSets
+pub mod NoLongChain
+pub mod Fixpoint
+pub mod ClashTest
+pub mod ClashPlace

@@ -1,0 +1,2 @@
+pub mod Mentioning
+pub mod Clashing

@@ -1,0 +1,77 @@
+-- Declarations that pass `goodFrom` keep every maximum: of each sort, and of the permissions of each class. By induction on the
+-- declarations, from what is declared before. Assumes nothing.
+use Prim.Native.Nat.{ℕ, _≤_, _<_}
+use native.Mathlib.Omega.{arith}
+use mathlib.Core.Path.{_≡_, refl, sym, ap, subst}
+use mathlib.Core.Bool.{Bool, true, false, _&&_, cond, false≢true}
+use mathlib.Core.List.{List, [], _∷_, _++_, append-assoc, append-nil}
+use mathlib.Core.Option.{none, some}
+use lib.Dec.{ltb, leb}
+use lib.ListN.{length, length-append}
+use borrow.Author.Tests.{ltb-true, leb-true}
+use Rattle.policy.specs.Basics.{Name, gather}
+use Rattle.policy.specs.Statements.{Family, users, roles, types, Sort, thingOf, attributeOf, Declaration, plain, class, sameFamily, sameSort, ofSort, withPermissions, namesOf, classNames, count, permissions}
+use Rattle.policy.specs.Maxima.{maxOf, maxClasses, maxPermissions}
+use Rattle.policy.specs.Reading.{isNew, hasRoom}
+use Rattle.policy.specs.Sound.{goodNames, goodFrom}
+use Rattle.policy.specs.Accepted.{All}
+use Rattle.policy.proofs.Lists.{both-true, gather-over, gather-last}
+use Rattle.policy.proofs.Sameness.{sort-same}
+use Rattle.policy.proofs.Gathered.{OfValue, all-gather, all-getD}
+
+-- what `goodFrom` says of the first declaration, and of those after it
+pub has-room : (e : List Declaration) (d : Declaration) (ds : List Declaration) → goodFrom e (d ∷ ds) ≡ true → hasRoom e d ≡ true
+unfolding goodFrom
+has-room e d ds h =
+    both-true (goodNames d && isNew e d) (hasRoom e d)
+    (both-true (goodNames d && isNew e d && hasRoom e d) (goodFrom (e ++ (d ∷ [])) ds) h .0) .1
+
+pub good-rest : (e : List Declaration) (d : Declaration) (ds : List Declaration) → goodFrom e (d ∷ ds) ≡ true → goodFrom (e ++ (d ∷ [])) ds ≡ true
+unfolding goodFrom
+good-rest e d ds h = both-true (goodNames d && isNew e d && hasRoom e d) (goodFrom (e ++ (d ∷ [])) ds) h .1
+
+one-more : (s : Sort) (e : List Declaration) (d : Declaration) → hasRoom e d ≡ true → count s e ≤ maxOf s → count s (e ++ (d ∷ [])) ≤ maxOf s
+unfolding count namesOf
+one-more s e (class w ps) h l = rw (gather-over (ofSort s) e (class w ps) refl) l
+one-more s e (plain t w) h l = by (sameSort s t) refl
+  where
+    by : (b : Bool) → sameSort s t ≡ b → length (gather (ofSort s) (e ++ (plain t w ∷ []))) ≤ maxOf s
+    by false q = rw (gather-over (ofSort s) e (plain t w) (ap (λ (b : Bool). cond b (some w) none) q)) l
+    by true q =
+        let room : length (gather (ofSort s) e) < maxOf s =
+        subst (λ (u : Sort). length (gather (ofSort u) e) < maxOf u) (sym (sort-same s t q)) (ltb-true (length (gather (ofSort t) e)) (maxOf t) h) in
+        rw (gather-last (ofSort s) e (plain t w) w (ap (λ (b : Bool). cond b (some w) none) q), length-append (gather (ofSort s) e) (w ∷ [])) (omega arith)
+
+few-from : (s : Sort) (e ds : List Declaration) → goodFrom e ds ≡ true → count s e ≤ maxOf s → count s (e ++ ds) ≤ maxOf s
+few-from s e [] h l = rw append-nil l
+few-from s e (d ∷ ds) h l =
+    subst (λ (xs : List Declaration). count s xs ≤ maxOf s) (append-assoc e (d ∷ []) ds)
+    (few-from s (e ++ (d ∷ [])) ds (good-rest e d ds h) (one-more s e d (has-room e d ds h) l))
+
+-- "Users 128, roles 128, types 512, attributes 64 per family"
+pub few-of : (s : Sort) (ds : List Declaration) → goodFrom [] ds ≡ true → count s ds ≤ maxOf s
+unfolding count namesOf gather
+few-of s ds h = few-from s [] ds h (omega arith)
+
+-- "permissions 32 per class"
+abbrev pub FewPermissions : Declaration → Type 0
+FewPermissions (plain s w) = Unit {0}
+FewPermissions (class w ps) = length ps ≤ maxPermissions
+
+few-in : (e : List Declaration) (d : Declaration) → hasRoom e d ≡ true → FewPermissions d
+few-in e (plain s w) h = tt
+few-in e (class w ps) h = leb-true (length ps) maxPermissions (both-true (ltb (length (classNames e)) maxClasses) (leb (length ps) maxPermissions) h .1)
+
+pub few-in-all : (e ds : List Declaration) → goodFrom e ds ≡ true → All FewPermissions ds
+few-in-all e [] h = tt
+few-in-all e (d ∷ ds) h = (few-in e d (has-room e d ds h), few-in-all (e ++ (d ∷ [])) ds (good-rest e d ds h))
+
+pub few-permissions-of : (ds : List Declaration) → goodFrom [] ds ≡ true → (c : ℕ) → length (permissions ds c) ≤ maxPermissions
+unfolding permissions
+few-permissions-of ds h c =
+    all-getD (λ (ps : List Name). length ps ≤ maxPermissions) (gather withPermissions ds) c []
+    (all-gather (λ (ps : List Name). length ps ≤ maxPermissions) FewPermissions withPermissions kept ds (few-in-all [] ds h)) (omega arith)
+  where
+    kept : (d : Declaration) → FewPermissions d → OfValue (λ (ps : List Name). length ps ≤ maxPermissions) (withPermissions d)
+    kept (plain s w) k = tt
+    kept (class w ps) k = k

@@ -1,0 +1,4 @@
+pub mod Lists
+pub mod Sameness
+pub mod Gathered
+pub mod Counts

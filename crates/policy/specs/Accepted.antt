@@ -1,0 +1,62 @@
+-- What reading a text without fault 1 to 7 gives of its statements: every reference is to something declared, every operator is one that
+-- the form allows, and every maximum holds. No promise is stated with these words; they carry facts from the reading to the table.
+-- Assumes nothing.
+use Prim.Native.Nat.{ℕ, _<_, _≤_}
+use mathlib.Core.Path.{_≡_}
+use mathlib.Core.Bool.{true, _||_}
+use mathlib.Core.List.{List, [], _∷_}
+use lib.ListN.{length}
+use Rattle.policy.specs.Statements.{Family, roles, types, Reference, thing, attribute, SetExpr, nameS, allS, notS, andS, orS, xorS, unionS, emptyS, Constraint, sidesE, nameE, notE, andE, orE, thingOf, attributeOf, Declaration, Statement, declare, attributeset, gives, roletransition, constrain, fromOf, toOf, Line, Policy, count, classNames, permissions, declarations, transitions, constrains, need}
+use Rattle.policy.specs.Maxima.{maxTransitions, maxConstraints, maxRows, maxStack}
+use Rattle.policy.specs.Words.{isPlain}
+use Rattle.policy.specs.Grammar.{isRoles}
+use Rattle.policy.specs.Reading.{rowCount}
+use Rattle.policy.specs.Sound.{goodFrom}
+
+-- a property of every element of a list
+abbrev pub All : {A : Type 0} → (A → Type 0) → List A → Type 0
+All P [] = Unit {0}
+All P (x ∷ xs) = P x × All P xs
+
+module _ (ds : List Declaration) where
+  -- a thing or an attribute that ds declares
+  abbrev pub ReferenceIn : Family → Reference → Type 0
+  ReferenceIn f (thing n) = n < count (thingOf f) ds
+  ReferenceIn f (attribute a) = a < count (attributeOf f) ds
+
+  -- S names only those
+  abbrev pub SetIn : Family → SetExpr Reference → Type 0
+  SetIn f (nameS r) = ReferenceIn f r
+  SetIn f allS = Unit {0}
+  SetIn f (notS x) = SetIn f x
+  SetIn f (andS x y) = SetIn f x × SetIn f y
+  SetIn f (orS x y) = SetIn f x × SetIn f y
+  SetIn f (xorS x y) = SetIn f x × SetIn f y
+  SetIn f (unionS x y) = SetIn f x × SetIn f y
+  SetIn f emptyS = Unit {0}
+
+  -- E names only those, by operators that its forms allow
+  abbrev pub ConstraintIn : Constraint Reference → Type 0
+  ConstraintIn (sidesE f o) = (isPlain o || isRoles f) ≡ true
+  ConstraintIn (nameE f s o r) = (isPlain o ≡ true) × ReferenceIn f r
+  ConstraintIn (notE x) = ConstraintIn x
+  ConstraintIn (andE x y) = ConstraintIn x × ConstraintIn y
+  ConstraintIn (orE x y) = ConstraintIn x × ConstraintIn y
+
+  abbrev pub StatementIn : Statement → Type 0
+  StatementIn (declare d) = Unit {0}
+  StatementIn (attributeset f a s) = (a < count (attributeOf f) ds) × SetIn f s
+  StatementIn (gives k x y) = ReferenceIn (fromOf k) x × ReferenceIn (toOf k) y
+  StatementIn (roletransition r t c n) =
+      ReferenceIn roles r × ReferenceIn types t × (c < length (classNames ds)) × (n < count (thingOf roles) ds)
+  StatementIn (constrain c ps e) =
+      (c < length (classNames ds)) × (0 < length ps) × All (λ k. k < length (permissions ds c)) ps
+      × ConstraintIn e × (need e ≤ maxStack)
+
+-- the statements of p are as reading leaves them
+pub record Accepted (p : Policy) : Type 0 where
+  pub names : goodFrom [] (declarations p) ≡ true
+  pub statements : All (λ (l : Line). StatementIn (declarations p) (l .says)) p
+  pub few-transitions : length (transitions p) ≤ maxTransitions
+  pub few-constrains : length (constrains p) ≤ maxConstraints
+  pub few-rows : rowCount (constrains p) ≤ maxRows

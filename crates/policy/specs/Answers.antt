@@ -1,0 +1,68 @@
+-- What the enums of src/ stand for: document 01's numbers and values for each of their cases. Assumes nothing.
+use Prim.Native.Nat.{ℕ}
+use mathlib.Core.Bool.{Bool, true, false}
+use Rattle.policy.specs.declared.Family as theFamily
+use Rattle.policy.specs.declared.Sort as theSort
+use Rattle.policy.specs.declared.Compiling.{Compiling}
+use Rattle.policy.specs.declared.Validity.{Validity}
+use Rattle.policy.specs.declared.Change.{Change}
+use Rattle.policy.specs.declared.NewRole.{NewRole}
+use Rattle.policy.specs.declared.Place.{Place}
+use Rattle.policy.specs.Statements.{Family, users, roles, types, Sort, thingOf, attributeOf}
+use Rattle.policy.specs.Maxima.{maxOf, maxClasses, maxPermissions}
+use Rattle.policy.specs.Answer.{Answer, granted, denied, fails, refuses, unconsulted}
+use Rattle.policy.specs.Outcome.{Outcome, accepted, rejected}
+use Rattle.policy.specs.Questions.{Reply, answered, refused, Part}
+
+abbrev pub familyOf : theFamily.Family → Family
+familyOf theFamily.Family.Users = users
+familyOf theFamily.Family.Roles = roles
+familyOf theFamily.Family.Types = types
+
+-- "0 user, 1 role, 2 type, 3 to 5 their attributes, 6 class, 7 permission"
+abbrev pub sortNumber : theSort.Sort → ℕ
+sortNumber theSort.Sort.User = 0
+sortNumber theSort.Sort.Role = 1
+sortNumber theSort.Sort.Type = 2
+sortNumber theSort.Sort.UserAttribute = 3
+sortNumber theSort.Sort.RoleAttribute = 4
+sortNumber theSort.Sort.TypeAttribute = 5
+sortNumber theSort.Sort.Class = 6
+sortNumber theSort.Sort.Permission = 7
+
+-- "How many", by the sort
+abbrev pub mostOf : theSort.Sort → ℕ
+mostOf theSort.Sort.User = maxOf (thingOf users)
+mostOf theSort.Sort.Role = maxOf (thingOf roles)
+mostOf theSort.Sort.Type = maxOf (thingOf types)
+mostOf theSort.Sort.UserAttribute = maxOf (attributeOf users)
+mostOf theSort.Sort.RoleAttribute = maxOf (attributeOf roles)
+mostOf theSort.Sort.TypeAttribute = maxOf (attributeOf types)
+mostOf theSort.Sort.Class = maxClasses
+mostOf theSort.Sort.Permission = maxPermissions
+
+-- accepted with the length; refused with number and place
+abbrev pub compilingOf : Compiling → Outcome
+compilingOf (Compiling.Accepted n) = accepted n
+compilingOf (Compiling.Refused n at) = rejected n at
+
+-- 11 and 12 have the place 0
+abbrev pub validityOf : Validity → Reply Bool
+validityOf Validity.Valid = answered true
+validityOf Validity.NotValid = answered false
+validityOf (Validity.Refused n) = refused n 0
+
+-- "0 for denials 1 to 3 and for refusals"
+abbrev pub changeOf : Change → Answer
+changeOf (Change.Granted k) = record { verdict = granted; consulted = k }
+changeOf (Change.Denied n) = unconsulted (denied n)
+changeOf (Change.Failed i k) = record { verdict = fails i; consulted = k }
+changeOf (Change.Refused n) = unconsulted (refuses n 0)
+
+abbrev pub newRoleOf : NewRole → Reply ℕ
+newRoleOf (NewRole.Role r) = answered r
+newRoleOf (NewRole.Refused n) = refused n 0
+
+abbrev pub placeOf : Place → Reply Part
+placeOf (Place.Part s n) = answered (record { start = s; long = n })
+placeOf (Place.Refused n) = refused n 0

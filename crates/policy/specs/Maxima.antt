@@ -1,0 +1,31 @@
+-- Document 01, "How many": the maxima, each of the thing that it limits. Those of text, name and level are the lexer's. Assumes nothing.
+use Prim.Native.Nat.{ℕ}
+use Rattle.policy.specs.Statements.{Family, users, roles, types, Sort, thingOf, attributeOf}
+
+-- "Users 128, roles 128, types 512, attributes 64 per family"
+abbrev pub maxOf : Sort → ℕ
+maxOf (thingOf users) = 128
+maxOf (thingOf roles) = 128
+maxOf (thingOf types) = 512
+maxOf (attributeOf f) = 64
+
+-- "classes 32, permissions 32 per class"
+abbrev pub maxClasses : ℕ
+maxClasses = 32
+
+abbrev pub maxPermissions : ℕ
+maxPermissions = 32
+
+-- "transitions 128, constraints 128, constraint rows 2,048 in all"
+abbrev pub maxTransitions : ℕ
+maxTransitions = 128
+
+abbrev pub maxConstraints : ℕ
+maxConstraints = 128
+
+abbrev pub maxRows : ℕ
+maxRows = 2048
+
+-- "Stack need of E: .. At most 5"
+abbrev pub maxStack : ℕ
+maxStack = 5

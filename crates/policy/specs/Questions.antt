@@ -1,0 +1,148 @@
+-- Document 01, "Questions": the five questions on an image, and on the bytes of a table. Assumes nothing.
+use Prim.Native.Nat.{ℕ, zero, suc, _+_, _-_, _*_, _/_}
+use mathlib.Core.Bool.{Bool, true, false, not, _&&_, _||_, cond}
+use mathlib.Core.List.{List, [], _∷_, _++_}
+use mathlib.Core.Option.{Option, none, some}
+use lib.Dec.{eqb, ltb}
+use lib.ListN.{length, getD, take}
+use Rattle.bitset.specs.Relations.{joined}
+use Rattle.policy.specs.Basics.{Name}
+use Rattle.policy.specs.Statements.{Family, users, roles, types, Side, source, target, thingOf, attributeOf, count, classNames}
+use Rattle.policy.specs.Meaning.{Context, part, at}
+use Rattle.policy.specs.Answer.{Question, Verdict, refuses, Answer, unconsulted, firstFailing, decide, declaredContext, declaredQuestion, asksRole, roleMay}
+use Rattle.bitset.specs.Sets.{bit, member}
+use Rattle.policy.specs.Rows.{Row, View, run, top}
+use Rattle.policy.specs.Image.{Image, TransitionEntry, ConstraintEntry}
+use Rattle.policy.specs.Encode.{NameEntry, entries, entryBytes, bodies, firstBody}
+use Rattle.policy.specs.Sound.{imageIn, ofComp}
+
+-- an answer, or a refusal's number and place
+pub data Reply (A : Type 0) : Type 0 where
+  answered : A → Reply A
+  refused : ℕ → ℕ → Reply A
+
+-- whether n is in set k of a list of sets
+abbrev pub inSet : List (List ℕ) → ℕ → ℕ → Bool
+inSet ss k n = member (getD ss k []) n
+
+-- **Valid context**
+unfoldable pub validOf : Image → Context → Bool
+validOf i c = inSet (i .userRoles) (c .user) (c .role) && inSet (i .roleTypes) (c .role) (c .type)
+
+unfoldable pub valid : Image → Context → Reply Bool
+valid i c = cond (declaredContext (i .names) c) (answered (validOf i c)) (refused 12 0)
+
+-- the number of a component: u1 u2 r1 r2 t1 t2 as 0 to 5
+abbrev pub sideOf : Context → Context → ℕ → ℕ
+sideOf s t c = getD (s .user ∷ t .user ∷ s .role ∷ t .role ∷ s .type ∷ t .type ∷ []) c 0
+
+-- the sets of a family's attributes
+abbrev pub setsIn : Image → Family → List (List ℕ)
+setsIn i users = i .userSets
+setsIn i roles = i .roleSets
+setsIn i types = i .typeSets
+
+abbrev pub viewOf : Image → Context → Context → View
+viewOf i s t = record { side = sideOf s t; inset = λ c a n. inSet (setsIn i (ofComp c)) a n }
+
+-- a constraint names the class and permission; it holds
+abbrev pub entryNames : ℕ → ℕ → ConstraintEntry → Bool
+entryNames c k x = eqb (x .class) c && bit (x .mask) k
+
+abbrev pub entryHolds : Image → Context → Context → ConstraintEntry → Bool
+entryHolds i s t x = top (run (viewOf i s t) (x .rows) [])
+
+-- **Change**
+unfoldable pub change : Image → Question → Answer
+change i q = decide
+    (declaredQuestion (i .names) q)
+    (validOf i (q .source))
+    (validOf i (q .target))
+    (roleMay (asksRole (i .names) (q .class) (q .perm)) (q .source .role) (q .target .role) (inSet (i .roleRoles) (q .source .role) (q .target .role)))
+    (firstFailing (entryNames (q .class) (q .perm)) (entryHolds i (q .source) (q .target)) 0 (i .constraints))
+
+-- **New role**: "that of the first matching transition, else the role given"
+abbrev pub matches : ℕ → ℕ → ℕ → TransitionEntry → Bool
+matches r t c m = member (m .roles) r && member (m .types) t && eqb (m .class) c
+
+unfoldable pub firstTransition : ℕ → ℕ → ℕ → List TransitionEntry → ℕ
+firstTransition r t c [] = r
+firstTransition r t c (m ∷ ms) = cond (matches r t c m) (m .new) (firstTransition r t c ms)
+
+unfoldable pub newRole : Image → ℕ → ℕ → ℕ → Reply ℕ
+newRole i r t c =
+    cond (ltb r (count (thingOf roles) (i .names)) && ltb t (count (thingOf types) (i .names)) && ltb c (length (classNames (i .names))))
+    (answered (firstTransition r t c (i .transitions)))
+    (refused 12 0)
+
+-- a part of the lent table: its first byte's place and its length
+pub record Part : Type 0 where
+  pub start : ℕ
+  pub long : ℕ
+
+-- **Name of** a sort and number, among entries of which the first starts at o; the name follows an entry's four bytes
+unfoldable pub nameFrom : ℕ → ℕ → ℕ → List NameEntry → Reply Part
+nameFrom s n o [] = refused 12 0
+nameFrom s n o (e ∷ es) = cond (eqb (e .sort) s && eqb (e .number) n)
+    (answered (record { start = o + 4; long = length (e .name) }))
+    (nameFrom s n (o + length (entryBytes e)) es)
+
+unfoldable pub nameOf : Image → ℕ → ℕ → Reply Part
+nameOf i s n = nameFrom s n firstBody (entries (i .names))
+
+-- so many records of one width
+pub record Run : Type 0 where
+  pub many : ℕ
+  pub wide : ℕ
+
+abbrev pub runOf : ℕ → ℕ → Run
+runOf n w = record { many = n; wide = w }
+
+-- the records of the bodies 2 to 8; "in body 8 userattributes come first, then roleattributes, then typeattributes"
+abbrev pub records : Image → List (List Run)
+records i =
+    []
+    ∷ []
+    ∷ (runOf (length (i .userRoles)) 16 ∷ [])
+    ∷ (runOf (length (i .roleTypes)) 64 ∷ [])
+    ∷ (runOf (length (i .roleRoles)) 16 ∷ [])
+    ∷ (runOf (length (i .transitions)) 82 ∷ [])
+    ∷ (runOf (length (i .constraints)) 10 ∷ [])
+    ∷ (runOf (length (getD (bodies i) 6 []) / 6) 6 ∷ [])
+    ∷ (runOf (length (i .userSets)) 16 ∷ runOf (length (i .roleSets)) 16 ∷ runOf (length (i .typeSets)) 64 ∷ [])
+    ∷ []
+
+-- the record at a place among runs of which the first starts at o
+unfoldable pub recordFrom : ℕ → ℕ → List Run → Reply Part
+recordFrom k o [] = refused 12 0
+recordFrom k o (r ∷ rs) = cond (ltb k (r .many))
+    (answered (record { start = o + k * r .wide; long = r .wide }))
+    (recordFrom (k - r .many) (o + r .many * r .wide) rs)
+
+-- **Entry** of a body 2 to 8 and its place there; "no such body or entry is 12"
+unfoldable pub entryOf : Image → ℕ → ℕ → Reply Part
+entryOf i b k = recordFrom k (firstBody + length (joined (take (b - 1) (bodies i)))) (getD (records i) b [])
+
+-- "Each tries 11, then 12": a question on the bytes of a table
+abbrev pub asked : {A : Type 0} → (Image → Reply A) → Option Image → Reply A
+asked f none = refused 11 0
+asked f (some i) = f i
+
+unfoldable pub validOn : List ℕ → Context → Reply Bool
+validOn t c = asked (λ i. valid i c) (imageIn t)
+
+unfoldable pub newRoleOn : List ℕ → ℕ → ℕ → ℕ → Reply ℕ
+newRoleOn t r y c = asked (λ i. newRole i r y c) (imageIn t)
+
+unfoldable pub nameOn : List ℕ → ℕ → ℕ → Reply Part
+nameOn t s n = asked (λ i. nameOf i s n) (imageIn t)
+
+unfoldable pub entryOn : List ℕ → ℕ → ℕ → Reply Part
+entryOn t b k = asked (λ i. entryOf i b k) (imageIn t)
+
+abbrev pub changed : Question → Option Image → Answer
+changed q none = unconsulted (refuses 11 0)
+changed q (some i) = change i q
+
+unfoldable pub changeOn : List ℕ → Question → Answer
+changeOn t q = changed q (imageIn t)

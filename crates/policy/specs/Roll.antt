@@ -1,0 +1,49 @@
+-- Document 01, "The printed roll": what the program writes for a text. Assumes nothing.
+use Prim.Native.Nat.{ℕ, zero, suc, _+_, _*_, _/_, _%_}
+use mathlib.Core.Bool.{Bool, true, false, cond}
+use mathlib.Core.List.{List, [], _∷_, _++_}
+use mathlib.Core.Option.{Option, none, some}
+use lib.Dec.{ltb}
+use lib.ListN.{length, getD}
+use Rattle.lexer.specs.Spell.{bytes}
+use Rattle.bitset.specs.Relations.{joined}
+use Rattle.policy.specs.Basics.{Name}
+use Rattle.policy.specs.Statements.{users, roles, thingOf, namesOf}
+use Rattle.bitset.specs.Sets.{count}
+use Rattle.policy.specs.Image.{Image}
+use Rattle.policy.specs.Encode.{encode}
+use Rattle.policy.specs.Outcome.{Compiled, compiles, refuses, compiled}
+
+-- a number in decimal digits, at most k of them
+unfoldable pub digits : ℕ → ℕ → List ℕ
+digits zero n = []
+digits (suc k) n = elim (ltb n 10) [ true ↦ (48 + n) ∷ [] | false ↦ digits k (n / 10) ++ ((48 + n % 10) ∷ []) ]
+
+abbrev pub decimal : ℕ → List ℕ
+decimal n = digits 20 n
+
+-- `user u roles 1`: "each line says how many members its set has"
+abbrev pub rollLine : List ℕ → Name → List ℕ → List ℕ → List ℕ
+rollLine kind w of s = joined (kind ∷ w ∷ of ∷ decimal (count s) ∷ (10 ∷ []) ∷ [])
+
+unfoldable pub rollLines : List ℕ → List ℕ → List Name → List (List ℕ) → List ℕ
+rollLines kind of [] ss = []
+rollLines kind of (w ∷ ws) [] = []
+rollLines kind of (w ∷ ws) (s ∷ ss) = rollLine kind w of s ++ rollLines kind of ws ss
+
+-- "Users first, then roles, by number"
+unfoldable pub rollOf : Image → List ℕ
+rollOf i =
+    rollLines (bytes "user ") (bytes " roles ") (namesOf (thingOf users) (i .names)) (i .userRoles)
+    ++ rollLines (bytes "role ") (bytes " types ") (namesOf (thingOf roles) (i .names)) (i .roleTypes)
+
+-- "A refusal prints one line, as `refused 5 at 8`"; `accepted 264 bytes`, then the lines
+abbrev pub refusal : ℕ → ℕ → List ℕ
+refusal n at = joined (bytes "refused " ∷ decimal n ∷ bytes " at " ∷ decimal at ∷ (10 ∷ []) ∷ [])
+
+abbrev pub roll : Image → List ℕ
+roll i = joined (bytes "accepted " ∷ decimal (length (encode i)) ∷ bytes " bytes" ∷ (10 ∷ []) ∷ rollOf i ∷ [])
+
+-- "with a table memory of 65,536 bytes"
+unfoldable pub printed : List ℕ → List ℕ
+printed text = elim (compiled text 65536) [ refuses n at ↦ refusal n at | compiles i ↦ roll i ]

@@ -1,0 +1,100 @@
+-- Document 01's keywords and reserved words. Assumes nothing.
+use Prim.Native.Nat.{ℕ}
+use Prim.Native.String.{String}
+use mathlib.Core.Bool.{Bool, true, false, not, _&&_, _||_, cond}
+use mathlib.Core.List.{List, [], _∷_}
+use mathlib.Core.Option.{Option, none, some}
+use lib.Dec.{leb}
+use lib.ListN.{length}
+use Rattle.lexer.specs.Spell.{bytes}
+use Rattle.policy.specs.Basics.{Name, isIn, every, Under, lookup, given}
+use Rattle.policy.specs.Statements.{Family, users, roles, types, Sort, thingOf, attributeOf, Side, source, target, Op, eq, neq, dom, domby, incomp, Relation, userrole, roletype, roleallow}
+
+-- a word and its value
+abbrev pub _↦→_ : {A : Type 0} → String → A → Under A
+s ↦→ a = record { word = bytes s; value = a }
+
+infix 70 _↦→_
+-- "Reserved, never names of things"
+unfoldable pub reserved : List Name
+reserved =
+    bytes "all" ∷ bytes "and" ∷ bytes "or" ∷ bytes "xor" ∷ bytes "not" ∷ bytes "eq" ∷ bytes "neq" ∷ bytes "dom" ∷ bytes "domby" ∷ bytes "incomp"
+    ∷ bytes "u1" ∷ bytes "u2" ∷ bytes "u3" ∷ bytes "r1" ∷ bytes "r2" ∷ bytes "r3" ∷ bytes "t1" ∷ bytes "t2" ∷ bytes "t3"
+    ∷ bytes "l1" ∷ bytes "l2" ∷ bytes "h1" ∷ bytes "h2" ∷ []
+
+unfoldable pub isReserved : Name → Bool
+isReserved w = isIn w reserved
+
+-- "A reserved word where a name is asked for .. is fault 3"
+abbrev pub asName : Name → Option Name
+asName w = given (not (isReserved w)) w
+
+-- what a statement's first word says it is
+pub data Keyword : Type 0 where
+  declareK : Sort → Keyword
+  classK : Keyword
+  setK : Family → Keyword
+  relationK : Relation → Keyword
+  transitionK constrainK : Keyword
+
+unfoldable pub keywordOf : Name → Option Keyword
+keywordOf w = lookup w (
+    "user" ↦→ declareK (thingOf users)
+    ∷ "role" ↦→ declareK (thingOf roles)
+    ∷ "type" ↦→ declareK (thingOf types)
+    ∷ "userattribute" ↦→ declareK (attributeOf users)
+    ∷ "roleattribute" ↦→ declareK (attributeOf roles)
+    ∷ "typeattribute" ↦→ declareK (attributeOf types)
+    ∷ "class" ↦→ classK
+    ∷ "userattributeset" ↦→ setK users
+    ∷ "roleattributeset" ↦→ setK roles
+    ∷ "typeattributeset" ↦→ setK types
+    ∷ "userrole" ↦→ relationK userrole
+    ∷ "roletype" ↦→ relationK roletype
+    ∷ "roleallow" ↦→ relationK roleallow
+    ∷ "roletransition" ↦→ transitionK
+    ∷ "constrain" ↦→ constrainK
+    ∷ [])
+
+-- the operators of S and of E
+pub data Connective : Type 0 where
+  allC notC andC orC xorC : Connective
+
+unfoldable pub setWord : Name → Option Connective
+setWord w = lookup w ("all" ↦→ allC ∷ "not" ↦→ notC ∷ "and" ↦→ andC ∷ "or" ↦→ orC ∷ "xor" ↦→ xorC ∷ [])
+
+unfoldable pub expressionWord : Name → Option Connective
+expressionWord w = lookup w ("not" ↦→ notC ∷ "and" ↦→ andC ∷ "or" ↦→ orC ∷ [])
+
+-- "op: `eq neq`; rop: also `dom domby incomp`"
+unfoldable pub opOf : Name → Option Op
+opOf w = lookup w ("eq" ↦→ eq ∷ "neq" ↦→ neq ∷ "dom" ↦→ dom ∷ "domby" ↦→ domby ∷ "incomp" ↦→ incomp ∷ [])
+
+abbrev pub isPlain : Op → Bool
+isPlain eq = true
+isPlain neq = true
+isPlain dom = false
+isPlain domby = false
+isPlain incomp = false
+
+-- "x one of u1 u2 r1 r2 t1 t2"
+pub record Component : Type 0 where
+  pub family : Family
+  pub side : Side
+
+abbrev pub component : Family → Side → Component
+component f s = record { family = f; side = s }
+
+unfoldable pub componentOf : Name → Option Component
+componentOf w = lookup w (
+    "u1" ↦→ component users source ∷ "u2" ↦→ component users target
+    ∷ "r1" ↦→ component roles source ∷ "r2" ↦→ component roles target
+    ∷ "t1" ↦→ component types source ∷ "t2" ↦→ component types target
+    ∷ [])
+
+-- the words of denial 3
+abbrev pub process : Name
+process = bytes "process"
+
+abbrev pub transitionWords : List Name
+transitionWords = bytes "transition" ∷ bytes "dyntransition" ∷ []

@@ -1,0 +1,9 @@
+pub mod Refused0
+pub mod Refused1
+pub mod Refused2
+pub mod Refused3
+pub mod Refused4
+pub mod Accepted0
+pub mod Accepted1
+pub mod Accepted2
+pub mod Accepted3

@@ -1,0 +1,53 @@
+-- A statement that is judged good has the facts that faults 3 to 7 leave: it is of what is declared before, what it declares is new and
+-- has good names, and it has room. The law follows the order of the faults. Assumes nothing.
+use Prim.Native.Nat.{ℕ}
+use native.Mathlib.Omega.{arith}
+use mathlib.Core.Path.{_≡_, refl, subst}
+use mathlib.Core.Bool.{Bool, true, false, cond}
+use mathlib.Core.Option.{Option, none, some}
+use Rattle.lexer.specs.Forms.{Forms, namesGood}
+use Rattle.policy.specs.Statements.{Statement, Written, Policy, declarations}
+use Rattle.policy.specs.Reading.{again, resolved, fits, shallow, Judged, reads, fault, sized, resolving, naming, judge}
+use Rattle.policy.specs.Grammar.{written}
+use Rattle.policy.specs.Accepted.{StatementIn}
+use Rattle.reading_laws.proofs.IfAny.{IfAny}
+use Rattle.reading_laws.proofs.Resolving.{WellWritten, Declares, Resolved, resolved-in}
+use Rattle.reading_laws.proofs.Written.{written-well}
+
+-- a property of the statement that is read, if one is
+pub record IfReads (P : Statement → Type 0) (j : Judged) : Type 0 where
+  pub has : (s : Statement) → j ≡ reads s → P s
+
+faulty : {P : Statement → Type 0} (n : ℕ) → IfReads P (fault n)
+faulty n = record { has = λ s e. let z : _≡_ {A = ℕ} 0 1 = cc in absurd (omega arith) }
+
+-- a statement after p, with faults 3 to 7 ruled out
+pub record Passes (p : Policy) (s : Statement) : Type 0 where
+  pub inside : StatementIn (declarations p) s
+  pub declares : Declares (declarations p) s
+  pub room : fits p s ≡ true
+
+module _ (p : Policy) where
+  sized-passes : (s : Statement) → Resolved (declarations p) s → IfReads (Passes p) (sized p s)
+  sized-passes s h = go (fits p s) (shallow s) refl refl
+    where
+      go : (a b : Bool) → fits p s ≡ a → shallow s ≡ b → IfReads (Passes p) (cond a (cond b (reads s) (fault 7)) (fault 6))
+      go false b e k = faulty 6
+      go true false e k = faulty 7
+      go true true e k = record { has = λ t i. let same : s ≡ t = cc in subst (Passes p) same (record { inside = h .0 k; declares = h .1; room = e }) }
+
+  resolving-passes : (o : Option Statement) → IfAny (Resolved (declarations p)) o → IfReads (Passes p) (resolving p o)
+  resolving-passes none h = faulty 5
+  resolving-passes (some s) h = sized-passes s (h .has s refl)
+
+  naming-passes : (o : Option Written) → IfAny WellWritten o → IfReads (Passes p) (naming p o)
+  naming-passes none h = faulty 3
+  naming-passes (some w) h = go (again (declarations p) w) refl
+    where
+      go : (b : Bool) → again (declarations p) w ≡ b → IfReads (Passes p) (elim b [ true ↦ fault 4 | false ↦ resolving p (resolved (declarations p) w) ])
+      go true e = faulty 4
+      go false e = resolving-passes _ (resolved-in (declarations p) w (h .has w refl) e)
+
+  pub judge-passes : (f : Forms) → namesGood f ≡ true → IfReads (Passes p) (judge p f)
+  unfolding judge
+  judge-passes f h = naming-passes (written f) (written-well f h)

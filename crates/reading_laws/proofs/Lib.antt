@@ -1,0 +1,12 @@
+pub mod FaultOrder
+pub mod Growing
+pub mod IfAny
+pub mod Judging
+pub mod LongerText
+pub mod OneMore
+pub mod OpensAt
+pub mod ReadAccepted
+pub mod ReadThen
+pub mod Resolving
+pub mod TextThen
+pub mod Written

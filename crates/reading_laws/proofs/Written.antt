@@ -1,0 +1,143 @@
+-- What the form of a statement gives of it, where every word of the text is a name: FAULT 3's other side. Names that are declared are good,
+-- a class and a constrain have a permission at least, operators are those that the forms allow. Each law follows the definition of the
+-- grammar that it speaks of. Assumes nothing.
+use Prim.Native.Nat.{_<_, zero-le, suc-le-suc}
+use native.Mathlib.Nat.{not-suc-le-zero}
+use mathlib.Core.Path.{_≡_, refl}
+use mathlib.Core.Bool.{true, not, _||_}
+use mathlib.Core.List.{List, [], _∷_}
+use mathlib.Core.Option.{Option, none, some}
+use lib.ListN.{length}
+use Rattle.lexer.specs.Class.{isName}
+use Rattle.lexer.specs.Forms.{Forms, closed, ended, word, part, namesGood}
+use Rattle.policy.specs.Basics.{Name, every}
+use Rattle.policy.specs.Words.{isReserved, asName, Keyword, declareK, classK, setK, relationK, transitionK, constrainK, Connective, allC, notC, andC, orC, xorC, keywordOf, expressionWord, opOf, isPlain, Component, componentOf}
+use Rattle.policy.specs.Grammar.{setIn, areSides, isRoles, compared, atClose, wordThen, partThen, twoWords, wordAndPart, comparison, formE, connected, expressions, expressionIn, namesIn, oneOrMore, classIn, ofFour, formed, written}
+use Rattle.policy.specs.Statements.{Op, Constraint, notE, andE, orE}
+use Rattle.policy.specs.Sound.{isGood, someGood}
+use Rattle.policy.specs.Accepted.{All}
+use Rattle.policy.proofs.Lists.{both-true, true-both}
+use Rattle.reading_laws.proofs.IfAny.{IfAny, nothing, just, and-then, whatever, if-given, if-one, if-two, if-more}
+use Rattle.reading_laws.proofs.Resolving.{Allowed, WellWritten}
+
+abbrev GoodName : Name → Type 0
+GoodName w = isGood w ≡ true
+
+-- NAMES
+name-good : (w : Name) → isName w ≡ true → IfAny GoodName (asName w)
+name-good w h = if-given (not (isReserved w)) w (true-both (isName w) (not (isReserved w)) h)
+
+names-good : (f : Forms) → namesGood f ≡ true → IfAny (All GoodName) (namesIn f)
+unfolding namesIn namesGood
+names-good closed h = just tt
+names-good ended h = nothing
+names-good (word at w r) h = let b = both-true (isName w) (namesGood r) h in if-more _ _ (name-good w (b .0)) (names-good r (b .1))
+names-good (part p i r) h = nothing
+
+one-or-more : (ps : List Name) → All GoodName ps → IfAny (λ qs. (0 < length qs) × All GoodName qs) (oneOrMore ps)
+one-or-more [] h = nothing
+one-or-more (p ∷ ps) h = just (suc-le-suc zero-le, h)
+
+every-good : (ps : List Name) → All GoodName ps → every isGood ps ≡ true
+unfolding every
+every-good [] h = refl
+every-good (p ∷ ps) h = true-both (isGood p) (every isGood ps) (h .0) (every-good ps (h .1))
+
+some-good : (ps : List Name) → 0 < length ps → All GoodName ps → someGood ps ≡ true
+some-good [] l h = absurd (not-suc-le-zero l)
+some-good (p ∷ ps) l h = every-good (p ∷ ps) h
+
+-- ROWS
+module _ {A : Type 0} {P : A → Type 0} where
+  word-then : (f : Forms) (g : Name → Forms → Option A)
+      → ((w : Name) (r : Forms) → (namesGood f ≡ true → (isName w ≡ true) × (namesGood r ≡ true)) → IfAny P (g w r)) → IfAny P (wordThen f g)
+  unfolding namesGood
+  word-then closed g k = nothing
+  word-then ended g k = nothing
+  word-then (word at w r) g k = k w r (both-true (isName w) (namesGood r))
+  word-then (part p i r) g k = nothing
+
+  part-then : (f : Forms) (g : Forms → Forms → Option A)
+      → ((i r : Forms) → (namesGood f ≡ true → (namesGood i ≡ true) × (namesGood r ≡ true)) → IfAny P (g i r)) → IfAny P (partThen f g)
+  unfolding namesGood
+  part-then closed g k = nothing
+  part-then ended g k = nothing
+  part-then (word at w r) g k = nothing
+  part-then (part p i r) g k = k i r (both-true (namesGood i) (namesGood r))
+
+  at-close : (f : Forms) (o : Option A) → IfAny P o → IfAny P (atClose f o)
+  at-close closed o h = h
+  at-close ended o h = nothing
+  at-close (word at w r) o h = nothing
+  at-close (part p i r) o h = nothing
+
+  two-words : (f : Forms) (g : Name → Name → Option A) → ((v w : Name) → IfAny P (g v w)) → IfAny P (twoWords f g)
+  two-words f g k = word-then f _ λ v r _. word-then r _ λ w r _. at-close r _ (k v w)
+
+  word-and-part : (f : Forms) (g : Name → Forms → Option A) → namesGood f ≡ true
+      → ((w : Name) (i : Forms) → isName w ≡ true → namesGood i ≡ true → IfAny P (g w i)) → IfAny P (wordAndPart f g)
+  word-and-part f g h k = word-then f _ λ w r a. part-then r _ λ i r b. at-close r _ (k w i (a h .0) (b (a h .1) .0))
+
+  class-in : (f : Forms) (g : Name → List Name → Option A) → namesGood f ≡ true
+      → ((c : Name) (ps : List Name) → GoodName c → 0 < length ps → All GoodName ps → IfAny P (g c ps)) → IfAny P (classIn f g)
+  class-in f g h k = word-and-part f _ h λ c i a b.
+      and-then _ _ (name-good c a) λ c good. and-then _ _ (names-good i b) λ ps each. and-then _ _ (one-or-more ps each) λ ps both. k c ps good (both .0) (both .1)
+
+-- EXPRESSIONS
+compared-allowed : (o : Op) (x : Component) (w : Name) (c : Option Component) → IfAny Allowed (compared o x w c)
+compared-allowed o x w none = whatever (asName w) _ λ n. if-given (isPlain o) _ λ h. h
+compared-allowed o x w (some y) = if-given _ _ λ h. both-true (areSides x y) (isPlain o || isRoles (x .family)) h .1
+
+comparison-allowed : (w : Name) (f : Forms) → IfAny Allowed (comparison w f)
+comparison-allowed w f = whatever (opOf w) _ λ o. two-words f _ λ v w. whatever (componentOf v) _ λ x. compared-allowed o x w (componentOf w)
+
+form-allowed : (c : Connective) (xs : List (Constraint Name)) → All Allowed xs → IfAny Allowed (formE c xs)
+form-allowed allC xs h = nothing
+form-allowed notC xs h = if-one notE xs h λ a i. i
+form-allowed andC xs h = if-two andE xs h λ a b i j. (i, j)
+form-allowed orC xs h = if-two orE xs h λ a b i j. (i, j)
+form-allowed xorC xs h = nothing
+
+connected-allowed : (w : Name) (f : Forms) (c : Option Connective) (es : Option (List (Constraint Name))) → IfAny (All Allowed) es → IfAny Allowed (connected w f c es)
+connected-allowed w f none es h = comparison-allowed w f
+connected-allowed w f (some c) es h = and-then es _ h (form-allowed c)
+
+mutual
+  unfolding expressions
+
+  expressions-allowed : (f : Forms) → IfAny (All Allowed) (expressions f)
+  expressions-allowed closed = just tt
+  expressions-allowed ended = nothing
+  expressions-allowed (word at w r) = nothing
+  expressions-allowed (part p i r) = if-more _ _ (expression-allowed i) (expressions-allowed r)
+
+  expression-allowed : (f : Forms) → IfAny Allowed (expressionIn f)
+  expression-allowed closed = nothing
+  expression-allowed ended = nothing
+  expression-allowed (word at w r) = connected-allowed w r (expressionWord w) (expressions r) (expressions-allowed r)
+  expression-allowed (part p i r) = nothing
+
+-- STATEMENTS
+four-well : (ws : List Name) → IfAny WellWritten (ofFour ws)
+four-well [] = nothing
+four-well (r ∷ []) = nothing
+four-well (r ∷ t ∷ []) = nothing
+four-well (r ∷ t ∷ c ∷ []) = nothing
+four-well (r ∷ t ∷ c ∷ n ∷ []) = just tt
+four-well (r ∷ t ∷ c ∷ n ∷ x ∷ xs) = nothing
+
+formed-well : (k : Keyword) (f : Forms) → namesGood f ≡ true → IfAny WellWritten (formed k f)
+formed-well (declareK s) f h = and-then _ _ (names-good f h) λ ws g. if-one _ ws g λ w i. i
+formed-well classK f h = class-in f _ h λ c ps good one each. just (true-both (isGood c) (someGood ps) good (some-good ps one each))
+formed-well (setK a) f h = word-and-part f _ h λ w i _ _. whatever (asName w) _ λ w. whatever (setIn i) _ λ s. just tt
+formed-well (relationK r) f h = and-then _ _ (names-good f h) λ ws g. if-two _ ws g λ x y _ _. tt
+formed-well transitionK f h = whatever (namesIn f) _ four-well
+formed-well constrainK f h = part-then f _ λ i r a. part-then r _ λ j r _. at-close r _
+    (class-in i _ (a h .0) λ c ps _ one _. and-then _ _ (expression-allowed j) λ e ok. just (one, ok))
+
+pub written-well : (f : Forms) → namesGood f ≡ true → IfAny WellWritten (written f)
+unfolding namesGood
+written-well closed h = nothing
+written-well ended h = nothing
+written-well (part p i r) h = nothing
+written-well (word at w r) h = whatever (keywordOf w) _ λ k. formed-well k r (both-true (isName w) (namesGood r) h .1)

@@ -1,0 +1,55 @@
+-- The rows of body 7 are dealt out to the constraints of body 6 as they were taken up, and only so. By induction on the constraints.
+-- Assumes nothing.
+use Prim.Native.Nat.{ℕ, _+_}
+use mathlib.Core.Path.{_≡_, refl, sym, ap, _∙_, subst}
+use mathlib.Core.Bool.{_&&_}
+use mathlib.Core.List.{List, [], _∷_, _++_}
+use mathlib.Core.Option.{some, Option·none-ne-some, Option·some-injective}
+use lib.Dec.{eqb, leb}
+use lib.ListN.{length, take, drop, take-append-drop}
+use lib.Seq.{take-append-seam, drop-append-seam, length-take-le}
+use borrow.Author.Tests.{eq-eqb, le-leb, eqb-true, leb-true}
+use Rattle.bitset.specs.Relations.{joined}
+use Rattle.policy.specs.Basics.{more, each}
+use Rattle.policy.specs.Rows.{Row}
+use Rattle.policy.specs.Image.{ConstraintEntry}
+use Rattle.policy.specs.Encode.{ConstraintHead, headsFrom}
+use Rattle.policy.specs.Sound.{assignRows}
+use Rattle.policy.proofs.Lists.{both-true}
+use Rattle.table_laws.proofs.ListLaws.{if-some, more-after}
+use Rattle.table_laws.proofs.LayoutLaws.{fits}
+
+abbrev pub rowsIn : List ConstraintEntry → List Row
+rowsIn cs = joined (each (λ (c : ConstraintEntry). c .rows) cs)
+
+pub assign-back : (r : ℕ) (cs : List ConstraintEntry) → assignRows r (headsFrom r cs) (rowsIn cs) ≡ some cs
+unfolding assignRows headsFrom joined each
+assign-back r [] = refl
+assign-back r (c ∷ cs) =
+    rw (
+      eq-eqb r r refl,
+      le-leb (length (c .rows)) (length (c .rows ++ rowsIn cs)) (fits (c .rows) (rowsIn cs)),
+      take-append-seam (c .rows) (rowsIn cs),
+      drop-append-seam (c .rows) (rowsIn cs),
+      assign-back (r + length (c .rows)) cs,
+    )
+
+pub assign-only : (r : ℕ) (hs : List ConstraintHead) (rs : List Row) (cs : List ConstraintEntry) → assignRows r hs rs ≡ some cs
+    → (headsFrom r cs ≡ hs) × (rowsIn cs ≡ rs)
+unfolding assignRows headsFrom joined each
+assign-only r [] [] cs e = subst (λ (cs : List ConstraintEntry). (headsFrom r cs ≡ []) × (rowsIn cs ≡ [])) (Option·some-injective [] cs e) (refl, refl)
+assign-only r [] (x ∷ xs) cs e = absurd (Option·none-ne-some cs e)
+assign-only r (h ∷ hs) rs cs e =
+    let c : ConstraintEntry = record { class = h .class; mask = h .mask; rows = take (h .rows) rs } in
+    let g = if-some (eqb (h .first) r && leb (h .rows) (length rs)) (more (some c) (assignRows (r + h .rows) hs (drop (h .rows) rs))) cs e in
+    let t = both-true (eqb (h .first) r) (leb (h .rows) (length rs)) (g .0) in
+    let m = more-after c (assignRows (r + h .rows) hs (drop (h .rows) rs)) cs (g .1) in
+    let after = assign-only (r + h .rows) hs (drop (h .rows) rs) (m .0) (m .1) in
+    subst (λ (cs : List ConstraintEntry). (headsFrom r cs ≡ h ∷ hs) × (rowsIn cs ≡ rs)) (sym (m .2)) (
+      put (m .0) (eqb-true (h .first) r (t .0)) (length-take-le (h .rows) rs (leb-true (h .rows) (length rs) (t .1))) (after .0),
+      ap (λ (xs : List Row). take (h .rows) rs ++ xs) (after .1) ∙ take-append-drop (h .rows) rs,
+    )
+  where
+    put : (cs : List ConstraintEntry) → h .first ≡ r → length (take (h .rows) rs) ≡ h .rows → headsFrom (r + h .rows) cs ≡ hs
+        → record { class = h .class; mask = h .mask; first = r; rows = length (take (h .rows) rs) } ∷ headsFrom (r + length (take (h .rows) rs)) cs ≡ h ∷ hs
+    put cs f l e = λ i. record { class = h .class; mask = h .mask; first = sym f i; rows = l i } ∷ (ap (λ (n : ℕ). headsFrom (r + n) cs) l ∙ e) i

@@ -1,0 +1,163 @@
+-- The question entry shows the entry of the image: a set, a transition, a constraint's head, a row. One law over runs of records, by
+-- induction on the runs. Assumes nothing.
+use Prim.Native.Nat.{ℕ, zero, suc, _+_, _-_, _*_, _/_, _<_}
+use native.Mathlib.Omega.{arith}
+use native.Mathlib.Nat.{suc-mul, zero-mul, zero-add, suc-add}
+use mathlib.Core.Path.{_≡_, refl, sym, ap, _∙_}
+use mathlib.Core.Bool.{Bool, true, false, cond}
+use mathlib.Core.List.{List, [], _∷_, _++_, append-assoc, append-nil}
+use mathlib.Core.Option.{some}
+use lib.Dec.{ltb}
+use lib.ListN.{length, getD, getElem?, take, drop, length-append, take-append-drop}
+use lib.Seq.{take-at, drop-at, drop-drop, drop-cons}
+use borrow.Author.Tests.{ltb-true, ltb-false}
+use Rattle.bitset.specs.Relations.{joined}
+use Rattle.policy.specs.Basics.{each, le}
+use Rattle.policy.specs.Image.{Image}
+use Rattle.policy.specs.Encode.{transitionBytes, headBytes, headsFrom, rowBytes, bodies, pairs, layout, encode}
+use Rattle.policy.specs.Sound.{wellFormed}
+use Rattle.policy.specs.Questions.{answered, Run, runOf, recordFrom, entryOf}
+use Rattle.policy.proofs.Lists.{joined-append, each-length}
+use Rattle.table_laws.specs.SoundTable.{allRows}
+use Rattle.table_laws.specs.Shown.{shown, orTwelve, recordsIn}
+use Rattle.table_laws.proofs.LayoutLaws.{pairs-length}
+use Rattle.table_laws.proofs.Pieces.{Wide, wide-length}
+use Rattle.table_laws.proofs.Records.{head-wide, row-wide}
+use Rattle.table_laws.proofs.ImageReadBack.{every-wide, transitions-wide}
+use Rattle.table_laws.proofs.Lengths.{heads-length}
+use Rattle.table_laws.proofs.WellFormedLaid.{widths}
+
+-- part k of parts of one width
+piece-at : (w : ℕ) (ss : List (List ℕ)) → Wide w ss → (k : ℕ) → k < length ss → (rest : List ℕ) → take w (drop (k * w) (joined ss ++ rest)) ≡ getD ss k []
+unfolding joined
+piece-at w [] h k l rest = absurd (omega arith)
+piece-at w (s ∷ ss) h zero l rest = rw (zero-mul w, append-assoc s (joined ss) rest) (take-at s (joined ss ++ rest) w (h .0))
+piece-at w (s ∷ ss) h (suc k) l rest =
+    rw (turned k w, append-assoc s (joined ss) rest, ← drop-drop (k * w) w (s ++ (joined ss ++ rest)), drop-at s (joined ss ++ rest) w (h .0))
+    (piece-at w ss (h .1) k (omega arith) rest)
+  where
+    turned : (k w : ℕ) → suc k * w ≡ w + k * w
+    turned k w = omega (arith, suc-mul k w)
+
+-- element k of two lists
+module _ {A : Type 0} where
+  in-left : (xs ys : List A) (k : ℕ) (d : A) → k < length xs → getElem? (xs ++ ys) k ≡ some (getD xs k d)
+  in-left [] ys k d h = absurd (omega arith)
+  in-left (x ∷ xs) ys zero d h = refl
+  in-left (x ∷ xs) ys (suc k) d h = in-left xs ys k d (omega arith)
+
+  in-right : (xs ys : List A) (k : ℕ) → getElem? (xs ++ ys) (length xs + k) ≡ getElem? ys k
+  in-right [] ys k = rw zero-add
+  in-right (x ∷ xs) ys k = rw suc-add (in-right xs ys k)
+
+-- runs that say how many records there are in each group, and how wide
+abbrev Runs : List Run → List (List (List ℕ)) → Type 0
+Runs [] [] = Unit {0}
+Runs [] (g ∷ gs) = ⊥
+Runs (r ∷ rs) [] = ⊥
+Runs (r ∷ rs) (g ∷ gs) = (r .many ≡ length g) × Wide (r .wide) g × Runs rs gs
+
+record-shown : (rs : List Run) (gs : List (List (List ℕ))) → Runs rs gs → (k o : ℕ) (t rest : List ℕ) → drop o t ≡ joined (each joined gs) ++ rest
+    → shown t (recordFrom k o rs) ≡ orTwelve (getElem? (joined gs) k)
+unfolding recordFrom joined each
+record-shown [] [] h k o t rest e = refl
+record-shown [] (g ∷ gs) h k o t rest e = absurd h
+record-shown (r ∷ rs) [] h k o t rest e = absurd h
+record-shown (r ∷ rs) (g ∷ gs) h k o t rest e =
+    by (ltb k (r .many)) refl
+    (λ j. record-shown rs gs (h .2) j (o + r .many * r .wide) t rest)
+  where
+    front : drop o t ≡ joined g ++ (joined (each joined gs) ++ rest)
+    front = e ∙ append-assoc (joined g) (joined (each joined gs)) rest
+
+    behind : drop (o + r .many * r .wide) t ≡ joined (each joined gs) ++ rest
+    behind = sym (drop-drop (r .many * r .wide) o t) ∙ ap (drop (r .many * r .wide)) front
+        ∙ drop-at (joined g) (joined (each joined gs) ++ rest) (r .many * r .wide) (wide-length (r .wide) g (h .1) ∙ ap (λ (n : ℕ). n * r .wide) (sym (h .0)))
+
+    by : (b : Bool) → ltb k (r .many) ≡ b
+        → ((j : ℕ) → drop (o + r .many * r .wide) t ≡ joined (each joined gs) ++ rest → shown t (recordFrom j (o + r .many * r .wide) rs) ≡ orTwelve (getElem? (joined gs) j))
+        → shown t (cond b (answered (record { start = o + k * r .wide; long = r .wide })) (recordFrom (k - r .many) (o + r .many * r .wide) rs)) ≡ orTwelve (getElem? (g ++ joined gs) k)
+    by true q after =
+        let l = ltb-true k (r .many) q in
+        rw (
+          in-left g (joined gs) k [] (omega (arith, h .0)),
+          ← drop-drop (k * r .wide) o t,
+          front,
+          piece-at (r .wide) g (h .1) k (omega (arith, h .0)) (joined (each joined gs) ++ rest),
+        )
+    by false q after =
+        let l = ltb-false k (r .many) q in
+        let whole : k ≡ length g + (k - r .many) = omega (arith, h .0) in
+        after (k - r .many) behind ∙ ap orTwelve (sym (in-right g (joined gs) (k - r .many)) ∙ ap (getElem? (g ++ joined gs)) (sym whole))
+
+-- body k stands behind the 68 bytes and the bodies before it
+pub layout-at : (bs : List (List ℕ)) (rest : List ℕ) (k : ℕ) → length bs ≡ 8 → k < 8
+    → drop (68 + length (joined (take k bs))) (layout bs ++ rest) ≡ getD bs k [] ++ (joined (drop (suc k) bs) ++ rest)
+unfolding joined le
+layout-at bs rest k h l =
+    ap (drop (68 + length (joined (take k bs)))) whole
+    ∙ drop-at (front ++ joined (take k bs)) (getD bs k [] ++ (joined (drop (suc k) bs) ++ rest)) (68 + length (joined (take k bs))) long
+  where
+    front : List ℕ
+    front = le 2 1 ++ (le 2 8 ++ pairs 68 bs)
+
+    long : length (front ++ joined (take k bs)) ≡ 68 + length (joined (take k bs))
+    long = omega (arith, h, length-append (pairs 68 bs) (joined (take k bs)), pairs-length bs 68)
+
+    cut : joined bs ≡ joined (take k bs) ++ (getD bs k [] ++ joined (drop (suc k) bs))
+    cut = ap joined (sym (take-append-drop k bs)) ∙ joined-append (take k bs) (drop k bs)
+        ∙ ap (λ (r : List (List ℕ)). joined (take k bs) ++ joined r) (drop-cons bs k [] (omega (arith, h)))
+
+    whole : layout bs ++ rest ≡ (front ++ joined (take k bs)) ++ (getD bs k [] ++ (joined (drop (suc k) bs) ++ rest))
+    whole = ap (λ (r : List ℕ). (le 2 1 ++ (le 2 8 ++ (pairs 68 bs ++ r))) ++ rest) cut ∙ simp append-assoc
+
+module _ (i : Image) (h : wellFormed i ≡ true) (rest : List ℕ) where
+  -- a body that is the groups' records, one after the other
+  body-shown : (b : ℕ) → b < 8 → (rs : List Run) (gs : List (List (List ℕ))) → Runs rs gs → getD (bodies i) b [] ≡ joined (each joined gs) → (k : ℕ)
+      → shown (encode i ++ rest) (recordFrom k (68 + length (joined (take b (bodies i)))) rs) ≡ orTwelve (getElem? (joined gs) k)
+  unfolding encode bodies
+  body-shown b l rs gs r e k =
+      record-shown rs gs r k (68 + length (joined (take b (bodies i)))) (encode i ++ rest) (joined (drop (suc b) (bodies i)) ++ rest)
+      (layout-at (bodies i) rest b refl l ∙ ap (λ (x : List ℕ). x ++ (joined (drop (suc b) (bodies i)) ++ rest)) e)
+
+  -- a body of one run
+  one-run : (b : ℕ) → b < 8 → (n w : ℕ) (g : List (List ℕ)) → n ≡ length g → Wide w g → getD (bodies i) b [] ≡ joined g → (k : ℕ)
+      → shown (encode i ++ rest) (recordFrom k (68 + length (joined (take b (bodies i)))) (runOf n w ∷ [])) ≡ orTwelve (getElem? g k)
+  unfolding joined each
+  one-run b l n w g m wide e k =
+      body-shown b l (runOf n w ∷ []) (g ∷ []) (m, wide, tt) (e ∙ sym (append-nil (joined g))) k ∙ ap (λ (r : List (List ℕ)). orTwelve (getElem? r k)) (append-nil g)
+
+  last-body : joined (i .userSets) ++ (joined (i .roleSets) ++ joined (i .typeSets)) ≡ joined (each joined (i .userSets ∷ i .roleSets ∷ i .typeSets ∷ []))
+  unfolding joined each
+  last-body = rw (append-nil (joined (i .typeSets)))
+
+  last-records : joined (i .userSets ∷ i .roleSets ∷ i .typeSets ∷ []) ≡ i .userSets ++ (i .roleSets ++ i .typeSets)
+  unfolding joined
+  last-records = rw (append-nil (i .typeSets))
+
+  row-count : length (joined (each rowBytes (allRows i))) / 6 ≡ length (each rowBytes (allRows i))
+  row-count = let wide = wide-length 6 (each rowBytes (allRows i)) (every-wide 6 rowBytes row-wide (allRows i)) in omega arith
+
+  -- THE ENTRY SHOWN IS THE IMAGE'S, whatever stands behind the table; and where there is none the answer is 12
+  pub entry-shown : (b k : ℕ) → shown (encode i ++ rest) (entryOf i b k) ≡ orTwelve (getElem? (recordsIn i b) k)
+  unfolding entryOf recordsIn recordFrom bodies
+  entry-shown zero k = refl
+  entry-shown (suc zero) k = refl
+  entry-shown (suc (suc zero)) k = one-run 1 (omega arith) (length (i .userRoles)) 16 (i .userRoles) refl (widths i h .userRoles) refl k
+  entry-shown (suc (suc (suc zero))) k = one-run 2 (omega arith) (length (i .roleTypes)) 64 (i .roleTypes) refl (widths i h .roleTypes) refl k
+  entry-shown (suc (suc (suc (suc zero)))) k = one-run 3 (omega arith) (length (i .roleRoles)) 16 (i .roleRoles) refl (widths i h .roleRoles) refl k
+  entry-shown (suc (suc (suc (suc (suc zero))))) k =
+      one-run 4 (omega arith) (length (i .transitions)) 82 (each transitionBytes (i .transitions)) (sym (each-length transitionBytes (i .transitions)))
+      (transitions-wide (i .transitions) (widths i h .transitions)) refl k
+  entry-shown (suc (suc (suc (suc (suc (suc zero)))))) k =
+      one-run 5 (omega arith) (length (i .constraints)) 10 (each headBytes (headsFrom 0 (i .constraints)))
+      (sym (each-length headBytes (headsFrom 0 (i .constraints)) ∙ heads-length 0 (i .constraints)))
+      (every-wide 10 headBytes head-wide (headsFrom 0 (i .constraints))) refl k
+  entry-shown (suc (suc (suc (suc (suc (suc (suc zero))))))) k =
+      one-run 6 (omega arith) (length (joined (each rowBytes (allRows i))) / 6) 6 (each rowBytes (allRows i)) row-count (every-wide 6 rowBytes row-wide (allRows i)) refl k
+  entry-shown (suc (suc (suc (suc (suc (suc (suc (suc zero)))))))) k =
+      body-shown 7 (omega arith) (runOf (length (i .userSets)) 16 ∷ runOf (length (i .roleSets)) 16 ∷ runOf (length (i .typeSets)) 64 ∷ [])
+      (i .userSets ∷ i .roleSets ∷ i .typeSets ∷ [])
+      (refl, widths i h .userSets, (refl, widths i h .roleSets, (refl, widths i h .typeSets, tt))) last-body k
+      ∙ ap (λ (r : List (List ℕ)). orTwelve (getElem? r k)) last-records
+  entry-shown (suc (suc (suc (suc (suc (suc (suc (suc (suc b))))))))) k = refl

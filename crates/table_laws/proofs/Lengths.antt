@@ -1,0 +1,72 @@
+-- How long a table is: 68 bytes, and each body by the width of its entries. Assumes nothing.
+use Prim.Native.Nat.{ℕ, suc, _+_, _*_}
+use native.Mathlib.Omega.{arith}
+use mathlib.Core.Path.{_≡_, refl, ap, ap₂, _∙_}
+use mathlib.Core.List.{List, [], _∷_, _++_}
+use lib.ListN.{length, length-append}
+use Rattle.bitset.specs.Relations.{joined}
+use Rattle.policy.specs.Basics.{each, le}
+use Rattle.policy.specs.Accepted.{All}
+use Rattle.policy.specs.Image.{Image, ConstraintEntry}
+use Rattle.policy.specs.Encode.{entries, entryBytes, transitionBytes, headBytes, headsFrom, rowBytes, bodies, pairs, encode}
+use Rattle.policy.proofs.Lists.{each-length}
+use Rattle.table_laws.specs.SoundTable.{allRows, tableLength}
+use Rattle.table_laws.proofs.LayoutLaws.{pairs-length}
+use Rattle.table_laws.proofs.Pieces.{Wide, wide-length}
+use Rattle.table_laws.proofs.Records.{WideTransition, head-wide, row-wide}
+use Rattle.table_laws.proofs.ImageReadBack.{every-wide, transitions-wide}
+use Rattle.table_laws.proofs.NamesRoom.{names-length}
+
+-- the sets of an image have their widths
+pub record Widths (i : Image) : Type 0 where
+  pub userRoles : Wide 16 (i .userRoles)
+  pub roleTypes : Wide 64 (i .roleTypes)
+  pub roleRoles : Wide 16 (i .roleRoles)
+  pub transitions : All WideTransition (i .transitions)
+  pub userSets : Wide 16 (i .userSets)
+  pub roleSets : Wide 16 (i .roleSets)
+  pub typeSets : Wide 64 (i .typeSets)
+
+pub heads-length : (r : ℕ) (cs : List ConstraintEntry) → length (headsFrom r cs) ≡ length cs
+unfolding headsFrom
+heads-length r [] = refl
+heads-length r (c ∷ cs) = ap suc (heads-length (r + length (c .rows)) cs)
+
+-- eight lists, one after the other
+joined-eight : (a b c d e f g h : List ℕ)
+    → length (joined (a ∷ b ∷ c ∷ d ∷ e ∷ f ∷ g ∷ h ∷ [])) ≡ length a + length b + length c + length d + length e + length f + length g + length h
+unfolding joined
+joined-eight a b c d e f g h = simp length-append (omega arith)
+
+pub bodies-length : (i : Image) → Widths i → 68 + length (joined (bodies i)) ≡ tableLength i
+unfolding bodies tableLength
+bodies-length i w =
+    ap (λ (n : ℕ). 68 + n)
+    (joined-eight (joined (each entryBytes (entries (i .names)))) (joined (i .userRoles)) (joined (i .roleTypes)) (joined (i .roleRoles))
+    (joined (each transitionBytes (i .transitions))) (joined (each headBytes (headsFrom 0 (i .constraints)))) (joined (each rowBytes (allRows i)))
+    (joined (i .userSets) ++ (joined (i .roleSets) ++ joined (i .typeSets))))
+    ∙ sum (length (i .userRoles)) (length (i .roleTypes)) (length (i .roleRoles)) (length (i .transitions)) (length (i .constraints)) (length (allRows i))
+    (length (i .userSets)) (length (i .roleSets)) (length (i .typeSets))
+    (names-length (entries (i .names)))
+    (wide-length 16 (i .userRoles) (w .userRoles))
+    (wide-length 64 (i .roleTypes) (w .roleTypes))
+    (wide-length 16 (i .roleRoles) (w .roleRoles))
+    (wide-length 82 (each transitionBytes (i .transitions)) (transitions-wide (i .transitions) (w .transitions))
+    ∙ ap (λ (n : ℕ). n * 82) (each-length transitionBytes (i .transitions)))
+    (wide-length 10 (each headBytes (headsFrom 0 (i .constraints))) (every-wide 10 headBytes head-wide (headsFrom 0 (i .constraints)))
+    ∙ ap (λ (n : ℕ). n * 10) (each-length headBytes (headsFrom 0 (i .constraints)) ∙ heads-length 0 (i .constraints)))
+    (wide-length 6 (each rowBytes (allRows i)) (every-wide 6 rowBytes row-wide (allRows i))
+    ∙ ap (λ (n : ℕ). n * 6) (each-length rowBytes (allRows i)))
+    (length-append (joined (i .userSets)) (joined (i .roleSets) ++ joined (i .typeSets))
+    ∙ ap₂ _+_ (wide-length 16 (i .userSets) (w .userSets))
+    (length-append (joined (i .roleSets)) (joined (i .typeSets))
+    ∙ ap₂ _+_ (wide-length 16 (i .roleSets) (w .roleSets)) (wide-length 64 (i .typeSets) (w .typeSets))))
+  where
+    sum : (ur rt rr ms cs rs us ss ts : ℕ) {a b c d e f g h n : ℕ}
+        → a ≡ n → b ≡ ur * 16 → c ≡ rt * 64 → d ≡ rr * 16 → e ≡ ms * 82 → f ≡ cs * 10 → g ≡ rs * 6 → h ≡ us * 16 + (ss * 16 + ts * 64)
+        → 68 + (a + b + c + d + e + f + g + h) ≡ 68 + n + 16 * ur + 64 * rt + 16 * rr + 82 * ms + 10 * cs + 6 * rs + 16 * us + 16 * ss + 64 * ts
+    sum ur rt rr ms cs rs us ss ts p₁ p₂ p₃ p₄ p₅ p₆ p₇ p₈ = omega arith
+
+pub encode-bodies-length : (i : Image) → length (encode i) ≡ 68 + length (joined (bodies i))
+unfolding encode le bodies
+encode-bodies-length i = omega (arith, length-append (pairs 68 (bodies i)) (joined (bodies i)), pairs-length (bodies i) 68)

@@ -1,0 +1,109 @@
+-- Good names fit their bytes: each class has a permission, numbers fit two bytes, a name has at most 64 bytes, and all entries together
+-- at most 2,016 * 68 bytes. By induction on the declarations. Assumes nothing.
+use Prim.Native.Nat.{ℕ, _+_, _*_, _<_, _≤_}
+use native.Mathlib.Omega.{arith}
+use mathlib.Core.Path.{_≡_, refl, subst}
+use mathlib.Core.Bool.{true, false, not, _&&_, false≢true}
+use mathlib.Core.List.{List, [], _∷_, _++_, append-assoc, append-nil}
+use lib.Dec.{leb, ltb}
+use lib.ListN.{length, length-append}
+use borrow.Author.Tests.{leb-true, ltb-true}
+use Rattle.lexer.specs.Class.{isName}
+use Rattle.policy.specs.Basics.{Name, gather}
+use Rattle.policy.specs.Statements.{users, roles, types, Sort, thingOf, attributeOf, Declaration, plain, class, ofClass, count, classNames}
+use Rattle.policy.specs.Words.{isReserved}
+use Rattle.policy.specs.Maxima.{maxOf, maxClasses, maxPermissions}
+use Rattle.policy.specs.Accepted.{All}
+use Rattle.policy.specs.Reading.{isNew, hasRoom}
+use Rattle.policy.specs.Encode.{NameEntry, sortCode, permissionEntries, entriesOf, entriesFrom}
+use Rattle.policy.specs.Sound.{isGood, someGood, goodNames, goodFrom}
+use Rattle.policy.proofs.Lists.{both-true, all-append, gather-over, gather-last}
+use Rattle.table_laws.proofs.ListLaws.{every-all}
+use Rattle.policy.proofs.Counts.{has-room, good-rest}
+use Rattle.table_laws.proofs.NamesReadBack.{Peopled}
+
+good-names : (e : List Declaration) (d : Declaration) (ds : List Declaration) → goodFrom e (d ∷ ds) ≡ true → goodNames d ≡ true
+unfolding goodFrom
+good-names e d ds h =
+    both-true (goodNames d) (isNew e d)
+    (both-true (goodNames d && isNew e d) (hasRoom e d)
+    (both-true (goodNames d && isNew e d && hasRoom e d) (goodFrom (e ++ (d ∷ [])) ds) h .0) .0) .0
+
+-- each class has a permission
+peopled-one : (d : Declaration) → goodNames d ≡ true → Peopled d
+peopled-one (plain s w) h = tt
+peopled-one (class w []) h = absurd (false≢true (both-true (isGood w) false h .1))
+peopled-one (class w (p ∷ ps)) h = tt
+
+pub peopled : (e ds : List Declaration) → goodFrom e ds ≡ true → All Peopled ds
+peopled e [] h = tt
+peopled e (d ∷ ds) h = (peopled-one d (good-names e d ds h), peopled (e ++ (d ∷ [])) ds (good-rest e d ds h))
+
+-- "classes 32"
+class-more : (e : List Declaration) (d : Declaration) → hasRoom e d ≡ true → length (classNames e) ≤ 32 → length (classNames (e ++ (d ∷ []))) ≤ 32
+unfolding classNames
+class-more e (plain s w) h l = rw (gather-over ofClass e (plain s w) refl) l
+class-more e (class w ps) h l =
+    let room = ltb-true (length (gather ofClass e)) 32 (both-true (ltb (length (gather ofClass e)) maxClasses) (leb (length ps) maxPermissions) h .0) in
+    rw (gather-last ofClass e (class w ps) w refl, length-append (gather ofClass e) (w ∷ [])) (omega arith)
+
+few-classes-from : (e ds : List Declaration) → goodFrom e ds ≡ true → length (classNames e) ≤ 32 → length (classNames (e ++ ds)) ≤ 32
+few-classes-from e [] h l = rw append-nil l
+few-classes-from e (d ∷ ds) h l =
+    subst (λ (xs : List Declaration). length (classNames xs) ≤ 32) (append-assoc e (d ∷ []) ds)
+    (few-classes-from (e ++ (d ∷ [])) ds (good-rest e d ds h) (class-more e d (has-room e d ds h) l))
+
+pub few-classes : (ds : List Declaration) → goodFrom [] ds ≡ true → length (classNames ds) ≤ 32
+unfolding classNames gather
+few-classes ds h = few-classes-from [] ds h (omega arith)
+
+-- an entry's number fits two bytes, its sort one, and its name is good
+pub record GoodEntry (e : NameEntry) : Type 0 where
+  pub sort : e .sort < 8
+  pub number : e .number < 65536
+  pub name : isName (e .name) ≡ true
+
+pub most : (s : Sort) → maxOf s ≤ 512
+most (thingOf users) = omega arith
+most (thingOf roles) = omega arith
+most (thingOf types) = omega arith
+most (attributeOf f) = omega arith
+
+-- things and attributes have the codes below 6
+pub code-below : (s : Sort) → sortCode s < 6
+code-below (thingOf users) = omega arith
+code-below (thingOf roles) = omega arith
+code-below (thingOf types) = omega arith
+code-below (attributeOf users) = omega arith
+code-below (attributeOf roles) = omega arith
+code-below (attributeOf types) = omega arith
+
+good-name : (w : Name) → isGood w ≡ true → isName w ≡ true
+good-name w h = both-true (isName w) (not (isReserved w)) h .0
+
+all-good : (ps : List Name) → someGood ps ≡ true → All (λ (w : Name). isGood w ≡ true) ps
+all-good [] h = tt
+all-good (p ∷ ps) h = every-all isGood (p ∷ ps) h
+
+permissions-fit : (n : ℕ) (ps : List Name) → All (λ (w : Name). isGood w ≡ true) ps → n + length ps ≤ 65536 → All GoodEntry (permissionEntries n ps)
+unfolding permissionEntries
+permissions-fit n [] g l = tt
+permissions-fit n (p ∷ ps) g l =
+    (record { sort = omega arith; number = omega arith; name = good-name p (g .0) }, permissions-fit (n + 1) ps (g .1) (omega arith))
+
+entry-fit : (e : List Declaration) (d : Declaration) → goodNames d ≡ true → hasRoom e d ≡ true → All GoodEntry (entriesOf e d)
+entry-fit e (plain s w) g h =
+    (record { sort = omega (arith, code-below s); number = omega (arith, ltb-true (count s e) (maxOf s) h, most s); name = good-name w g }, tt)
+entry-fit e (class w ps) g h =
+    let names = both-true (isGood w) (someGood ps) g in
+    let room = both-true (ltb (length (classNames e)) 32) (leb (length ps) 32) h in
+    let classes = ltb-true (length (classNames e)) 32 (room .0) in
+    let perms = leb-true (length ps) 32 (room .1) in
+    (record { sort = omega arith; number = omega arith; name = good-name w (names .0) }, permissions-fit (length (classNames e) * 32) ps (all-good ps (names .1)) (omega arith))
+
+pub entries-fit : (e ds : List Declaration) → goodFrom e ds ≡ true → All GoodEntry (entriesFrom e ds)
+unfolding entriesFrom
+entries-fit e [] h = tt
+entries-fit e (d ∷ ds) h =
+    all-append GoodEntry (entriesOf e d) (entriesFrom (e ++ (d ∷ [])) ds) (entry-fit e d (good-names e d ds h) (has-room e d ds h))
+    (entries-fit (e ++ (d ∷ [])) ds (good-rest e d ds h))

@@ -1,0 +1,91 @@
+-- How long body 1 is: four bytes and the name for each entry; at most 2,016 entries of good names, so at most 137,088 bytes. Assumes nothing.
+use Prim.Native.Nat.{ℕ, suc, _+_, _*_, _≤_}
+use native.Mathlib.Omega.{arith}
+use mathlib.Core.Path.{_≡_, refl, ap}
+use mathlib.Core.Bool.{true, _&&_, false≢true}
+use mathlib.Core.List.{List, [], _∷_, _++_}
+use lib.Dec.{leb, ltb}
+use lib.ListN.{length, length-append}
+use borrow.Author.Tests.{leb-true}
+use Rattle.bitset.specs.Relations.{joined}
+use Rattle.lexer.specs.Class.{isName, allGoOn, starts, classOf}
+use Rattle.policy.specs.Basics.{Name, each, gather, le}
+use Rattle.policy.specs.Statements.{users, roles, types, Sort, thingOf, attributeOf, Declaration, plain, class, count, namesOf, classNames}
+use Rattle.policy.specs.Accepted.{All}
+use Rattle.policy.specs.Encode.{NameEntry, permissionEntries, entriesFrom, entries, entryBytes}
+use Rattle.policy.specs.Sound.{goodFrom}
+use Rattle.policy.proofs.Lists.{both-true}
+use Rattle.table_laws.specs.SoundTable.{namesLength}
+use Rattle.policy.proofs.Counts.{has-room, good-rest, few-of}
+use Rattle.table_laws.proofs.NamesFit.{GoodEntry, few-classes, entries-fit}
+
+-- body 1 by its names
+pub names-length : (es : List NameEntry) → length (joined (each entryBytes es)) ≡ namesLength es
+unfolding joined each le namesLength
+names-length [] = refl
+names-length (e ∷ es) = omega (arith, length-append (e .name) (joined (each entryBytes es)), names-length es)
+
+-- "1 to 64 bytes"
+pub name-short : (w : Name) → isName w ≡ true → length w ≤ 64
+unfolding isName
+name-short [] h = absurd (false≢true h)
+name-short (b ∷ bs) h = leb-true (length (b ∷ bs)) 64 (both-true (starts (classOf b) && allGoOn bs) (leb (length (b ∷ bs)) 64) h .1)
+
+names-short : (es : List NameEntry) → All GoodEntry es → namesLength es ≤ 68 * length es
+unfolding namesLength
+names-short [] h = omega arith
+names-short (e ∷ es) h = omega (arith, name-short (e .name) (h .0 .name), names-short es (h .1))
+
+-- how many things and attributes there are
+things : List Declaration → ℕ
+things ds =
+    count (thingOf users) ds + count (thingOf roles) ds + count (thingOf types) ds
+    + count (attributeOf users) ds + count (attributeOf roles) ds + count (attributeOf types) ds
+
+more-things : (s : Sort) (w : Name) (ds : List Declaration) → things (plain s w ∷ ds) ≡ suc (things ds)
+unfolding things count namesOf gather
+more-things (thingOf users) w ds = omega arith
+more-things (thingOf roles) w ds = omega arith
+more-things (thingOf types) w ds = omega arith
+more-things (attributeOf users) w ds = omega arith
+more-things (attributeOf roles) w ds = omega arith
+more-things (attributeOf types) w ds = omega arith
+
+same-things : (w : Name) (ps : List Name) (ds : List Declaration) → things (class w ps ∷ ds) ≡ things ds
+unfolding things count namesOf gather
+same-things w ps ds = refl
+
+permissions-length : (n : ℕ) (ps : List Name) → length (permissionEntries n ps) ≡ length ps
+unfolding permissionEntries
+permissions-length n [] = refl
+permissions-length n (p ∷ ps) = ap suc (permissions-length (n + 1) ps)
+
+-- an entry for each thing, and at most 33 for each class
+entries-few : (e ds : List Declaration) → goodFrom e ds ≡ true → length (entriesFrom e ds) ≤ things ds + 33 * length (classNames ds)
+unfolding entriesFrom classNames gather
+entries-few e [] h = omega arith
+entries-few e (plain s w ∷ ds) h = omega (arith, entries-few (e ++ (plain s w ∷ [])) ds (good-rest e (plain s w) ds h), more-things s w ds)
+entries-few e (class w ps ∷ ds) h =
+    omega (
+      arith,
+      entries-few (e ++ (class w ps ∷ [])) ds (good-rest e (class w ps) ds h),
+      same-things w ps ds,
+      length-append (permissionEntries (length (classNames e) * 32) ps) (entriesFrom (e ++ (class w ps ∷ [])) ds),
+      permissions-length (length (classNames e) * 32) ps,
+      leb-true (length ps) 32 (both-true (ltb (length (classNames e)) 32) (leb (length ps) 32) (has-room e (class w ps) ds h) .1),
+    )
+
+pub names-room : (ds : List Declaration) → goodFrom [] ds ≡ true → namesLength (entries ds) ≤ 137088
+unfolding entries things
+names-room ds h = omega (
+  arith,
+  names-short (entriesFrom [] ds) (entries-fit [] ds h),
+  entries-few [] ds h,
+  few-of (thingOf users) ds h,
+  few-of (thingOf roles) ds h,
+  few-of (thingOf types) ds h,
+  few-of (attributeOf users) ds h,
+  few-of (attributeOf roles) ds h,
+  few-of (attributeOf types) ds h,
+  few-classes ds h,
+)

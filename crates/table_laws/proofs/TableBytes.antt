@@ -1,0 +1,144 @@
+-- The table of a well-formed image whose sets are bytes is bytes; and only such an image's is. Assumes nothing.
+use Prim.Native.Nat.{ℕ, _+_, _<_}
+use native.Mathlib.Omega.{arith}
+use mathlib.Core.Path.{_≡_}
+use mathlib.Core.Bool.{true}
+use mathlib.Core.List.{List, [], _∷_, _++_}
+use lib.ListN.{length}
+use Rattle.bitset.specs.Relations.{joined}
+use Rattle.policy.specs.Basics.{each, le}
+use Rattle.policy.specs.Statements.{roles, thingOf}
+use Rattle.policy.specs.Accepted.{All}
+use Rattle.policy.specs.Rows.{Row}
+use Rattle.policy.specs.Image.{Image, TransitionEntry}
+use Rattle.policy.specs.Encode.{NameEntry, entries, entryBytes, transitionBytes, ConstraintHead, headBytes, headsFrom, rowBytes, bodies, pairs, encode}
+use Rattle.policy.specs.Sound.{wellFormed}
+use Rattle.policy.proofs.Lists.{all-append, all-left, all-right}
+use Rattle.table_laws.specs.SoundTable.{Bytes, SetsOfBytes, allRows}
+use Rattle.table_laws.proofs.ListLaws.{joined-all, all-joined, all-each, all-both}
+use Rattle.table_laws.proofs.LittleEndian.{le-bytes}
+use Rattle.policy.proofs.Counts.{few-of}
+use Rattle.table_laws.proofs.NamesFit.{GoodEntry, few-classes, entries-fit}
+use Rattle.table_laws.proofs.NamesRoom.{name-short}
+use Rattle.table_laws.proofs.NameBytes.{name-bytes}
+use Rattle.table_laws.proofs.WellFormed.{formed, GoodTransition, SmallRow}
+use Rattle.table_laws.proofs.WellFormedLaid.{transitions-good, rows-small}
+use Rattle.table_laws.proofs.ImageOnly.{bodies-bytes}
+
+-- two parts that are bytes
+two : (xs ys : List ℕ) → Bytes xs → Bytes ys → Bytes (xs ++ ys)
+two xs ys h k = all-append (λ b. b < 256) xs ys h k
+
+-- a number of w bytes, and then bytes
+number : (w n : ℕ) (ys : List ℕ) → Bytes ys → Bytes (le w n ++ ys)
+number w n ys h = two (le w n) ys (le-bytes w n) h
+
+pairs-bytes : (o : ℕ) (bs : List (List ℕ)) → Bytes (pairs o bs)
+unfolding pairs
+pairs-bytes o [] = tt
+pairs-bytes o (b ∷ bs) = number 4 o (le 4 (length b) ++ pairs (o + length b) bs) (number 4 (length b) (pairs (o + length b) bs) (pairs-bytes (o + length b) bs))
+
+entry-bytes : (e : NameEntry) → GoodEntry e → Bytes (entryBytes e)
+entry-bytes e g = (
+  omega (arith, g .sort),
+  number 2 (e .number) (length (e .name) ∷ e .name) (omega (arith, name-short (e .name) (g .name)), name-bytes (e .name) (g .name)),
+)
+
+heads-bytes : (hs : List ConstraintHead) → All Bytes (each headBytes hs)
+unfolding each
+heads-bytes [] = tt
+heads-bytes (h ∷ hs) = (
+  number 2 (h .class) (le 4 (h .mask) ++ (le 2 (h .first) ++ le 2 (h .rows)))
+      (number 4 (h .mask) (le 2 (h .first) ++ le 2 (h .rows)) (number 2 (h .first) (le 2 (h .rows)) (le-bytes 2 (h .rows)))),
+  heads-bytes hs,
+)
+
+row-bytes : (r : Row) → SmallRow r → Bytes (rowBytes r)
+row-bytes r s = (s .kind, (s .comp, (s .op, (omega arith, le-bytes 2 (r .num)))))
+
+-- what holds of a transition of bytes
+abbrev SetsOf : TransitionEntry → Type 0
+SetsOf m = Bytes (m .roles) × Bytes (m .types)
+
+module _ (i : Image) (h : wellFormed i ≡ true) (b : SetsOfBytes i) where
+  transition-bytes : (m : TransitionEntry) → GoodTransition (i .names) m × SetsOf m → Bytes (transitionBytes m)
+  transition-bytes m p =
+      two (m .roles) (m .types ++ (m .class ∷ m .new ∷ [])) (p .1 .0)
+      (two (m .types) (m .class ∷ m .new ∷ []) (p .1 .1)
+      (omega (arith, p .0 .class, few-classes (i .names) (formed i h .names)), (omega (arith, p .0 .new, few-of (thingOf roles) (i .names) (formed i h .names)), tt)))
+
+  moves : All Bytes (each transitionBytes (i .transitions))
+  moves = all-each (λ (m : TransitionEntry). GoodTransition (i .names) m × SetsOf m) Bytes transitionBytes transition-bytes (i .transitions)
+      (all-both (GoodTransition (i .names)) SetsOf (i .transitions) (transitions-good i h) (b .transitions))
+
+  bodies-all : All Bytes (bodies i)
+  unfolding bodies entries
+  bodies-all = (
+    all (each entryBytes (entries (i .names))) (all-each GoodEntry Bytes entryBytes entry-bytes (entries (i .names)) (entries-fit [] (i .names) (formed i h .names))),
+    (
+      all (i .userRoles) (b .userRoles),
+      (
+        all (i .roleTypes) (b .roleTypes),
+        (
+          all (i .roleRoles) (b .roleRoles),
+          (
+            all (each transitionBytes (i .transitions)) moves,
+            (
+              all (each headBytes (headsFrom 0 (i .constraints))) (heads-bytes (headsFrom 0 (i .constraints))),
+              (
+                all (each rowBytes (allRows i)) (all-each SmallRow Bytes rowBytes row-bytes (allRows i) (rows-small i h)),
+                (
+                  two (joined (i .userSets)) (joined (i .roleSets) ++ joined (i .typeSets)) (all (i .userSets) (b .userSets))
+                      (two (joined (i .roleSets)) (joined (i .typeSets)) (all (i .roleSets) (b .roleSets)) (all (i .typeSets) (b .typeSets))),
+                  tt,
+                ),
+              ),
+            ),
+          ),
+        ),
+      ),
+    ),
+  )
+    where
+      all : (ss : List (List ℕ)) → All Bytes ss → Bytes (joined ss)
+      all ss h = joined-all (λ b. b < 256) ss h
+
+  -- EVERY ELEMENT OF THE TABLE IS A BYTE
+  pub encode-bytes : Bytes (encode i)
+  unfolding encode
+  encode-bytes =
+      number 2 1 (le 2 8 ++ (pairs 68 (bodies i) ++ joined (bodies i)))
+      (number 2 8 (pairs 68 (bodies i) ++ joined (bodies i))
+      (two (pairs 68 (bodies i)) (joined (bodies i)) (pairs-bytes 68 (bodies i)) (joined-all (λ b. b < 256) (bodies i) bodies-all)))
+
+-- a transition that was written as bytes
+sets-bytes : (m : TransitionEntry) → Bytes (transitionBytes m) → SetsOf m
+sets-bytes m h =
+    let p : ℕ → Type 0 = λ b. b < 256 in
+    let after = m .class ∷ m .new ∷ [] in
+    (all-left p (m .roles) (m .types ++ after) h, all-left p (m .types) after (all-right p (m .roles) (m .types ++ after) h))
+
+moves-bytes : (ms : List TransitionEntry) → All Bytes (each transitionBytes ms) → All SetsOf ms
+unfolding each
+moves-bytes [] h = tt
+moves-bytes (m ∷ ms) h = (sets-bytes m (h .0), moves-bytes ms (h .1))
+
+-- the sets of an image whose table is bytes are bytes
+pub bytes-sets : (i : Image) (rest : List ℕ) → Bytes (encode i ++ rest) → SetsOfBytes i
+unfolding encode bodies
+bytes-sets i rest h =
+    let p : ℕ → Type 0 = λ b. b < 256 in
+    let b₁ = bodies-bytes (bodies i) rest h in
+    let b₄ = b₁ .1 .1 .1 in
+    let b₈ = b₄ .1 .1 .1 .1 .0 in
+    let rs = joined (i .roleSets) ++ joined (i .typeSets) in
+    let after = all-right p (joined (i .userSets)) rs b₈ in
+    record {
+      userRoles = all-joined p (i .userRoles) (b₁ .1 .0);
+      roleTypes = all-joined p (i .roleTypes) (b₁ .1 .1 .0);
+      roleRoles = all-joined p (i .roleRoles) (b₄ .0);
+      transitions = moves-bytes (i .transitions) (all-joined p (each transitionBytes (i .transitions)) (b₄ .1 .0));
+      userSets = all-joined p (i .userSets) (all-left p (joined (i .userSets)) rs b₈);
+      roleSets = all-joined p (i .roleSets) (all-left p (joined (i .roleSets)) (joined (i .typeSets)) after);
+      typeSets = all-joined p (i .typeSets) (all-right p (joined (i .roleSets)) (joined (i .typeSets)) after);
+    }

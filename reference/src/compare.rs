@@ -1,0 +1,358 @@
+//! The comparison with the other program linked as a library, and the shrinker for what it finds.
+
+use crate::corpus::{policy_text, question_line};
+use crate::fault::Fault;
+use crate::generator::damage::damage;
+use crate::generator::policies::Shape;
+use crate::generator::questions::{ask, Question};
+use crate::generator::scans;
+use crate::generator::tables::{flip, with_bytes_behind};
+use crate::lexer::scan;
+use crate::pieces::{join, pieces, statements, PieceKind};
+use crate::random::Random;
+use crate::sound::{decode, is_sound};
+use crate::table::{compile, table_of, Outcome};
+use std::fmt;
+use std::time::{Duration, Instant};
+
+/// What the other program offers, layer by layer. A layer that is not there is not compared.
+#[derive(Clone, Copy, Default)]
+pub struct Library {
+    /// Fault 1 or 2 of a text.
+    pub scan: Option<fn(&[u8]) -> Option<Fault>>,
+    pub compile: Option<fn(&[u8], &mut [u8]) -> Outcome>,
+    pub is_sound: Option<fn(&[u8]) -> bool>,
+    /// The answer as the line of the questions corpus.
+    pub answer: Option<fn(&[u8], &Question) -> String>,
+}
+
+/// The linked library, if the program was built with it.
+pub fn linked() -> Option<Library> {
+    #[cfg(feature = "linked")]
+    return Some(crate::linked::library());
+    #[cfg(not(feature = "linked"))]
+    None
+}
+
+/// How many cases of each layer were compared.
+#[derive(Clone, Copy, Debug, Default, PartialEq, Eq)]
+pub struct Tally {
+    pub scans: usize,
+    pub compiles: usize,
+    pub tables: usize,
+    pub questions: usize,
+}
+
+impl fmt::Display for Tally {
+    fn fmt(&self, f: &mut fmt::Formatter<'_>) -> fmt::Result {
+        let Tally { scans, compiles, tables, questions } = self;
+        write!(f, "{scans} texts scanned, {compiles} compiled, {tables} tables judged, {questions} questions asked")
+    }
+}
+
+/// The first case on which the two programs differ.
+#[derive(Clone, Debug, PartialEq, Eq)]
+pub enum Difference {
+    /// A text, shrunk.
+    Scan(Vec<u8>),
+    Compile(Vec<u8>),
+    Sound(Vec<u8>),
+    /// The text of the table, shrunk, and the question.
+    Question(Vec<u8>, Question),
+}
+
+impl fmt::Display for Difference {
+    fn fmt(&self, f: &mut fmt::Formatter<'_>) -> fmt::Result {
+        match self {
+            Difference::Scan(text) => {
+                write!(f, "the scan differs on {}\nhere: {:?}", shown(text), scan(text).err())
+            }
+            Difference::Compile(text) => {
+                write!(f, "compiling differs on {}\nhere: {:?}", shown(text), table_of(text))
+            }
+            Difference::Sound(table) => {
+                write!(f, "soundness differs on the table {table:?}\nhere: {:?}", decode(table).err())
+            }
+            Difference::Question(text, question) => {
+                let table = table_of(text).expect("the text of a table");
+                let line = question_line(&table, question);
+                write!(f, "the answer differs on {}\nasked {question:?}\nhere: {line:?}", shown(text))
+            }
+        }
+    }
+}
+
+/// A text with its wrong bytes escaped.
+fn shown(text: &[u8]) -> String {
+    format!("\"{}\" ({} bytes)", text.escape_ascii(), text.len())
+}
+
+/// Scans for each policy that is made: they are cheap, and most of them differ from the policy in a few bytes.
+const SCANS_PER_POLICY: usize = 200;
+const QUESTIONS_PER_POLICY: usize = 20;
+
+/// Compares until the time is over or a difference is found; says how much was compared.
+pub fn compare(library: &Library, seconds: u64, seed: u64) -> (Tally, Option<Difference>) {
+    let end = Instant::now() + Duration::from_secs(seconds);
+    let mut random = Random::new(seed);
+    let mut tally = Tally::default();
+    while Instant::now() < end {
+        let text = some_policy(&mut random);
+        let difference = compare_scans(library, &text, &mut random, &mut tally)
+            .or_else(|| compare_policy(library, text, &mut random, &mut tally));
+        if difference.is_some() {
+            return (tally, difference);
+        }
+    }
+    (tally, None)
+}
+
+fn some_policy(random: &mut Random) -> Vec<u8> {
+    let steps = random.between(0, 60);
+    let shape = Shape {
+        cycles: random.chance(10),
+        clashes: random.chance(10),
+        deep: random.chance(10),
+        crowded: random.chance(5),
+        small: random.chance(50),
+        steps: if random.chance(60) { steps / 6 } else { steps },
+    };
+    policy_text(random, shape)
+}
+
+fn compare_scans(library: &Library, text: &[u8], random: &mut Random, tally: &mut Tally) -> Option<Difference> {
+    let theirs = library.scan?;
+    let differs = |text: &[u8]| scan(text).err() != theirs(text);
+    for _ in 0..SCANS_PER_POLICY {
+        let case = scans::variant(random, text);
+        tally.scans += 1;
+        if differs(&case) {
+            return Some(Difference::Scan(shrink(&case, &differs)));
+        }
+    }
+    None
+}
+
+/// The layers behind the scan: the policy, damaged or not, compiled; its table, damaged, judged; its table asked.
+fn compare_policy(library: &Library, mut text: Vec<u8>, random: &mut Random, tally: &mut Tally) -> Option<Difference> {
+    for _ in 0..random.below(3) {
+        text = damage(random, &text);
+    }
+    compare_compile(library, &text, random, tally)
+        .or_else(|| compare_sound(library, &text, random, tally))
+        .or_else(|| compare_answers(library, &text, random, tally))
+}
+
+fn compare_compile(library: &Library, text: &[u8], random: &mut Random, tally: &mut Tally) -> Option<Difference> {
+    let theirs = library.compile?;
+    let spare = random.below(3);
+    let differs = |text: &[u8]| compiles_differently(theirs, text, spare);
+    tally.compiles += 1;
+    differs(text).then(|| Difference::Compile(shrink(text, &differs)))
+}
+
+/// Lends one byte less than needed, just enough, or one more, as `spare` is 0, 1 or 2.
+fn compiles_differently(theirs: fn(&[u8], &mut [u8]) -> Outcome, text: &[u8], spare: usize) -> bool {
+    let needed = table_of(text).map_or(64, |table| table.len());
+    let mut our_memory = vec![0xA5; needed + spare - 1];
+    let mut their_memory = our_memory.clone();
+    compile(text, &mut our_memory) != theirs(text, &mut their_memory) || our_memory != their_memory
+}
+
+fn compare_sound(library: &Library, text: &[u8], random: &mut Random, tally: &mut Tally) -> Option<Difference> {
+    let theirs = library.is_sound?;
+    let table = flip(random, &table_of(text).ok()?);
+    tally.tables += 1;
+    (theirs(&table) != is_sound(&table)).then_some(Difference::Sound(table))
+}
+
+fn compare_answers(library: &Library, text: &[u8], random: &mut Random, tally: &mut Tally) -> Option<Difference> {
+    let theirs = library.answer?;
+    let table = with_bytes_behind(random, &table_of(text).ok()?);
+    let decoded = decode(&table).expect("a written table is sound");
+    let differs = |table: &[u8], question: &Question| {
+        theirs(table, question) != question_line(table, question).expect("a known kind")
+    };
+    for _ in 0..QUESTIONS_PER_POLICY {
+        let question = ask(random, &decoded);
+        tally.questions += 1;
+        if differs(&table, &question) {
+            let still = |smaller: &[u8]| table_of(smaller).is_ok_and(|table| differs(&table, &question));
+            return Some(Difference::Question(shrink(text, &still), question));
+        }
+    }
+    None
+}
+
+/// A smaller text that still differs: statements are taken away, then groups and tokens, then bytes, until nothing more
+/// can be.
+pub fn shrink(text: &[u8], differs: &dyn Fn(&[u8]) -> bool) -> Vec<u8> {
+    let mut best = text.to_vec();
+    loop {
+        let before = best.len();
+        best = without_parts(statements(&best), differs).concat();
+        best = without_groups(&best, differs);
+        let tokens = pieces(&best).into_iter().map(|piece| piece.bytes).collect();
+        best = without_parts(tokens, differs).concat();
+        best = without_parts(best.iter().map(|&byte| vec![byte]).collect(), differs).concat();
+        if best.len() == before {
+            return best;
+        }
+    }
+}
+
+/// Takes away runs of parts, long runs first, as long as the rest differs.
+fn without_parts(mut parts: Vec<Vec<u8>>, differs: &dyn Fn(&[u8]) -> bool) -> Vec<Vec<u8>> {
+    let mut run = parts.len();
+    while run > 0 {
+        let mut at = 0;
+        while at < parts.len() {
+            let end = (at + run).min(parts.len());
+            let rest = [&parts[..at], &parts[end..]].concat();
+            if differs(&rest.concat()) {
+                parts = rest;
+            } else {
+                at = end;
+            }
+        }
+        run /= 2;
+    }
+    parts
+}
+
+/// Takes away whole groups, or only the two parentheses around what they hold.
+fn without_groups(text: &[u8], differs: &dyn Fn(&[u8]) -> bool) -> Vec<u8> {
+    let mut list = pieces(text);
+    let mut at = 0;
+    while at < list.len() {
+        if let Some(close) = closing(&list.iter().map(|piece| piece.kind).collect::<Vec<_>>(), at) {
+            let without = [&list[..at], &list[close + 1..]].concat();
+            let unwrapped = [&list[..at], &list[at + 1..close], &list[close + 1..]].concat();
+            if differs(&join(&without)) {
+                list = without;
+                continue;
+            }
+            if differs(&join(&unwrapped)) {
+                list = unwrapped;
+                continue;
+            }
+        }
+        at += 1;
+    }
+    join(&list)
+}
+
+/// The piece that closes the group opened at `at`.
+fn closing(kinds: &[PieceKind], at: usize) -> Option<usize> {
+    let mut level = 0;
+    for (place, kind) in kinds.iter().enumerate().skip(at) {
+        match kind {
+            PieceKind::Open => level += 1,
+            PieceKind::Close => level -= 1,
+            _ => {}
+        }
+        if level <= 0 {
+            return (place > at).then_some(place);
+        }
+    }
+    None
+}
+
+#[cfg(test)]
+mod tests {
+    use super::*;
+    use crate::corpus::adler32;
+
+    /// This program itself as the other one.
+    fn itself() -> Library {
+        Library {
+            scan: Some(|text| scan(text).err()),
+            compile: Some(compile),
+            is_sound: Some(is_sound),
+            answer: Some(|table, question| question_line(table, question).unwrap()),
+        }
+    }
+
+    #[test]
+    fn shrinks_to_what_matters() {
+        let text = b"(user u) ; c\n(role a)(roleattribute x)(roleattributeset x (or (a b c) (not a)))(type t)(class c (p))";
+        let small = shrink(text, &|text| text.windows(3).any(|w| w == b"not"));
+        assert_eq!(small, b"not");
+        let small = shrink(text, &|text| scan(text).is_ok() && text.windows(3).any(|w| w == b"not"));
+        assert_eq!(small, b"(not)");
+        let small = shrink(text, &|text| table_of(text).is_err_and(|fault| fault.number == 5));
+        assert!(small.len() <= "(roleallow x y)".len() + 10, "{}", String::from_utf8_lossy(&small));
+        assert_eq!(shrink(b"", &|_| true), b"");
+    }
+
+    #[test]
+    fn shrinks_bytes_that_are_no_text() {
+        let noise: Vec<u8> = (0..=255).collect();
+        let small = shrink(&noise, &|text| adler32(text) != 1 && text.contains(&200));
+        assert_eq!(small, vec![200]);
+    }
+
+    #[test]
+    fn finds_no_difference_to_itself() {
+        let (tally, difference) = compare(&itself(), 1, 7);
+        assert!(tally.scans > 1_000 && tally.compiles > 10 && tally.tables > 5 && tally.questions > 100, "{tally}");
+        assert_eq!(difference, None);
+    }
+
+    #[test]
+    fn compares_only_what_is_there() {
+        let (tally, difference) = compare(&Library { scan: itself().scan, ..Library::default() }, 1, 7);
+        assert!(tally.scans > 1_000);
+        assert_eq!((tally.compiles, tally.tables, tally.questions, difference), (0, 0, 0, None));
+    }
+
+    #[test]
+    fn finds_and_shrinks_a_slip_of_the_scan() {
+        // Takes a name of 65 bytes.
+        fn slipped(text: &[u8]) -> Option<Fault> {
+            let long = [b"n".repeat(65), b"n".repeat(64)];
+            let same = text.windows(65).position(|w| w == long[0]);
+            let text = same.map_or(text.to_vec(), |at| [&text[..at], &long[1], &text[at + 65..]].concat());
+            scan(&text).err()
+        }
+        let (_, difference) = compare(&Library { scan: Some(slipped), ..itself() }, 60, 7);
+        let Some(Difference::Scan(text)) = difference else { panic!("a text differs") };
+        assert_eq!(text, [b"(".as_slice(), &b"n".repeat(65)].concat());
+    }
+
+    #[test]
+    fn finds_and_shrinks_a_slip_of_the_compiler() {
+        // Forgets the last byte of every table of more than two roles.
+        fn slipped(text: &[u8], lent: &mut [u8]) -> Outcome {
+            let before = lent.to_vec();
+            let outcome = compile(text, lent);
+            if let Outcome::Accepted(length) = outcome {
+                if decode(lent).unwrap().counts.roles() > 2 {
+                    lent[length - 1] = before[length - 1];
+                }
+            }
+            outcome
+        }
+        let (_, difference) = compare(&Library { compile: Some(slipped), ..itself() }, 60, 7);
+        let Some(Difference::Compile(text)) = difference else { panic!("a text differs") };
+        assert_eq!(statements(&text).len(), 3, "{}", String::from_utf8_lossy(&text));
+    }
+
+    #[test]
+    fn finds_a_table_wrongly_taken_for_sound() {
+        let (_, difference) = compare(&Library { is_sound: Some(|_| true), ..itself() }, 60, 7);
+        assert!(matches!(difference, Some(Difference::Sound(_))));
+    }
+
+    #[test]
+    fn finds_and_shrinks_a_slip_of_the_answers() {
+        // Counts one constraint too many.
+        fn slipped(table: &[u8], question: &Question) -> String {
+            question_line(table, question).unwrap().replace("consulted 1", "consulted 2")
+        }
+        let (_, difference) = compare(&Library { answer: Some(slipped), ..itself() }, 60, 7);
+        let Some(Difference::Question(text, question)) = difference else { panic!("an answer differs") };
+        assert_eq!(question[0], 1);
+        assert!(statements(&text).len() <= 9, "{}", String::from_utf8_lossy(&text));
+    }
+}

@@ -1,0 +1,250 @@
+//! Both sides of each maximum, with the answer worked out by hand from document 01.
+
+use crate::fault::Fault;
+
+/// A policy exactly at a maximum, which is accepted, and one past it with its fault.
+pub struct Bound {
+    pub name: &'static str,
+    pub at: Vec<u8>,
+    pub past: Vec<u8>,
+    pub fault: Fault,
+}
+
+/// A bound where the last statement passes the maximum: fault 6 at that statement.
+fn counted(name: &'static str, before: &str, count: usize, statement: &dyn Fn(usize) -> String) -> Bound {
+    let mut at = before.to_string();
+    for n in 0..count {
+        at.push_str(&statement(n));
+    }
+    let past = format!("{at}{}", statement(count));
+    let fault = Fault::new(6, at.len());
+    Bound { name, at: at.into_bytes(), past: past.into_bytes(), fault }
+}
+
+pub fn bounds() -> Vec<Bound> {
+    let mut list = vec![
+        counted("users", "", 128, &|n| format!("(user a{n})")),
+        counted("roles", "", 128, &|n| format!("(role a{n})")),
+        counted("types", "", 512, &|n| format!("(type a{n})")),
+        counted("userattributes", "", 64, &|n| format!("(userattribute a{n})")),
+        counted("roleattributes", "", 64, &|n| format!("(roleattribute a{n})")),
+        counted("typeattributes", "", 64, &|n| format!("(typeattribute a{n})")),
+        counted("classes", "", 32, &|n| format!("(class a{n}(p))")),
+        counted("transitions", "(role a)(type t)(class c(p))", 128, &|_| "(roletransition a t c a)".to_string()),
+        counted("constraints", "(class c(p))", 128, &|_| "(constrain(c(p))(eq u1 u2))".to_string()),
+        permissions(),
+        rows(),
+        rows_of_many_constraints(),
+        set_levels(),
+        expression_levels(),
+    ];
+    list.extend(names());
+    list.extend(texts());
+    list.extend(stacks());
+    list
+}
+
+fn permissions() -> Bound {
+    let class = |count| format!("(class c({}))", (0..count).map(|n| format!("p{n}")).collect::<Vec<_>>().join(" "));
+    Bound {
+        name: "permissions",
+        at: class(32).into_bytes(),
+        past: class(33).into_bytes(),
+        fault: Fault::new(6, 0),
+    }
+}
+
+/// A constrain of `rows` rows: nots around one comparison.
+fn nots(rows: usize) -> String {
+    let wrapped = format!("{}(eq u1 u2){}", "(not".repeat(rows - 1), ")".repeat(rows - 1));
+    format!("(constrain(c(p)){wrapped})")
+}
+
+/// 68 constraints of 30 rows are 2,040 rows; one of 8 fills up, one of 9 passes.
+fn rows() -> Bound {
+    let before = format!("(class c(p)){}", nots(30).repeat(68));
+    Bound {
+        name: "rows",
+        at: format!("{before}{}", nots(8)).into_bytes(),
+        past: format!("{before}{}", nots(9)).into_bytes(),
+        fault: Fault::new(6, before.len()),
+    }
+}
+
+/// 128 constraints of 16 rows: both maxima at once. In the longer one the last has 17 rows.
+fn rows_of_many_constraints() -> Bound {
+    let before = format!("(class c(p)){}", nots(16).repeat(127));
+    Bound {
+        name: "rows and constraints",
+        at: format!("{before}{}", nots(16)).into_bytes(),
+        past: format!("{before}{}", nots(17)).into_bytes(),
+        fault: Fault::new(6, before.len()),
+    }
+}
+
+/// The statement is level 1, so S has 31 levels at most. The 33rd parenthesis is the fault.
+fn set_levels() -> Bound {
+    let before = "(role a)(roleattribute x)";
+    let head = "(roleattributeset x ";
+    let text = |levels| format!("{before}{head}{}a{})", "(".repeat(levels), ")".repeat(levels));
+    Bound {
+        name: "levels of a set",
+        at: text(31).into_bytes(),
+        past: text(32).into_bytes(),
+        fault: Fault::new(2, before.len() + head.len() + 31),
+    }
+}
+
+/// 30 nots and the comparison are levels 2 to 32.
+fn expression_levels() -> Bound {
+    let before = "(class c(p))";
+    let past = format!("{before}{}", nots(32));
+    let place = past.find("(eq").expect("the innermost comparison is level 33");
+    Bound {
+        name: "levels of a constraint",
+        at: format!("{before}{}", nots(31)).into_bytes(),
+        past: past.into_bytes(),
+        fault: Fault::new(2, place),
+    }
+}
+
+fn names() -> Vec<Bound> {
+    let text = |before: &str, length, after: &str| format!("{before}{}{after}", "n".repeat(length)).into_bytes();
+    let around = [("name", "(role ", ")"), ("permission", "(class c(p ", "))"), ("name before a comment", "(type ", ";\n)")];
+    let bound = |(name, before, after): (&'static str, &str, &str)| Bound {
+        name,
+        at: text(before, 64, after),
+        past: text(before, 65, after),
+        fault: Fault::new(2, before.len()),
+    };
+    around.into_iter().map(bound).collect()
+}
+
+/// "Text 65,535 bytes", and reading 1: longer is 1 at 65,535 whatever else is wrong in it.
+fn texts() -> Vec<Bound> {
+    let padded = |before: &[u8], fill: u8, length: usize| {
+        let mut text = before.to_vec();
+        text.resize(length, fill);
+        text
+    };
+    let bound = |name, before: &[u8], fill| Bound {
+        name,
+        at: padded(before, fill, 65_535),
+        past: padded(before, fill, 65_536),
+        fault: Fault::new(1, 65_535),
+    };
+    vec![bound("text of blanks", b"(role a)", b' '), bound("text of a comment", b"(role a);", b'(')]
+}
+
+/// P10: joined to the right five need 5 and six need 6; a chain to the left needs 2 however long.
+fn stacks() -> Vec<Bound> {
+    let before = "(class c(p))";
+    let comparison = "(neq r1 r2)";
+    let right = |count: usize| {
+        let open = format!("(and{comparison}").repeat(count - 1);
+        format!("{before}(constrain(c(p)){open}{comparison}{})", ")".repeat(count - 1)).into_bytes()
+    };
+    // The right operand of the outermost operator is itself a chain to the right under a not.
+    let mixed = |count: usize| {
+        let open = format!("(or{comparison}").repeat(count - 2);
+        let inner = format!("(not{open}{comparison}{})", ")".repeat(count - 2));
+        format!("{before}(constrain(c(p))(and(or{comparison}{comparison}){inner}))").into_bytes()
+    };
+    let fault = Fault::new(7, before.len());
+    vec![
+        Bound { name: "stack to the right", at: right(5), past: right(6), fault },
+        Bound { name: "stack under not", at: mixed(5), past: mixed(6), fault },
+    ]
+}
+
+/// Reading 23: the order 4, 5, 6, 7 within a statement, at the maxima.
+pub fn orders() -> Vec<(&'static str, Vec<u8>, Fault)> {
+    let find = |name: &str| bounds().into_iter().find(|b| b.name == name).expect("a bound of that name");
+    let longer = |name: &str, last: &str| {
+        let at = find(name).at;
+        let place = at.len();
+        ([at, last.as_bytes().to_vec()].concat(), place)
+    };
+    let six = format!("{}(eq u1 u2){}", "(or(eq u1 u2)".repeat(5), ")".repeat(5));
+    let many = (0..32).map(|n| format!("p{n}")).collect::<Vec<_>>().join(" ");
+    let cases: Vec<(&'static str, u8, &str, String)> = vec![
+        ("a role declared again at 128", 4, "roles", "(role a0)".to_string()),
+        ("an attribute with a role's name at 128", 4, "roles", "(roleattribute a127)".to_string()),
+        ("a class declared again at 32", 4, "classes", "(class a31(p))".to_string()),
+        ("33 permissions with a repeat", 4, "classes", format!("(class b({many} p0))")),
+        ("33 permissions in class 33", 6, "classes", format!("(class b({many} q))")),
+        ("a 129th constraint with an unknown name", 5, "constraints", "(constrain(c(p))(eq u1 nope))".to_string()),
+        ("a 129th constraint with need 6", 6, "constraints", format!("(constrain(c(p)){six})")),
+        ("rows past 2,048 with need 6", 6, "rows", format!("(constrain(c(p)){six})")),
+        ("rows past 2,048 with an unknown permission", 5, "rows", "(constrain(c(q))(eq u1 u2))".to_string()),
+        ("a 129th transition with an unknown role", 5, "transitions", "(roletransition a t c b)".to_string()),
+        ("a 129th role of a wrong form", 3, "roles", "(role a0 a0)".to_string()),
+    ];
+    let finish = |(label, number, bound, last): (&'static str, u8, &str, String)| {
+        let (text, place) = longer(bound, &last);
+        (label, text, Fault::new(number, place))
+    };
+    cases.into_iter().map(finish).collect()
+}
+
+/// Every count at its maximum in one policy.
+pub fn everything() -> Vec<u8> {
+    let mut text = String::new();
+    for n in 0..512 {
+        if n < 128 {
+            text.push_str(&format!("(user u-{n})(role r-{n})"));
+        }
+        if n < 64 {
+            text.push_str(&format!("(userattribute x{n})(roleattribute y{n})(typeattribute z{n})"));
+        }
+        text.push_str(&format!("(type t-{n})"));
+    }
+    for n in 0..32 {
+        let permissions: Vec<String> = (0..32).map(|p| format!("p{p}")).collect();
+        text.push_str(&format!("(class c{n}({}))", permissions.join(" ")));
+    }
+    for n in 0..63 {
+        // Each attribute holds the next one, which is filled further down.
+        let next = n + 1;
+        text.push_str(&format!("(userattributeset x{n}(x{next} u-{n}))(roleattributeset y{n}(y{next} r-{n}))"));
+        text.push_str(&format!("(typeattributeset z{n}(z{next} t-{n}))"));
+    }
+    text.push_str("(userattributeset x63(u-127))(roleattributeset y63(r-64 r-127))");
+    text.push_str("(typeattributeset z63(and(not t-0)(t-500 t-511)))");
+    for n in 0..128 {
+        text.push_str(&format!("(roletransition r-{n} t-{n} c{} r-{})", n % 32, 127 - n));
+        text.push_str(&constrain_of_sixteen_rows(n));
+    }
+    text.push_str("(userrole x0 y0)(roletype y0 z0)(roletype r-64 t-511)(roleallow y60 y0)(userrole u-127 r-65)");
+    text.into_bytes()
+}
+
+/// Seven operators, one not and eight comparisons.
+fn constrain_of_sixteen_rows(n: usize) -> String {
+    let (class, permission, attribute) = (n % 32, n % 31, n % 64);
+    let pair = format!("(or(neq r1 r-{n})(eq t2 z{attribute}))");
+    let left = format!("(and{pair}(and(eq u1 x{attribute})(dom r1 r2)))");
+    let right = format!("(or(not(eq u1 u2))(or(neq t1 t-{n})(or(incomp r1 r2)(eq r2 y{attribute}))))");
+    format!("(constrain(c{class}(p{permission} p{}))(or{left}{right}))", permission + 1)
+}
+
+/// A policy within every maximum whose table passes 65,536 bytes (reading 27: the length needed may).
+pub fn wide() -> Vec<u8> {
+    let mut text = String::from("(class c(p))");
+    for n in 0..512 {
+        text.push_str(&format!("(type {:n>64})", format!("-{n}")));
+        if n < 128 {
+            text.push_str(&format!("(role a{n})"));
+        }
+        if n < 64 {
+            text.push_str(&format!("(typeattribute z{n})"));
+        }
+    }
+    let first = format!("{:n>64}", "-0");
+    for n in 0..128 {
+        text.push_str(&format!("(roletransition a{n} z0 c a0)"));
+        text.push_str(&nots(16));
+    }
+    text.push_str(&format!("(typeattributeset z0({first}))"));
+    text.into_bytes()
+}

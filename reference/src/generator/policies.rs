@@ -1,0 +1,290 @@
+//! Random policies of every statement kind. With the flags of `Shape` off, each of them is free of faults.
+
+use crate::parser::{Family, FAMILIES};
+use crate::random::Random;
+use std::collections::BTreeMap;
+
+#[derive(Clone, Copy, Debug)]
+pub struct Shape {
+    /// Statements after the first declarations.
+    pub steps: usize,
+    /// Attributes may mention any attribute: fault 8 becomes likely.
+    pub cycles: bool,
+    /// Transitions take any new role: fault 9 becomes likely.
+    pub clashes: bool,
+    /// Constraints may need a stack above 5: fault 7 becomes likely.
+    pub deep: bool,
+    /// Classes have around 32 permissions: fault 6 becomes likely.
+    pub crowded: bool,
+    /// Few roles, so that the table stays small.
+    pub small: bool,
+}
+
+impl Shape {
+    pub fn good(steps: usize) -> Shape {
+        Shape { steps, cycles: false, clashes: false, deep: false, crowded: false, small: false }
+    }
+
+    pub fn small(steps: usize) -> Shape {
+        Shape { small: true, ..Shape::good(steps) }
+    }
+}
+
+/// An attribute with its rank: its sets mention only attributes of lower rank. The rank has nothing to do with the
+/// number or the line, so an attribute is used before and after its sets, and before those it mentions are filled.
+#[derive(Clone)]
+struct Attribute {
+    name: String,
+    rank: u64,
+}
+
+struct Writer<'a> {
+    random: &'a mut Random,
+    shape: Shape,
+    statements: Vec<String>,
+    things: BTreeMap<Family, Vec<String>>,
+    attributes: BTreeMap<Family, Vec<Attribute>>,
+    classes: Vec<(String, Vec<String>)>,
+    new_roles: BTreeMap<String, String>,
+}
+
+/// The statements of a random policy.
+pub fn policy(random: &mut Random, shape: Shape) -> Vec<String> {
+    let mut writer = Writer {
+        random,
+        shape,
+        statements: Vec::new(),
+        things: BTreeMap::new(),
+        attributes: BTreeMap::new(),
+        classes: Vec::new(),
+        new_roles: BTreeMap::new(),
+    };
+    for family in FAMILIES {
+        writer.declare_thing(family);
+        if writer.random.chance(60) {
+            writer.declare_attribute(family);
+        }
+    }
+    writer.declare_class();
+    for _ in 0..shape.steps {
+        writer.step();
+    }
+    writer.statements
+}
+
+fn word(family: Family) -> &'static str {
+    match family {
+        Family::User => "user",
+        Family::Role => "role",
+        Family::Type => "type",
+    }
+}
+
+fn letter(family: Family) -> &'static str {
+    match family {
+        Family::User => "u",
+        Family::Role => "r",
+        Family::Type => "t",
+    }
+}
+
+/// Names that a careless reader may take for something else.
+const ODD_NAMES: [&str; 24] = [
+    "role", "user", "type", "class", "constrain", "roleattributeset", "u", "r", "t", "l", "h", "u0", "u4", "u10", "l3",
+    "h3", "All", "U1", "_", "__-", "and-", "not_", "eq1", "process",
+];
+
+impl Writer<'_> {
+    fn name(&mut self, taken: &[String]) -> String {
+        loop {
+            let name = match self.random.below(12) {
+                0 => self.random.pick(&ODD_NAMES).to_string(),
+                1 if !self.shape.small => self.random.pick(&["a", "Z", "_"]).repeat(self.random.between(2, 64)),
+                _ => format!("{}{}", self.random.pick(&["a", "b", "c", "d", "e", "f"]), self.random.below(10)),
+            };
+            if !taken.contains(&name) {
+                return name;
+            }
+        }
+    }
+
+    fn family_names(&self, family: Family) -> Vec<String> {
+        let mut names = self.things.get(&family).cloned().unwrap_or_default();
+        let attributes = self.attributes.get(&family).cloned().unwrap_or_default();
+        names.extend(attributes.into_iter().map(|a| a.name));
+        names
+    }
+
+    fn declare_thing(&mut self, family: Family) {
+        let name = self.name(&self.family_names(family));
+        self.statements.push(format!("({} {name})", word(family)));
+        self.things.entry(family).or_default().push(name);
+    }
+
+    fn declare_attribute(&mut self, family: Family) {
+        let name = self.name(&self.family_names(family));
+        self.statements.push(format!("({}attribute {name})", word(family)));
+        let rank = self.random.next();
+        self.attributes.entry(family).or_default().push(Attribute { name, rank });
+    }
+
+    fn declare_class(&mut self) {
+        let taken: Vec<String> = self.classes.iter().map(|(name, _)| name.clone()).collect();
+        let has_process = taken.iter().any(|name| name == "process");
+        let is_process = !has_process && self.random.chance(60);
+        let name = if is_process { "process".to_string() } else { self.name(&taken) };
+        let permissions = self.permissions(is_process);
+        self.statements.push(format!("(class {name} ({}))", permissions.join(" ")));
+        self.classes.push((name, permissions));
+    }
+
+    /// At least one permission, now and then those that ask for a role allow: also on other classes, where none is
+    /// asked, while `process` may lack them.
+    fn permissions(&mut self, of_process: bool) -> Vec<String> {
+        let some: &[&[&str]] = &[&["transition", "dyntransition"], &["dyntransition"], &["transition"], &[]];
+        let first = if of_process || self.random.chance(20) { *self.random.pick(some) } else { &[] };
+        let mut permissions: Vec<String> = first.iter().map(|name| name.to_string()).collect();
+        let more = if self.shape.crowded { self.random.between(29, 34) } else { self.random.between(1, 3) };
+        for _ in 0..more {
+            let permission = self.name(&permissions);
+            permissions.push(permission);
+        }
+        permissions
+    }
+
+    fn step(&mut self) {
+        let family = *self.random.pick(&FAMILIES);
+        let roles = self.things[&Family::Role].len();
+        let crowded = self.shape.small && roles >= 2;
+        match self.random.below(100) {
+            _ if self.shape.clashes && self.random.chance(30) => self.transition(),
+            0..=11 if family != Family::Role || !crowded => self.declare_thing(family),
+            0..=11 => self.declare_thing(Family::Type),
+            12..=19 => self.declare_attribute(family),
+            20..=22 if self.classes.len() < 30 => self.declare_class(),
+            20..=39 => self.attribute_set(family),
+            40..=57 => self.relation("userrole", Family::User, Family::Role),
+            58..=73 => self.relation("roletype", Family::Role, Family::Type),
+            74..=78 => self.relation("roleallow", Family::Role, Family::Role),
+            79..=84 => self.transition(),
+            _ => self.constrain(),
+        }
+    }
+
+    fn attribute_set(&mut self, family: Family) {
+        let Some(attributes) = self.attributes.get(&family).cloned() else { return };
+        let attribute = self.random.pick(&attributes).clone();
+        let mut names = self.things[&family].clone();
+        for other in &attributes {
+            if self.shape.cycles || other.rank < attribute.rank {
+                names.push(other.name.clone());
+            }
+        }
+        let levels = self.random.below(4);
+        let set = self.set(&names, levels);
+        self.statements.push(format!("({}attributeset {} {set})", word(family), attribute.name));
+    }
+
+    /// An S over the names.
+    fn set(&mut self, names: &[String], levels: usize) -> String {
+        let operator = *self.random.pick(&["and", "or", "xor"]);
+        match self.random.below(10) {
+            0 => "(all)".to_string(),
+            1 | 2 => format!("(not {})", self.operand(names, levels)),
+            3..=5 => format!("({operator} {} {})", self.operand(names, levels), self.operand(names, levels)),
+            _ => {
+                let count = self.random.between(1, 3);
+                let operands: Vec<String> = (0..count).map(|_| self.operand(names, levels)).collect();
+                format!("({})", operands.join(" "))
+            }
+        }
+    }
+
+    fn operand(&mut self, names: &[String], levels: usize) -> String {
+        if levels == 0 || self.random.chance(60) {
+            self.random.pick(names).clone()
+        } else {
+            self.set(names, levels - 1)
+        }
+    }
+
+    fn relation(&mut self, keyword: &str, left: Family, right: Family) {
+        let first = self.random.pick(&self.family_names(left)).clone();
+        let second = self.random.pick(&self.family_names(right)).clone();
+        self.statements.push(format!("({keyword} {first} {second})"));
+    }
+
+    fn transition(&mut self) {
+        let role = self.random.pick(&self.family_names(Family::Role)).clone();
+        let kind = self.random.pick(&self.family_names(Family::Type)).clone();
+        let class = self.random.pick(&self.classes).0.clone();
+        let any = self.random.pick(&self.things[&Family::Role]).clone();
+        let kept = self.new_roles.entry(class.clone()).or_insert(any.clone()).clone();
+        let new_role = if self.shape.clashes { any } else { kept };
+        self.statements.push(format!("(roletransition {role} {kind} {class} {new_role})"));
+    }
+
+    fn constrain(&mut self) {
+        let (class, permissions) = self.random.pick(&self.classes).clone();
+        let count = self.random.between(1, permissions.len() + 1);
+        let asked: Vec<String> = (0..count).map(|_| self.random.pick(&permissions).clone()).collect();
+        let most = if self.shape.deep { 7 } else { 5 };
+        let expression = match self.random.below(if self.shape.deep { 3 } else { 10 }) {
+            0 => self.chain_to_the_right(most),
+            1 => self.chain_to_the_left(7),
+            _ => {
+                let levels = self.random.below(most);
+                self.expression(levels)
+            }
+        };
+        self.statements.push(format!("(constrain ({class} ({})) {expression})", asked.join(" ")));
+    }
+
+    /// `most` comparisons to the right need a stack of `most`.
+    fn chain_to_the_right(&mut self, most: usize) -> String {
+        let count = self.random.between(most - 1, most);
+        let mut chain = self.comparison();
+        for _ in 1..count {
+            let operator = *self.random.pick(&["and", "or"]);
+            chain = format!("({operator} {} {chain})", self.comparison());
+        }
+        chain
+    }
+
+    /// Any number of comparisons to the left needs a stack of 2.
+    fn chain_to_the_left(&mut self, count: usize) -> String {
+        let mut chain = self.comparison();
+        for _ in 1..count {
+            let operator = *self.random.pick(&["and", "or"]);
+            chain = format!("({operator} {chain} {})", self.comparison());
+        }
+        chain
+    }
+
+    /// With at most 4 levels of operators the need is at most 5.
+    fn expression(&mut self, levels: usize) -> String {
+        if levels == 0 {
+            return self.comparison();
+        }
+        match self.random.below(4) {
+            0 => format!("(and {} {})", self.expression(levels - 1), self.expression(levels - 1)),
+            1 => format!("(or {} {})", self.expression(levels - 1), self.expression(levels - 1)),
+            2 => format!("(not {})", self.expression(levels - 1)),
+            _ => self.comparison(),
+        }
+    }
+
+    fn comparison(&mut self) -> String {
+        let family = *self.random.pick(&FAMILIES);
+        let x = letter(family);
+        let operator = *self.random.pick(&["eq", "neq"]);
+        if self.random.chance(40) {
+            let role_operator = *self.random.pick(&["eq", "neq", "dom", "domby", "incomp"]);
+            let operator = if family == Family::Role { role_operator } else { operator };
+            return format!("({operator} {x}1 {x}2)");
+        }
+        let side = self.random.between(1, 2);
+        let name = self.random.pick(&self.family_names(family)).clone();
+        format!("({operator} {x}{side} {name})")
+    }
+}

@@ -1,0 +1,19 @@
+//! The independent second program: document 01 once more, in the plainest way that can be read beside the paper.
+
+pub mod compare;
+pub mod corpus;
+pub mod fault;
+pub mod generator;
+pub mod lexer;
+pub mod limits;
+pub mod meaning;
+pub mod parser;
+pub mod pieces;
+pub mod policy;
+pub mod questions;
+pub mod random;
+pub mod roll;
+pub mod sound;
+pub mod statistics;
+pub mod table;
+pub mod theorems;

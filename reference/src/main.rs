@@ -1,0 +1,73 @@
+//! The program: `reference roll`, `corpus`, `answer`, `theorems`, `statistics` and `compare`; see `USAGE`.
+
+use reference::compare::{compare, linked};
+use reference::corpus::{answer, write, Layer};
+use reference::roll::roll;
+use reference::statistics::statistics;
+use reference::theorems::theorems;
+use std::io::{Read, Write};
+use std::process::ExitCode;
+
+const USAGE: &str = "usage: reference roll                     text on standard input, prints the roll
+       reference corpus LAYER SEED         writes a corpus; LAYER is scan, compile, sound or questions
+       reference answer LAYER              corpus on standard input, writes the expected lines
+       reference theorems SEED [PER_RULE]  writes small compile cases as lines of text, result, rule
+       reference statistics LAYER [SEED]   counts the answers of a corpus
+       reference compare SECONDS SEED      compares with the linked library";
+
+fn main() -> ExitCode {
+    let arguments: Vec<String> = std::env::args().skip(1).collect();
+    let words: Vec<&str> = arguments.iter().map(String::as_str).collect();
+    match run(&words) {
+        Ok(bytes) => match std::io::stdout().write_all(&bytes) {
+            Ok(()) => ExitCode::SUCCESS,
+            Err(error) => complain(&error.to_string()),
+        },
+        Err(message) => complain(&message),
+    }
+}
+
+fn complain(message: &str) -> ExitCode {
+    eprintln!("{message}");
+    ExitCode::from(2)
+}
+
+fn run(words: &[&str]) -> Result<Vec<u8>, String> {
+    match words {
+        ["roll"] => Ok(roll(&input()?)),
+        ["corpus", name, seed] => Ok(write(layer(name)?, number(seed)?)),
+        ["answer", name] => Ok(lines(answer(layer(name)?, &input()?)?)),
+        ["theorems", seed] => Ok(lines(theorems(number(seed)?, usize::MAX))),
+        ["theorems", seed, per_rule] => Ok(lines(theorems(number(seed)?, number(per_rule)? as usize))),
+        ["statistics", name] => Ok(lines(statistics(layer(name)?, 1))),
+        ["statistics", name, seed] => Ok(lines(statistics(layer(name)?, number(seed)?))),
+        ["compare", seconds, seed] => compared(number(seconds)?, number(seed)?),
+        _ => Err(USAGE.to_string()),
+    }
+}
+
+fn compared(seconds: u64, seed: u64) -> Result<Vec<u8>, String> {
+    let other = linked().ok_or("built without the other program; see src/compare.rs")?;
+    match compare(other.as_ref(), seconds, seed) {
+        (tried, None) => Ok(lines(vec![format!("{tried} texts, no difference")])),
+        (_, Some(difference)) => Err(format!("{difference:?}")),
+    }
+}
+
+fn input() -> Result<Vec<u8>, String> {
+    let mut bytes = Vec::new();
+    std::io::stdin().read_to_end(&mut bytes).map_err(|error| error.to_string())?;
+    Ok(bytes)
+}
+
+fn layer(name: &str) -> Result<Layer, String> {
+    Layer::of(name).ok_or(format!("no layer {name}"))
+}
+
+fn number(word: &str) -> Result<u64, String> {
+    word.parse().map_err(|_| format!("not a number: {word}"))
+}
+
+fn lines(list: Vec<String>) -> Vec<u8> {
+    list.into_iter().flat_map(|line| (line + "\n").into_bytes()).collect()
+}

@@ -1,0 +1,293 @@
+//! The forms of the statements. `form` gives a statement as read, or nothing: then it is fault 3.
+//! No name is looked up here (reading 11: 3 is tried for the whole statement before any name is looked up).
+
+use crate::lexer::{is_reserved, Group, Part};
+
+pub type Name = Vec<u8>;
+
+/// The three families that have attributes. Classes are the fourth and have none.
+#[derive(Clone, Copy, Debug, PartialEq, Eq, PartialOrd, Ord)]
+pub enum Family {
+    User,
+    Role,
+    Type,
+}
+
+/// "users, then roles, then types"
+pub const FAMILIES: [Family; 3] = [Family::User, Family::Role, Family::Type];
+
+/// S of a set statement, and its operands.
+#[derive(Clone, Debug, PartialEq, Eq)]
+pub enum Set {
+    Named(Name),
+    Union(Vec<Set>),
+    All,
+    Not(Box<Set>),
+    And(Box<Set>, Box<Set>),
+    Or(Box<Set>, Box<Set>),
+    Xor(Box<Set>, Box<Set>),
+}
+
+#[derive(Clone, Copy, Debug, PartialEq, Eq)]
+pub enum Operator {
+    Eq,
+    Neq,
+    Dom,
+    Domby,
+    Incomp,
+}
+
+impl Operator {
+    fn of(word: &[u8]) -> Option<Operator> {
+        match word {
+            b"eq" => Some(Operator::Eq),
+            b"neq" => Some(Operator::Neq),
+            b"dom" => Some(Operator::Dom),
+            b"domby" => Some(Operator::Domby),
+            b"incomp" => Some(Operator::Incomp),
+            _ => None,
+        }
+    }
+
+    /// "op: `eq neq`; rop: also `dom domby incomp`."
+    fn is_op(self) -> bool {
+        matches!(self, Operator::Eq | Operator::Neq)
+    }
+}
+
+/// "Side 1 is the source, 2 the target."
+#[derive(Clone, Copy, Debug, PartialEq, Eq)]
+pub enum Side {
+    Source,
+    Target,
+}
+
+/// E of a constrain statement.
+#[derive(Clone, Debug, PartialEq, Eq)]
+pub enum Expression {
+    Sides(Operator, Family),
+    Named(Operator, Family, Side, Name),
+    And(Box<Expression>, Box<Expression>),
+    Or(Box<Expression>, Box<Expression>),
+    Not(Box<Expression>),
+}
+
+/// The three statements that give every member of one set every member of another.
+#[derive(Clone, Copy, Debug, PartialEq, Eq)]
+pub enum Relation {
+    UserRole,
+    RoleType,
+    RoleAllow,
+}
+
+impl Relation {
+    pub fn families(self) -> (Family, Family) {
+        match self {
+            Relation::UserRole => (Family::User, Family::Role),
+            Relation::RoleType => (Family::Role, Family::Type),
+            Relation::RoleAllow => (Family::Role, Family::Role),
+        }
+    }
+}
+
+#[derive(Clone, Debug, PartialEq, Eq)]
+pub struct Transition {
+    pub role: Name,
+    pub kind: Name,
+    pub class: Name,
+    pub new_role: Name,
+}
+
+#[derive(Clone, Debug, PartialEq, Eq)]
+pub struct Constrain {
+    pub class: Name,
+    pub permissions: Vec<Name>,
+    pub expression: Expression,
+}
+
+#[derive(Clone, Debug, PartialEq, Eq)]
+pub enum Statement {
+    Thing(Family, Name),
+    Attribute(Family, Name),
+    Class(Name, Vec<Name>),
+    AttributeSet(Family, Name, Set),
+    Relation(Relation, Name, Name),
+    Transition(Transition),
+    Constrain(Constrain),
+}
+
+/// The statement that a group is, or nothing where it is "not of a form above".
+pub fn form(statement: &Group) -> Option<Statement> {
+    let (first, rest) = statement.parts.split_first()?;
+    match word(first)? {
+        b"user" => Some(Statement::Thing(Family::User, only_name(rest)?)),
+        b"role" => Some(Statement::Thing(Family::Role, only_name(rest)?)),
+        b"type" => Some(Statement::Thing(Family::Type, only_name(rest)?)),
+        b"userattribute" => Some(Statement::Attribute(Family::User, only_name(rest)?)),
+        b"roleattribute" => Some(Statement::Attribute(Family::Role, only_name(rest)?)),
+        b"typeattribute" => Some(Statement::Attribute(Family::Type, only_name(rest)?)),
+        b"class" => class(rest),
+        b"userattributeset" => attribute_set(Family::User, rest),
+        b"roleattributeset" => attribute_set(Family::Role, rest),
+        b"typeattributeset" => attribute_set(Family::Type, rest),
+        b"userrole" => relation(Relation::UserRole, rest),
+        b"roletype" => relation(Relation::RoleType, rest),
+        b"roleallow" => relation(Relation::RoleAllow, rest),
+        b"roletransition" => transition(rest),
+        b"constrain" => constrain(rest),
+        // Reading 20: statements left out and unknown keywords.
+        _ => None,
+    }
+}
+
+fn word(part: &Part) -> Option<&[u8]> {
+    match part {
+        Part::Name(name) => Some(name),
+        Part::Group(_) => None,
+    }
+}
+
+fn inside(part: &Part) -> Option<&[Part]> {
+    match part {
+        Part::Name(_) => None,
+        Part::Group(group) => Some(&group.parts),
+    }
+}
+
+/// A place where a name is asked for: "A reserved word where a name is asked for, a permission's included, is fault 3."
+fn name(part: &Part) -> Option<Name> {
+    let bytes = word(part)?;
+    if is_reserved(bytes) {
+        return None;
+    }
+    Some(bytes.to_vec())
+}
+
+fn only_name(parts: &[Part]) -> Option<Name> {
+    match parts {
+        [only] => name(only),
+        _ => None,
+    }
+}
+
+/// `(P ...)` "with at least one permission".
+fn permissions(part: &Part) -> Option<Vec<Name>> {
+    let parts = inside(part)?;
+    if parts.is_empty() {
+        return None;
+    }
+    parts.iter().map(name).collect()
+}
+
+fn class(parts: &[Part]) -> Option<Statement> {
+    match parts {
+        [class, list] => Some(Statement::Class(name(class)?, permissions(list)?)),
+        _ => None,
+    }
+}
+
+fn attribute_set(family: Family, parts: &[Part]) -> Option<Statement> {
+    match parts {
+        [attribute, s] => Some(Statement::AttributeSet(family, name(attribute)?, set(inside(s)?)?)),
+        _ => None,
+    }
+}
+
+/// S, given what stands inside its parentheses. Reading 16: `all not and or xor` are operators only as the first item
+/// and with exact counts; anywhere else they are reserved words in a name's place.
+fn set(parts: &[Part]) -> Option<Set> {
+    let (first, rest) = parts.split_first()?;
+    match (word(first), rest) {
+        (Some(b"all"), []) => Some(Set::All),
+        (Some(b"not"), [x]) => Some(Set::Not(operand(x)?)),
+        (Some(b"and"), [x, y]) => Some(Set::And(operand(x)?, operand(y)?)),
+        (Some(b"or"), [x, y]) => Some(Set::Or(operand(x)?, operand(y)?)),
+        (Some(b"xor"), [x, y]) => Some(Set::Xor(operand(x)?, operand(y)?)),
+        _ => {
+            let mut union = Vec::new();
+            for part in parts {
+                union.push(*operand(part)?);
+            }
+            Some(Set::Union(union))
+        }
+    }
+}
+
+/// "An operand is a name of the family or again such an S."
+fn operand(part: &Part) -> Option<Box<Set>> {
+    match part {
+        Part::Name(_) => Some(Box::new(Set::Named(name(part)?))),
+        Part::Group(group) => Some(Box::new(set(&group.parts)?)),
+    }
+}
+
+fn relation(which: Relation, parts: &[Part]) -> Option<Statement> {
+    match parts {
+        [first, second] => Some(Statement::Relation(which, name(first)?, name(second)?)),
+        _ => None,
+    }
+}
+
+fn transition(parts: &[Part]) -> Option<Statement> {
+    match parts {
+        [role, kind, class, new_role] => Some(Statement::Transition(Transition {
+            role: name(role)?,
+            kind: name(kind)?,
+            class: name(class)?,
+            new_role: name(new_role)?,
+        })),
+        _ => None,
+    }
+}
+
+/// `(constrain (C (P ...)) E)`; reading 19: `(C (P ...))` is exactly two items.
+fn constrain(parts: &[Part]) -> Option<Statement> {
+    let [head, e] = parts else { return None };
+    let [class, list] = inside(head)? else { return None };
+    Some(Statement::Constrain(Constrain {
+        class: name(class)?,
+        permissions: permissions(list)?,
+        expression: expression(e)?,
+    }))
+}
+
+/// E; reading 18: two operands for `and` and `or`, one for `not`, each parenthesised.
+fn expression(part: &Part) -> Option<Expression> {
+    let (first, rest) = inside(part)?.split_first()?;
+    match (word(first)?, rest) {
+        (b"and", [e, f]) => Some(Expression::And(Box::new(expression(e)?), Box::new(expression(f)?))),
+        (b"or", [e, f]) => Some(Expression::Or(Box::new(expression(e)?), Box::new(expression(f)?))),
+        (b"not", [e]) => Some(Expression::Not(Box::new(expression(e)?))),
+        (operator, [left, right]) => comparison(Operator::of(operator)?, word(left)?, word(right)?),
+        _ => None,
+    }
+}
+
+/// `(op u1 u2)`, `(op t1 t2)`, `(rop r1 r2)`, `(op x name)`.
+fn comparison(operator: Operator, left: &[u8], right: &[u8]) -> Option<Expression> {
+    match (left, right) {
+        (b"u1", b"u2") if operator.is_op() => return Some(Expression::Sides(operator, Family::User)),
+        (b"t1", b"t2") if operator.is_op() => return Some(Expression::Sides(operator, Family::Type)),
+        (b"r1", b"r2") => return Some(Expression::Sides(operator, Family::Role)),
+        _ => {}
+    }
+    // Readings 14 and 15: anything reserved on the right is 3, as is dom, domby or incomp with a name.
+    if !operator.is_op() || is_reserved(right) {
+        return None;
+    }
+    let (family, side) = side_of(left)?;
+    Some(Expression::Named(operator, family, side, right.to_vec()))
+}
+
+/// "x one of u1 u2 r1 r2 t1 t2"
+fn side_of(word: &[u8]) -> Option<(Family, Side)> {
+    match word {
+        b"u1" => Some((Family::User, Side::Source)),
+        b"u2" => Some((Family::User, Side::Target)),
+        b"r1" => Some((Family::Role, Side::Source)),
+        b"r2" => Some((Family::Role, Side::Target)),
+        b"t1" => Some((Family::Type, Side::Source)),
+        b"t2" => Some((Family::Type, Side::Target)),
+        _ => None,
+    }
+}

@@ -1,0 +1,71 @@
+//! The corpora: the same seed gives the same bytes, and every answer occurs.
+
+use reference::corpus::{adler32, answer, compile_line, fill, write, Layer};
+use reference::theorems::theorems;
+
+const LAYERS: [Layer; 4] = [Layer::Scan, Layer::Compile, Layer::Sound, Layer::Questions];
+
+fn count(lines: &[String], start: &str) -> usize {
+    lines.iter().filter(|line| line.starts_with(start)).count()
+}
+
+#[test]
+fn the_same_seed_gives_the_same_bytes() {
+    for layer in LAYERS {
+        assert_eq!(write(layer, 5), write(layer, 5));
+        assert_ne!(write(layer, 5), write(layer, 6));
+    }
+}
+
+#[test]
+fn every_refusal_and_denial_occurs() {
+    let compile = answer(Layer::Compile, &write(Layer::Compile, 2)).unwrap();
+    assert!(count(&compile, "refused 1 at 65535") >= 1);
+    for number in 2..=10 {
+        assert!(count(&compile, &format!("refused {number} at")) >= 10, "{number}");
+    }
+    assert!(count(&compile, "accepted") > 300);
+    let scan = answer(Layer::Scan, &write(Layer::Scan, 2)).unwrap();
+    assert!(count(&scan, "refused 1 at 65535") >= 1 && count(&scan, "refused 2") > 1_000 && count(&scan, "clean") > 1_000);
+    let sound = answer(Layer::Sound, &write(Layer::Sound, 2)).unwrap();
+    assert!(count(&sound, "sound") > 100 && count(&sound, "unsound") > 500);
+    let questions = answer(Layer::Questions, &write(Layer::Questions, 2)).unwrap();
+    for start in ["denied 1", "denied 2", "denied 3", "denied 4", "granted", "refused 11", "refused 12", "valid", "not valid"] {
+        assert!(count(&questions, start) >= 10, "{start}");
+    }
+}
+
+#[test]
+fn a_cut_corpus_is_an_error() {
+    for layer in LAYERS {
+        let corpus = write(layer, 1);
+        assert!(answer(layer, &corpus[..corpus.len() - 1]).is_err());
+        assert_eq!(answer(layer, &[]), Ok(vec![]));
+    }
+}
+
+#[test]
+fn the_checksum() {
+    // The two published values of Adler-32 for these strings.
+    assert_eq!(adler32(b""), 1);
+    assert_eq!(adler32(b"Wikipedia"), 0x11E6_0398);
+    assert_eq!(fill(300)[..4], [3, 10, 17, 24]);
+    assert_eq!(fill(300)[256..258], [3, 10]);
+    assert_eq!(compile_line(0, b"()"), "refused 3 at 0 1");
+    assert_eq!(compile_line(2, b""), format!("refused 10 at 68 {}", adler32(&[3, 10])));
+}
+
+#[test]
+fn theorems_are_plain_lines() {
+    for line in theorems(1, usize::MAX) {
+        let fields: Vec<&str> = line.split('\t').collect();
+        assert_eq!(fields.len(), 3, "{line}");
+        assert!(fields[0].len() <= 160 && !fields[0].contains(['"', '\\']));
+        let words: Vec<&str> = fields[1].split(' ').collect();
+        match words[0] {
+            "accepted" => assert_eq!(words.len() - 2, words[1].parse::<usize>().unwrap()),
+            "refused" => assert_eq!(words.len(), 3),
+            _ => panic!("{line}"),
+        }
+    }
+}

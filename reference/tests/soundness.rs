@@ -1,0 +1,98 @@
+//! Soundness: each condition alone, both sides of each maximum, odd tables that are sound.
+
+mod common;
+
+use common::table;
+use reference::generator::tables::{apply, bounds, odd_and_sound, ways, with_bytes_behind, BASES};
+use reference::random::Random;
+use reference::sound::{decode, is_sound, REASONS};
+use reference::table::{assemble, bodies};
+use std::collections::BTreeSet;
+
+#[test]
+fn each_way_of_damage_is_unsound_and_each_reason_is_reached() {
+    let mut random = Random::new(11);
+    let mut reached = BTreeSet::new();
+    for (name, way) in ways() {
+        let mut applied = 0;
+        for base in BASES {
+            for _ in 0..40 {
+                if let Some(damaged) = apply(way, &table(base), &mut random) {
+                    applied += 1;
+                    match decode(&damaged) {
+                        Ok(_) => panic!("{name} leaves a sound table"),
+                        Err(reason) => reached.insert(reason),
+                    };
+                }
+            }
+        }
+        assert!(applied > 0, "{name} finds nothing to damage");
+    }
+    for (name, at, past) in bounds() {
+        assert!(is_sound(&at), "{name} at the maximum");
+        match decode(&past) {
+            Ok(_) => panic!("{name} past the maximum"),
+            Err(reason) => reached.insert(reason),
+        };
+    }
+    let all: BTreeSet<&str> = REASONS.into_iter().collect();
+    assert_eq!(reached, all);
+}
+
+#[test]
+fn odd_tables_are_sound() {
+    for (name, table) in odd_and_sound() {
+        assert_eq!(decode(&table).err(), None, "{name}");
+    }
+}
+
+#[test]
+fn reading_a_sound_table_and_writing_it_gives_the_same_bytes() {
+    for base in BASES {
+        let table = table(base);
+        let decoded = decode(&table).unwrap();
+        assert_eq!(assemble(&bodies(&decoded.contents)), table);
+    }
+}
+
+#[test]
+fn bytes_behind_are_not_read_and_every_cut_is_unsound() {
+    let mut random = Random::new(5);
+    for base in BASES {
+        let table = table(base);
+        for length in 0..table.len() {
+            assert!(!is_sound(&table[..length]), "{length}");
+        }
+        let longer = with_bytes_behind(&mut random, &table);
+        assert_eq!(decode(&longer), decode(&table));
+    }
+}
+
+/// Any single byte changed: whatever is still sound reads back as those very bytes.
+#[test]
+fn a_changed_byte_is_unsound_or_reads_back() {
+    for base in BASES {
+        let table = table(base);
+        for at in 0..table.len() {
+            for flip in [1, 2, 4, 128, 255] {
+                let mut changed = table.clone();
+                changed[at] ^= flip;
+                if let Ok(decoded) = decode(&changed) {
+                    assert_eq!(assemble(&bodies(&decoded.contents)), changed);
+                }
+            }
+        }
+    }
+}
+
+#[test]
+fn bytes_that_are_no_table() {
+    assert!(!is_sound(b""));
+    assert!(!is_sound(&[0; 68]));
+    assert!(!is_sound(&[255; 500]));
+    let mut random = Random::new(1);
+    for _ in 0..1_000 {
+        let bytes: Vec<u8> = (0..random.below(200)).map(|_| random.byte()).collect();
+        assert!(!is_sound(&bytes));
+    }
+}
