@@ -27,11 +27,14 @@ pub struct Library {
 }
 
 /// The linked library, if the program was built with it.
+#[cfg(not(feature = "linked"))]
 pub fn linked() -> Option<Library> {
-    #[cfg(feature = "linked")]
-    return Some(crate::linked::library());
-    #[cfg(not(feature = "linked"))]
     None
+}
+
+#[cfg(feature = "linked")]
+pub fn linked() -> Option<Library> {
+    Some(crate::linked::library())
 }
 
 /// How many cases of each layer were compared.

@@ -2,10 +2,13 @@
 
 pub mod compare;
 pub mod corpus;
+pub mod definitions;
 pub mod fault;
 pub mod generator;
 pub mod lexer;
 pub mod limits;
+#[cfg(feature = "linked")]
+pub mod linked;
 pub mod meaning;
 pub mod parser;
 pub mod pieces;
@@ -16,4 +19,3 @@ pub mod roll;
 pub mod sound;
 pub mod statistics;
 pub mod table;
-pub mod theorems;

@@ -1,17 +1,18 @@
-//! The program: `reference roll`, `corpus`, `answer`, `theorems`, `statistics` and `compare`; see `USAGE`.
+//! The program: `reference roll`, `corpus`, `answer`, `definitions`, `statistics` and `compare`; see `USAGE`.
 
 use reference::compare::{compare, linked};
 use reference::corpus::{answer, write, Layer};
+use reference::definitions::definitions;
 use reference::roll::roll;
 use reference::statistics::statistics;
-use reference::theorems::theorems;
 use std::io::{Read, Write};
+use std::path::Path;
 use std::process::ExitCode;
 
 const USAGE: &str = "usage: reference roll                     text on standard input, prints the roll
        reference corpus LAYER SEED         writes a corpus; LAYER is scan, compile, sound or questions
        reference answer LAYER              corpus on standard input, writes the expected lines
-       reference theorems SEED [PER_RULE]  writes small compile cases as lines of text, result, rule
+       reference definitions SEED FOLDER   writes theorems that hold the prover's definitions to small cases
        reference statistics LAYER [SEED]   counts the answers of a corpus
        reference compare SECONDS SEED      compares with the linked library";
 
@@ -37,8 +38,7 @@ fn run(words: &[&str]) -> Result<Vec<u8>, String> {
         ["roll"] => Ok(roll(&input()?)),
         ["corpus", name, seed] => Ok(write(layer(name)?, number(seed)?)),
         ["answer", name] => Ok(lines(answer(layer(name)?, &input()?)?)),
-        ["theorems", seed] => Ok(lines(theorems(number(seed)?, usize::MAX))),
-        ["theorems", seed, per_rule] => Ok(lines(theorems(number(seed)?, number(per_rule)? as usize))),
+        ["definitions", seed, folder] => written(number(seed)?, Path::new(folder)),
         ["statistics", name] => Ok(lines(statistics(layer(name)?, 1))),
         ["statistics", name, seed] => Ok(lines(statistics(layer(name)?, number(seed)?))),
         ["compare", seconds, seed] => compared(number(seconds)?, number(seed)?),
@@ -46,11 +46,22 @@ fn run(words: &[&str]) -> Result<Vec<u8>, String> {
     }
 }
 
+/// Writes the files into the folder and says how many theorems they hold.
+fn written(seed: u64, folder: &Path) -> Result<Vec<u8>, String> {
+    let files = definitions(seed);
+    for file in &files {
+        std::fs::write(folder.join(&file.name), &file.text).map_err(|error| format!("{}: {error}", file.name))?;
+    }
+    let theorems: usize = files.iter().map(|file| file.text.matches("= refl\n").count()).sum();
+    Ok(lines(vec![format!("{} files, {theorems} theorems", files.len())]))
+}
+
 fn compared(seconds: u64, seed: u64) -> Result<Vec<u8>, String> {
-    let other = linked().ok_or("built without the other program; see src/compare.rs")?;
-    match compare(other.as_ref(), seconds, seed) {
-        (tried, None) => Ok(lines(vec![format!("{tried} texts, no difference")])),
-        (_, Some(difference)) => Err(format!("{difference:?}")),
+    let library = linked().ok_or("built without the other program; reference/long-comparison builds with it")?;
+    let (tally, difference) = compare(&library, seconds, seed);
+    match difference {
+        None => Ok(lines(vec![format!("seed {seed}: {tally}; no difference")])),
+        Some(difference) => Err(format!("seed {seed}: {tally}\n{difference}")),
     }
 }
 

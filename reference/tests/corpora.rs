@@ -1,7 +1,6 @@
 //! The corpora: the same seed gives the same bytes, and every answer occurs.
 
 use reference::corpus::{adler32, answer, compile_line, fill, write, Layer};
-use reference::theorems::theorems;
 
 const LAYERS: [Layer; 4] = [Layer::Scan, Layer::Compile, Layer::Sound, Layer::Questions];
 
@@ -53,19 +52,4 @@ fn the_checksum() {
     assert_eq!(fill(300)[256..258], [3, 10]);
     assert_eq!(compile_line(0, b"()"), "refused 3 at 0 1");
     assert_eq!(compile_line(2, b""), format!("refused 10 at 68 {}", adler32(&[3, 10])));
-}
-
-#[test]
-fn theorems_are_plain_lines() {
-    for line in theorems(1, usize::MAX) {
-        let fields: Vec<&str> = line.split('\t').collect();
-        assert_eq!(fields.len(), 3, "{line}");
-        assert!(fields[0].len() <= 160 && !fields[0].contains(['"', '\\']));
-        let words: Vec<&str> = fields[1].split(' ').collect();
-        match words[0] {
-            "accepted" => assert_eq!(words.len() - 2, words[1].parse::<usize>().unwrap()),
-            "refused" => assert_eq!(words.len(), 3),
-            _ => panic!("{line}"),
-        }
-    }
 }

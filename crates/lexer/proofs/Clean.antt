@@ -1,58 +1,28 @@
 -- What a clean scan says of a text's forms: they are balanced, at most 32 levels deep, and every word is a name.
 -- One induction over the bytes that are left: with so many parentheses open, so many rows are still to be closed, each of them with
 -- room for one level more than the row in it. Assumes nothing.
-use mathlib.Core.Path.{_≡_, refl, sym, ap, ap₂, subst, _∙_}
+use mathlib.Core.Path.{_≡_, refl, ap, _∙_}
 use mathlib.Core.Bool.{Bool, true, false, _&&_, cond}
 use mathlib.Core.List.{List, [], _∷_, _++_}
 use Prim.Native.Nat.{ℕ, zero, suc, _+_, _-_, _≤_, _<_}
 use native.Mathlib.Omega.{arith}
 use native.Mathlib.Numerals.{add-one}
-use borrow.Author.Tests.{ltb-true, ltb-false, eqb-false, le-leb}
-use lib.Dec.{ltb, leb, eqb, eqb·suc-zero}
-use lib.ListN.{length, take, drop, length-drop, length-take, length-append}
+use borrow.Author.Tests.{ltb-true, ltb-false, eqb-false}
+use lib.Dec.{ltb, eqb, eqb·suc-zero}
+use lib.ListN.{length, take, drop, length-drop}
 use lib.Seq.{take-add, drop-drop, length-take-le}
-use Rattle.lexer.specs.Class.{classOf, starts, goesOn, endsComment, maxName, allGoOn, isName}
-use Rattle.lexer.specs.Scan.{maxText, maxLevel, Mode, between, inComment, inName, State, going, stopped, commentThen, stepBetween, stepName, scanFrom, scan}
+use Rattle.lexer.specs.Class.{classOf, goesOn, endsComment, maxName, allGoOn, isName}
+use Rattle.lexer.specs.Scan.{maxText, maxLevel, Mode, between, inComment, inName, going, stopped, commentThen, stepBetween, stepName, scanFrom, scan}
 use Rattle.lexer.specs.Token.{betweenThen, ownToken, modeThen, ending, tokensFrom, tokensAt}
-use Rattle.lexer.specs.Forms.{Forms, closed, ended, word, part, Frames, head, tail, step, build, framesAt, formsOf, trim, closes, balanced, namesGood}
+use Rattle.lexer.specs.Forms.{Forms, ended, word, part, Frames, head, tail, step, build, framesAt, formsOf, trim, closes, balanced, namesGood}
 use Rattle.lexer.specs.declared.ByteClass.{ByteClass}
 use Rattle.lexer.specs.declared.ByteClass.the-variants.{Blank, LineFeed, Comment, Open, Close, Letter, Digit, Wrong}
 use Rattle.lexer.specs.declared.Scanned.{Scanned}
 use Rattle.lexer.specs.declared.Token.{Token}
-use Rattle.lexer.proofs.Ends.{rest}
+use Rattle.lexer.proofs.Ends.{rest, below}
+use Rattle.lexer.proofs.Names.{both, name-more}
 use Rattle.lexer.proofs.Scans.{halted}
 use Rattle.lexer.proofs.Trim.{uncut}
-
--- ---- names
-
-pub both : (a b : Bool) → a ≡ true → b ≡ true → a && b ≡ true
-both a b e f = rw (e, f)
-
-pub fst : (a b : Bool) → a && b ≡ true → a ≡ true
-fst true b e = refl
-fst false b e = e
-
-pub snd : (a b : Bool) → a && b ≡ true → b ≡ true
-snd true b e = e
-snd false b e = cc
-
-all-more : (xs : List ℕ) (b : ℕ) → allGoOn xs ≡ true → goesOn (classOf b) ≡ true → allGoOn (xs ++ b ∷ []) ≡ true
-unfolding allGoOn
-all-more [] b e f = rw f
-all-more (x ∷ xs) b e f =
-    both (goesOn (classOf x)) (allGoOn (xs ++ b ∷ [])) (fst (goesOn (classOf x)) (allGoOn xs) e)
-    (all-more xs b (snd (goesOn (classOf x)) (allGoOn xs) e) f)
-
--- a name with one byte more
-name-more : (xs : List ℕ) (b : ℕ) → isName xs ≡ true → goesOn (classOf b) ≡ true → length xs < maxName → isName (xs ++ b ∷ []) ≡ true
-unfolding isName
-name-more [] b e f h = cc
-name-more (x ∷ xs) b e f h =
-    let s = starts (classOf x) in
-    let d = fst (s && allGoOn xs) (leb (length (x ∷ xs)) maxName) e in
-    both (s && allGoOn (xs ++ b ∷ [])) (leb (length (x ∷ xs ++ b ∷ [])) maxName)
-    (both s (allGoOn (xs ++ b ∷ [])) (fst s (allGoOn xs) d) (all-more xs b (snd s (allGoOn xs) d) f))
-    (le-leb (length (x ∷ xs ++ b ∷ [])) maxName (omega (arith, length-append (x ∷ xs) (b ∷ []))))
 
 -- ---- rows
 
@@ -123,7 +93,7 @@ module _ (t bs : List ℕ) (b at : ℕ) (left : drop at t ≡ b ∷ bs)
     (ih : (m : Mode) (level room : ℕ) → Under t m level (at + 1) → scanFrom bs (going m level) (at + 1) ≡ Scanned.Clean → level + room ≡ maxLevel
     → Good (build t (tokensFrom bs m (at + 1))) level room) where
   within : at < length t
-  within = omega (arith, length-drop at t, ap length left)
+  within = below t bs b at left
 
   opened : (level room : ℕ) (q : Bool) → ltb level maxLevel ≡ q → scanFrom bs (cond q (going between (level + 1)) (stopped at)) (at + 1) ≡ Scanned.Clean
       → level + room ≡ maxLevel → Good (step t (Token.Open at) (build t (tokensFrom bs between (at + 1)))) level room

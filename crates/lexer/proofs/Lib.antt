@@ -1,6 +1,7 @@
 pub mod Clean
 pub mod Ends
 pub mod Marks
+pub mod Names
 pub mod Scans
 pub mod Seen
 pub mod Tokens

@@ -1,22 +1,22 @@
 -- How the scan of a text goes on by a byte, over a comment, and at its end: what the loop of `scan` does, stated once.
 -- Assumes nothing.
 use mathlib.Core.Path.{_≡_, refl, sym, ap, _∙_}
-use mathlib.Core.Bool.{Bool, true, false, cond}
+use mathlib.Core.Bool.{true, false, cond}
 use mathlib.Core.List.{List, [], _∷_}
-use Prim.Native.Nat.{ℕ, suc, _+_, _≤_, _<_}
+use Prim.Native.Nat.{ℕ, _+_, _≤_, _<_}
 use native.Mathlib.Numerals.{add-one}
 use borrow.Author.Tests.{lt-ltb, le-ltb}
 use lib.Dec.{eqb, ltb}
 use lib.ListN.{length, getD, drop, drop-of-length-le}
 use lib.Seq.{drop-cons}
-use Rattle.lexer.specs.Class.{classOf, goesOn, endsComment}
-use Rattle.lexer.specs.Scan.{maxText, Mode, between, inComment, inName, State, going, stopped, stepBetween, stepName, step, scanFrom, scan}
-use Rattle.lexer.specs.Answers.{commentEnd, stateOf}
+use Rattle.lexer.specs.Class.{classOf, endsComment, maxName}
+use Rattle.lexer.specs.Scan.{maxText, Mode, between, inComment, inName, State, going, stopped, stepBetween, step, scanFrom, scan}
+use Rattle.lexer.specs.Answers.{goesOnWith, commentEnd, stateOf}
 use Rattle.lexer.specs.declared.ByteClass.{ByteClass}
 use Rattle.lexer.specs.declared.ByteClass.the-variants.{Blank, LineFeed, Comment, Open, Close, Letter, Digit, Wrong}
 use Rattle.lexer.specs.declared.Scanned.{Scanned}
 use Rattle.lexer.specs.declared.Step.{Step}
-use Rattle.lexer.proofs.Ends.{over-comment}
+use Rattle.lexer.proofs.Ends.{over-comment, byte-there, byte-goes-on}
 
 -- a text that is too long is fault 1, and only such a text
 pub too-long : (t : List ℕ) → maxText < length t → scan t ≡ Scanned.TooLong
@@ -44,6 +44,13 @@ blank-too level at Letter e = cc
 blank-too level at Digit e = cc
 blank-too level at Wrong e = cc
 
+-- a name is left where it goes on no more: at another byte, or at the end of the text
+pub leave : (bs : List ℕ) (first len level at : ℕ) → goesOnWith bs ≡ false
+    → scanFrom bs (going (inName first len) level) at ≡ scanFrom bs (going between level) at
+unfolding scanFrom
+leave [] first len level at e = refl
+leave (b ∷ bs) first len level at e = rw e
+
 module _ (t : List ℕ) (at : ℕ) where
   by-byte : (mode : Mode) (level : ℕ) → at < length t
       → scanFrom (drop at t) (going mode level) at ≡ scanFrom (drop (at + 1) t) (step mode level at (classOf (getD t at 0))) (at + 1)
@@ -57,27 +64,27 @@ module _ (t : List ℕ) (at : ℕ) where
       → scanFrom (drop at t) (going mode level) at ≡ scan t → scanFrom (drop (at + 1) t) s (at + 1) ≡ scan t
   turn mode level k s h e f g = cc (by-byte mode level h)
 
-  -- a turn that meets a fault
-  pub halt : (mode : Mode) (level : ℕ) (k : ByteClass) (place : ℕ) → at < length t → k ≡ classOf (getD t at 0)
-      → step mode level at k ≡ stopped place → scanFrom (drop at t) (going mode level) at ≡ scan t → Scanned.Wrong place ≡ scan t
-  halt mode level k place h e f g = sym (halted (drop (at + 1) t) place (at + 1)) ∙ turn mode level k (stopped place) h e f g
-
   -- a turn between names, by the step that the code took
   pub took : (level : ℕ) (k : ByteClass) (r s : Step) → at < length t → k ≡ classOf (getD t at 0)
       → ((at : ℕ) → stateOf level at r ≡ stepBetween level at k) → r ≡ s
       → scanFrom (drop at t) (going between level) at ≡ scan t → scanFrom (drop (at + 1) t) (stateOf level at s) (at + 1) ≡ scan t
   took level k r s h e f g = turn between level k (stateOf level at s) h e (sym (f at) ∙ ap (stateOf level at) g)
 
-  -- a byte that does not go on a name leaves it
-  pub leave : (first len level : ℕ) → at < length t → goesOn (classOf (getD t at 0)) ≡ false
-      → scanFrom (drop at t) (going (inName first len) level) at ≡ scanFrom (drop at t) (going between level) at
-  leave first len level h e =
-      by-byte (inName first len) level h
-      ∙ ap (λ (s : State). scanFrom (drop (at + 1) t) s (at + 1)) (same (classOf (getD t at 0)) e)
-      ∙ sym (by-byte between level h)
-    where
-      same : (k : ByteClass) → goesOn k ≡ false → stepName first len level at k ≡ stepBetween level at k
-      same k e = rw e
+  -- a turn within a name that goes on: it grows, or is too long
+  name-turn : (first len level : ℕ) → goesOnWith (drop at t) ≡ true → scanFrom (drop at t) (going (inName first len) level) at ≡ scan t
+      → scanFrom (drop (at + 1) t) (cond (ltb len maxName) (going (inName first (len + 1)) level) (stopped first)) (at + 1) ≡ scan t
+  name-turn first len level e = turn (inName first len) level (classOf (getD t at 0)) _ (byte-there t at e) refl (rw (byte-goes-on t at e))
+
+  pub grows : (first len level : ℕ) → goesOnWith (drop at t) ≡ true → len < maxName
+      → scanFrom (drop at t) (going (inName first len) level) at ≡ scan t
+      → scanFrom (drop (at + 1) t) (going (inName first (len + 1)) level) (at + 1) ≡ scan t
+  grows first len level e h i = rw (lt-ltb len maxName h) at (name-turn first len level e i)
+
+  pub overlong : (first len level : ℕ) → goesOnWith (drop at t) ≡ true → maxName ≤ len
+      → scanFrom (drop at t) (going (inName first len) level) at ≡ scan t → Scanned.Wrong first ≡ scan t
+  overlong first len level e h i =
+      sym (halted (drop (at + 1) t) first (at + 1))
+      ∙ (rw (le-ltb len maxName h) at (name-turn first len level e i))
 
   -- the end of the text ends whatever is under way
   pub last : (mode : Mode) (level : ℕ) → length t ≤ at

@@ -6,7 +6,7 @@ use mathlib.Core.List.{List, [], _∷_, _++_}
 use Prim.Native.Nat.{ℕ, _+_, _≤_, _<_}
 use native.Mathlib.Nat.{le-refl}
 use native.Mathlib.Omega.{arith}
-use lib.ListN.{length, drop, length-drop}
+use lib.ListN.{length, drop}
 use Rattle.lexer.specs.Class.{classOf, goesOn, endsComment}
 use Rattle.lexer.specs.Scan.{Mode, between, inComment, inName, commentThen}
 use Rattle.lexer.specs.Token.{betweenThen, ownToken, modeThen, ending, tokensFrom, tokensAt, firstOf, tokenAt}
@@ -14,7 +14,7 @@ use Rattle.lexer.specs.Forms.{Frames, ended, step, build, framesAt}
 use Rattle.lexer.specs.declared.ByteClass.{ByteClass}
 use Rattle.lexer.specs.declared.ByteClass.the-variants.{Blank, LineFeed, Comment, Open, Close, Letter, Digit, Wrong}
 use Rattle.lexer.specs.declared.Token.{Token}
-use Rattle.lexer.proofs.Ends.{rest}
+use Rattle.lexer.proofs.Ends.{rest, below}
 
 -- a token at or after the place lo, and within the text
 abbrev pub Ahead : List ℕ → ℕ → Token → Type 0
@@ -73,9 +73,6 @@ module _ (t bs : List ℕ) (lo at : ℕ) (l : at < length t) (r : tokensAt t (at
       go : (q : Bool) → goesOn k ≡ q → Next t lo (ending (inName s n) at k ++ tokensFrom bs (modeThen (inName s n) at k) (at + 1))
       go true e = rw e (ih (inName s (n + 1)) (omega arith))
       go false e = rw e (record { tokens = ap (λ (x : List Token). Token.Word s n ∷ x) (sym f); ahead = omega arith })
-
-below : (t bs : List ℕ) (b at : ℕ) → drop at t ≡ b ∷ bs → at < length t
-below t bs b at e = omega (arith, length-drop at t, ap length e)
 
 -- the tokens at a place, of the bytes that are left there
 left-there : (t bs : List ℕ) (at i : ℕ) → drop at t ≡ bs → i ≡ at → tokensAt t i ≡ tokensFrom bs between at

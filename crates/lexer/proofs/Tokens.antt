@@ -1,23 +1,22 @@
 -- How the tokens of a text go on by a byte, over a comment and over a word: what the loop of `next` does, stated once.
 -- Assumes nothing.
-use mathlib.Core.Path.{_≡_, refl, sym, ap, subst, _∙_}
-use mathlib.Core.Bool.{Bool, true, false, not}
+use mathlib.Core.Path.{_≡_, refl, sym, ap, _∙_}
+use mathlib.Core.Bool.{Bool, true, false}
 use mathlib.Core.List.{List, [], _∷_, _++_}
-use Prim.Native.Nat.{ℕ, suc, _+_, _-_, _≤_, _<_}
-use native.Mathlib.Nat.{le-refl}
+use Prim.Native.Nat.{ℕ, _+_, _-_, _≤_, _<_}
 use native.Mathlib.Numerals.{add-one}
 use native.Mathlib.Omega.{arith}
-use lib.ListN.{length, getD, drop, length-drop, drop-of-length-le}
+use lib.ListN.{length, getD, drop, drop-of-length-le}
 use lib.Seq.{drop-cons}
 use types.Run.{OneOf}
 use Rattle.lexer.specs.Class.{classOf, goesOn, endsComment}
-use Rattle.lexer.specs.Scan.{Mode, between, inComment, inName, commentThen}
-use Rattle.lexer.specs.Token.{betweenThen, ownToken, modeThen, ending, endingLast, tokensFrom, tokensAt, firstOf, tokenAt}
-use Rattle.lexer.specs.Answers.{firstFrom, commentEnd, wordEnd}
+use Rattle.lexer.specs.Scan.{Mode, between, inComment, inName}
+use Rattle.lexer.specs.Token.{betweenThen, ownToken, modeThen, ending, tokensFrom, firstOf}
+use Rattle.lexer.specs.Answers.{firstFrom, endsWord, commentEnd, wordEnd}
 use Rattle.lexer.specs.declared.ByteClass.{ByteClass}
 use Rattle.lexer.specs.declared.ByteClass.the-variants.{Blank, LineFeed, Comment, Open, Close, Letter, Digit, Wrong}
 use Rattle.lexer.specs.declared.Token.{Token}
-use Rattle.lexer.proofs.Ends.{rest, over-comment, lies}
+use Rattle.lexer.proofs.Ends.{over-comment}
 use Rattle.lexer.proofs.Variants.{tag, among}
 
 -- ---- a turn of the loop of `next`
@@ -78,19 +77,16 @@ module _ (t : List ℕ) (at : ℕ) where
   skip = over-comment tokensFrom (λ at. refl) (λ b bs at. refl) (λ b bs at e. blank-too bs at (classOf b) e) t at
 
 -- the word under way ends where it goes on no more
-abbrev others : ByteClass → Bool
-others k = not (goesOn k)
-
 word-first : (bs : List ℕ) (first len at : ℕ) → first + len ≡ at
-    → firstOf (tokensFrom bs (inName first len) at) ≡ Token.Word first (firstFrom bs others at - first)
+    → firstOf (tokensFrom bs (inName first len) at) ≡ Token.Word first (firstFrom bs endsWord at - first)
 unfolding tokensFrom firstFrom
 word-first [] first len at e = ap (Token.Word first) (omega arith)
 word-first (b ∷ bs) first len at e = go (goesOn (classOf b)) refl (word-first bs first (len + 1) (at + 1) (omega arith))
   where
     go : (q : Bool) → goesOn (classOf b) ≡ q
-        → firstOf (tokensFrom bs (inName first (len + 1)) (at + 1)) ≡ Token.Word first (firstFrom bs others (at + 1) - first)
+        → firstOf (tokensFrom bs (inName first (len + 1)) (at + 1)) ≡ Token.Word first (firstFrom bs endsWord (at + 1) - first)
         → firstOf (ending (inName first len) at (classOf b) ++ tokensFrom bs (modeThen (inName first len) at (classOf b)) (at + 1))
-        ≡ Token.Word first (elim (others (classOf b)) [ true ↦ at | false ↦ firstFrom bs others (at + 1) ] - first)
+        ≡ Token.Word first (elim (endsWord (classOf b)) [ true ↦ at | false ↦ firstFrom bs endsWord (at + 1) ] - first)
     go true f i = rw f i
     go false f i = rw f (ap (Token.Word first) (omega arith))
 

@@ -21,6 +21,11 @@ markOf Letter = code "a"
 markOf Digit = code "d"
 markOf Wrong = code "."
 
+-- a name goes on with the first of the bytes, if there is one
+abbrev pub goesOnWith : List ℕ → Bool
+goesOnWith [] = false
+goesOnWith (b ∷ bs) = goesOn (classOf b)
+
 -- the place of the first byte whose class passes the test, or the place after the last byte
 unfoldable pub firstFrom : List ℕ → (ByteClass → Bool) → ℕ → ℕ
 firstFrom [] test at = at
@@ -30,9 +35,13 @@ firstFrom (b ∷ bs) test at = elim (test (classOf b)) [ true ↦ at | false ↦
 abbrev pub commentEnd : List ℕ → ℕ → ℕ
 commentEnd text at = firstFrom (drop at text) endsComment at
 
+-- a name does not go on with the class
+abbrev pub endsWord : ByteClass → Bool
+endsWord k = not (goesOn k)
+
 -- where a word ends that is under way at a place: at the first byte that does not go on a name, or with the text
 abbrev pub wordEnd : List ℕ → ℕ → ℕ
-wordEnd text at = firstFrom (drop at text) (λ k. not (goesOn k)) at
+wordEnd text at = firstFrom (drop at text) endsWord at
 
 -- the state after a byte between names, at a level and a place, by the step that it is
 abbrev pub stateOf : ℕ → ℕ → Step → State

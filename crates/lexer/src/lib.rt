@@ -1,11 +1,12 @@
 // The lexer: what each byte of a text is, the scan for faults 1 and 2, and the tokens.
 ghost use mathlib.Core.Path.{_≡_};
 ghost use Prim.Native.Nat.{ℕ};
+ghost use lib.ListN.{drop};
 ghost use Rattle.lexer.specs.Class.{classOf, goesOn, endsComment};
 ghost use Rattle.lexer.specs.Scan as spec;
 ghost use Rattle.lexer.specs.Scan.{stepBetween};
 ghost use Rattle.lexer.specs.Token.{tokenAt};
-ghost use Rattle.lexer.specs.Answers.{markOf, commentEnd, wordEnd, stateOf};
+ghost use Rattle.lexer.specs.Answers.{markOf, goesOnWith, commentEnd, wordEnd, stateOf};
 
 // A text: how many bytes it may have.
 pub struct Text;
@@ -103,14 +104,8 @@ pub fn goes_on(class: ByteClass) -> bool
     ensures { λ r. ⌜ r ≡ goesOn class ⌝ }
 {
     match class {
-        ByteClass::Blank => false,
-        ByteClass::LineFeed => false,
-        ByteClass::Comment => false,
-        ByteClass::Open => false,
-        ByteClass::Close => false,
-        ByteClass::Letter => true,
-        ByteClass::Digit => true,
-        ByteClass::Wrong => false,
+        ByteClass::Letter | ByteClass::Digit => true,
+        _ => false,
     }
 }
 
@@ -119,14 +114,8 @@ fn ends_comment(class: ByteClass) -> bool
     ensures { λ r. ⌜ r ≡ endsComment class ⌝ }
 {
     match class {
-        ByteClass::Blank => false,
         ByteClass::LineFeed => true,
-        ByteClass::Comment => false,
-        ByteClass::Open => false,
-        ByteClass::Close => false,
-        ByteClass::Letter => false,
-        ByteClass::Digit => false,
-        ByteClass::Wrong => false,
+        _ => false,
     }
 }
 
@@ -144,15 +133,22 @@ fn comment_end(text: &[u8], at: usize) -> usize
     i
 }
 
+// Whether there is a byte at a place with which a name goes on.
+fn name_goes_on(text: &[u8], at: usize) -> bool
+    ensures { λ r. ⌜ r ≡ goesOnWith (drop at (now (text .entry))) ⌝ }
+{
+    if text.len() <= at {
+        return false;
+    }
+    goes_on(class_of(text[at]))
+}
+
 // Where the word ends that is under way at a place: at the first byte that does not go on a name, or with the text.
 fn word_end(text: &[u8], at: usize) -> usize
     ensures { λ r. ⌜ r ≡ wordEnd (now (text .entry)) at ⌝ }
 {
     let mut i = at;
-    while i < text.len() {
-        if !goes_on(class_of(text[i])) {
-            return i;
-        }
+    while name_goes_on(text, i) {
         i += 1;
     }
     i
@@ -215,10 +211,7 @@ pub fn scan(text: &[u8]) -> Scanned
             Step::Name => {
                 let start = at;
                 at += 1;
-                'name: while at < text.len() {
-                    if !goes_on(class_of(text[at])) {
-                        break 'name;
-                    }
+                while name_goes_on(text, at) {
                     if Name::MAX <= at - start {
                         break 'text start;
                     }

@@ -16,19 +16,9 @@ use Rattle.policy.specs.Reading.{isNew, hasRoom}
 use Rattle.policy.specs.Sound.{goodNames, goodFrom}
 use Rattle.policy.specs.Accepted.{All}
 use Rattle.policy.proofs.Lists.{both-true, gather-over, gather-last}
+use Rattle.policy.proofs.Good.{good-first, good-rest}
 use Rattle.policy.proofs.Sameness.{sort-same}
 use Rattle.policy.proofs.Gathered.{OfValue, all-gather, all-getD}
-
--- what `goodFrom` says of the first declaration, and of those after it
-pub has-room : (e : List Declaration) (d : Declaration) (ds : List Declaration) → goodFrom e (d ∷ ds) ≡ true → hasRoom e d ≡ true
-unfolding goodFrom
-has-room e d ds h =
-    both-true (goodNames d && isNew e d) (hasRoom e d)
-    (both-true (goodNames d && isNew e d && hasRoom e d) (goodFrom (e ++ (d ∷ [])) ds) h .0) .1
-
-pub good-rest : (e : List Declaration) (d : Declaration) (ds : List Declaration) → goodFrom e (d ∷ ds) ≡ true → goodFrom (e ++ (d ∷ [])) ds ≡ true
-unfolding goodFrom
-good-rest e d ds h = both-true (goodNames d && isNew e d && hasRoom e d) (goodFrom (e ++ (d ∷ [])) ds) h .1
 
 one-more : (s : Sort) (e : List Declaration) (d : Declaration) → hasRoom e d ≡ true → count s e ≤ maxOf s → count s (e ++ (d ∷ [])) ≤ maxOf s
 unfolding count namesOf
@@ -46,7 +36,7 @@ few-from : (s : Sort) (e ds : List Declaration) → goodFrom e ds ≡ true → c
 few-from s e [] h l = rw append-nil l
 few-from s e (d ∷ ds) h l =
     subst (λ (xs : List Declaration). count s xs ≤ maxOf s) (append-assoc e (d ∷ []) ds)
-    (few-from s (e ++ (d ∷ [])) ds (good-rest e d ds h) (one-more s e d (has-room e d ds h) l))
+    (few-from s (e ++ (d ∷ [])) ds (good-rest e d ds h) (one-more s e d (good-first e d ds h .room) l))
 
 -- "Users 128, roles 128, types 512, attributes 64 per family"
 pub few-of : (s : Sort) (ds : List Declaration) → goodFrom [] ds ≡ true → count s ds ≤ maxOf s
@@ -64,7 +54,7 @@ few-in e (class w ps) h = leb-true (length ps) maxPermissions (both-true (ltb (l
 
 pub few-in-all : (e ds : List Declaration) → goodFrom e ds ≡ true → All FewPermissions ds
 few-in-all e [] h = tt
-few-in-all e (d ∷ ds) h = (few-in e d (has-room e d ds h), few-in-all (e ++ (d ∷ [])) ds (good-rest e d ds h))
+few-in-all e (d ∷ ds) h = (few-in e d (good-first e d ds h .room), few-in-all (e ++ (d ∷ [])) ds (good-rest e d ds h))
 
 pub few-permissions-of : (ds : List Declaration) → goodFrom [] ds ≡ true → (c : ℕ) → length (permissions ds c) ≤ maxPermissions
 unfolding permissions

@@ -1,4 +1,5 @@
 pub mod Lists
 pub mod Sameness
 pub mod Gathered
+pub mod Good
 pub mod Counts

@@ -19,15 +19,8 @@ use Rattle.policy.specs.Encode.{NameEntry, sortCode, permissionEntries, entries
 use Rattle.policy.specs.Sound.{isGood, someGood, goodNames, goodFrom}
 use Rattle.policy.proofs.Lists.{both-true, all-append, gather-over, gather-last}
 use Rattle.table_laws.proofs.ListLaws.{every-all}
-use Rattle.policy.proofs.Counts.{has-room, good-rest}
+use Rattle.policy.proofs.Good.{good-first, good-rest}
 use Rattle.table_laws.proofs.NamesReadBack.{Peopled}
-
-good-names : (e : List Declaration) (d : Declaration) (ds : List Declaration) → goodFrom e (d ∷ ds) ≡ true → goodNames d ≡ true
-unfolding goodFrom
-good-names e d ds h =
-    both-true (goodNames d) (isNew e d)
-    (both-true (goodNames d && isNew e d) (hasRoom e d)
-    (both-true (goodNames d && isNew e d && hasRoom e d) (goodFrom (e ++ (d ∷ [])) ds) h .0) .0) .0
 
 -- each class has a permission
 peopled-one : (d : Declaration) → goodNames d ≡ true → Peopled d
@@ -37,7 +30,7 @@ peopled-one (class w (p ∷ ps)) h = tt
 
 pub peopled : (e ds : List Declaration) → goodFrom e ds ≡ true → All Peopled ds
 peopled e [] h = tt
-peopled e (d ∷ ds) h = (peopled-one d (good-names e d ds h), peopled (e ++ (d ∷ [])) ds (good-rest e d ds h))
+peopled e (d ∷ ds) h = (peopled-one d (good-first e d ds h .names), peopled (e ++ (d ∷ [])) ds (good-rest e d ds h))
 
 -- "classes 32"
 class-more : (e : List Declaration) (d : Declaration) → hasRoom e d ≡ true → length (classNames e) ≤ 32 → length (classNames (e ++ (d ∷ []))) ≤ 32
@@ -51,7 +44,7 @@ few-classes-from : (e ds : List Declaration) → goodFrom e ds ≡ true → leng
 few-classes-from e [] h l = rw append-nil l
 few-classes-from e (d ∷ ds) h l =
     subst (λ (xs : List Declaration). length (classNames xs) ≤ 32) (append-assoc e (d ∷ []) ds)
-    (few-classes-from (e ++ (d ∷ [])) ds (good-rest e d ds h) (class-more e d (has-room e d ds h) l))
+    (few-classes-from (e ++ (d ∷ [])) ds (good-rest e d ds h) (class-more e d (good-first e d ds h .room) l))
 
 pub few-classes : (ds : List Declaration) → goodFrom [] ds ≡ true → length (classNames ds) ≤ 32
 unfolding classNames gather
@@ -105,5 +98,5 @@ pub entries-fit : (e ds : List Declaration) → goodFrom e ds ≡ true → All G
 unfolding entriesFrom
 entries-fit e [] h = tt
 entries-fit e (d ∷ ds) h =
-    all-append GoodEntry (entriesOf e d) (entriesFrom (e ++ (d ∷ [])) ds) (entry-fit e d (good-names e d ds h) (has-room e d ds h))
+    all-append GoodEntry (entriesOf e d) (entriesFrom (e ++ (d ∷ [])) ds) (entry-fit e d (good-first e d ds h .names) (good-first e d ds h .room))
     (entries-fit (e ++ (d ∷ [])) ds (good-rest e d ds h))

@@ -16,7 +16,8 @@ use Rattle.policy.specs.Encode.{NameEntry, permissionEntries, entriesFrom, entr
 use Rattle.policy.specs.Sound.{goodFrom}
 use Rattle.policy.proofs.Lists.{both-true}
 use Rattle.table_laws.specs.SoundTable.{namesLength}
-use Rattle.policy.proofs.Counts.{has-room, good-rest, few-of}
+use Rattle.policy.proofs.Good.{good-first, good-rest}
+use Rattle.policy.proofs.Counts.{few-of}
 use Rattle.table_laws.proofs.NamesFit.{GoodEntry, few-classes, entries-fit}
 
 -- body 1 by its names
@@ -72,7 +73,7 @@ entries-few e (class w ps ∷ ds) h =
       same-things w ps ds,
       length-append (permissionEntries (length (classNames e) * 32) ps) (entriesFrom (e ++ (class w ps ∷ [])) ds),
       permissions-length (length (classNames e) * 32) ps,
-      leb-true (length ps) 32 (both-true (ltb (length (classNames e)) 32) (leb (length ps) 32) (has-room e (class w ps) ds h) .1),
+      leb-true (length ps) 32 (both-true (ltb (length (classNames e)) 32) (leb (length ps) 32) (good-first e (class w ps) ds h .room) .1),
     )
 
 pub names-room : (ds : List Declaration) → goodFrom [] ds ≡ true → namesLength (entries ds) ≤ 137088

@@ -1,5 +1,6 @@
 //! Seeded cases: policies, damaged texts, both sides of each maximum, tables and questions.
 
+pub mod asked;
 pub mod cases;
 pub mod damage;
 pub mod layout;

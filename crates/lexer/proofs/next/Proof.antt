@@ -2,13 +2,13 @@
 -- asked on. Assumes nothing.
 use Prim.Native.Nat.{_+_, _-_}
 use mathlib.Core.Path.{_≡_, refl, sym, ap, _∙_}
-use mathlib.Core.Bool.{not}
 use native.Mathlib.Omega.{arith}
 use borrow.Author.Needs.{needs}
 use lib.ListN.{length, drop}
-use Rattle.lexer.specs.Class.{goesOn, endsComment}
+use Rattle.lexer.specs.Class.{endsComment}
 use Rattle.lexer.specs.Scan.{between}
 use Rattle.lexer.specs.Token.{tokensFrom, tokensAt, firstOf, tokenAt}
+use Rattle.lexer.specs.Answers.{endsWord}
 use Rattle.lexer.proofs.Ends.{ahead}
 use Rattle.lexer.proofs.Tokens.{blank-like, name-like, comment-like, turn, stop, last, skip, word-here}
 use Rattle.lexer.proofs.next.Statement.{statement}
@@ -95,7 +95,7 @@ word-end-requires c κs = search needs
 sub-t11 : tie.Need-sub-t11 Inv-loop μ-loop
 sub-t11 c =
     let l = c .before .before .before .before .before in
-    omega (arith, c .word-end .ensures, ahead (l .before .before .args .text .now) (λ k. not (goesOn k)) (l .loop .i + 1))
+    omega (arith, c .word-end .ensures, ahead (l .before .before .args .text .now) endsWord (l .loop .i + 1))
 
 returns-3 : tie.Need-returns-3 Inv-loop μ-loop
 returns-3 c =

@@ -1,18 +1,18 @@
 -- `lexer::word_end` meets its contract: the first byte from the place reached on that does not go on a name is the first from
 -- the place asked on. Assumes nothing.
-use Prim.Native.Nat.{_-_}
-use mathlib.Core.Path.{_≡_, refl, sym, ap, _∙_}
-use mathlib.Core.Bool.{not}
+use Prim.Native.Nat.{_-_, _<_}
+use mathlib.Core.Path.{_≡_, refl, sym, _∙_}
+use mathlib.Core.Bool.{true}
+use native.Mathlib.Omega.{arith}
 use borrow.Author.Needs.{needs}
 use lib.ListN.{length, drop}
-use Rattle.lexer.specs.Class.{goesOn}
-use Rattle.lexer.specs.Answers.{firstFrom}
-use Rattle.lexer.proofs.Ends.{told, found, further, none-left}
+use Rattle.lexer.specs.Answers.{goesOnWith, firstFrom, endsWord}
+use Rattle.lexer.proofs.Ends.{word-ends, word-goes-on, byte-there}
 use Rattle.lexer.proofs.word_end.Statement.{statement}
 use Rattle.lexer.proofs.word_end.Tie as tie
 
 abbrev Inv-loop : tie.InvT-loop
-Inv-loop text at i₀ i = firstFrom (drop i text) (λ k. not (goesOn k)) i ≡ firstFrom (drop at text) (λ k. not (goesOn k)) at
+Inv-loop text at i₀ i = firstFrom (drop i text) endsWord i ≡ firstFrom (drop at text) endsWord at
 
 abbrev μ-loop : tie.MeasureT-loop
 μ-loop text at i₀ i = length text - i
@@ -20,46 +20,31 @@ abbrev μ-loop : tie.MeasureT-loop
 loop-holds : tie.Need-loop-holds Inv-loop μ-loop
 loop-holds c = refl
 
-shared-slice-read-class-of : tie.Need-shared-slice-read-class-of Inv-loop μ-loop
-shared-slice-read-class-of c = search needs
+name-goes-on-requires : tie.Need-name-goes-on-requires Inv-loop μ-loop
+name-goes-on-requires c κs = search needs
 
-class-of-requires : tie.Need-class-of-requires Inv-loop μ-loop
-class-of-requires c κs = search needs
+-- a turn of the loop: the name goes on, so that there is a byte
+more : (c : tie.Then1 Inv-loop μ-loop) → goesOnWith (drop (c .before .before .loop .i) (c .before .before .before .before .args .text .now)) ≡ true
+more c = sym (c .before .name-goes-on .ensures) ∙ c .if1 .taken
 
-goes-on-requires : tie.Need-goes-on-requires Inv-loop μ-loop
-goes-on-requires c κs = search needs
-
-returns : tie.Need-returns Inv-loop μ-loop
-returns c =
-    let l = c .before .before .before .before .before in
-    sym (found _ (λ k. not (goesOn k)) _ (told (λ k. not (goesOn k)) (c .before .before .class-of .ensures) (ap not (c .before .goes-on .ensures)) (c .if1 .taken)) (c .before .before .before .before .loop-test .taken)) ∙ l .loop .inv
+there : (c : tie.Then1 Inv-loop μ-loop) → c .before .before .loop .i < length (c .before .before .before .before .args .text .now)
+there c = byte-there (c .before .before .before .before .args .text .now) (c .before .before .loop .i) (more c)
 
 add-i : tie.Need-add-i Inv-loop μ-loop
-add-i c = search needs
+add-i c = omega (arith, there c)
 
 loop-less : tie.Need-loop-less Inv-loop μ-loop
-loop-less c = search needs
+loop-less c = omega (arith, there c)
 
 loop-again : tie.Need-loop-again Inv-loop μ-loop
 loop-again c =
-    let l = c .before .before .before .before .before in
-    sym (further _ (λ k. not (goesOn k)) _ (told (λ k. not (goesOn k)) (c .before .before .class-of .ensures) (ap not (c .before .goes-on .ensures)) (c .if1 .left)) (c .before .before .before .before .loop-test .taken)) ∙ l .loop .inv
+    let l = c .before .before in
+    sym (word-goes-on (l .before .before .args .text .now) (l .loop .i) (more c)) ∙ l .loop .inv
 
-returns-2 : tie.Need-returns-2 Inv-loop μ-loop
-returns-2 c = sym (none-left _ (λ k. not (goesOn k)) _ (c .loop-test .left)) ∙ c .before .loop .inv
+returns : tie.Need-returns Inv-loop μ-loop
+returns c = sym (word-ends _ _ (sym (c .before .name-goes-on .ensures) ∙ c .if1 .left)) ∙ c .before .before .loop .inv
 
 pub word-end-spec : {M : Type 1} → statement M
 word-end-spec =
     tie.close
-    (tie.spec
-    Inv-loop
-    μ-loop
-    loop-holds
-    shared-slice-read-class-of
-    class-of-requires
-    goes-on-requires
-    returns
-    add-i
-    loop-less
-    loop-again
-    returns-2)
+    (tie.spec Inv-loop μ-loop loop-holds name-goes-on-requires add-i loop-less loop-again returns)

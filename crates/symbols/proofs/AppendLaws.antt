@@ -1,0 +1,89 @@
+-- Bytes written one after the other are bytes put at a place: the turn of `copy`, and the head and name of `append`.
+-- Assumes nothing.
+use mathlib.Core.Path.{_≡_, refl, sym, ap, _∙_}
+use mathlib.Core.List.{List, [], _∷_, _++_, append-assoc}
+use Prim.Native.Nat.{ℕ, suc, min, _+_, _-_, _/_, _%_, _≤_, _<_}
+use native.Mathlib.Nat.{add-zero, add-suc, suc-add}
+use native.Mathlib.Omega.{arith}
+use lib.ListN.{length, getD, take, drop, set, length-set}
+use lib.Seq.{sets, sets-eq, length-sets}
+use Rattle.bitset.specs.Parts.{part, put}
+use Rattle.policy.specs.Basics.{le}
+use Rattle.policy.specs.Encode.{nameEntry, entryBytes}
+use Rattle.symbols.specs.Append.{Appended}
+use Rattle.symbols.proofs.PartLaws.{length-part, part-none, part-cons, part-join, part-present}
+
+pub put-sets : (t : List ℕ) (o : ℕ) (s : List ℕ) → o + length s ≤ length t → sets t o s ≡ put t o s
+unfolding put
+put-sets t o s h = sets-eq s t o h ∙ append-assoc (take o t) s (drop (o + length s) t)
+
+pub length-put : (t : List ℕ) (o : ℕ) (s : List ℕ) → o + length s ≤ length t → length (put t o s) ≡ length t
+length-put t o s h = ap length (sym (put-sets t o s h)) ∙ length-sets t o s
+
+sets-append : (l : List ℕ) (i : ℕ) (vs ws : List ℕ) → sets (sets l i vs) (i + length vs) ws ≡ sets l i (vs ++ ws)
+sets-append l i [] ws = rw add-zero
+sets-append l i (a ∷ vs) ws = rw (add-suc i (length vs), ← suc-add i (length vs)) (sets-append (set l i a) (suc i) vs ws)
+
+-- ---- copy
+
+long : (x : List ℕ) (from i : ℕ) → i ≤ length x - from → length (part x from i) ≡ i
+long x from i h = length-part x from i ∙ omega arith
+
+part-snoc : (x : List ℕ) (from i : ℕ) → from + i < length x → part x from (i + 1) ≡ part x from i ++ (getD x (from + i) 0 ∷ [])
+part-snoc x from i h =
+    part-join x from i 1
+    ∙ ap (λ (r : List ℕ). part x from i ++ r)
+    (part-cons x (from + i) 1 (omega arith) h ∙ ap (λ (r : List ℕ). getD x (from + i) 0 ∷ r) (part-none x (from + i + 1) (1 - 1) refl))
+
+pub copy-turn : (t x : List ℕ) (at from i : ℕ) → i < length x - from
+    → set (sets t at (part x from i)) (at + i) (getD x (from + i) 0) ≡ sets t at (part x from (i + 1))
+copy-turn t x at from i h =
+    ap (λ (k : ℕ). set (sets t at (part x from i)) (at + k) (getD x (from + i) 0)) (sym (long x from i (omega arith)))
+    ∙ sets-append t at (part x from i) (getD x (from + i) 0 ∷ [])
+    ∙ ap (sets t at) (sym (part-snoc x from i (omega arith)))
+
+pub copy-none : (t x : List ℕ) (at from : ℕ) → t ≡ sets t at (part x from 0)
+copy-none t x at from = rw (part-none x from 0 refl)
+
+pub copied : (t x : List ℕ) (at from i len : ℕ) → at + len ≤ length t → len ≤ length x - from → i ≡ len → sets t at (part x from i) ≡ put t at (part x from len)
+copied t x at from i len h l e = rw e (put-sets t at (part x from len) (omega (arith, long x from len l)))
+
+pub name-short : (x : List ℕ) (from len l : ℕ) → l ≡ min len (length x - from) → length (part x from l) ≡ l
+name-short x from len l e = long x from l (omega arith)
+
+-- ---- append: the head of an entry, and then its name
+
+head-then : (t : List ℕ) (end s lo hi n : ℕ) (w : List ℕ)
+    → sets (set (set (set (set t end s) (end + 1) lo) (end + 2) hi) (end + 3) n) (end + 4) w ≡ sets t end (s ∷ lo ∷ hi ∷ n ∷ w)
+head-then t end s lo hi n w =
+    let e1 : end + 1 ≡ suc end = omega arith in
+    let e2 : end + 2 ≡ suc (suc end) = omega arith in
+    let e3 : end + 3 ≡ suc (suc (suc end)) = omega arith in
+    let e4 : end + 4 ≡ suc (suc (suc (suc end))) = omega arith in
+    rw (e1, e2, e3, e4)
+
+module _ (t x : List ℕ) (end s n from len l : ℕ) (e : l ≡ min len (length x - from)) (room : end + 4 + len ≤ length t) where
+  the-name : part x from l ≡ part x from len
+  the-name = ap (part x from) e ∙ part-present x from len
+
+  name-long : length (part x from len) ≡ l
+  name-long = length-part x from len ∙ sym e
+
+  length-headed : length (set (set (set (set t end s) (end + 1) (n % 256)) (end + 2) (n / 256 % 256)) (end + 3) l) ≡ length t
+  length-headed = simp length-set
+
+  pub appended : (u : List ℕ)
+      → u ≡ put (set (set (set (set t end s) (end + 1) (n % 256)) (end + 2) (n / 256 % 256)) (end + 3) l) (end + 4) (part x from l)
+      → Appended t u end (nameEntry s n (part x from len)) (end + 4 + l)
+  unfolding le
+  appended u q = record {
+    written =
+        q
+        ∙ ap (put _ (end + 4)) the-name
+        ∙ sym (put-sets _ (end + 4) (part x from len) (omega (arith, name-long, length-headed)))
+        ∙ head-then t end s (n % 256) (n / 256 % 256) l (part x from len)
+        ∙ ap (λ (k : ℕ). sets t end (s ∷ n % 256 ∷ n / 256 % 256 ∷ k ∷ part x from len)) (sym name-long)
+        ∙ put-sets t end (entryBytes (nameEntry s n (part x from len))) (omega (arith, name-long));
+    past = omega (arith, name-long);
+    inside = omega arith;
+  }

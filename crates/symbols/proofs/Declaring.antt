@@ -1,0 +1,64 @@
+-- The entries of one more declaration, and of one more permission of a class; and the search in them. Assumes nothing.
+use mathlib.Core.Path.{_≡_, refl, sym, ap, _∙_}
+use mathlib.Core.List.{List, [], _∷_, _++_, append-nil, append-assoc}
+use Prim.Native.Nat.{ℕ, suc, _+_, _*_, _≤_}
+use native.Mathlib.Nat.{add-zero}
+use native.Mathlib.Omega.{arith}
+use lib.ListN.{length, getD}
+use lib.Seq.{getD-at}
+use Rattle.policy.specs.Basics.{Name, isIn, indexOf, gather}
+use Rattle.policy.specs.Statements.{Declaration, plain, class, withPermissions, ofClass, classNames, permissions}
+use Rattle.policy.specs.Accepted.{All}
+use Rattle.policy.specs.Encode.{NameEntry, nameEntry, permissionEntries, entriesOf, entriesFrom, entries}
+use Rattle.policy.proofs.Lists.{gather-last, all-append}
+use Rattle.symbols.specs.Lookup.{firstNamed}
+use Rattle.symbols.specs.Resolving.{foundPermission, isFound, FewPermissions}
+use Rattle.symbols.proofs.Searching.{found-in}
+use Rattle.symbols.proofs.ClassesFound.{find-permission}
+
+entries-from-more : (e ds : List Declaration) (d : Declaration) → entriesFrom e (ds ++ (d ∷ [])) ≡ entriesFrom e ds ++ entriesOf (e ++ ds) d
+unfolding entriesFrom
+entries-from-more e [] d = append-nil (entriesOf e d) ∙ ap (λ (x : List Declaration). entriesOf x d) (sym (append-nil e))
+entries-from-more e (x ∷ ds) d =
+    ap (λ (r : List NameEntry). entriesOf e x ++ r) (entries-from-more (e ++ (x ∷ [])) ds d ∙ ap (λ (y : List Declaration). entriesFrom (e ++ (x ∷ [])) ds ++ entriesOf y d) (append-assoc e (x ∷ []) ds))
+    ∙ sym (append-assoc (entriesOf e x) (entriesFrom (e ++ (x ∷ [])) ds) (entriesOf (e ++ (x ∷ ds)) d))
+
+-- a declaration's entries follow those of the declarations before it
+pub entries-more : (ds : List Declaration) (d : Declaration) → entries (ds ++ (d ∷ [])) ≡ entries ds ++ entriesOf ds d
+unfolding entries
+entries-more ds d = entries-from-more [] ds d
+
+pub permission-more : (n : ℕ) (ps : List Name) (p : Name) → permissionEntries n (ps ++ (p ∷ [])) ≡ permissionEntries n ps ++ (nameEntry 7 (n + length ps) p ∷ [])
+unfolding permissionEntries
+permission-more n [] p = ap (λ (k : ℕ). nameEntry 7 k p ∷ []) (sym (add-zero n))
+permission-more n (x ∷ ps) p =
+    ap (λ (r : List NameEntry). nameEntry 7 n x ∷ r)
+    (permission-more (n + 1) ps p ∙ ap (λ (k : ℕ). permissionEntries (n + 1) ps ++ (nameEntry 7 k p ∷ [])) (omega arith))
+
+-- the class that is declared last
+class-lists : (ds : List Declaration) → length (gather withPermissions ds) ≡ length (gather ofClass ds)
+unfolding gather
+class-lists [] = refl
+class-lists (plain s w ∷ ds) = class-lists ds
+class-lists (class w ps ∷ ds) = ap suc (class-lists ds)
+
+pub permissions-last : (ds : List Declaration) (v : Name) (ps : List Name) → permissions (ds ++ (class v ps ∷ [])) (length (classNames ds)) ≡ ps
+unfolding permissions classNames
+permissions-last ds v ps =
+    ap (λ (xs : List (List Name)). getD xs (length (gather ofClass ds)) []) (gather-last withPermissions ds (class v ps) ps refl)
+    ∙ getD-at (gather withPermissions ds) ps [] [] (length (gather ofClass ds)) (class-lists ds)
+
+-- a permission is looked for among those that its class has so far
+module _ (ds : List Declaration) (v : Name) (ps : List Name) (w : Name) (few : All FewPermissions ds) (short : length ps ≤ 32) where
+  pub find-permission-last :
+      firstNamed (4 + length (classNames ds)) w (entries ds ++ (nameEntry 6 (length (classNames ds)) v ∷ permissionEntries (length (classNames ds) * 32) ps))
+      ≡ foundPermission (length (classNames ds)) (indexOf w ps)
+  find-permission-last =
+      ap (firstNamed (4 + length (classNames ds)) w) (sym (entries-more ds (class v ps)))
+      ∙ find-permission (ds ++ (class v ps ∷ [])) (length (classNames ds)) w (all-append FewPermissions ds (class v ps ∷ []) few (short, tt))
+      ∙ ap (λ (xs : List Name). foundPermission (length (classNames ds)) (indexOf w xs)) (permissions-last ds v ps)
+
+  pub permission-last-found :
+      isFound (firstNamed (4 + length (classNames ds)) w (entries ds ++ (nameEntry 6 (length (classNames ds)) v ∷ permissionEntries (length (classNames ds) * 32) ps)))
+      ≡ isIn w ps
+  permission-last-found = ap isFound find-permission-last ∙ found-in w 7 (length (classNames ds) * 32) ps

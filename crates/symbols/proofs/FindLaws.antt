@@ -1,0 +1,91 @@
+-- How the search for a name, and for a sort and number, goes on by what `look` found. Assumes nothing.
+use mathlib.Core.Path.{_≡_, refl, sym, ap, _∙_}
+use mathlib.Core.Bool.{Bool, true, false, _&&_}
+use mathlib.Core.List.{List, [], _∷_}
+use Prim.Native.Nat.{ℕ, min, _+_, _-_}
+use native.Mathlib.Omega.{arith}
+use borrow.Author.Tests.{eq-eqb, ne-eqb}
+use lib.Dec.{eqb}
+use lib.ListN.{length}
+use Rattle.bitset.specs.Parts.{part}
+use Rattle.policy.specs.Basics.{Name, same, le}
+use Rattle.policy.specs.Encode.{NameEntry, nameEntry, entryBytes}
+use Rattle.policy.specs.Questions.{refused, nameFrom}
+use Rattle.symbols.specs.Section.{entriesRead, entriesAt, between, EntryIs}
+use Rattle.symbols.specs.Lookup.{familyNumber, isNamed, firstNamed, replyOf}
+use Rattle.symbols.specs.declared.Entry.{Entry}
+use Rattle.symbols.specs.declared.Found.{Found}
+use Rattle.symbols.specs.declared.NamePlace.{NamePlace}
+use Rattle.symbols.proofs.PartLaws.{length-part, part-present, same-length}
+
+-- where no entry stands, none is left
+pub none-done : {t : List ℕ} {at end : ℕ} → EntryIs t at end Entry.Done → entriesAt t at end ≡ []
+unfolding entriesRead
+none-done h = ap entriesRead (h .reads)
+
+pub none-broken : {t : List ℕ} {at end : ℕ} → EntryIs t at end Entry.Broken → entriesAt t at end ≡ []
+unfolding entriesRead
+none-broken h = ap entriesRead (h .reads)
+
+pub none-named : (f : ℕ) (w : Name) (es : List NameEntry) → es ≡ [] → Found.Missing ≡ firstNamed f w es
+unfolding firstNamed
+none-named f w es h = rw h
+
+pub none-numbered : (s n o : ℕ) (es : List NameEntry) → es ≡ [] → refused 12 0 ≡ nameFrom s n o es
+unfolding nameFrom
+none-numbered s n o es h = rw h
+
+-- where an entry stands, it is the first of those that are left
+module _ {t : List ℕ} {at end s n past : ℕ} (h : EntryIs t at end (Entry.Named s n past)) where
+  ahead : entriesAt t at end ≡ nameEntry s n (between t (at + 4) past) ∷ entriesAt t past end
+  unfolding entriesRead
+  ahead = ap entriesRead (h .reads)
+
+  long : length (between t (at + 4) past) ≡ past - at - 4
+  long = length-part t (at + 4) (past - (at + 4)) ∙ omega (arith, h .within)
+
+  module _ (f : ℕ) (w : Name) where
+    skip : isNamed f w (nameEntry s n (between t (at + 4) past)) ≡ false → firstNamed f w (entriesAt t past end) ≡ firstNamed f w (entriesAt t at end)
+    unfolding firstNamed
+    skip q = sym (ap (firstNamed f w) ahead ∙ rw q)
+
+    pub other-family : (g : ℕ) → g ≡ familyNumber s n → (g ≡ f → ⊥) → firstNamed f w (entriesAt t past end) ≡ firstNamed f w (entriesAt t at end)
+    other-family g e d = skip (rw (ne-eqb (familyNumber s n) f (λ q. d (e ∙ q))))
+
+    and-false : (q : Bool) → q && false ≡ false
+    and-false true = refl
+    and-false false = refl
+
+    pub other-name : same w (between t (at + 4) past) ≡ false → firstNamed f w (entriesAt t past end) ≡ firstNamed f w (entriesAt t at end)
+    other-name q = skip (rw q (and-false (eqb (familyNumber s n) f)))
+
+    pub other-length : (past - at - 4 ≡ length w → ⊥) → firstNamed f w (entriesAt t past end) ≡ firstNamed f w (entriesAt t at end)
+    other-length d = other-name (same-length w (between t (at + 4) past) (λ e. d (sym (e ∙ long))))
+
+    pub this-named : (g : ℕ) → g ≡ familyNumber s n → g ≡ f → same w (between t (at + 4) past) ≡ true → Found.At s n ≡ firstNamed f w (entriesAt t at end)
+    unfolding firstNamed
+    this-named g e d q = sym (ap (firstNamed f w) ahead ∙ rw (eq-eqb (familyNumber s n) f (sym e ∙ d), q))
+
+  -- the bytes that are compared are the two names
+  pub compared : (x : List ℕ) (from len l : ℕ) (r : Bool) → l ≡ min len (length x - from) → past - at - 4 ≡ l → r ≡ same (part x from l) (part t (at + 4) l)
+      → same (part x from len) (between t (at + 4) past) ≡ r
+  compared x from len l r e d q =
+      let z : past - (at + 4) ≡ l = omega (arith, h .within) in
+      rw z (sym (q ∙ ap (λ (p : List ℕ). same p (part t (at + 4) l)) (ap (part x from) e ∙ part-present x from len)))
+
+  module _ (s′ n′ : ℕ) where
+    passes : (eqb s s′ && eqb n n′) ≡ false → nameFrom s′ n′ past (entriesAt t past end) ≡ nameFrom s′ n′ at (entriesAt t at end)
+    unfolding nameFrom le
+    passes q =
+        let z : at + length (entryBytes (nameEntry s n (between t (at + 4) past))) ≡ past = omega (arith, long, h .within) in
+        sym (ap (nameFrom s′ n′ at) ahead ∙ rw (q, z))
+
+    pub other-sort : (s ≡ s′ → ⊥) → nameFrom s′ n′ past (entriesAt t past end) ≡ nameFrom s′ n′ at (entriesAt t at end)
+    other-sort d = passes (rw (ne-eqb s s′ d))
+
+    pub other-number : s ≡ s′ → (n ≡ n′ → ⊥) → nameFrom s′ n′ past (entriesAt t past end) ≡ nameFrom s′ n′ at (entriesAt t at end)
+    other-number e d = passes (rw (eq-eqb s s′ e, ne-eqb n n′ d))
+
+    pub this-numbered : s ≡ s′ → n ≡ n′ → replyOf (NamePlace.At (at + 4) (past - at - 4)) ≡ nameFrom s′ n′ at (entriesAt t at end)
+    unfolding nameFrom
+    this-numbered e d = sym (ap (nameFrom s′ n′ at) ahead ∙ rw (eq-eqb s s′ e, eq-eqb n n′ d, long))

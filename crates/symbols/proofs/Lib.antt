@@ -1,0 +1,13 @@
+pub mod PartLaws
+pub mod SectionLaws
+pub mod LookLaws
+pub mod FindLaws
+pub mod AppendLaws
+pub mod ReadBack
+pub mod Appending
+pub mod Searching
+pub mod ClassesFound
+pub mod ReferencesFound
+pub mod Declaring
+pub mod Written
+pub mod Walking

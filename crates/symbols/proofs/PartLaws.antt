@@ -1,0 +1,98 @@
+-- The laws of parts of a list: their length, their first bytes, parts of parts, and how two of them are compared byte by byte.
+-- Assumes nothing.
+use mathlib.Core.Path.{_≡_, refl, ap, ap₂, _∙_}
+use mathlib.Core.Bool.{Bool, true, false, _&&_}
+use mathlib.Core.List.{List, [], _∷_, _++_}
+use Prim.Native.Nat.{ℕ, zero, suc, min, _+_, _-_, _≤_, _<_}
+use native.Mathlib.Numerals.{add-one}
+use native.Mathlib.Omega.{arith}
+use native.Mathlib.Nat.{add-zero, sub-zero, zero-min, min-zero, suc-min-suc}
+use lib.Dec.{eqb}
+use lib.ListN.{length, getD, take, drop, length-take, length-drop}
+use lib.Seq.{drop-cons, drop-drop, take-take, take-add, take-nil}
+use Rattle.bitset.specs.Parts.{part}
+use Rattle.policy.specs.Basics.{same}
+
+pub length-part : (t : List ℕ) (o w : ℕ) → length (part t o w) ≡ min w (length t - o)
+unfolding part
+length-part t o w = simp (length-take, length-drop)
+
+pub part-none : (t : List ℕ) (o w : ℕ) → w ≡ 0 → part t o w ≡ []
+unfolding part
+part-none t o w h = rw h
+
+-- a part is cut where the list ends
+take-min : (n : ℕ) (l : List ℕ) → take (min n (length l)) l ≡ take n l
+take-min zero l = rw zero-min
+take-min (suc n) [] = rw min-zero
+take-min (suc n) (x ∷ xs) = rw suc-min-suc (ap (λ (r : List ℕ). x ∷ r) (take-min n xs))
+
+pub part-present : (t : List ℕ) (o w : ℕ) → part t o (min w (length t - o)) ≡ part t o w
+unfolding part
+part-present t o w = rw (← length-drop o t) (take-min w (drop o t))
+
+pub part-cons : (t : List ℕ) (o w : ℕ) → 0 < w → o < length t → part t o w ≡ getD t o 0 ∷ part t (o + 1) (w - 1)
+unfolding part
+part-cons t o w h l =
+    let z : w ≡ suc (w - 1) = omega arith in
+    ap (λ (n : ℕ). take n (drop o t)) z ∙ rw (drop-cons t o 0 l, add-one o)
+
+pub part-head : (t : List ℕ) (o w : ℕ) → 4 ≤ w → o + 4 ≤ length t
+    → part t o w ≡ getD t o 0 ∷ getD t (o + 1) 0 ∷ getD t (o + 2) 0 ∷ getD t (o + 3) 0 ∷ part t (o + 4) (w - 4)
+part-head t o w h l =
+    part-cons t o w (omega arith) (omega arith)
+    ∙ ap (λ (r : List ℕ). getD t o 0 ∷ r) (part-cons t (o + 1) (w - 1) (omega arith) (omega arith)
+    ∙ ap (λ (r : List ℕ). getD t (o + 1) 0 ∷ r) (ap₂ (part t) (omega arith) (omega arith) ∙ part-cons t (o + 2) (w - 2) (omega arith) (omega arith)
+    ∙ ap (λ (r : List ℕ). getD t (o + 2) 0 ∷ r) (ap₂ (part t) (omega arith) (omega arith) ∙ part-cons t (o + 3) (w - 3) (omega arith) (omega arith)
+    ∙ ap (λ (r : List ℕ). getD t (o + 3) 0 ∷ r) (ap₂ (part t) (omega arith) (omega arith)))))
+
+pub drop-take : (n m : ℕ) (l : List ℕ) → drop n (take m l) ≡ take (m - n) (drop n l)
+drop-take zero m l = rw sub-zero
+drop-take (suc n) zero l = let e : 0 - suc n ≡ 0 = omega arith in rw e
+drop-take (suc n) (suc m) [] = rw take-nil
+drop-take (suc n) (suc m) (a ∷ l) = let e : suc m - suc n ≡ m - n = omega arith in rw e (drop-take n m l)
+
+pub take-part : (t : List ℕ) (o w n : ℕ) → n ≤ w → take n (part t o w) ≡ part t o n
+unfolding part
+take-part t o w n h = take-take n w (drop o t) h
+
+pub drop-part : (t : List ℕ) (o w n : ℕ) → drop n (part t o w) ≡ part t (o + n) (w - n)
+unfolding part
+drop-part t o w n = drop-take n w (drop o t) ∙ rw (drop-drop n o t)
+
+pub part-join : (t : List ℕ) (o v w : ℕ) → part t o (v + w) ≡ part t o v ++ part t (o + v) w
+unfolding part
+part-join t o v w = take-add v w (drop o t) ∙ rw (drop-drop v o t)
+
+-- ---- comparing
+
+and-false : (q : Bool) → q && false ≡ false
+and-false true = refl
+and-false false = refl
+
+pub same-length : (a b : List ℕ) → (length a ≡ length b → ⊥) → same a b ≡ false
+unfolding same
+same-length [] [] h = absurd (h refl)
+same-length [] (b ∷ bs) h = refl
+same-length (a ∷ xs) [] h = refl
+same-length (a ∷ xs) (b ∷ bs) h = rw (same-length xs bs (λ e. h (ap suc e))) (and-false (eqb a b))
+
+-- the turns of `same`: k bytes of l have been compared
+module _ (a : List ℕ) (i : ℕ) (b : List ℕ) (j : ℕ) where
+  abbrev pub rest : ℕ → ℕ → Bool
+  rest l k = same (part a (i + k) (l - k)) (part b (j + k) (l - k))
+
+  pub same-start : (len l : ℕ) → l ≡ min len (length a - i) → l ≡ min len (length b - j) → rest l 0 ≡ same (part a i len) (part b j len)
+  same-start len l e f =
+      rw (add-zero, add-zero, sub-zero)
+      (ap₂ same (ap (part a i) e ∙ part-present a i len) (ap (part b j) f ∙ part-present b j len))
+
+  pub same-turn : (l k : ℕ) → k < l → i + k < length a → j + k < length b → rest l k ≡ eqb (getD a (i + k) 0) (getD b (j + k) 0) && rest l (k + 1)
+  unfolding same
+  same-turn l k h g f =
+      ap₂ same (part-cons a (i + k) (l - k) (omega arith) g) (part-cons b (j + k) (l - k) (omega arith) f)
+      ∙ ap (λ (q : Bool). eqb (getD a (i + k) 0) (getD b (j + k) 0) && q) (ap₂ same (ap₂ (part a) (omega arith) (omega arith)) (ap₂ (part b) (omega arith) (omega arith)))
+
+  pub same-end : (l k : ℕ) → l ≤ k → rest l k ≡ true
+  unfolding same
+  same-end l k h = ap₂ same (part-none a (i + k) (l - k) (omega arith)) (part-none b (j + k) (l - k) (omega arith))

@@ -1,0 +1,71 @@
+-- `symbols::copy` meets its contract. The loop's invariant: the first i bytes of the part are stored, one after the other. Assumes nothing.
+use Prim.Native.Nat.{_-_, _≤_}
+use lib.Seq.{sets}
+use lib.ListN.{length-set}
+use Rattle.bitset.specs.Parts.{part}
+use Rattle.symbols.proofs.AppendLaws.{copy-turn, copy-none, copied}
+use borrow.Author.Needs.{needs}
+use native.Mathlib.Omega.{arith}
+use lib.ListN.{length}
+use mathlib.Core.Path.{_≡_, refl, _∙_}
+use Rattle.symbols.proofs.copy.Statement.{statement}
+use Rattle.symbols.proofs.copy.Tie as tie
+
+abbrev Inv-loop : tie.InvT-loop
+Inv-loop table₀ at text from len i₀ table i = (i ≤ len) × (length table ≡ length table₀) × (table ≡ sets table₀ at (part text from i))
+
+abbrev μ-loop : tie.MeasureT-loop
+μ-loop table₀ at text from len i₀ table i = len - i
+
+loop-holds : tie.Need-loop-holds Inv-loop μ-loop
+loop-holds c = (omega arith, refl, copy-none _ _ _ _)
+
+add-table : tie.Need-add-table Inv-loop μ-loop
+add-table c = search needs
+
+shared-slice-read-table : tie.Need-shared-slice-read-table Inv-loop μ-loop
+shared-slice-read-table c = search needs
+
+add-table-2 : tie.Need-add-table-2 Inv-loop μ-loop
+add-table-2 c = search needs
+
+slice-write-table : tie.Need-slice-write-table Inv-loop μ-loop
+slice-write-table c = search needs
+
+add-i : tie.Need-add-i Inv-loop μ-loop
+add-i c = search needs
+
+loop-less : tie.Need-loop-less Inv-loop μ-loop
+loop-less c = search needs
+
+loop-again : tie.Need-loop-again Inv-loop μ-loop
+loop-again c =
+    let s = c .before .before .before in
+    let l = c .before .before .loop in
+    (omega arith, simp length-set (l .inv .1), rw (l .inv .2) (copy-turn (s .args .table .now) (s .args .text .now) (s .args .at) (s .args .from) (l .i) (omega arith)))
+
+same-length : tie.Need-same-length Inv-loop μ-loop
+same-length c = search needs
+
+returns : tie.Need-returns Inv-loop μ-loop
+returns c =
+    let s = c .before .before in
+    let l = c .before .loop in
+    l .inv .2 ∙ copied (s .args .table .now) (s .args .text .now) (s .args .at) (s .args .from) (l .i) (s .args .len) (s .pre .0) (s .pre .1) (omega arith)
+
+pub copy-spec : {M : Type 1} → statement M
+copy-spec =
+    tie.close
+    (tie.spec
+    Inv-loop
+    μ-loop
+    loop-holds
+    add-table
+    shared-slice-read-table
+    add-table-2
+    slice-write-table
+    add-i
+    loop-less
+    loop-again
+    same-length
+    returns)

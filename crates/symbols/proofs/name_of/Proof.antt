@@ -1,0 +1,103 @@
+-- `symbols::name_of` meets its contract. The loop's invariant: the question among the entries from `at` on, the first of them at `at`, is
+-- answered as among all. The measure is what is left of the section. Assumes nothing.
+use Prim.Native.Nat.{_-_}
+use Rattle.policy.specs.Questions.{nameFrom}
+use Rattle.symbols.specs.Section.{entriesAt}
+use Rattle.symbols.proofs.LookLaws.{met, less-left}
+use Rattle.symbols.proofs.FindLaws.{none-done, none-broken, none-numbered, other-sort, other-number, this-numbered}
+use borrow.Author.Needs.{needs}
+use native.Mathlib.Omega.{arith}
+use mathlib.Core.Path.{_≡_, _∙_}
+use Rattle.symbols.proofs.name_of.Statement.{statement}
+use Rattle.symbols.proofs.name_of.Tie as tie
+
+abbrev Inv-loop : tie.InvT-loop
+Inv-loop table start end sort number at₀ at =
+    nameFrom sort number at (entriesAt table at end) ≡ nameFrom sort number start (entriesAt table start end)
+
+abbrev μ-loop : tie.MeasureT-loop
+μ-loop table start end sort number at₀ at = end - at
+
+loop-holds : tie.Need-loop-holds Inv-loop μ-loop
+loop-holds c = search needs
+
+look-requires : tie.Need-look-requires Inv-loop μ-loop
+look-requires c κs = search needs
+
+enum-known-k : tie.Need-enum-known-k Inv-loop μ-loop
+enum-known-k c = search needs
+
+loop-less : tie.Need-loop-less Inv-loop μ-loop
+loop-less c =
+    less-left (met (c .before .before .before .before .look .ensures) (c .before .before .k .given .1))
+
+loop-again : tie.Need-loop-again Inv-loop μ-loop
+loop-again c =
+    let l = c .before .before .before .before .before .loop in
+    let m = met (c .before .before .before .before .look .ensures) (c .before .before .k .given .1) in
+    other-sort m _ _ (c .if1 .taken) ∙ l .inv
+
+loop-less-2 : tie.Need-loop-less-2 Inv-loop μ-loop
+loop-less-2 c =
+    less-left (met (c .before .before .before .before .before .look .ensures) (c .before .before .before .k .given .1))
+
+loop-again-2 : tie.Need-loop-again-2 Inv-loop μ-loop
+loop-again-2 c =
+    let l = c .before .before .before .before .before .before .loop in
+    let m = met (c .before .before .before .before .before .look .ensures) (c .before .before .before .k .given .1) in
+    other-number m _ _ (c .before .if1 .left) (c .if2 .taken) ∙ l .inv
+
+add-t12 : tie.Need-add-t12 Inv-loop μ-loop
+add-t12 c =
+    let m = met (c .before .before .before .before .before .look .ensures) (c .before .before .before .k .given .1) in
+    omega arith
+
+sub-t13 : tie.Need-sub-t13 Inv-loop μ-loop
+sub-t13 c =
+    let m = met (c .before .before .before .before .before .look .ensures) (c .before .before .before .k .given .1) in
+    omega arith
+
+sub-t14 : tie.Need-sub-t14 Inv-loop μ-loop
+sub-t14 c =
+    let m = met (c .before .before .before .before .before .look .ensures) (c .before .before .before .k .given .1) in
+    omega arith
+
+returns : tie.Need-returns Inv-loop μ-loop
+returns c =
+    let l = c .before .before .before .before .before .before .loop in
+    let m = met (c .before .before .before .before .before .look .ensures) (c .before .before .before .k .given .1) in
+    this-numbered m _ _ (c .before .if1 .left) (c .if2 .left) ∙ l .inv
+
+enum-told : tie.Need-enum-told Inv-loop μ-loop
+enum-told c = search needs
+
+returns-2 : tie.Need-returns-2 Inv-loop μ-loop
+returns-2 c = none-numbered _ _ _ _ (none-done (met (c .before .before .look .ensures) (c .enum-told .given .1))) ∙ c .before .before .before .loop .inv
+
+enum-told-2 : tie.Need-enum-told-2 Inv-loop μ-loop
+enum-told-2 c = search needs
+
+returns-3 : tie.Need-returns-3 Inv-loop μ-loop
+returns-3 c = none-numbered _ _ _ _ (none-broken (met (c .before .before .look .ensures) (c .enum-told2 .given .1))) ∙ c .before .before .before .loop .inv
+
+pub name-of-spec : {M : Type 1} → statement M
+name-of-spec =
+    tie.close
+    (tie.spec
+    Inv-loop
+    μ-loop
+    loop-holds
+    look-requires
+    enum-known-k
+    loop-less
+    loop-again
+    loop-less-2
+    loop-again-2
+    add-t12
+    sub-t13
+    sub-t14
+    returns
+    enum-told
+    returns-2
+    enum-told-2
+    returns-3)

@@ -1,0 +1,4 @@
+pub mod Section
+pub mod Lookup
+pub mod Append
+pub mod Resolving

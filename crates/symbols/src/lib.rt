@@ -1,0 +1,222 @@
+// The symbol table, kept in the byte layout of body 1 of a table: an entry is its sort in 1 byte, its number in 2, its name's
+// length in 1, and the name's bytes. The memory is the caller's; the same functions serve the compiler and finished tables.
+// Parts that reach past the end of a slice are cut there, so that of these functions only `append` asks anything of its caller: room.
+ghost use mathlib.Core.Path.{_≡_};
+ghost use Prim.Native.Nat.{ℕ, min, _+_, _-_, _<_, _≤_};
+ghost use lib.ListN.{length};
+ghost use Rattle.bitset.specs.Parts.{part, put};
+ghost use Rattle.policy.specs.Basics as basics;
+ghost use Rattle.policy.specs.Encode.{nameEntry, entryBytes};
+ghost use Rattle.policy.specs.Questions.{nameFrom};
+ghost use Rattle.symbols.specs.Section.{EntryIs, entriesAt};
+ghost use Rattle.symbols.specs.Lookup.{familyNumber, firstNamed, replyOf};
+ghost use Rattle.symbols.specs.Append.{Room, Appended};
+
+// What stands at a place of a section: an entry, with the place past it; the section's end; or bytes that are no entry.
+pub enum Entry {
+    Named {
+        sort: usize,
+        number: usize,
+        past: usize,
+    },
+    Done,
+    Broken,
+}
+
+// What a name was declared as.
+pub enum Found {
+    At { sort: usize, number: usize },
+    Missing,
+}
+
+// Where the bytes of a name stand.
+pub enum NamePlace {
+    At { start: usize, length: usize },
+    Nowhere,
+}
+
+fn wide(x: u8) -> usize
+    ensures { λ r. ⌜ (r ≡ x) × (r < 256) ⌝ }
+{
+    x as usize
+}
+
+// How many bytes a part of len bytes has that starts at a place of a slice of so many bytes.
+fn present(total: usize, from: usize, len: usize) -> usize
+    ensures { λ r. ⌜ r ≡ min len (total - from) ⌝ }
+{
+    if total <= from {
+        return 0;
+    }
+    let left = total - from;
+    if left < len {
+        return left;
+    }
+    len
+}
+
+// The entry at a place of the section that ends at end.
+pub fn look(table: &[u8], at: usize, end: usize) -> Entry
+    ensures { λ r. ⌜ EntryIs (now (table .entry)) at end r ⌝ }
+{
+    if end <= at {
+        return Entry::Done;
+    }
+    let left = present(table.len(), at, end - at);
+    if left == 0 {
+        return Entry::Done;
+    }
+    if left < 4 {
+        return Entry::Broken;
+    }
+    let sort = wide(table[at]);
+    let low = wide(table[at + 1]);
+    let high = wide(table[at + 2]);
+    let len = wide(table[at + 3]);
+    if left - 4 < len {
+        return Entry::Broken;
+    }
+    Entry::Named {
+        sort,
+        number: low + 256 * high,
+        past: at + 4 + len,
+    }
+}
+
+// Whether the len bytes of a at i and of b at j are the same.
+pub fn same(a: &[u8], i: usize, b: &[u8], j: usize, len: usize) -> bool
+    ensures { λ r. ⌜ r ≡ basics.same (part (now (a .entry)) i len) (part (now (b .entry)) j len) ⌝ }
+{
+    let long = present(a.len(), i, len);
+    if present(b.len(), j, len) != long {
+        return false;
+    }
+    let mut k: usize = 0;
+    while k < long {
+        if a[i + k] != b[j + k] {
+            return false;
+        }
+        k += 1;
+    }
+    true
+}
+
+// The number of the family that an entry's name belongs to.
+pub fn family_of(sort: usize, number: usize) -> usize
+    ensures { λ r. ⌜ r ≡ familyNumber sort number ⌝ }
+{
+    if sort < 3 {
+        return sort;
+    }
+    if sort < 6 {
+        return sort - 3;
+    }
+    if sort == 6 {
+        return 3;
+    }
+    4 + number / policy::Permission::MAX
+}
+
+// The first entry of a family whose name is the len bytes of text from a place on. Lengths are compared first, then bytes.
+pub fn find(
+    table: &[u8],
+    start: usize,
+    end: usize,
+    family: usize,
+    text: &[u8],
+    from: usize,
+    len: usize,
+) -> Found
+    ensures { λ r. ⌜ r ≡ firstNamed family (part (now (text .entry)) from len) (entriesAt (now (table .entry)) start end) ⌝ }
+{
+    let long = present(text.len(), from, len);
+    let mut at = start;
+    loop {
+        let k = look(table, at, end);
+        match k {
+            Entry::Named { sort, number, past } => {
+                if family_of(sort, number) != family {
+                    at = past;
+                    continue;
+                }
+                let size = past - at - 4;
+                if size != long {
+                    at = past;
+                    continue;
+                }
+                if same(text, from, table, at + 4, long) {
+                    return Found::At { sort, number };
+                }
+                at = past;
+            }
+            Entry::Done => return Found::Missing,
+            Entry::Broken => return Found::Missing,
+        }
+    }
+}
+
+// Copies the len bytes of text from a place on to a place of the table.
+fn copy(table: &mut [u8], at: usize, text: &[u8], from: usize, len: usize)
+    requires { ⌜ (at + len ≤ length (now table)) × (len ≤ length (now text) - from) ⌝ }
+    ensures { λ _. ⌜ now (table .exit) ≡ put (now (table .entry)) at (part (now (text .entry)) from len) ⌝ }
+{
+    let mut i: usize = 0;
+    while i < len {
+        table[at + i] = text[from + i];
+        i += 1;
+    }
+}
+
+// Writes an entry at the end of a section, with the len bytes of text from a place on as its name; the section's new end.
+pub fn append(
+    table: &mut [u8],
+    end: usize,
+    sort: usize,
+    number: usize,
+    text: &[u8],
+    from: usize,
+    len: usize,
+) -> usize
+    requires { ⌜ Room (length (now table)) end sort len ⌝ }
+    ensures { λ r. ⌜ Appended (now (table .entry)) (now (table .exit)) end (nameEntry sort number (part (now (text .entry)) from len)) r ⌝ }
+{
+    let long = present(text.len(), from, len);
+    table[end] = sort as u8;
+    table[end + 1] = (number % 256) as u8;
+    table[end + 2] = (number / 256 % 256) as u8;
+    table[end + 3] = long as u8;
+    copy(table, end + 4, text, from, long);
+    end + 4 + long
+}
+
+// Where the name of a sort and number stands.
+pub fn name_of(table: &[u8], start: usize, end: usize, sort: usize, number: usize) -> NamePlace
+    ensures { λ r. ⌜ replyOf r ≡ nameFrom sort number start (entriesAt (now (table .entry)) start end) ⌝ }
+{
+    let mut at = start;
+    loop {
+        let k = look(table, at, end);
+        match k {
+            Entry::Named {
+                sort: s,
+                number: n,
+                past,
+            } => {
+                if s != sort {
+                    at = past;
+                    continue;
+                }
+                if n != number {
+                    at = past;
+                    continue;
+                }
+                return NamePlace::At {
+                    start: at + 4,
+                    length: past - at - 4,
+                };
+            }
+            Entry::Done => return NamePlace::Nowhere,
+            Entry::Broken => return NamePlace::Nowhere,
+        }
+    }
+}
