@@ -1,0 +1,501 @@
+//! Theorems that hold the definitions of the proved side to this program: what it says of small cases, written in the
+//! prover's language, each to be closed by computation. Of the definitions only the names are known here.
+
+use crate::corpus::fill;
+use crate::generator::asked::asked;
+use crate::generator::cases::cases;
+use crate::generator::damage::damage_tokens;
+use crate::generator::layout::{lay_out, Gaps};
+use crate::generator::maxima;
+use crate::generator::policies::{policy, Shape};
+use crate::generator::questions::{ask, Question};
+use crate::generator::tables::{apply, odd_and_sound, with_bytes_behind, ways, BASES};
+use crate::meaning::meaning;
+use crate::policy::read;
+use crate::questions::{
+    change, entry, name_of, new_role, valid_context, Change, ChangeAnswer, Context, PartAnswer, RoleAnswer, ValidAnswer,
+};
+use crate::random::Random;
+use crate::roll::roll;
+use crate::sound::{decode, is_sound};
+use crate::table::{compile, table_of, Outcome};
+
+/// A source file of the prover.
+pub struct File {
+    pub name: String,
+    pub text: String,
+}
+
+/// What is claimed of one case. Values that several claims cite have names of their own. In a value or a claim `CASE`
+/// stands for the item's name, and every name is that name with an ending.
+struct Item {
+    rule: String,
+    values: Vec<(&'static str, String)>,
+    claims: Vec<(String, String)>,
+}
+
+impl Item {
+    fn one(rule: &str, claim: String) -> Item {
+        Item { rule: rule.to_string(), values: Vec::new(), claims: vec![(String::new(), claim)] }
+    }
+}
+
+/// Items of one kind: the first part of their files' name, what their claims cite, and what stands before them.
+struct Chapter {
+    name: &'static str,
+    about: &'static str,
+    cites: &'static [&'static str],
+    before: &'static str,
+    items: Vec<Item>,
+}
+
+const MOST_ITEMS: usize = 60;
+const MOST_BYTES: usize = 100_000;
+/// The greatest text and table that are written out.
+const MOST_TEXT: usize = 160;
+const MOST_TABLE: usize = 400;
+
+/// Every file, `Lib.antt` last: it names the others.
+pub fn definitions(seed: u64) -> Vec<File> {
+    let mut random = Random::new(seed);
+    let chapters = [
+        refused(&mut random),
+        accepted(&mut random),
+        lent(),
+        questions(&mut random),
+        unsound(&mut random),
+        odd(&mut random),
+        printed(),
+    ];
+    let mut files: Vec<File> = chapters.iter().flat_map(files_of).collect();
+    let names = files.iter().map(|file| format!("pub mod {}\n", file.name.trim_end_matches(".antt")));
+    let text = names.collect();
+    files.push(File { name: "Lib.antt".to_string(), text });
+    files
+}
+
+fn files_of(chapter: &Chapter) -> Vec<File> {
+    let mut files: Vec<File> = Vec::new();
+    let mut items = 0;
+    for (number, item) in chapter.items.iter().enumerate() {
+        if files.is_empty() || items == MOST_ITEMS || files[files.len() - 1].text.len() > MOST_BYTES {
+            let name = format!("{}{}.antt", chapter.name, files.len());
+            files.push(File { name, text: opening(chapter) });
+            items = 0;
+        }
+        items += 1;
+        let last = files.len() - 1;
+        files[last].text.push_str(&written(&format!("{}-{number}", chapter.name.to_lowercase()), item));
+    }
+    files
+}
+
+fn opening(chapter: &Chapter) -> String {
+    let mut text = format!(
+        "-- {} and what the independent second program says of them, held to the definitions by computation. \
+         Written by reference/regenerate.\n-- Assumes nothing.\n",
+        chapter.about
+    );
+    let cited = [&["mathlib.Core.Path.{_≡_, refl}", "mathlib.Core.List.{List, [], _∷_}"], chapter.cites].concat();
+    for line in cited {
+        text.push_str(&format!("use {line}\n"));
+    }
+    text.push_str("use Rattle.policy.specs.Opened.{computing}\n");
+    text.push_str(chapter.before);
+    text
+}
+
+fn written(name: &str, item: &Item) -> String {
+    let values = item.values.iter().map(|(end, value)| format!("abbrev {name}{end} : List ℕ\n{name}{end} = {value}\n"));
+    let claims = item.claims.iter().map(|(end, claim)| {
+        let claim = claim.replace("CASE", name);
+        format!("{name}{end} : {claim}\nunfolding computing\n{name}{end} = refl\n")
+    });
+    let parts: Vec<String> = values.chain(claims).collect();
+    format!("\n-- {}\n{}", item.rule, parts.join("\n"))
+}
+
+/// ASCII, which is the same in a quoted text and in bytes.
+fn is_plain(text: &[u8]) -> bool {
+    text.is_ascii()
+}
+
+/// A text in quotes; the prover escapes as Rust does.
+fn quoted(text: &[u8]) -> String {
+    assert!(is_plain(text));
+    format!("bytes {:?}", String::from_utf8_lossy(text))
+}
+
+/// Bytes one by one.
+fn listed(bytes: &[u8]) -> String {
+    let mut list: String = bytes.iter().map(|byte| format!("{byte} ∷ ")).collect();
+    list.push_str("[]");
+    list
+}
+
+const BYTES: &str = "Rattle.lexer.specs.Spell.{bytes}";
+
+/// Refusals 1 to 9, with memory enough for any table.
+fn refused(random: &mut Random) -> Chapter {
+    let mut items = Vec::new();
+    let mut add = |rule: &str, text: &[u8]| {
+        if let Err(fault) = table_of(text) {
+            let claim = format!("outcome ({}) 65536 ≡ rejected {} {}", quoted(text), fault.number, fault.place);
+            items.push(Item::one(rule, claim));
+        }
+    };
+    for case in cases().iter().filter(|case| case.text.len() <= MOST_TEXT && is_plain(&case.text)) {
+        add(&case.rule, &case.text);
+    }
+    for (rule, text) in texts_at_maxima() {
+        add(&rule, &text);
+    }
+    for _ in 0..12 {
+        let text = small_policy(random, Shape::small(2));
+        add("a random policy, damaged", &damage_tokens(random, &text));
+    }
+    for _ in 0..12 {
+        let text = small_policy(random, Shape { cycles: true, ..Shape::small(12) });
+        add("a random policy with cycles", &text);
+        let text = small_policy(random, Shape { clashes: true, ..Shape::small(12) });
+        add("a random policy with clashes", &text);
+    }
+    Chapter {
+        name: "Refused",
+        about: "Texts",
+        cites: &[BYTES, "Rattle.policy.specs.Outcome.{rejected, outcome}"],
+        before: "",
+        items,
+    }
+}
+
+fn small_policy(random: &mut Random, shape: Shape) -> Vec<u8> {
+    let statements = policy(random, shape);
+    lay_out(random, &statements, Gaps::Least)
+}
+
+/// One past a maximum; and exactly at it, with a statement of no form behind, so that 3 there says that all before passed.
+fn texts_at_maxima() -> Vec<(String, Vec<u8>)> {
+    let mut list = Vec::new();
+    let small = |text: &[u8]| text.len() <= MOST_AT_MAXIMUM;
+    for bound in maxima::bounds().into_iter().filter(|bound| small(&bound.past)) {
+        list.push((format!("past the maximum: {}", bound.name), bound.past));
+        list.push((format!("at the maximum: {}", bound.name), [bound.at, b"()".to_vec()].concat()));
+    }
+    for (rule, text, _) in maxima::orders().into_iter().filter(|(_, text, _)| small(text)) {
+        list.push((format!("reading 23: {rule}"), text));
+    }
+    list
+}
+
+/// The greatest text at a maximum that is written out.
+const MOST_AT_MAXIMUM: usize = 1_500;
+
+/// The whole table, byte for byte.
+fn accepted(random: &mut Random) -> Chapter {
+    let mut items = Vec::new();
+    let mut add = |rule: &str, text: &[u8]| match table_of(text) {
+        Ok(table) if table.len() <= MOST_TABLE => {
+            items.push(Item::one(rule, format!("tableOf ({}) ≡ {}", quoted(text), listed(&table))));
+            true
+        }
+        _ => false,
+    };
+    for case in cases().iter().filter(|case| case.text.len() <= MOST_TEXT && is_plain(&case.text)) {
+        add(&case.rule, &case.text);
+    }
+    let mut found = 0;
+    while found < 12 {
+        let text = small_policy(random, Shape::small(2));
+        found += add("a random policy", &text) as usize;
+    }
+    Chapter {
+        name: "Accepted",
+        about: "Texts",
+        cites: &[BYTES, "Rattle.policy.specs.Worked.{tableOf}"],
+        before: "",
+        items,
+    }
+}
+
+/// Refusal 10, and the memory afterwards.
+fn lent() -> Chapter {
+    let mut items = Vec::new();
+    for text in ["", "(user a)", "(class c(p))(constrain(c(p))(eq u1 u2))"] {
+        let length = table_of(text.as_bytes()).expect("accepted").len();
+        for lent in [0, length - 1, length, length + 1] {
+            let answer = match compile(text.as_bytes(), &mut fill(lent)) {
+                Outcome::Accepted(length) => format!("accepted {length}"),
+                Outcome::Refused(fault) => format!("rejected {} {}", fault.number, fault.place),
+            };
+            items.push(Item::one("so much is lent", format!("outcome ({}) {lent} ≡ {answer}", quoted(text.as_bytes()))));
+        }
+    }
+    for (rule, text, lent) in [
+        ("bytes past the table are unchanged", "(user a)", 100),
+        ("on refusal 10 the memory is unchanged", "(user a)", 88),
+        ("on refusal 3 the memory is unchanged", "(user a)()", 96),
+        ("on refusal 2 the memory is unchanged", "!", 70),
+    ] {
+        let before = fill(lent);
+        let mut after = before.clone();
+        compile(text.as_bytes(), &mut after);
+        let claim = format!("after ({}) ({}) ≡ {}", quoted(text.as_bytes()), listed(&before), listed(&after));
+        items.push(Item::one(rule, claim));
+    }
+    Chapter {
+        name: "Lent",
+        about: "Texts and lent memory,",
+        cites: &[BYTES, "Rattle.policy.specs.Outcome.{accepted, rejected, outcome, after}"],
+        before: "",
+        items,
+    }
+}
+
+/// What the questions' claims cite.
+const ASKING: &[&str] = &[
+    "Prim.Native.Nat.{ℕ}",
+    "mathlib.Core.Bool.{true, false}",
+    BYTES,
+    "Rattle.policy.specs.Basics.{each}",
+    "Rattle.policy.specs.Reading.{policy, refused}",
+    "Rattle.policy.specs.Answer.{Question, Answer, granted, denied, fails, refuses, answer}",
+    "Rattle.policy.specs.Questions.{answered, refused, changeOn, validOn, newRoleOn, nameOn, entryOn}",
+    "Rattle.policy.specs.Outcome.{policyOf}",
+    "Rattle.policy.specs.Worked.{tableOf, context}",
+];
+
+/// What the statements of a text answer to changes, in the prover's language.
+const FROM_STATEMENTS: &str = "
+-- what the statements of a text answer
+abbrev answers : List ℕ → List Question → List Answer
+answers text qs = elim (policyOf text) [ policy p ↦ each (answer p) qs | refused n at ↦ [] ]
+";
+
+/// Questions on tables of accepted texts; changes also as the statements answer them. The table is written out, so that it
+/// is not computed again for every question.
+fn questions(random: &mut Random) -> Chapter {
+    let mut items = Vec::new();
+    let mut add = |rule: &str, text: &[u8], list: &[Question]| {
+        let table = table_of(text).expect("an accepted text");
+        let mut claims = vec![("-written".to_string(), "tableOf CASE ≡ CASE-table".to_string())];
+        for (number, question) in list.iter().enumerate() {
+            claims.push((format!("-{number}"), on_table("CASE-table", &table, question)));
+        }
+        claims.extend(from_statements(text, list).map(|claim| ("-statements".to_string(), claim)));
+        items.push(Item { rule: rule.to_string(), values: vec![("", quoted(text)), ("-table", listed(&table))], claims });
+    };
+    for asked in asked() {
+        add(asked.rule, asked.text.as_bytes(), &asked.questions);
+    }
+    for _ in 0..RANDOM_ASKED {
+        let steps = random.between(14, 24);
+        let text = small_policy(random, Shape::small(steps));
+        let decoded = decode(&table_of(&text).expect("a good policy")).expect("sound");
+        let list: Vec<Question> = (0..4).map(|_| ask(random, &decoded)).collect();
+        add("a random policy and random questions", &text, &list);
+    }
+    Chapter { name: "Asked", about: "Questions", cites: ASKING, before: FROM_STATEMENTS, items }
+}
+
+const RANDOM_ASKED: usize = 12;
+
+/// The changes among the questions in numbers that the statements declare, answered by them.
+fn from_statements(text: &[u8], list: &[Question]) -> Option<String> {
+    let meaning = meaning(read(text).ok()?).ok()?;
+    let table = table_of(text).ok()?;
+    let (mut asked, mut answers) = (String::new(), String::new());
+    for question in list.iter().filter_map(asked_change) {
+        // A table refuses what is not declared; the statements are asked only for what is.
+        if !matches!(change(&table, &question), ChangeAnswer::Refused(_)) {
+            asked.push_str(&format!("{} ∷ ", change_words(&question)));
+            answers.push_str(&format!("{} ∷ ", change_answer(meaning.change(&in_bounds(&question)))));
+        }
+    }
+    (!asked.is_empty()).then(|| format!("answers CASE ({asked}[]) ≡ {answers}[]"))
+}
+
+fn in_bounds(question: &Change<u64>) -> Change<usize> {
+    let context = |c: &Context<u64>| Context { user: c.user as usize, role: c.role as usize, kind: c.kind as usize };
+    Change {
+        source: context(&question.source),
+        target: context(&question.target),
+        class: question.class as usize,
+        permission: question.permission as usize,
+    }
+}
+
+fn asked_change(question: &Question) -> Option<Change<u64>> {
+    let [kind, a, b, c, d, e, f, class, permission] = *question;
+    let source = Context { user: a, role: b, kind: c };
+    let target = Context { user: d, role: e, kind: f };
+    (kind == 1).then_some(Change { source, target, class, permission })
+}
+
+/// What this program answers on the table.
+fn on_table(named: &str, table: &[u8], question: &Question) -> String {
+    let [kind, a, b, c, ..] = *question;
+    match kind {
+        0 => {
+            let asked = Context { user: a, role: b, kind: c };
+            let answer = match valid_context(table, &asked) {
+                ValidAnswer::Valid => "answered true".to_string(),
+                ValidAnswer::NotValid => "answered false".to_string(),
+                ValidAnswer::Refused(number) => format!("refused {number} 0"),
+            };
+            format!("validOn {named} {} ≡ {answer}", context_words(&asked))
+        }
+        1 => {
+            let asked = asked_change(question).expect("a change");
+            format!("changeOn {named} {} ≡ {}", change_words(&asked), change_answer(change(table, &asked)))
+        }
+        2 => {
+            let answer = match new_role(table, a, b, c) {
+                RoleAnswer::Role(role) => format!("answered {role}"),
+                RoleAnswer::Refused(number) => format!("refused {number} 0"),
+            };
+            format!("newRoleOn {named} {a} {b} {c} ≡ {answer}")
+        }
+        3 => format!("nameOn {named} {a} {b} ≡ {}", part_answer(name_of(table, a, b))),
+        _ => format!("entryOn {named} {a} {b} ≡ {}", part_answer(entry(table, a, b))),
+    }
+}
+
+fn context_words(c: &Context<u64>) -> String {
+    format!("(context {} {} {})", c.user, c.role, c.kind)
+}
+
+fn change_words(q: &Change<u64>) -> String {
+    let (source, target) = (context_words(&q.source), context_words(&q.target));
+    let (source, target) = (&source[1..source.len() - 1], &target[1..target.len() - 1]);
+    format!("(record {{ source = {source}; target = {target}; class = {}; perm = {} }})", q.class, q.permission)
+}
+
+fn change_answer(answer: ChangeAnswer) -> String {
+    match answer {
+        ChangeAnswer::Granted { consulted } => said("granted", consulted),
+        ChangeAnswer::Denied { number: 4, constraint, consulted } => said(&format!("fails {constraint}"), consulted),
+        ChangeAnswer::Denied { number, consulted, .. } => said(&format!("denied {number}"), consulted),
+        ChangeAnswer::Refused(number) => said(&format!("refuses {number} 0"), 0),
+    }
+}
+
+fn said(verdict: &str, consulted: usize) -> String {
+    format!("record {{ verdict = {verdict}; consulted = {consulted} }}")
+}
+
+fn part_answer(answer: PartAnswer) -> String {
+    match answer {
+        PartAnswer::Part { start, length } => format!("answered (record {{ start = {start}; long = {length} }})"),
+        PartAnswer::Refused(number) => format!("refused {number} 0"),
+    }
+}
+
+/// Small policies whose tables have something to damage, the smallest first.
+const SMALL_BASES: [&str; 6] = [
+    "(class c(p))(constrain(c(p))(not(eq u1 u2)))",
+    "(class c(p q))(user u)(constrain(c(q))(or(eq t1 t2)(neq u2 u)))(constrain(c(p))(eq t1 t2))",
+    "(user u)(userattribute x)(class c(p))(class d(q r))(constrain(d(r))(and(eq u1 u2)(eq u1 x)))",
+    "(role a)(user u)(userrole u a)(roleattribute y)(roleattributeset y(a))",
+    "(role a)(type t)(roletype a t)(class c(p))(roletransition a t c a)",
+    "(type t)(typeattribute z)(typeattributeset z(t))",
+];
+
+/// One damaged table for each way of damage, the smallest that it can be done to.
+fn unsound(random: &mut Random) -> Chapter {
+    let tables: Vec<Vec<u8>> =
+        SMALL_BASES.iter().chain(&BASES).map(|text| table_of(text.as_bytes()).expect("a base is accepted")).collect();
+    let mut items = vec![Item::one("no byte at all", "imageIn [] ≡ none".to_string())];
+    for (rule, way) in ways() {
+        let table = tables.iter().find_map(|base| apply(way, base, random)).expect("a base to damage in this way");
+        assert!(!is_sound(&table), "{rule}");
+        items.push(Item::one(rule, format!("imageIn ({}) ≡ none", listed(&table))));
+    }
+    Chapter {
+        name: "Unsound",
+        about: "Tables",
+        cites: &["mathlib.Core.Option.{none}", "Rattle.policy.specs.Sound.{imageIn}"],
+        before: "",
+        items,
+    }
+}
+
+/// Sound tables that no text gives, or with bytes behind, and an answer from each.
+fn odd(random: &mut Random) -> Chapter {
+    let behind = with_bytes_behind(random, &table_of(b"(user u)(role a)(userrole u a)").expect("accepted"));
+    let mut tables = vec![("bytes behind the table", behind)];
+    tables.extend(odd_and_sound().into_iter().filter(|(_, table)| table.len() <= 2 * MOST_TABLE));
+    let questions: [Question; 3] = [[2, 0, 0, 0, 0, 0, 0, 0, 0], [3, 1, 0, 0, 0, 0, 0, 0, 0], [4, 5, 1, 0, 0, 0, 0, 0, 0]];
+    let item = |(rule, table): (&str, Vec<u8>)| Item {
+        rule: rule.to_string(),
+        values: vec![("-table", listed(&table))],
+        claims: (0..).zip(&questions).map(|(n, q)| (format!("-{n}"), on_table("CASE-table", &table, q))).collect(),
+    };
+    Chapter { name: "Odd", about: "Tables", cites: ASKING, before: "", items: tables.into_iter().map(item).collect() }
+}
+
+/// The printed roll.
+fn printed() -> Chapter {
+    let texts: [(&str, &str); 10] = [
+        ("the roll of document 01", "(user u)(role a)(role b)(type t)(userrole u a)(roletype a t)"),
+        ("the empty text", ""),
+        ("a refusal", "(role a)(roletype a t)"),
+        ("a refusal at the end of the text", "(role a)(user "),
+        ("refusal 8", "(roleattribute x)(roleattributeset x(x))"),
+        ("users first", "(role b)(user v)(role a)(user u)(userrole u b)"),
+        ("by number, not by name", "(user z)(user a)(role r)(userrole a r)"),
+        ("sets through attributes", "(user u)(role a)(role b)(roleattribute x)(userrole u x)(roleattributeset x(all))"),
+        (
+            "more than nine members",
+            "(role a)(type a)(type b)(type c)(type d)(type e)(type f)(type g)(type h)(type i)(type j)(typeattribute x)\
+             (typeattributeset x(all))(roletype a x)",
+        ),
+        ("attributes and classes print nothing", "(userattribute x)(class c(p))(type t)(role long-name_1)"),
+    ];
+    let item = |(rule, text): (&str, &str)| {
+        let shown = roll(text.as_bytes());
+        Item::one(rule, format!("printed ({}) ≡ {}", quoted(text.as_bytes()), quoted(&shown)))
+    };
+    Chapter {
+        name: "Printed",
+        about: "Texts",
+        cites: &[BYTES, "Rattle.policy.specs.Roll.{printed}"],
+        before: "",
+        items: texts.into_iter().map(item).collect(),
+    }
+}
+
+#[cfg(test)]
+mod tests {
+    use super::*;
+
+    fn all() -> String {
+        definitions(1).into_iter().map(|file| file.text).collect()
+    }
+
+    #[test]
+    fn every_kind_of_answer_is_claimed() {
+        let text = all();
+        let count = |what: &str| text.matches(what).count();
+        for number in 2..=10 {
+            assert!(count(&format!("≡ rejected {number} ")) >= 3, "rejected {number}");
+        }
+        for what in [
+            "verdict = granted; consulted = 0", "verdict = granted; consulted = 1", "verdict = granted; consulted = 3",
+            "verdict = denied 1;", "verdict = denied 2;", "verdict = denied 3;", "verdict = fails 0; consulted = 1",
+            "verdict = fails 1; consulted = 2", "verdict = fails 4; consulted = 3", "verdict = refuses 12 0; consulted = 0",
+            "answered true", "answered false", "≡ answered 1", "≡ answered (record", "≡ refused 12 0", "≡ none", "printed (",
+        ] {
+            assert!(count(what) >= 1, "{what}");
+        }
+        assert!(count("CASE") == 0 && count(" : answers asked-") >= 30);
+    }
+
+    #[test]
+    fn the_same_seed_gives_the_same_files_and_none_is_large() {
+        let files = definitions(3);
+        assert!(files.iter().zip(definitions(3)).all(|(a, b)| a.name == b.name && a.text == b.text));
+        assert!(files.iter().all(|file| file.text.len() < 150_000));
+        assert_eq!(files.last().unwrap().text.lines().count(), files.len() - 1);
+    }
+}

@@ -62,11 +62,18 @@ fn valid_contexts() -> Vec<Asked> {
     let across = "(user u)(user v)(role a)(role b)(type s)(type t)(userrole u b)(userrole v a)(roletype a s)(roletype b t)\
                   (class c(p))";
     vec![
-        of("P11", roll, &[change(A, B, 0), change(B, A, 0), change(A, A, 0)]),
-        of("valid context", roll, &[valid(0, 0, 0), valid(0, 1, 0)]),
-        of("valid context: the user's role, the role's type", across, &[valid(0, 1, 1), valid(0, 0, 0), valid(1, 0, 1)]),
-        of("denial 1 before 2", across, &[change([0, 0, 0], [1, 1, 0], 0), change([0, 1, 1], [1, 1, 0], 0)]),
-        of("either side its own user", across, &[change([0, 1, 1], [1, 0, 0], 0), change([1, 0, 0], [1, 0, 1], 0)]),
+        of("P11", roll, &[change(A, B, 0), change(B, A, 0), change(A, A, 0), valid(0, 0, 0), valid(0, 1, 0)]),
+        of("the user's role, the role's type", across, &[valid(0, 1, 1), valid(0, 0, 0), valid(1, 0, 1), valid(0, 1, 0)]),
+        of(
+            "denial 1 before 2, either side with its own user",
+            across,
+            &[
+                change([0, 0, 0], [1, 1, 0], 0),
+                change([0, 1, 1], [1, 1, 0], 0),
+                change([0, 1, 1], [1, 0, 0], 0),
+                change([1, 0, 0], [1, 0, 1], 0),
+            ],
+        ),
         of(
             "a role of number 8 is bit 0 of byte 1",
             "(role a)(role b)(role c)(role d)(role e)(role f)(role g)(role h)(role i)(user u)(userrole u i)(type t)\
@@ -79,11 +86,12 @@ fn valid_contexts() -> Vec<Asked> {
 /// Denial 3.
 fn role_changes() -> Vec<Asked> {
     let with = |rest: &str| format!("{TWO_ROLES}{rest}");
-    let process = "(class process(transition dyntransition fork))";
     vec![
-        of("denial 3", &with(process), &[change(A, B, 0), change(B, A, 1)]),
-        of("no role allow where the role stays the same", &with(process), &[change(A, A, 0), change(B, B, 1)]),
-        of("no role allow for another permission", &with(process), &[change(A, B, 2)]),
+        of(
+            "denial 3: not where the role stays the same, not for another permission",
+            &with("(class process(transition dyntransition fork))"),
+            &[change(A, B, 0), change(B, A, 1), change(A, A, 0), change(B, B, 1), change(A, B, 2)],
+        ),
         of("roleallow", &with("(class process(fork transition))(roleallow a b)"), &[change(A, B, 1), change(B, A, 1)]),
         of(
             "roleallow through an attribute",
@@ -91,19 +99,14 @@ fn role_changes() -> Vec<Asked> {
             &[change(A, B, 0), change(B, A, 0), change(B, B, 0)],
         ),
         of(
-            "no role allow on another class",
-            &with("(class file(transition))(class Process(transition))(class process(p))"),
-            &[change_in(A, B, 0, 0), change_in(A, B, 1, 0), change_in(A, B, 2, 0)],
+            "no role allow on another class, or for a name that only begins alike",
+            &with("(class file(transition))(class Process(transition))(class process(p transitions dyntransition-))"),
+            &[change_in(A, B, 0, 0), change_in(A, B, 1, 0), change_in(A, B, 2, 0), change_in(A, B, 2, 1), change_in(B, A, 2, 2)],
         ),
         of(
             "denial 3 before 4",
             &with("(class process(transition))(constrain(process(transition))(neq u1 u2))"),
             &[change(A, B, 0), change(A, A, 0)],
-        ),
-        of(
-            "permission names that only begin alike",
-            &with("(class process(transitions dyntransition-))"),
-            &[change(A, B, 0), change(A, B, 1)],
         ),
     ]
 }
@@ -111,11 +114,15 @@ fn role_changes() -> Vec<Asked> {
 /// Denial 4, its constraint and the number consulted.
 fn consulted() -> Vec<Asked> {
     let with = |rest: &str| format!("{TWO_ROLES}(class c(p q))(class d(p)){rest}");
-    let mixed = "(constrain(d(p))(neq u1 u2))(constrain(c(p))(eq u1 u2))(constrain(c(q))(neq u1 u2))\
-                 (constrain(c(p q))(eq r1 r2))(constrain(c(p))(neq t1 t2))";
     vec![
-        of("consulted: those that name class and permission", &with(mixed), &[change(A, B, 0), change(A, A, 0)]),
-        of("consulted: up to the first that fails", &with(mixed), &[change(A, A, 1), change_in(A, B, 1, 0)]),
+        of(
+            "consulted: those that name class and permission, up to the first that fails",
+            &with(
+                "(constrain(d(p))(neq u1 u2))(constrain(c(p))(eq u1 u2))(constrain(c(q))(neq u1 u2))\
+                 (constrain(c(p q))(eq r1 r2))(constrain(c(p))(neq t1 t2))",
+            ),
+            &[change(A, B, 0), change(A, A, 0), change(A, A, 1), change_in(A, B, 1, 0)],
+        ),
         of("none names the permission", &with("(constrain(c(p))(neq u1 u2))"), &[change(A, A, 1), change_in(A, A, 1, 0)]),
         of(
             "granted: all of them",
@@ -135,60 +142,59 @@ fn consulted() -> Vec<Asked> {
     ]
 }
 
-/// Each operator on each pair of sides and on names, and the operators between expressions.
+/// Users u and v, u in both roles and v in b, either role with either type; and one constrain for each permission.
+fn constrained(expressions: &[&str]) -> String {
+    let letter = |n: usize| char::from(b'a' + n as u8);
+    let names: Vec<String> = (0..expressions.len()).map(|n| letter(n).to_string()).collect();
+    let mut text = String::from(
+        "(user u)(user v)(role a)(role b)(type s)(type t)(userattribute x)(userattributeset x(u))(userrole x b)(userrole u a)\
+         (userrole v b)(roleattribute y)(roleattributeset y(all))(typeattribute z)(typeattributeset z(s t))(roletype y z)\
+         (roleattribute k)(roleattributeset k(b))",
+    );
+    text.push_str(&format!("(class c({}))", names.join(" ")));
+    for (n, expression) in expressions.iter().enumerate() {
+        text.push_str(&format!("(constrain(c({})){expression})", letter(n)));
+    }
+    text
+}
+
+/// Each operator on each pair of sides and on names, and the operators between expressions. A permission is asked for each.
 fn operators() -> Vec<Asked> {
-    let two_users = "(user u)(user v)(role a)(role b)(type s)(type t)(userattribute x)(userattributeset x(u))(userrole x b)\
-                     (userrole u a)(userrole v b)(roleattribute y)(roleattributeset y(all))(typeattribute z)\
-                     (typeattributeset z(s t))(roletype y z)(class c(p))";
     let from = [0, 0, 0];
     let to = [1, 1, 1];
-    let constrained = |expressions: &[&str]| {
-        let lines: Vec<String> = expressions.iter().map(|e| format!("(constrain(c(p)){e})")).collect();
-        format!("{two_users}{}", lines.concat())
+    let each = |count: u64, pairs: &[([u64; 3], [u64; 3])]| -> Vec<Question> {
+        (0..count).flat_map(|n| pairs.iter().map(move |(source, target)| change(*source, *target, n))).collect()
     };
-    let mut list = Vec::new();
-    for (rule, expression) in [
-        ("eq of users", "(eq u1 u2)"),
-        ("neq of users", "(neq u1 u2)"),
-        ("eq of roles", "(eq r1 r2)"),
-        ("neq of roles", "(neq r1 r2)"),
-        ("dom reads as eq", "(dom r1 r2)"),
-        ("domby reads as eq", "(domby r1 r2)"),
-        ("incomp reads as neq", "(incomp r1 r2)"),
-        ("eq of types", "(eq t1 t2)"),
-        ("neq of types", "(neq t1 t2)"),
-    ] {
-        list.push(of(rule, &constrained(&[expression]), &[change(from, to, 0), change(from, from, 0)]));
-    }
-    let forward = [change(from, to, 0), change(to, from, 0)];
-    for (rule, expression) in [
-        ("u1 and a thing", "(eq u1 u)"),
-        ("u2 and a thing", "(neq u2 u)"),
-        ("r1 and a thing", "(neq r1 a)"),
-        ("r2 and a thing", "(eq r2 a)"),
-        ("t1 and a thing", "(eq t1 t)"),
-        ("t2 and a thing", "(neq t2 s)"),
-        ("u1 and an attribute", "(neq u1 x)"),
-        ("u2 and an attribute", "(eq u2 x)"),
-        ("r1 and an attribute", "(neq r1 y)"),
-        ("t2 and an attribute", "(eq t2 z)"),
-    ] {
-        list.push(of(rule, &constrained(&[expression]), &forward));
-    }
-    let (yes, no) = ("(neq u1 u2)", "(eq u1 u2)");
-    for (rule, expressions) in [
-        ("and", vec![format!("(and{yes}{yes})"), format!("(and{yes}{no})")]),
-        ("and, the left one fails", vec![format!("(and{no}{yes})")]),
-        ("or", vec![format!("(or{no}{yes})"), format!("(or{yes}{no})"), format!("(or{no}{no})")]),
-        ("not", vec![format!("(not{no})"), format!("(not(not{yes}))"), format!("(not{yes})")]),
-        ("nested", vec![format!("(not(and(or{no}{yes})(not(or{no}{no}))))")]),
-        ("five on the stack", vec![format!("(or{no}(or{no}(and{yes}(or{no}{yes}))))"), format!("(and{yes}(and{yes}{no}))")]),
-        ("five on the stack, the oldest counts", vec![format!("(and{no}(and{yes}(and{yes}(and{yes}{yes}))))")]),
-    ] {
-        let expressions: Vec<&str> = expressions.iter().map(String::as_str).collect();
-        list.push(of(rule, &constrained(&expressions), &[change(from, to, 0)]));
-    }
-    list
+    let users_and_types = ["(eq u1 u2)", "(neq u1 u2)", "(eq t1 t2)", "(neq t1 t2)"];
+    let roles = ["(eq r1 r2)", "(neq r1 r2)", "(dom r1 r2)", "(domby r1 r2)", "(incomp r1 r2)"];
+    let things = ["(eq u1 u)", "(neq u2 u)", "(neq r1 a)", "(eq r2 a)", "(eq t1 t)", "(neq t2 s)"];
+    let attributes = ["(neq u1 x)", "(eq u2 x)", "(neq r1 y)", "(eq r2 k)", "(eq t2 z)", "(neq t1 z)"];
+    let and_or_not = [
+        "(and(neq u1 u2)(neq r1 r2))",
+        "(and(neq u1 u2)(eq r1 r2))",
+        "(and(eq u1 u2)(neq r1 r2))",
+        "(or(eq u1 u2)(neq r1 r2))",
+        "(or(neq u1 u2)(eq r1 r2))",
+        "(or(eq u1 u2)(eq r1 r2))",
+        "(not(eq u1 u2))",
+        "(not(not(eq u1 u2)))",
+    ];
+    let stack = [
+        "(not(and(or(eq u1 u2)(neq t1 t2))(not(or(eq u1 u2)(eq t1 t2)))))",
+        "(or(eq u1 u2)(or(eq r1 r2)(and(neq t1 t2)(or(eq u1 v)(eq u1 u)))))",
+        "(and(eq u1 u2)(and(eq u1 u)(and(eq u2 v)(and(eq r1 a)(eq r2 b)))))",
+        "(and(and(and(and(and(eq u1 u)(eq u2 v))(eq r1 a))(eq r2 b))(eq t1 s))(neq t2 t))",
+    ];
+    let both = [(from, to), (from, from)];
+    let turned = [(from, to), (to, from)];
+    vec![
+        of("users and types on both sides", &constrained(&users_and_types), &each(4, &both)),
+        of("roles on both sides: dom and domby read as eq, incomp as neq", &constrained(&roles), &each(5, &both)),
+        of("a side and a thing", &constrained(&things), &each(6, &turned)),
+        of("a side and an attribute", &constrained(&attributes), &each(6, &turned)),
+        of("and, or, not", &constrained(&and_or_not), &each(8, &both[..1])),
+        of("up to five on the stack", &constrained(&stack), &each(4, &both[..1])),
+    ]
 }
 
 /// An attribute stands for its final set, whatever line uses it.
@@ -225,44 +231,42 @@ fn new_roles() -> Vec<Asked> {
                  (roletransition a s e c)(roletransition b t d c)";
     let sets = "(role a)(role b)(type s)(type t)(roleattribute x)(typeattribute y)(class c(p))(roletransition x y c b)\
                 (roleattributeset x(all))(typeattributeset y(not s))";
+    let matching = [new_role(0, 1, 0), new_role(0, 0, 1), new_role(1, 1, 0)];
+    let others = [new_role(0, 0, 0), new_role(0, 1, 1), new_role(2, 1, 0)];
+    let undeclared = [new_role(3, 0, 0), new_role(0, 2, 0), new_role(0, 0, 2)];
     vec![
-        of("new role", plain, &[new_role(0, 1, 0), new_role(0, 0, 1), new_role(1, 1, 0)]),
-        of("no transition matches", plain, &[new_role(0, 0, 0), new_role(0, 1, 1), new_role(2, 1, 0)]),
+        of("new role, or the role given", plain, &[matching, others, undeclared].concat()),
         of("new role through attributes", sets, &[new_role(0, 1, 0), new_role(1, 1, 0), new_role(0, 0, 0)]),
-        of("new role of nothing declared", plain, &[new_role(3, 0, 0), new_role(0, 2, 0), new_role(0, 0, 2)]),
     ]
 }
 
 fn parts() -> Vec<Asked> {
     let names = "(user ab)(role a)(class long(p q))(type t)(userattribute x1)(roleattribute x)(typeattribute x)(class d(r))\
                  (user c)";
+    let named = [(0, 0), (0, 1), (1, 0), (2, 0), (3, 0), (4, 0), (5, 0), (6, 0), (6, 1), (7, 0), (7, 1), (7, 32)];
+    let unnamed = [(0, 2), (6, 2), (7, 2), (7, 31), (7, 33), (8, 0), (256, 0), (u64::MAX, 0), (0, u64::MAX)];
     let entries = "(user u)(user v)(role a)(role b)(type t)(class c(p))(typeattribute z)(roleattribute y)(userattribute x)\
                    (userattribute w)(roletransition a t c b)(roletransition b t c b)(constrain(c(p))(not(eq u1 u2)))\
                    (constrain(c(p))(eq t1 t2))";
+    let there = [(2, 1), (3, 0), (3, 1), (4, 1), (5, 0), (5, 1), (6, 1), (7, 0), (7, 2), (8, 0), (8, 1), (8, 2), (8, 3)];
+    let missing = [(2, 2), (3, 2), (4, 2), (5, 2), (6, 2), (7, 3), (8, 4), (0, 0), (1, 0), (9, 0), (u64::MAX, 0), (8, u64::MAX)];
+    let ask = |question: fn(u64, u64) -> Question, pairs: &[(u64, u64)]| -> Vec<Question> {
+        pairs.iter().map(|(a, b)| question(*a, *b)).collect()
+    };
     vec![
-        of("name of a user, a role, a type", names, &[name(0, 0), name(0, 1), name(1, 0), name(2, 0)]),
-        of("name of an attribute", names, &[name(3, 0), name(4, 0), name(5, 0)]),
-        of("name of a class and of a permission", names, &[name(6, 1), name(7, 1), name(7, 32)]),
-        of("no such name", names, &[name(0, 2), name(7, 2), name(7, 33), name(8, 0), name(256, 0)]),
-        of("entry of body 2 and 3", entries, &[entry(2, 1), entry(3, 0), entry(3, 1)]),
-        of("entry of body 4 and 5", entries, &[entry(4, 1), entry(5, 0), entry(5, 1)]),
-        of("entry of body 6 and 7", entries, &[entry(6, 1), entry(7, 0), entry(7, 2)]),
-        of("entry of body 8", entries, &[entry(8, 0), entry(8, 1), entry(8, 2), entry(8, 3)]),
-        of("no such entry", entries, &[entry(2, 2), entry(5, 2), entry(6, 2), entry(7, 3), entry(8, 4)]),
-        of("no such body", entries, &[entry(0, 0), entry(1, 0), entry(9, 0), entry(u64::MAX, 0), entry(8, u64::MAX)]),
+        of("name of", names, &[ask(name, &named), ask(name, &unnamed)].concat()),
+        of("entry of", entries, &[ask(entry, &there), ask(entry, &missing)].concat()),
     ]
 }
 
 /// Reading 35: every number is tried for 12 before any denial.
 fn undeclared() -> Vec<Asked> {
     let text = "(user u)(role a)(type t)(class c(p))(class d(p q))";
-    let first = [[1, 0, 0], [0, 1, 0], [0, 0, 1]];
-    vec![
-        of("12 of the source", text, &first.map(|source| change(source, A, 0))),
-        of("12 of the target", text, &first.map(|target| change(A, target, 0))),
-        of("12 of the class and permission", text, &[change_in(A, A, 2, 0), change(A, A, 1), change_in(A, A, 1, 2)]),
-        of("a permission of its own class", text, &[change_in(A, A, 1, 1)]),
-        of("12 before a denial", text, &[valid(0, 0, 1), valid(1, 0, 0), valid(0, 256, 0)]),
-        of("12 of numbers beyond any table", text, &[valid(u64::MAX, 0, 0), change(A, A, 1 << 32), new_role(1 << 16, 0, 0)]),
-    ]
+    let off = [[1, 0, 0], [0, 1, 0], [0, 0, 1]];
+    let mut questions: Vec<Question> = off.iter().map(|source| change(*source, A, 0)).collect();
+    questions.extend(off.iter().map(|target| change(A, *target, 0)));
+    questions.extend([change_in(A, A, 2, 0), change(A, A, 1), change_in(A, A, 1, 2), change_in(A, A, 1, 1)]);
+    questions.extend([valid(0, 0, 1), valid(1, 0, 0), valid(0, 256, 0), valid(u64::MAX, 0, 0)]);
+    questions.extend([change(A, A, 1 << 32), new_role(1 << 16, 0, 0)]);
+    vec![of("12 before any denial", text, &questions)]
 }

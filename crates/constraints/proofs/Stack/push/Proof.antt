@@ -1,0 +1,29 @@
+-- `constraints::Stack::push` meets its contract: the number doubles, and the new bit is the lowest. Assumes nothing.
+use mathlib.Core.Path.{ap}
+use Rattle.bitset.specs.Sets.{one}
+use Rattle.constraints.proofs.StackLaws.{push-full, push-room}
+use borrow.Author.Needs.{needs}
+use native.Mathlib.Omega.{arith}
+use Rattle.constraints.proofs.Stack.push.Statement.{statement}
+use Rattle.constraints.proofs.Stack.push.Tie as tie
+
+returns : tie.Need-returns
+returns c = λ s e. push-full _ s _ e (c .if1 .taken)
+
+mul-t6 : tie.Need-mul-t6
+mul-t6 c = search needs
+
+add-t7 : tie.Need-add-t7
+add-t7 c = search needs
+
+mul-t8 : tie.Need-mul-t8
+mul-t8 c = search needs
+
+returns-2 : tie.Need-returns-2
+returns-2 c = λ s e. omega (arith, push-room (c .before .before .args .b) s (c .before .before .args .self .bits) e (c .before .if1 .left), ap one (c .if2 .taken))
+
+returns-3 : tie.Need-returns-3
+returns-3 c = λ s e. omega (arith, push-room (c .before .before .args .b) s (c .before .before .args .self .bits) e (c .before .if1 .left), ap one (c .if2 .left))
+
+pub push-spec : {M : Type 1} → statement M
+push-spec = tie.close (tie.spec returns mul-t6 add-t7 mul-t8 returns-2 returns-3)

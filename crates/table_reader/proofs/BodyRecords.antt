@@ -1,0 +1,99 @@
+-- The records of each body are read back where they stand: all of them, or the one of a number. Assumes nothing.
+use Prim.Native.Nat.{ℕ, _+_, _*_, _<_}
+use native.Mathlib.Omega.{arith}
+use mathlib.Core.Path.{_≡_, refl, sym, ap, ap₂, _∙_}
+use mathlib.Core.List.{List, [], _∷_, _++_, append-assoc}
+use lib.ListN.{length, getD, take, drop, length-append}
+use lib.Seq.{take-at, drop-at, drop-drop, getD-drop}
+use Rattle.bitset.specs.Relations.{joined}
+use Rattle.policy.specs.Basics.{each, le, unle}
+use Rattle.policy.specs.Accepted.{All}
+use Rattle.policy.specs.Rows.{Row, row}
+use Rattle.policy.specs.Image.{TransitionEntry}
+use Rattle.policy.specs.Encode.{NameEntry, entryBytes, transitionBytes, ConstraintHead, headBytes, rowBytes}
+use Rattle.policy.specs.Sound.{transitionAt, headAt}
+use Rattle.table_laws.proofs.LittleEndian.{unle-le}
+use Rattle.table_laws.proofs.Records.{WideTransition, transition-wide, SmallHead, head-wide, row-wide}
+use Rattle.table_reader.specs.Records.{records, rowAt}
+use Rattle.table_reader.proofs.RecordLaws.{Stands, records-part, record-part}
+
+-- BODY 7
+
+abbrev pub SmallRow : Row → Type 0
+SmallRow r = r .num < 65536
+
+row-front : (r : Row) → SmallRow r → (rest : List ℕ) → rowAt (rowBytes r ++ rest) ≡ r
+unfolding le
+row-front r h rest = λ i. row (r .kind) (r .comp) (r .op) (unle-le 2 (r .num) h i)
+
+pub rows-part : {t : List ℕ} {at : ℕ} (l : List Row) → All SmallRow l → Stands t at (joined (each rowBytes l)) → records 6 rowAt (length l) (drop at t) ≡ l
+rows-part = records-part 6 rowAt rowBytes SmallRow (λ r h. row-wide r) row-front
+
+pub row-part : {t : List ℕ} {at : ℕ} (l : List Row) → All SmallRow l → Stands t at (joined (each rowBytes l)) → (k : ℕ) (d : Row) → k < length l → SmallRow d
+    → rowAt (drop (at + 6 * k) t) ≡ getD l k d
+row-part = record-part 6 rowAt rowBytes SmallRow (λ r h. row-wide r) row-front
+
+-- BODY 6
+
+head-front : (h : ConstraintHead) → SmallHead h → (rest : List ℕ) → headAt (headBytes h ++ rest) ≡ h
+unfolding le
+head-front h s rest = λ i. record {
+  class = unle-le 2 (h .class) (s .class) i;
+  mask = unle-le 4 (h .mask) (s .mask) i;
+  first = unle-le 2 (h .first) (s .first) i;
+  rows = unle-le 2 (h .rows) (s .rows) i;
+}
+
+pub heads-part : {t : List ℕ} {at : ℕ} (l : List ConstraintHead) → All SmallHead l → Stands t at (joined (each headBytes l)) → records 10 headAt (length l) (drop at t) ≡ l
+heads-part = records-part 10 headAt headBytes SmallHead (λ h s. head-wide h) head-front
+
+pub head-part : {t : List ℕ} {at : ℕ} (l : List ConstraintHead) → All SmallHead l → Stands t at (joined (each headBytes l)) → (k : ℕ) (d : ConstraintHead) → k < length l → SmallHead d
+    → headAt (drop (at + 10 * k) t) ≡ getD l k d
+head-part = record-part 10 headAt headBytes SmallHead (λ h s. head-wide h) head-front
+
+-- BODY 5
+
+transition-front : (m : TransitionEntry) → WideTransition m → (rest : List ℕ) → transitionAt (transitionBytes m ++ rest) ≡ m
+transition-front m w rest = λ i. record {
+  roles = (ap (take 16) whole ∙ take-at (m .roles) (m .types ++ last) 16 (w .roles)) i;
+  types = (ap (λ (l : List ℕ). take 64 (drop 16 l)) whole ∙ ap (take 64) (drop-at (m .roles) (m .types ++ last) 16 (w .roles)) ∙ take-at (m .types) last 64 (w .types)) i;
+  class = ap (λ (l : List ℕ). getD l 0 0) behind i;
+  new = (ap (λ (l : List ℕ). getD l 0 0) (sym (drop-drop 1 80 (transitionBytes m ++ rest))) ∙ ap (λ (l : List ℕ). getD (drop 1 l) 0 0) behind) i;
+}
+  where
+    last : List ℕ
+    last = m .class ∷ m .new ∷ rest
+
+    whole : transitionBytes m ++ rest ≡ m .roles ++ (m .types ++ last)
+    whole = append-assoc (m .roles) (m .types ++ (m .class ∷ m .new ∷ [])) rest ∙ ap (λ (l : List ℕ). m .roles ++ l) (append-assoc (m .types) (m .class ∷ m .new ∷ []) rest)
+
+    behind : drop 80 (transitionBytes m ++ rest) ≡ last
+    behind =
+        ap (drop 80) (whole ∙ sym (append-assoc (m .roles) (m .types) last))
+        ∙ drop-at (m .roles ++ m .types) last 80 (length-append (m .roles) (m .types) ∙ ap₂ _+_ (w .roles) (w .types))
+
+pub transitions-part : {t : List ℕ} {at : ℕ} (l : List TransitionEntry) → All WideTransition l → Stands t at (joined (each transitionBytes l))
+    → records 82 transitionAt (length l) (drop at t) ≡ l
+transitions-part = records-part 82 transitionAt transitionBytes WideTransition transition-wide transition-front
+
+pub transition-part : {t : List ℕ} {at : ℕ} (l : List TransitionEntry) → All WideTransition l → Stands t at (joined (each transitionBytes l)) → (k : ℕ) (d : TransitionEntry) → k < length l → WideTransition d
+    → transitionAt (drop (at + 82 * k) t) ≡ getD l k d
+transition-part = record-part 82 transitionAt transitionBytes WideTransition transition-wide transition-front
+
+-- BODY 1
+
+-- the four fields of an entry, each at its own place, and where the next entry starts
+pub record EntryAt (t : List ℕ) (at : ℕ) (e : NameEntry) : Type 0 where
+  pub sort : getD t at 0 ≡ e .sort
+  pub number : unle (take 2 (drop (at + 1) t)) ≡ e .number
+  pub long : getD t (at + 3) 0 ≡ length (e .name)
+  pub name : take (length (e .name)) (drop (at + 4) t) ≡ e .name
+
+pub entry-part : {t : List ℕ} {at : ℕ} (e : NameEntry) → e .number < 65536 → Stands t at (entryBytes e) → EntryAt t at e
+unfolding le
+entry-part {t} {at} e small s = record {
+  sort = sym (ap (λ (k : ℕ). getD t k 0) (omega arith)) ∙ sym (getD-drop at t 0 0) ∙ ap (λ (l : List ℕ). getD l 0 0) (s .here);
+  number = ap (λ (l : List ℕ). unle (take 2 l)) (sym (drop-drop 1 at t) ∙ ap (drop 1) (s .here)) ∙ unle-le 2 (e .number) small;
+  long = sym (getD-drop at t 3 0) ∙ ap (λ (l : List ℕ). getD l 3 0) (s .here);
+  name = ap (take (length (e .name))) (sym (drop-drop 4 at t) ∙ ap (drop 4) (s .here)) ∙ take-at (e .name) (s .rest) (length (e .name)) refl;
+}

@@ -1,0 +1,126 @@
+// Numbers and records in the bytes of a table, little endian. Every function answers for every table and every place: past the end all
+// bytes read 0.
+ghost use mathlib.Core.Path.{_≡_};
+ghost use Prim.Native.Nat.{_+_, _*_};
+ghost use lib.ListN.{getD, take, drop};
+ghost use Rattle.policy.specs.Basics.{unle};
+ghost use Rattle.policy.specs.Sound.{headAt};
+ghost use Rattle.table_reader.specs.Records.{rowAt, rowOf, headOf, startIn, lengthIn};
+
+// A constraint of body 6: its class, its permission mask, its first row and how many rows it has.
+pub struct ConstraintRecord {
+    pub class: u16,
+    pub mask: u32,
+    pub first: u16,
+    pub rows: u16,
+}
+
+impl ConstraintRecord {
+    pub const BYTES: usize = 10;
+}
+
+// A row of body 7.
+pub struct RowRecord {
+    pub kind: u8,
+    pub component: u8,
+    pub operator: u8,
+    pub number: u16,
+}
+
+impl RowRecord {
+    pub const BYTES: usize = 6;
+
+    // The kinds: three operators on the stack, and three comparisons.
+    pub const NOT: u8 = 0;
+
+    pub const AND: u8 = 1;
+
+    pub const OR: u8 = 2;
+
+    pub const TWO_SIDES: u8 = 3;
+
+    pub const SIDE_AND_THING: u8 = 4;
+
+    pub const SIDE_AND_ATTRIBUTE: u8 = 5;
+
+    // The operators of a comparison.
+    pub const EQ: u8 = 0;
+
+    pub const NEQ: u8 = 1;
+
+    pub const DOM: u8 = 2;
+
+    pub const DOMBY: u8 = 3;
+
+    pub const INCOMP: u8 = 4;
+}
+
+// The byte at a place.
+pub fn byte_at(table: &[u8], at: usize) -> u8
+    ensures { λ r. ⌜ r ≡ getD (now (table .entry)) at 0 ⌝ }
+{
+    if at < table.len() { table[at] } else { 0 }
+}
+
+// The number in the two bytes at a place.
+pub fn u16_at(table: &[u8], at: usize) -> u16
+    ensures { λ r. ⌜ r ≡ unle (take 2 (drop at (now (table .entry)))) ⌝ }
+{
+    if table.len() <= at {
+        return 0;
+    }
+    byte_at(table, at) as u16 + 256 * (byte_at(table, at + 1) as u16)
+}
+
+// The number in the four bytes at a place.
+pub fn u32_at(table: &[u8], at: usize) -> u32
+    ensures { λ r. ⌜ r ≡ unle (take 4 (drop at (now (table .entry)))) ⌝ }
+{
+    if table.len() <= at {
+        return 0;
+    }
+    if table.len() - at <= 2 {
+        return u16_at(table, at) as u32;
+    }
+    u16_at(table, at) as u32 + 65536 * (u16_at(table, at + 2) as u32)
+}
+
+// The constraint of this number, where the constraints of 10 bytes start at `start`.
+pub fn constraint_at(table: &[u8], start: u32, number: u32) -> ConstraintRecord
+    ensures { λ r. ⌜ headOf r ≡ headAt (drop (start + 10 * number) (now (table .entry))) ⌝ }
+{
+    let at = start as usize + ConstraintRecord::BYTES * (number as usize);
+    ConstraintRecord {
+        class: u16_at(table, at),
+        mask: u32_at(table, at + 2),
+        first: u16_at(table, at + 6),
+        rows: u16_at(table, at + 8),
+    }
+}
+
+// The row of this number, where the rows of 6 bytes start at `start`.
+pub fn row_at(table: &[u8], start: u32, number: u32) -> RowRecord
+    ensures { λ r. ⌜ rowOf r ≡ rowAt (drop (start + 6 * number) (now (table .entry))) ⌝ }
+{
+    let at = start as usize + RowRecord::BYTES * (number as usize);
+    RowRecord {
+        kind: byte_at(table, at),
+        component: byte_at(table, at + 1),
+        operator: byte_at(table, at + 2),
+        number: u16_at(table, at + 4),
+    }
+}
+
+// Where a body starts, as the header says; bodies are counted from 0.
+pub fn body_start(table: &[u8], body: u8) -> u32
+    ensures { λ r. ⌜ r ≡ startIn (now (table .entry)) body ⌝ }
+{
+    u32_at(table, 4 + 8 * (body as usize))
+}
+
+// How many bytes a body has, as the header says.
+pub fn body_length(table: &[u8], body: u8) -> u32
+    ensures { λ r. ⌜ r ≡ lengthIn (now (table .entry)) body ⌝ }
+{
+    u32_at(table, 8 + 8 * (body as usize))
+}
