@@ -63,11 +63,14 @@ fn valid_contexts() -> Vec<Asked> {
                   (class c(p))";
     vec![
         of("P11", roll, &[change(A, B, 0), change(B, A, 0), change(A, A, 0), valid(0, 0, 0), valid(0, 1, 0)]),
-        of("the user's role, the role's type", across, &[valid(0, 1, 1), valid(0, 0, 0), valid(1, 0, 1), valid(0, 1, 0)]),
         of(
-            "denial 1 before 2, either side with its own user",
+            "the user's role, the role's type; denial 1 before 2",
             across,
             &[
+                valid(0, 1, 1),
+                valid(0, 0, 0),
+                valid(1, 0, 1),
+                valid(0, 1, 0),
                 change([0, 0, 0], [1, 1, 0], 0),
                 change([0, 1, 1], [1, 1, 0], 0),
                 change([0, 1, 1], [1, 0, 0], 0),
@@ -142,16 +145,15 @@ fn consulted() -> Vec<Asked> {
     ]
 }
 
-/// Users u and v, u in both roles and v in b, either role with either type; and one constrain for each permission.
-fn constrained(expressions: &[&str]) -> String {
+/// Context (u, a, s) and context (v, b, t); and one constrain for each permission, in order.
+fn constrained(before: &str, expressions: &[&str]) -> String {
     let letter = |n: usize| char::from(b'a' + n as u8);
     let names: Vec<String> = (0..expressions.len()).map(|n| letter(n).to_string()).collect();
-    let mut text = String::from(
-        "(user u)(user v)(role a)(role b)(type s)(type t)(userattribute x)(userattributeset x(u))(userrole x b)(userrole u a)\
-         (userrole v b)(roleattribute y)(roleattributeset y(all))(typeattribute z)(typeattributeset z(s t))(roletype y z)\
-         (roleattribute k)(roleattributeset k(b))",
+    let mut text = format!(
+        "(user u)(user v)(role a)(role b)(type s)(type t){before}(userrole u a)(userrole v b)(roletype a s)(roletype b t)\
+         (class c({}))",
+        names.join(" ")
     );
-    text.push_str(&format!("(class c({}))", names.join(" ")));
     for (n, expression) in expressions.iter().enumerate() {
         text.push_str(&format!("(constrain(c({})){expression})", letter(n)));
     }
@@ -168,7 +170,9 @@ fn operators() -> Vec<Asked> {
     let users_and_types = ["(eq u1 u2)", "(neq u1 u2)", "(eq t1 t2)", "(neq t1 t2)"];
     let roles = ["(eq r1 r2)", "(neq r1 r2)", "(dom r1 r2)", "(domby r1 r2)", "(incomp r1 r2)"];
     let things = ["(eq u1 u)", "(neq u2 u)", "(neq r1 a)", "(eq r2 a)", "(eq t1 t)", "(neq t2 s)"];
-    let attributes = ["(neq u1 x)", "(eq u2 x)", "(neq r1 y)", "(eq r2 k)", "(eq t2 z)", "(neq t1 z)"];
+    let attributes = ["(neq u1 x)", "(eq u2 x)", "(neq r1 y)", "(eq r2 y)", "(eq t2 z)", "(neq t1 z)"];
+    let sets = "(userattribute x)(userattributeset x(u))(roleattribute w)(roleattribute y)(roleattributeset y(b))\
+                (typeattribute z)(typeattributeset z(all))";
     let and_or_not = [
         "(and(neq u1 u2)(neq r1 r2))",
         "(and(neq u1 u2)(eq r1 r2))",
@@ -188,12 +192,12 @@ fn operators() -> Vec<Asked> {
     let both = [(from, to), (from, from)];
     let turned = [(from, to), (to, from)];
     vec![
-        of("users and types on both sides", &constrained(&users_and_types), &each(4, &both)),
-        of("roles on both sides: dom and domby read as eq, incomp as neq", &constrained(&roles), &each(5, &both)),
-        of("a side and a thing", &constrained(&things), &each(6, &turned)),
-        of("a side and an attribute", &constrained(&attributes), &each(6, &turned)),
-        of("and, or, not", &constrained(&and_or_not), &each(8, &both[..1])),
-        of("up to five on the stack", &constrained(&stack), &each(4, &both[..1])),
+        of("users and types on both sides", &constrained("", &users_and_types), &each(4, &both)),
+        of("roles on both sides: dom and domby read as eq, incomp as neq", &constrained("", &roles), &each(5, &both)),
+        of("a side and a thing", &constrained("", &things), &each(6, &turned)),
+        of("a side and an attribute", &constrained(sets, &attributes), &each(6, &turned)),
+        of("and, or, not", &constrained("", &and_or_not), &each(8, &both[..1])),
+        of("up to five on the stack", &constrained("", &stack), &each(4, &both[..1])),
     ]
 }
 
@@ -243,13 +247,13 @@ fn new_roles() -> Vec<Asked> {
 fn parts() -> Vec<Asked> {
     let names = "(user ab)(role a)(class long(p q))(type t)(userattribute x1)(roleattribute x)(typeattribute x)(class d(r))\
                  (user c)";
-    let named = [(0, 0), (0, 1), (1, 0), (2, 0), (3, 0), (4, 0), (5, 0), (6, 0), (6, 1), (7, 0), (7, 1), (7, 32)];
-    let unnamed = [(0, 2), (6, 2), (7, 2), (7, 31), (7, 33), (8, 0), (256, 0), (u64::MAX, 0), (0, u64::MAX)];
+    let named = [(0, 0), (0, 1), (1, 0), (2, 0), (3, 0), (4, 0), (5, 0), (6, 1), (7, 1), (7, 32)];
+    let unnamed = [(0, 2), (6, 2), (7, 2), (7, 33), (8, 0), (256, 0), (0, u64::MAX)];
     let entries = "(user u)(user v)(role a)(role b)(type t)(class c(p))(typeattribute z)(roleattribute y)(userattribute x)\
                    (userattribute w)(roletransition a t c b)(roletransition b t c b)(constrain(c(p))(not(eq u1 u2)))\
                    (constrain(c(p))(eq t1 t2))";
-    let there = [(2, 1), (3, 0), (3, 1), (4, 1), (5, 0), (5, 1), (6, 1), (7, 0), (7, 2), (8, 0), (8, 1), (8, 2), (8, 3)];
-    let missing = [(2, 2), (3, 2), (4, 2), (5, 2), (6, 2), (7, 3), (8, 4), (0, 0), (1, 0), (9, 0), (u64::MAX, 0), (8, u64::MAX)];
+    let there = [(2, 1), (3, 0), (3, 1), (4, 1), (5, 1), (6, 1), (7, 2), (8, 1), (8, 2), (8, 3)];
+    let missing = [(2, 2), (4, 2), (5, 2), (6, 2), (7, 3), (8, 4), (0, 0), (1, 0), (9, 0), (u64::MAX, 0), (8, u64::MAX)];
     let ask = |question: fn(u64, u64) -> Question, pairs: &[(u64, u64)]| -> Vec<Question> {
         pairs.iter().map(|(a, b)| question(*a, *b)).collect()
     };

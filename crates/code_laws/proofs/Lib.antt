@@ -1,0 +1,10 @@
+pub mod TextWeight
+pub mod SetShape
+pub mod StatementShape
+pub mod CodeFits
+pub mod Numbers
+pub mod Units
+pub mod FirstUnits
+pub mod Determined
+pub mod CodedLines
+pub mod CodedMeaning
