@@ -11,7 +11,7 @@ use lib.ListN.{length, getD}
 use Rattle.bitset.specs.Sets.{bit, member, one, setOf, countBelow, count, within}
 use Rattle.bitset.proofs.AllLaws.{within-below}
 use Rattle.bitset.proofs.BitLaws.{bit-low, bit-high, one-lt, eqb-one, two-pos, half-lt}
-use Rattle.bitset.proofs.SetLaws.{member-at, member-past, member-setOf, length-setOf}
+use Rattle.bitset.proofs.SetLaws.{member-at, member-setOf, length-setOf}
 
 pub countBelow-ext : (n : ℕ) (f g : ℕ → Bool) → ((k : ℕ) → k < n → f k ≡ g k) → countBelow n f ≡ countBelow n g
 unfolding countBelow

@@ -1,12 +1,12 @@
 -- Each operator of two sets on one byte: the bits of what the machine computes are those that the operator says. Assumes nothing.
-use mathlib.Core.Path.{_≡_, refl, sym, ap, _∙_}
-use mathlib.Core.Bool.{Bool, not, _&&_, xor}
+use mathlib.Core.Path.{_≡_, refl, ap, _∙_}
+use mathlib.Core.Bool.{Bool, _&&_}
 use mathlib.Core.List.{List}
 use Prim.Native.Nat.{ℕ, _-_, _<_}
 use native.Mathlib.Omega.{arith}
 use lib.Bits.{bitAnd, bitOr, bitXor, and-lt, or-lt, xor-lt}
 use lib.ListN.{length}
-use Rattle.bitset.specs.Sets.{bit, setOf}
+use Rattle.bitset.specs.Sets.{bit}
 use Rattle.bitset.specs.Operators.{truth, combined, combinedByte}
 use Rattle.bitset.specs.declared.SetOp.{SetOp}
 use Rattle.bitset.specs.declared.SetOp.the-variants.{Union, Intersection, ExclusiveOr, Difference, Second}

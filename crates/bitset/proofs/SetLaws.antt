@@ -1,9 +1,9 @@
 -- The laws of sets in bytes, each once over the width: what is in a set that is written by its rule, and that bytes are told by what is in them.
 -- Assumes nothing.
 use mathlib.Core.Path.{_≡_, refl, sym, ap, ap₂, _∙_, subst}
-use mathlib.Core.Bool.{Bool, true, false, not, _&&_, _||_, xor}
-use mathlib.Core.List.{List, [], _∷_}
-use Prim.Native.Nat.{ℕ, zero, suc, _+_, _*_, _/_, _%_, _^_, _≤_, _<_}
+use mathlib.Core.Bool.{Bool, false, not, _&&_, _||_, xor}
+use mathlib.Core.List.{List, _∷_}
+use Prim.Native.Nat.{ℕ, zero, suc, _+_, _*_, _/_, _%_, _≤_, _<_}
 use native.Mathlib.Nat.{not-suc-le-zero, le-of-suc-le-suc}
 use native.Mathlib.Decide.{decLt}
 use native.Mathlib.Omega.{arith}
@@ -50,6 +50,11 @@ small-setOf w f i = at (decLt i w)
     at (yes h) = rw (byte-setOf w f i h) (fromBits-lt 8 (λ k. f (8 * i + k)))
     at (no h) = let e : getD (setOf w f) i 0 ≡ 0 = List·getD-eq-default (setOf w f) 0 (omega (arith, length-setOf w f)) in omega arith
 
+-- no number past the last byte is in
+pub member-past : (s : List ℕ) (n : ℕ) → 8 * length s ≤ n → member s n ≡ false
+unfolding member
+member-past s n h = ap (λ (b : ℕ). bit b (n % 8)) (List·getD-eq-default s 0 (omega arith)) ∙ bit-zero (n % 8)
+
 -- number 8 * i + k is bit k of byte i
 pub member-at : (s : List ℕ) (i k : ℕ) → k < 8 → member s (8 * i + k) ≡ bit (getD s i 0) k
 unfolding member
@@ -57,10 +62,6 @@ member-at s i k h =
     let q : (8 * i + k) / 8 ≡ i = omega arith in
     let r : (8 * i + k) % 8 ≡ k = omega arith in
     rw (q, r)
-
-pub member-past : (s : List ℕ) (n : ℕ) → 8 * length s ≤ n → member s n ≡ false
-unfolding member
-member-past s n h = ap (λ (b : ℕ). bit b (n % 8)) (List·getD-eq-default s 0 (omega arith)) ∙ bit-zero (n % 8)
 
 -- a set has what its rule says, and nothing beyond its bytes
 pub member-setOf : (w : ℕ) (f : ℕ → Bool) (n : ℕ) → n < 8 * w → member (setOf w f) n ≡ f n
@@ -140,6 +141,11 @@ difference-setOf = operator-setOf (λ x y. x && not y)
 pub copy-setOf : (w : ℕ) (a b : ℕ → Bool) → copyOf (setOf w a) (setOf w b) ≡ setOf w b
 unfolding copyOf
 copy-setOf = operator-setOf (λ x y. y)
+
+-- a copy into any bytes, where the rule is false of the numbers that only the copy has room for
+pub copied-setOf : (d : List ℕ) (w : ℕ) (f : ℕ → Bool) → ((n : ℕ) → 8 * w ≤ n → n < 8 * length d → f n ≡ false) → copyOf d (setOf w f) ≡ setOf (length d) f
+unfolding copyOf
+copied-setOf d w f h = setOf-ext (length d) (member (setOf w f)) f (λ n l. member-setOf-within w f n (λ p. h n p l))
 
 pub emptied-setOf : (w : ℕ) (a : ℕ → Bool) → emptied (setOf w a) ≡ setOf w (λ n. false)
 unfolding emptied

@@ -1,6 +1,6 @@
 -- One number is put into a set or taken out of it by one store, and the bytes of the set of all numbers below a total. Assumes nothing.
-use mathlib.Core.Path.{_≡_, refl, sym, ap, ap₂, _∙_, subst}
-use mathlib.Core.Bool.{Bool, true, false, not, _&&_, _||_, or-false, and-true}
+use mathlib.Core.Path.{_≡_, sym, ap, ap₂, _∙_, subst}
+use mathlib.Core.Bool.{Bool, false, not, _&&_, _||_, or-false, and-true}
 use mathlib.Core.List.{List}
 use Prim.Native.Nat.{ℕ, _+_, _-_, _*_, _/_, _%_, _^_, _≤_, _<_}
 use native.Mathlib.Nat.{mod-lt}
@@ -12,7 +12,7 @@ use lib.Pow.{pow-pos}
 use lib.Bits.{bitAnd, bitOr, and-lt, or-lt}
 use lib.Seq.{ext-getD, getD-set-same, getD-set-other}
 use borrow.Author.Tests.{eq-eqb, ne-eqb, lt-ltb, le-ltb}
-use Rattle.bitset.specs.Sets.{bit, member, fromBits, setOf, inserted, removed, bitByte, maskOf}
+use Rattle.bitset.specs.Sets.{bit, member, setOf, inserted, removed, bitByte, maskOf}
 use Rattle.bitset.proofs.BitLaws.{bit-and, bit-or, bit-zero, bit-fromBits, fromBits-lt, bits-eq}
 use Rattle.bitset.proofs.SetLaws.{length-setOf, member-at, byte-eq, set-eq}
 use Rattle.bitset.proofs.Tests.{bit-shift, bit-not, bit-ones, bit-all, shift-pos}

@@ -1,7 +1,8 @@
 // Sets of numbers as bytes in lent memory: number n is bit n mod 8 (lowest is 0) of byte n div 8.
 //
 // A set is a slice of any length, and every function answers for every slice and every number. A number past the last byte is in no set,
-// and to insert it changes nothing. A second operand that is shorter than the first has no further members.
+// and to insert it changes nothing. A second operand that is shorter than the first has no further members. Only to count asks for something:
+// that eight times the bytes are a usize.
 // The functions whose names end in `_at` do the same for the set that stands in the w bytes at offset o of a larger slice, cut where the slice ends.
 ghost use mathlib.Core.Path.{_≡_};
 ghost use Prim.Native.Nat.{_+_, _*_, _≤_, _<_, min, max};
@@ -53,6 +54,7 @@ fn mask(total: usize, i: usize) -> u8
     0
 }
 
+// What op makes of two bytes.
 fn apply(op: SetOp, a: u8, b: u8) -> u8
     ensures { λ r. ⌜ r ≡ combinedByte op a b ⌝ }
 {

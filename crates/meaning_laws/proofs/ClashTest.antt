@@ -11,7 +11,8 @@ use borrow.Author.Tests.{eqb-true, eqb-false, eq-eqb, ne-eqb, not-true}
 use Rattle.policy.specs.Basics.{any, gather, keep}
 use Rattle.policy.specs.Statements.{Family, roles, types, Reference, Statement, declare, attributeset, gives, roletransition, constrain, Line, Policy, declarations, Transition, transition}
 use Rattle.policy.specs.Meaning.{Set, stands, countIn}
-use Rattle.policy.specs.Faults.{meet, clashes}
+use Rattle.bitset.specs.Sets.{meet}
+use Rattle.policy.specs.Faults.{clashes}
 use Rattle.policy.specs.Accepted.{ReferenceIn, StatementIn, Accepted}
 use Rattle.policy.proofs.Lists.{both-true}
 use Rattle.meaning_laws.specs.Mentioning.{Some}

@@ -5,6 +5,7 @@ use mathlib.Core.List.{List, [], _∷_, _++_}
 use mathlib.Core.Option.{Option, none, some}
 use lib.Dec.{eqb}
 use lib.ListN.{length}
+use Rattle.bitset.specs.Sets.{meet}
 use Rattle.bitset.specs.Relations.{joined}
 use Rattle.policy.specs.Basics.{any, gather, given, isAmong, each}
 use Rattle.policy.specs.Statements.{Family, users, roles, types, attributeOf, Declaration, plain, class, sameSort, Reference, thing, attribute, SetExpr, nameS, allS, notS, andS, orS, xorS, unionS, emptyS, declare, attributeset, gives, roletransition, constrain, Line, Policy, count, declarations, setsFor, Transition, transitions}
@@ -79,11 +80,6 @@ familyCycle p f = firstCycle p f 0 (places p f)
 -- FAULT 8: "users, then roles, then types"
 unfoldable pub cycle : Policy → Option ℕ
 cycle p = orElse (familyCycle p users) (orElse (familyCycle p roles) (familyCycle p types))
-
--- a number below c is in both
-unfoldable pub meet : ℕ → Set → Set → Bool
-meet zero f g = false
-meet (suc c) f g = f c && g c || meet c f g
 
 -- "two transitions share a role, a type and the class, new roles differ", by final sets
 unfoldable pub clashes : Policy → Transition → Transition → Bool

@@ -1,8 +1,7 @@
 -- `bitset::equal` meets its contract: the bytes passed have the same numbers. Assumes nothing.
-use Prim.Native.Nat.{ℕ, _-_, _≤_, _<_, max}
+use Prim.Native.Nat.{_-_, _≤_}
 use borrow.Author.Needs.{needs}
-use lib.ListN.{length, getD}
-use mathlib.Core.Path.{_≡_, sym, ap, ap₂, _∙_}
+use mathlib.Core.Path.{sym, _∙_}
 use native.Mathlib.Omega.{arith}
 use Rattle.bitset.proofs.AllLaws.{AllTo, all-none, all-more, all-not, all-done, sameRule, same-bits}
 use Rattle.bitset.specs.Sets.{equal}

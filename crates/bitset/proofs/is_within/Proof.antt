@@ -1,11 +1,11 @@
 -- `bitset::is_within` meets its contract: no number of the bytes passed reaches the total. Assumes nothing.
-use Prim.Native.Nat.{ℕ, _-_, _≤_}
+use Prim.Native.Nat.{_-_, _≤_}
 use borrow.Author.Needs.{needs}
 use lib.Bits.{bitAnd, and-lt}
 use lib.ListN.{length, getD}
-use mathlib.Core.Path.{_≡_, sym, ap, _∙_}
+use mathlib.Core.Path.{sym, ap, _∙_}
 use Rattle.bitset.proofs.AllLaws.{AllTo, all-none, all-more, all-not, all-done, withinRule, within-bits, mask-lt}
-use Rattle.bitset.specs.Sets.{within, maskOf}
+use Rattle.bitset.specs.Sets.{within}
 use Rattle.bitset.proofs.is_within.Statement.{statement}
 use Rattle.bitset.proofs.is_within.Tie as tie
 

@@ -1,7 +1,7 @@
 -- `bitset::mask` meets its contract: whole bytes below the total, one byte that it cuts, and then none. Assumes nothing.
 use Prim.Native.Nat.{ℕ, _-_}
 use borrow.Author.Needs.{needs}
-use mathlib.Core.Path.{_≡_, ap, _∙_}
+use mathlib.Core.Path.{ap, _∙_}
 use native.Mathlib.Omega.{arith}
 use Rattle.bitset.proofs.StoreLaws.{bitByte-pos, mask-full, mask-part, mask-none}
 use Rattle.bitset.proofs.mask.Statement.{statement}

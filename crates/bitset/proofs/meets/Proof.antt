@@ -4,7 +4,7 @@ use borrow.Author.Needs.{needs}
 use lib.Bits.{bitAnd, and-lt}
 use lib.ListN.{length, getD}
 use mathlib.Core.Bool.{not}
-use mathlib.Core.Path.{_≡_, sym, ap, _∙_}
+use mathlib.Core.Path.{sym, ap, _∙_}
 use native.Mathlib.Omega.{arith}
 use Rattle.bitset.proofs.AllLaws.{AllTo, all-none, all-more, all-not, all-done, apartRule, apart-bits, meets-apart}
 use Rattle.bitset.proofs.meets.Statement.{statement}
