@@ -183,7 +183,9 @@ fn texts_at_maxima() -> Vec<(String, Vec<u8>)> {
             list.push((format!("at the maximum: {}", bound.name), [bound.at, b"()".to_vec()].concat()));
         }
     }
-    for (rule, text, _) in maxima::orders().into_iter().filter(|(_, text, _)| text.len() <= MOST_AT_MAXIMUM) {
+    // The shortest text in which 5 and 6 meet is taken too.
+    let taken = |rule: &str, text: &[u8]| text.len() <= MOST_AT_MAXIMUM || rule == "a 129th transition with an unknown role";
+    for (rule, text, _) in maxima::orders().into_iter().filter(|(rule, text, _)| taken(rule, text)) {
         list.push((format!("reading 23: {rule}"), text));
     }
     list
@@ -207,7 +209,7 @@ fn accepted(random: &mut Random) -> Chapter {
         add(&case.rule, &case.text);
     }
     let mut found = 0;
-    while found < 12 {
+    while found < 6 {
         let text = small_policy(random, Shape::small(2));
         found += add("a random policy", &text) as usize;
     }
@@ -336,7 +338,7 @@ fn in_bounds(question: &Change<u64>) -> Change<usize> {
     }
 }
 
-const RANDOM_ASKED: usize = 5;
+const RANDOM_ASKED: usize = 4;
 
 fn asked_change(question: &Question) -> Option<Change<u64>> {
     let [kind, a, b, c, d, e, f, class, permission] = *question;

@@ -17,7 +17,7 @@ use Rattle.reading_laws.proofs.ReadThen.{line, judgedAt, read-part}
 use Rattle.reading_laws.proofs.ReadAccepted.{read-accepted}
 use Rattle.statement_code.specs.Code.{declarationCode, statementCode, lineCode, codeOf}
 use Rattle.code_laws.specs.Shape.{StatementRowed}
-use Rattle.code_laws.specs.Numbered.{StatementNumbered}
+use Rattle.statement_code.specs.Numbered.{StatementNumbered}
 use Rattle.code_laws.specs.Kinds.{tagOf}
 use Rattle.code_laws.specs.Coded.{Coded, codedDeclaration, coded, codedIn, unitsOf, CodedReadable, PartsC}
 use Rattle.code_laws.proofs.StatementShape.{judge-shaped}

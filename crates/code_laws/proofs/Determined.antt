@@ -9,7 +9,7 @@ use Rattle.policy.specs.Statements.{Reference, SetExpr, nameS, allS, notS, andS
 use Rattle.policy.specs.Accepted.{All}
 use Rattle.statement_code.specs.Code.{referenceUnit, endUnit, setCode, rowCode}
 use Rattle.code_laws.specs.Shape.{IsRow}
-use Rattle.code_laws.specs.Numbered.{NumberedR}
+use Rattle.statement_code.specs.Numbered.{NumberedR}
 use Rattle.code_laws.specs.Kinds.{Readable, referenceOf, Two, StartsS}
 use Rattle.code_laws.specs.Coded.{Coded, attributeAt, setAt, relationAt, transitionAt, codedUnits, unitsOf, CodedReadable, StartsC}
 use Rattle.code_laws.proofs.FirstUnits.{reference-back, reference-kind, set-starts, never-end, attribute-tag, set-tag, relation-tag, coded-starts}

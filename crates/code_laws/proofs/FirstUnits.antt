@@ -9,7 +9,7 @@ use borrow.Author.Tests.{lt-ltb, le-ltb, ne-eqb}
 use Rattle.policy.specs.Statements.{Family, users, roles, types, Reference, thing, attribute, SetExpr, nameS, allS, notS, andS, orS, xorS, unionS, emptyS, Relation, userrole, roletype, roleallow}
 use Rattle.statement_code.specs.Code.{referenceUnit, allUnit, notUnit, andUnit, orUnit, xorUnit, unionUnit, endUnit, setCode, rowCode, attributeTag, setTag, relationTag, transitionTag}
 use Rattle.code_laws.specs.Shape.{IsRow, Rowed}
-use Rattle.code_laws.specs.Numbered.{NumberedR, Numbered}
+use Rattle.statement_code.specs.Numbered.{NumberedR, Numbered}
 use Rattle.code_laws.specs.Kinds.{Readable, referenceOf, nameK, kindOf, Two, PartsS, StartsS, PartsRow, StartsRow, attributeT, setT, relationT, tagOf}
 use Rattle.code_laws.specs.Coded.{Coded, attributeAt, setAt, relationAt, transitionAt, codedUnits, CodedReadable, PartsC, StartsC}
 use Rattle.code_laws.proofs.Units.{reference-below, family-few, relation-few}

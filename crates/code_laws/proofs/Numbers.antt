@@ -16,7 +16,7 @@ use Rattle.policy.specs.Accepted.{All, ReferenceIn, SetIn, StatementIn, Accepte
 use Rattle.policy.proofs.Lists.{both-true, gather-over, gather-last}
 use Rattle.policy.proofs.Counts.{few-of}
 use Rattle.policy.proofs.Gathered.{all-map}
-use Rattle.code_laws.specs.Numbered.{NumberedR, Numbered, StatementNumbered}
+use Rattle.statement_code.specs.Numbered.{NumberedR, Numbered, StatementNumbered}
 
 -- what `goodFrom` says of the first declaration, and of those after it
 first-good : (e : List Declaration) (d : Declaration) (ds : List Declaration) → goodFrom e (d ∷ ds) ≡ true → (hasRoom e d ≡ true) × (goodFrom (e ++ (d ∷ [])) ds ≡ true)

@@ -21,7 +21,7 @@ use Rattle.reading_laws.proofs.OpensAt.{OpensAt, PartsOpen, forms-open}
 use Rattle.reading_laws.proofs.ReadThen.{partPlaces, linePlaces, read-places}
 use Rattle.reading_laws.proofs.ReadAccepted.{read-accepted}
 use Rattle.statement_code.specs.Code.{referenceUnit, endUnit, setCode, rowCode, familyNumber, relationNumber, declarationCode, statementCode, lineCode, codeOf}
-use Rattle.code_laws.specs.Numbered.{NumberedR, Numbered, StatementNumbered}
+use Rattle.statement_code.specs.Numbered.{NumberedR, Numbered, StatementNumbered}
 use Rattle.code_laws.proofs.CodeFits.{read-clean}
 use Rattle.code_laws.proofs.Numbers.{statement-numbered, LineNumbered, accepted-numbered}
 

@@ -7,7 +7,7 @@ use Rattle.bitset.specs.Relations.{joined}
 use Rattle.policy.specs.Basics.{each, gather}
 use Rattle.policy.specs.Statements.{Family, thingOf, attributeOf, Declaration, plain, class, Reference, SetExpr, Relation, declare, attributeset, gives, roletransition, constrain, Line, Policy}
 use Rattle.statement_code.specs.Code.{referenceUnit, setCode, attributeTag, setTag, relationTag, transitionTag}
-use Rattle.code_laws.specs.Numbered.{NumberedR}
+use Rattle.statement_code.specs.Numbered.{NumberedR}
 use Rattle.code_laws.specs.Kinds.{Readable, Tag, attributeT, setT, relationT, transitionT, noT, tagOf}
 
 -- the place comes first; then what the statement names. An attribute is declared; a set is given to one; a relation is given; a role transition

@@ -7,7 +7,7 @@ use lib.Dec.{ltb, eqb}
 use Rattle.policy.specs.Statements.{Family, users, roles, types, Reference, thing, attribute, SetExpr, nameS, allS, notS, andS, orS, xorS, unionS, emptyS, Relation, userrole, roletype, roleallow}
 use Rattle.statement_code.specs.Code.{allUnit, notUnit, andUnit, orUnit, xorUnit, unionUnit, endUnit, setCode, rowCode, attributeTag, setTag, relationTag, transitionTag}
 use Rattle.code_laws.specs.Shape.{IsRow}
-use Rattle.code_laws.specs.Numbered.{NumberedR}
+use Rattle.statement_code.specs.Numbered.{NumberedR}
 
 -- S that its code tells apart from every other: its numbers are small, and the operands of a union stand in a row
 abbrev pub Readable : SetExpr Reference → Type 0

@@ -475,6 +475,8 @@ fn built() -> Vec<(u8, String, &'static str)> {
         (7, marked(&right_chain("or", 6)), "stack need of or"),
         (7, marked(&right_chain("and", 6).replacen("(and(eq t1 t2)", "(or(not(eq t1 t2))", 1)), "stack need of not"),
         (0, left_chain("or", 5), "stack need of or"),
+        (5, marked(&right_chain("and", 6).replacen("(eq t1 t2)", "(eq t1 nope)", 1)), "reading 23: 5 before 7"),
+        (5, marked(&right_chain("or", 6).replacen("(constrain(c(p))", "(constrain(c(q))", 1)), "reading 23: 5 before 7"),
         (6, format!("@(class c({}))", letters(33)), "33 permissions"),
         (0, format!("(class c({}))", letters(32)), "32 permissions"),
         (4, format!("@(class c({} A))", letters(32)), "reading 23: 33 permissions with a repeat"),

@@ -1,0 +1,6 @@
+pub mod NameLaws
+pub mod DeclaringLaws
+pub mod BodyLaws
+pub mod TallyLaws
+pub mod WalkLaws
+pub mod Answers

@@ -1,0 +1,4 @@
+pub mod SoundNames
+pub mod Declaring
+pub mod Tally
+pub mod Worked

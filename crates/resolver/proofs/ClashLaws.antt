@@ -1,0 +1,256 @@
+-- Fault 9 on the code: the test of two transitions by their operands is the rules' own, and a pass over the code looks for the first transition
+-- that clashes with an earlier one. Assumes nothing.
+use Prim.Native.Nat.{ℕ, zero, suc, _+_, _<_, _≤_}
+use native.Mathlib.Omega.{arith}
+use mathlib.Core.Path.{_≡_, refl, sym, ap, ap₂, _∙_, subst}
+use mathlib.Core.Logic.{_⊎_, inl, inr}
+use mathlib.Core.Bool.{Bool, true, false, not, _&&_, _||_, cond}
+use mathlib.Core.List.{List, [], _∷_, _++_, append-assoc}
+use mathlib.Core.Option.{Option, none, some}
+use lib.Dec.{eqb}
+use lib.ListN.{length, getD, take, drop}
+use lib.Seq.{take-at}
+use Rattle.bitset.specs.Relations.{relation}
+use Rattle.bitset.proofs.AllLaws.{meets-setOf, meet-ext, meet-bounded}
+use Rattle.policy.specs.Basics.{any, gather, keep}
+use Rattle.policy.specs.Statements.{Family, roles, types, Reference, thing, attribute, Policy, declarations, Transition, transitions}
+use Rattle.policy.specs.Meaning.{Set, countIn, final, stands}
+use Rattle.bitset.specs.Sets.{meet}
+use Rattle.policy.specs.Faults.{clashes, firstClash, clash}
+use Rattle.policy.specs.Accepted.{All, ReferenceIn, Accepted}
+use Rattle.policy.proofs.Lists.{any-append, gather-append, gather-over, gather-last, all-left}
+use Rattle.statement_code.specs.Code.{referenceUnit, transitionTag, codeOf}
+use Rattle.set_code.specs.Evaluation.{setsIn, valueOf}
+use Rattle.set_code.proofs.Leaves.{value-of-reference}
+use Rattle.set_code.proofs.Places.{here}
+use Rattle.meaning_laws.proofs.ListLaws.{decided, chosen}
+use Rattle.meaning_laws.proofs.WithinDeclared.{stands-within}
+use Rattle.meaning_laws.proofs.Splitting.{CutAt, cut-gathered}
+use Rattle.resolver.specs.Clashes.{sharesOf, clashesOf, Codes}
+use Rattle.resolver.specs.declared.Move.{Move}
+use Rattle.resolver.proofs.Items.{Item, moves, standsAt, unitsOf, itemsCode, itemOf, items, code-items, ItemIn, moveIn, transitions-items, tag-moves, tag-no-move}
+use Rattle.resolver.proofs.Numbers.{few-things, few-attributes, numbered-R, items-declared}
+use Rattle.resolver.proofs.ClosureLaws.{sets-in}
+use Rattle.resolver.proofs.Passes as passes
+use Rattle.resolver.proofs.Passes.{nextAt, Through, begin, Met, onward}
+
+-- ---- two transitions
+
+module _ (p : Policy) (ok : Accepted p) where
+  module _ (f : Family) (rows : List ℕ) (h : rows ≡ relation 64 64 (final p f)) where
+    value-stands : (r : Reference) → ReferenceIn (declarations p) f r → (n : ℕ) → n < 512 → valueOf rows (referenceUnit r) n ≡ stands p f r n
+    unfolding stands
+    value-stands (thing m) d n l = value-of-reference rows (thing m) (numbered-R p ok f (thing m) d) n
+    value-stands (attribute a) d n l =
+        value-of-reference rows (attribute a) (numbered-R p ok f (attribute a) d) n
+        ∙ ap (λ (t : List ℕ). setsIn t a n) h ∙ sets-in (final p f) a n (omega (arith, d, few-attributes p ok f)) l
+
+    stands-not : (r : Reference) → ReferenceIn (declarations p) f r → (n : ℕ) → countIn p f ≤ n → stands p f r n ≡ false
+    stands-not r d n l = by (decided (stands p f r n))
+      where
+        by : (stands p f r n ≡ true) ⊎ (stands p f r n ≡ false) → stands p f r n ≡ false
+        by (inl e) = absurd (omega (arith, l, stands-within p ok f r n d e))
+        by (inr e) = e
+
+    shares-meet : (x y : Reference) → ReferenceIn (declarations p) f x → ReferenceIn (declarations p) f y
+        → sharesOf rows (referenceUnit x) (referenceUnit y) ≡ meet (countIn p f) (stands p f x) (stands p f y)
+    unfolding sharesOf countIn
+    shares-meet x y dx dy =
+        meets-setOf 64 (valueOf rows (referenceUnit x)) (valueOf rows (referenceUnit y))
+        ∙ meet-ext 512 (valueOf rows (referenceUnit x)) (valueOf rows (referenceUnit y)) (stands p f x) (stands p f y) (value-stands x dx) (value-stands y dy)
+        ∙ meet-bounded (countIn p f) 512 (stands p f x) (stands p f y) (few-things p ok f) (λ k l m. stands-not x dx k l)
+
+  pub clash-same : (rs ts : List ℕ) → rs ≡ relation 64 64 (final p roles) → ts ≡ relation 64 64 (final p types)
+      → (t u : Transition) (a b : Move) → Codes p t a → Codes p u b → clashesOf rs ts a b ≡ clashes p t u
+  unfolding clashesOf clashes
+  clash-same rs ts hr ht t u a b x y =
+      rw (x .role, x .type, x .class, x .new, y .role, y .type, y .class, y .new)
+      (ap₂ (λ (r s : Bool). (eqb (t .class) (u .class) && not (eqb (t .new) (u .new)) && r) && s)
+      (shares-meet roles rs hr (t .role) (u .role) (x .roles-declared) (y .roles-declared))
+      (shares-meet types ts ht (t .type) (u .type) (x .types-declared) (y .types-declared)))
+
+-- ---- a transition in the code
+
+-- what is read at a place
+abbrev pub Reads : List ℕ → ℕ → Move → Type 0
+Reads code at m = (m .roles ≡ getD code (at + 2) 0) × (m .types ≡ getD code (at + 3) 0) × (m .class ≡ getD code (at + 4) 0) × (m .new ≡ getD code (at + 5) 0)
+
+codes-here : (p : Policy) (code : List ℕ) (at : ℕ) (t : Transition) (rest : List ℕ) (m : Move) → ItemIn (declarations p) (moves t)
+    → drop (at + 2) code ≡ unitsOf (moves t) ++ rest → Reads code at m → Codes p t m
+codes-here p code at t rest m d q r =
+    let a = here code (at + 2) (referenceUnit (t .role)) (referenceUnit (t .type) ∷ t .class ∷ t .new ∷ rest) q in
+    let b = here code (at + 2 + 1) (referenceUnit (t .type)) (t .class ∷ t .new ∷ rest) (a .tail) in
+    let c = here code (at + 2 + 1 + 1) (t .class) (t .new ∷ rest) (b .tail) in
+    let e = here code (at + 2 + 1 + 1 + 1) (t .new) rest (c .tail) in
+    let three : at + 3 ≡ at + 2 + 1 = omega arith in
+    let four : at + 4 ≡ at + 2 + 1 + 1 = omega arith in
+    let five : at + 5 ≡ at + 2 + 1 + 1 + 1 = omega arith in
+    record {
+      role = r .0 ∙ a .unit;
+      type = r .1 ∙ ap (λ (k : ℕ). getD code k 0) three ∙ b .unit;
+      class = r .2 ∙ ap (λ (k : ℕ). getD code k 0) four ∙ c .unit;
+      new = r .3 ∙ ap (λ (k : ℕ). getD code k 0) five ∙ e .unit;
+      roles-declared = d .0;
+      types-declared = d .1;
+    }
+
+-- a transition stands at the place that is met
+pub record Moved (p : Policy) (code : List ℕ) (at : ℕ) (i : Item) : Type 0 where
+  pub the : Transition
+  pub is : i ≡ moves the
+  pub codes : (m : Move) → Reads code at m → Codes p the m
+
+moved : (p : Policy) (is : List Item) (code : List ℕ) (at : ℕ) (S : List Item → List Item → Type 0) (m : Met p is code at S) → getD code at 0 ≡ transitionTag → Moved p code at (m .item)
+moved p is code at S m h = go (tag-moves (m .item) (sym (m .stand .tag) ∙ h))
+  where
+    go : (t : Transition) × (m .item ≡ moves t) → Moved p code at (m .item)
+    go (t, e) = record {
+      the = t;
+      is = e;
+      codes = λ v r. codes-here p code at t (itemsCode (m .rest)) v (subst (ItemIn (declarations p)) e (m .declared)) (m .stand .units ∙ ap (λ i. unitsOf i ++ itemsCode (m .rest)) e) r;
+    }
+
+any-last : {A : Type 0} (c : A → Bool) (xs ys : List A) (x : A) → any c xs ≡ false → any c (xs ++ (x ∷ ys)) ≡ (c x || any c ys)
+unfolding any
+any-last c xs ys x h = any-append c xs (x ∷ ys) ∙ ap (λ (b : Bool). b || (c x || any c ys)) h
+
+-- ---- whether a transition clashes with one of the earlier statements
+
+-- none of the items done clashes with t
+abbrev pub Apart : Policy → Transition → List Item → List Item → Type 0
+Apart p t done left = any (clashes p t) (gather moveIn done) ≡ false
+
+module _ (before after : Policy) (ok : Accepted (before ++ after)) (t : Transition) where
+  abbrev whole : Policy
+  whole = before ++ after
+
+  pub earlier-start : (code : List ℕ) → code ≡ codeOf before → Through (items before) code 0 (Apart whole t)
+  unfolding any gather
+  earlier-start code h = begin (items before) code (Apart whole t) (h ∙ code-items before) refl
+
+  before-declared : All (ItemIn (declarations whole)) (items before)
+  unfolding items
+  before-declared = all-left (ItemIn (declarations whole)) (items before) (items after)
+      (subst (All (ItemIn (declarations whole))) (gather-append itemOf before after) (items-declared whole ok))
+
+  pub earlier-none : Apart whole t (items before) [] → false ≡ any (clashes whole t) (transitions before)
+  earlier-none h = sym (ap (any (clashes whole t)) (transitions-items before) ∙ h)
+
+  module _ (code : List ℕ) (at : ℕ) (inside : at < length code) (at-loop : Through (items before) code at (Apart whole t)) where
+    met : Met whole (items before) code at (Apart whole t)
+    met = passes.meet whole ok (items before) before-declared code at (Apart whole t) inside at-loop
+
+    pub earlier-over : (next : ℕ) → next ≡ nextAt code at → (getD code at 0 ≡ transitionTag → ⊥) → Through (items before) code next (Apart whole t)
+    earlier-over next e h =
+        onward whole (items before) code at (Apart whole t) (Apart whole t) next e met
+        (ap (any (clashes whole t)) (gather-over moveIn (met .done) (met .item) (tag-no-move (met .item) (λ q. h (met .stand .tag ∙ q)))) ∙ met .so-far)
+
+    module _ (h : getD code at 0 ≡ transitionTag) (rs ts : List ℕ) (hr : rs ≡ relation 64 64 (final whole roles)) (ht : ts ≡ relation 64 64 (final whole types))
+        (later here : Move) (codes : Codes whole t later) (reads : Reads code at here) where
+      it : Moved whole code at (met .item)
+      it = moved whole (items before) code at (Apart whole t) met h
+
+      tested : clashesOf rs ts later here ≡ clashes whole t (it .the)
+      tested = clash-same whole ok rs ts hr ht t (it .the) later here codes (it .codes here reads)
+
+      pub earlier-found : clashesOf rs ts later here ≡ true → true ≡ any (clashes whole t) (transitions before)
+      unfolding gather any
+      earlier-found e = sym (
+          ap (any (clashes whole t)) (transitions-items before ∙ ap (gather moveIn) (met .whole) ∙ gather-append moveIn (met .done) (met .item ∷ met .rest)
+          ∙ ap (λ i. gather moveIn (met .done) ++ keep (moveIn i) (gather moveIn (met .rest))) (it .is))
+          ∙ any-last (clashes whole t) (gather moveIn (met .done)) (gather moveIn (met .rest)) (it .the) (met .so-far)
+          ∙ ap (λ (b : Bool). b || any (clashes whole t) (gather moveIn (met .rest))) (sym tested ∙ e))
+
+      pub earlier-on : (next : ℕ) → next ≡ nextAt code at → clashesOf rs ts later here ≡ false → Through (items before) code next (Apart whole t)
+      unfolding any
+      earlier-on next n e =
+          onward whole (items before) code at (Apart whole t) (Apart whole t) next n met
+          (ap (any (clashes whole t)) (gather-last moveIn (met .done) (met .item) (it .the) (ap moveIn (it .is)))
+          ∙ any-last (clashes whole t) (gather moveIn (met .done)) [] (it .the) (met .so-far) ∙ ap (λ (b : Bool). b || false) (sym tested ∙ e))
+
+-- ---- the first transition that clashes with an earlier one
+
+-- the answer is still to be found among the items left
+abbrev pub Looks : Policy → List Item → List Item → Type 0
+Looks p done left = firstClash p (gather moveIn done) (gather moveIn left) ≡ clash p
+
+-- what `clashes_earlier` answers of the first statements
+abbrev pub Earlier : List ℕ → Move → List ℕ → List ℕ → Bool → Type 0
+Earlier code m rs ts r = (before after : Policy) (t : Transition) → Accepted (before ++ after) → code ≡ codeOf before → Codes (before ++ after) t m
+    → rs ≡ relation 64 64 (final (before ++ after) roles) → ts ≡ relation 64 64 (final (before ++ after) types) → r ≡ any (clashes (before ++ after) t) (transitions before)
+
+code-append : (is js : List Item) → itemsCode (is ++ js) ≡ itemsCode is ++ itemsCode js
+unfolding itemsCode
+code-append [] js = refl
+code-append (i ∷ is) js = rw (code-append is js, append-assoc (unitsOf i) (itemsCode is) (itemsCode js))
+
+module _ (p : Policy) (ok : Accepted p) where
+  pub looks-first : Looks p [] (items p)
+  unfolding clash gather
+  looks-first = ap (firstClash p []) (sym (transitions-items p))
+
+  pub looks-none : Looks p (items p) [] → none ≡ clash p
+  unfolding gather firstClash
+  looks-none h = h
+
+  module _ (code : List ℕ) (q : code ≡ codeOf p) (at : ℕ) (inside : at < length code) (at-loop : Through (items p) code at (Looks p)) where
+    met-here : Met p (items p) code at (Looks p)
+    met-here = passes.meet p ok (items p) (items-declared p ok) code at (Looks p) inside at-loop
+
+    pub looks-over : (next : ℕ) → next ≡ nextAt code at → (getD code at 0 ≡ transitionTag → ⊥) → Through (items p) code next (Looks p)
+    unfolding gather
+    looks-over next e h =
+        let none-here = tag-no-move (met-here .item) (λ w. h (met-here .stand .tag ∙ w)) in
+        onward p (items p) code at (Looks p) (Looks p) next e met-here
+        (ap₂ (λ (xs ys : List Transition). firstClash p xs ys) (gather-over moveIn (met-here .done) (met-here .item) none-here)
+        (ap (λ o. keep o (gather moveIn (met-here .rest))) (sym none-here))
+        ∙ met-here .so-far)
+
+    module _ (h : getD code at 0 ≡ transitionTag) (rs ts : List ℕ) (hr : rs ≡ relation 64 64 (final p roles)) (ht : ts ≡ relation 64 64 (final p types))
+        (m : Move) (reads : Reads code at m) (r : Bool) (told : Earlier (take at code) m rs ts r) where
+      it-is : Moved p code at (met-here .item)
+      it-is = moved p (items p) code at (Looks p) met-here h
+
+      -- the policy's lines before this one
+      cut : CutAt itemOf p (met-here .done) (moves (it-is .the))
+      unfolding items
+      cut = cut-gathered itemOf p (met-here .done) (moves (it-is .the)) (met-here .rest) (met-here .whole ∙ ap (λ i. met-here .done ++ (i ∷ met-here .rest)) (it-is .is))
+
+      earlier-code : take at code ≡ codeOf (cut .before)
+      unfolding items
+      earlier-code =
+          ap (take at) (q ∙ code-items p ∙ ap itemsCode (met-here .whole) ∙ code-append (met-here .done) (met-here .item ∷ met-here .rest))
+          ∙ take-at (itemsCode (met-here .done)) (itemsCode (met-here .item ∷ met-here .rest)) at (sym (met-here .reached))
+          ∙ sym (code-items (cut .before) ∙ ap itemsCode (cut .earlier))
+
+      answered : r ≡ any (clashes p (it-is .the)) (gather moveIn (met-here .done))
+      unfolding items
+      answered =
+          subst (λ (x : Policy). Accepted x → Codes x (it-is .the) m → rs ≡ relation 64 64 (final x roles) → ts ≡ relation 64 64 (final x types)
+          → r ≡ any (clashes x (it-is .the)) (transitions (cut .before)))
+          (sym (cut .whole))
+          (λ o c a b. told (cut .before) (cut .here ∷ cut .after) (it-is .the) o earlier-code c a b)
+          ok (it-is .codes m reads) hr ht
+          ∙ ap (any (clashes p (it-is .the))) (transitions-items (cut .before) ∙ ap (gather moveIn) (cut .earlier))
+
+      chosen-here : cond r (some (it-is .the .place)) (firstClash p (gather moveIn (met-here .done) ++ (it-is .the ∷ [])) (gather moveIn (met-here .rest))) ≡ clash p
+      unfolding firstClash gather
+      chosen-here =
+          ap (λ (b : Bool). cond b (some (it-is .the .place)) (firstClash p (gather moveIn (met-here .done) ++ (it-is .the ∷ [])) (gather moveIn (met-here .rest)))) answered
+          ∙ sym (chosen (any (clashes p (it-is .the)) (gather moveIn (met-here .done))) (some (it-is .the .place))
+          (firstClash p (gather moveIn (met-here .done) ++ (it-is .the ∷ [])) (gather moveIn (met-here .rest))))
+          ∙ ap (λ i. firstClash p (gather moveIn (met-here .done)) (keep (moveIn i) (gather moveIn (met-here .rest)))) (sym (it-is .is))
+          ∙ met-here .so-far
+
+      pub clash-found : r ≡ true → some (getD code (at + 1) 0) ≡ clash p
+      clash-found e =
+          ap {B = Option ℕ} some (met-here .stand .place ∙ ap standsAt (it-is .is))
+          ∙ ap (λ (b : Bool). cond b (some (it-is .the .place)) (firstClash p (gather moveIn (met-here .done) ++ (it-is .the ∷ [])) (gather moveIn (met-here .rest)))) (sym e)
+          ∙ chosen-here
+
+      pub looks-on : (next : ℕ) → next ≡ nextAt code at → r ≡ false → Through (items p) code next (Looks p)
+      looks-on next n e =
+          onward p (items p) code at (Looks p) (Looks p) next n met-here
+          (ap (λ (xs : List Transition). firstClash p xs (gather moveIn (met-here .rest))) (gather-last moveIn (met-here .done) (met-here .item) (it-is .the) (ap moveIn (it-is .is)))
+          ∙ ap (λ (b : Bool). cond b (some (it-is .the .place)) (firstClash p (gather moveIn (met-here .done) ++ (it-is .the ∷ [])) (gather moveIn (met-here .rest)))) (sym e)
+          ∙ chosen-here)

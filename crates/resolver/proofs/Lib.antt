@@ -1,0 +1,11 @@
+pub mod OperandLaws
+pub mod ColumnLaws
+pub mod Items
+pub mod Numbers
+pub mod Passes
+pub mod RowLaws
+pub mod ClosureLaws
+pub mod SetPasses
+pub mod FinalLaws
+pub mod ClashLaws
+pub mod Judging

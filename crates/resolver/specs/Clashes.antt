@@ -1,0 +1,30 @@
+-- Document 01, fault 9: "two transitions share a role, a type and the class, new roles differ", on the operands of two transitions in the code.
+-- Assumes nothing.
+use Prim.Native.Nat.{ℕ}
+use mathlib.Core.Path.{_≡_}
+use mathlib.Core.Bool.{Bool, not, _&&_}
+use mathlib.Core.List.{List}
+use lib.Dec.{eqb}
+use Rattle.bitset.specs.Sets.{setOf, meets}
+use Rattle.policy.specs.Statements.{roles, types, Policy, declarations, Transition}
+use Rattle.policy.specs.Accepted.{ReferenceIn}
+use Rattle.statement_code.specs.Code.{referenceUnit}
+use Rattle.set_code.specs.Evaluation.{valueOf}
+use Rattle.resolver.specs.declared.Move.{Move}
+
+-- the references of two units stand for one thing
+unfoldable pub sharesOf : List ℕ → ℕ → ℕ → Bool
+sharesOf sets x y = meets (setOf 64 (valueOf sets x)) (setOf 64 (valueOf sets y))
+
+unfoldable pub clashesOf : List ℕ → List ℕ → Move → Move → Bool
+clashesOf roleSets typeSets a b =
+    eqb (a .class) (b .class) && not (eqb (a .new) (b .new)) && sharesOf roleSets (a .roles) (b .roles) && sharesOf typeSets (a .types) (b .types)
+
+-- these are the operands of a transition that names what the policy declares
+pub record Codes (p : Policy) (t : Transition) (m : Move) : Type 0 where
+  pub role : m .roles ≡ referenceUnit (t .role)
+  pub type : m .types ≡ referenceUnit (t .type)
+  pub class : m .class ≡ t .class
+  pub new : m .new ≡ t .new
+  pub roles-declared : ReferenceIn (declarations p) roles (t .role)
+  pub types-declared : ReferenceIn (declarations p) types (t .type)

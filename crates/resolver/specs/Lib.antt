@@ -1,0 +1,4 @@
+pub mod Reading
+pub mod Closure
+pub mod Clashes
+pub mod Resolving

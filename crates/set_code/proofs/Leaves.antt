@@ -1,0 +1,50 @@
+-- What the functions under the evaluation leave, as sets by their rules: all numbers below a bound, one reference, an operator's set with one
+-- operand more. Assumes nothing.
+use Prim.Native.Nat.{ℕ, _+_, _-_, _*_, _<_, _≤_}
+use native.Mathlib.Omega.{arith}
+use mathlib.Core.Path.{_≡_, ap, _∙_}
+use mathlib.Core.Bool.{Bool, false, not, _&&_, and-true}
+use mathlib.Core.List.{List}
+use lib.Dec.{eqb, ltb}
+use lib.ListN.{length}
+use borrow.Author.Tests.{lt-ltb, le-ltb}
+use Rattle.bitset.specs.Sets.{member, setOf, inserted, copyOf, emptied, complementOf}
+use Rattle.bitset.specs.Parts.{part}
+use Rattle.bitset.proofs.SetLaws.{setOf-ext, inserted-setOf, complement-setOf, operator-setOf}
+use Rattle.policy.specs.Statements.{Reference, thing, attribute}
+use Rattle.policy.specs.Meaning.{standsIn}
+use Rattle.statement_code.specs.Code.{referenceUnit}
+use Rattle.set_code.specs.Evaluation.{setsIn, valueOf, joinOf, joinedBy}
+use Rattle.statement_code.specs.Numbered.{NumberedR}
+
+pub filled : (s : List ℕ) (bound : ℕ) → length s ≡ 64 → complementOf bound (emptied s) ≡ setOf 64 (λ n. ltb n bound)
+unfolding emptied
+filled s bound h =
+    ap (λ (w : ℕ). complementOf bound (setOf w (λ n. false))) h
+    ∙ complement-setOf bound 64 (λ n. false)
+    ∙ setOf-ext 64 (λ n. ltb n bound && not false) (λ n. ltb n bound) (λ n l. and-true (ltb n bound))
+
+pub one-thing : (s sets : List ℕ) (u : ℕ) → length s ≡ 64 → u < 1024 → inserted (emptied s) u ≡ setOf 64 (valueOf sets u)
+unfolding emptied
+one-thing s sets u h l =
+    ap (λ (w : ℕ). inserted (setOf w (λ n. false)) u) h
+    ∙ inserted-setOf 64 (λ n. false) u
+    ∙ setOf-ext 64 (λ n. eqb n u) (valueOf sets u) (λ n k. rw (lt-ltb u 1024 l))
+
+pub one-attribute : (s sets : List ℕ) (u : ℕ) → length s ≡ 64 → 1024 ≤ u → copyOf s (part sets (64 * (u - 1024)) 64) ≡ setOf 64 (valueOf sets u)
+unfolding copyOf setsIn
+one-attribute s sets u h l =
+    ap (λ (w : ℕ). setOf w (member (part sets (64 * (u - 1024)) 64))) h
+    ∙ setOf-ext 64 (member (part sets (64 * (u - 1024)) 64)) (valueOf sets u) (λ n k. rw (le-ltb u 1024 l))
+
+-- the unit of a reference stands for what the reference stands for
+pub value-of-reference : (sets : List ℕ) (r : Reference) → NumberedR r → (n : ℕ) → valueOf sets (referenceUnit r) n ≡ standsIn (setsIn sets) r n
+value-of-reference sets (thing m) h n = rw (lt-ltb m 1024 h)
+value-of-reference sets (attribute a) h n =
+    let past : 1024 ≤ 1024 + a = omega arith in
+    let number : 1024 + a - 1024 ≡ a = omega arith in
+    rw (le-ltb (1024 + a) 1024 past, number)
+
+pub joined-sets : (op : ℕ) (f g : ℕ → Bool) → joinedBy op (setOf 64 f) (setOf 64 g) ≡ setOf 64 (λ n. joinOf op (f n) (g n))
+unfolding joinedBy
+joined-sets op f g = operator-setOf (joinOf op) 64 f g
