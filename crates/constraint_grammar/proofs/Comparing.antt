@@ -1,0 +1,287 @@
+-- Which three words a comparison may have, by their numbers, and that a comparison needs 1 and has 1 row. Assumes nothing.
+use mathlib.Core.Path.{_≡_, refl, sym, ap, _∙_}
+use mathlib.Core.Bool.{Bool, true, false, not, _&&_, _||_, and-false}
+use mathlib.Core.List.{[], _∷_}
+use mathlib.Core.Option.{Option, none, some}
+use Prim.Native.Nat.{ℕ, _<_, _≤_}
+use native.Mathlib.Omega.{arith}
+use borrow.Author.Tests.{ne-eqb, lt-leb, not-true, not-false, le-leb}
+use lib.Dec.{eqb, leb}
+use Rattle.lexer.specs.Forms.{Forms, closed, ended, word, part, trim}
+use Rattle.lexer.proofs.Trim.{cut-or-whole}
+use Rattle.policy.specs.Basics.{Name, same, any, isIn, lookup, _>>=_, given}
+use Rattle.policy.specs.Words.{reserved, isReserved, isPlain, opOf, Component, component, componentOf}
+use Rattle.policy.specs.Statements.{Family, roles, Side, source, target, Op, eq, neq, dom, domby, incomp, Constraint, sidesE, nameE, size, need}
+use Rattle.policy.specs.Grammar.{areSides, isRoles, compared, comparison}
+use Rattle.words.specs.Numbers.{keywords, words, numberOf, wordOf}
+use Rattle.words.proofs.Meaning.{agreeing, agree, reserved-number, op-number, component-number}
+use Rattle.items.specs.Reads.{isSome}
+use Rattle.items.proofs.Rows.{trim-closed}
+use Rattle.constraint_grammar.specs.Comparisons.{plainOp, sidesOf, comparisonOf, comparing, secondSide, bothSides}
+use Rattle.constraint_grammar.specs.Measures.{measure, measureOf, compareOf}
+
+never : {X : Type 0} → true ≡ false → X
+never e = absurd (let z : _≡_ {A = ℕ} 0 1 = cc in omega arith)
+
+pub none-of : {A : Type 0} (o : Option A) → isSome o ≡ false → o ≡ none
+none-of none e = refl
+none-of (some a) e = never e
+
+given-some : {A : Type 0} (b : Bool) (a : A) → isSome (given b a) ≡ b
+given-some true a = refl
+given-some false a = refl
+
+-- ---- the last word is a name, or a reserved word
+
+by-name : (o : Option Op) (v : Option Component) (w : Name) → isReserved w ≡ false → componentOf w ≡ none → isSome (comparisonOf o v w) ≡ isSome v && plainOp o
+by-name none none w e f = refl
+by-name none (some x) w e f = refl
+by-name (some o) none w e f = refl
+by-name (some o) (some x) w e f = rw (f, e) (given-some (isPlain o) (nameE (x .family) (x .side) o w))
+
+-- "op: `eq neq`; rop: also `dom domby incomp`"
+abbrev anyOp : Option Op → Option Component → Bool
+anyOp none v = false
+anyOp (some o) none = false
+anyOp (some o) (some x) = isPlain o || isRoles (x .family)
+
+by-sides : (o : Option Op) (v : Option Component) (w : Name) → isReserved w ≡ true → isSome (comparisonOf o v w) ≡ sidesOf v (componentOf w) && anyOp o v
+by-sides none v w e = sym (and-false (sidesOf v (componentOf w)))
+by-sides (some o) none w e = refl
+by-sides (some o) (some x) w e = go (componentOf w) refl
+  where
+    go : (y : Option Component) → componentOf w ≡ y → isSome (compared o x w (componentOf w)) ≡ sidesOf (some x) (componentOf w) && (isPlain o || isRoles (x .family))
+    go none d = rw (d, e)
+    go (some y) d = rw d (given-some (areSides x y && (isPlain o || isRoles (x .family))) (sidesE (x .family) o))
+
+-- ---- what numbers say
+
+-- a name is no component
+named : (n : ℕ) → isReserved (wordOf n) ≡ false → componentOf (wordOf n) ≡ none
+unfolding same any isIn lookup reserved isReserved keywords words componentOf agreeing
+named n e =
+    none-of (componentOf (wordOf n))
+    (not-true (isSome (componentOf (wordOf n)))
+    (sym (rw e at (agree (λ w. isReserved w || not (isSome (componentOf w))) (λ n. true) refl (λ n h. refl) n))))
+
+-- a stretch of the words' numbers, by the two tests that the code makes
+module _ (test : Name → Bool) (lo hi : ℕ) (e : agreeing test (λ n. leb n hi && leb lo n) ([] ∷ words) 0 ≡ true) (f : test [] ≡ false) (h : hi < 39) where
+  numbers : (n : ℕ) → leb n hi && leb lo n ≡ test (wordOf n)
+  numbers n = agree test (λ n. leb n hi && leb lo n) e (λ n g. rw (lt-leb n hi (omega arith), f)) n
+
+  above : (n : ℕ) → hi < n → false ≡ test (wordOf n)
+  above n g = sym (ap (λ (b : Bool). b && leb lo n) (lt-leb n hi g)) ∙ numbers n
+
+  up-to : (n : ℕ) → n ≤ hi → leb lo n ≡ test (wordOf n)
+  up-to n g = sym (ap (λ (b : Bool). b && leb lo n) (le-leb n hi g)) ∙ numbers n
+
+abbrev isPlainWord : Name → Bool
+isPlainWord w = plainOp (opOf w)
+
+abbrev isOpWord : Name → Bool
+isOpWord w = isSome (opOf w)
+
+module _ (n : ℕ) where
+  pub above-plain : 7 < n → false ≡ plainOp (opOf (wordOf n))
+  unfolding same lookup reserved keywords words opOf agreeing
+  above-plain h = above isPlainWord 6 7 refl refl (omega arith) n h
+
+  pub up-to-plain : n ≤ 7 → leb 6 n ≡ plainOp (opOf (wordOf n))
+  unfolding same lookup reserved keywords words opOf agreeing
+  up-to-plain h = up-to isPlainWord 6 7 refl refl (omega arith) n h
+
+  pub above-operator : 10 < n → false ≡ isSome (opOf (wordOf n))
+  unfolding same lookup reserved keywords words opOf agreeing
+  above-operator h = above isOpWord 6 10 refl refl (omega arith) n h
+
+  pub up-to-operator : n ≤ 10 → leb 6 n ≡ isSome (opOf (wordOf n))
+  unfolding same lookup reserved keywords words opOf agreeing
+  up-to-operator h = up-to isOpWord 6 10 refl refl (omega arith) n h
+
+pub component-numbers : (n : ℕ) → not (eqb n 13) && (not (eqb n 16) && (leb n 18 && leb 11 n)) ≡ isSome (componentOf (wordOf n))
+unfolding same lookup reserved keywords words componentOf agreeing
+component-numbers n =
+    agree (λ w. isSome (componentOf w)) (λ n. not (eqb n 13) && (not (eqb n 16) && (leb n 18 && leb 11 n))) refl
+    (λ n h. rw (ne-eqb n 13 (λ z. omega arith), ne-eqb n 16 (λ z. omega arith), lt-leb n 18 (omega arith))) n
+
+-- the second side of a family
+pub second-numbers : (f : Family) (k : ℕ) → agreeing (λ w. sidesOf (some (component f source)) (componentOf w)) (λ n. eqb n k) ([] ∷ words) 0 ≡ true → k < 39
+    → (n : ℕ) → eqb n k ≡ sidesOf (some (component f source)) (componentOf (wordOf n))
+unfolding same lookup componentOf
+second-numbers f k e h n = agree (λ w. sidesOf (some (component f source)) (componentOf w)) (λ n. eqb n k) e (λ n g. ne-eqb n k (λ z. omega arith)) n
+
+abbrev isSource : Side → Bool
+isSource source = true
+isSource target = false
+
+abbrev sourceOf : Option Component → Bool
+sourceOf none = false
+sourceOf (some x) = isSource (x .side)
+
+abbrev roleSource : Option Component → Bool
+roleSource none = false
+roleSource (some x) = isRoles (x .family) && isSource (x .side)
+
+source-numbers : (n : ℕ) → eqb n 11 || (eqb n 14 || eqb n 17) ≡ sourceOf (componentOf (wordOf n))
+unfolding same lookup reserved keywords words componentOf agreeing
+source-numbers n =
+    agree (λ w. sourceOf (componentOf w)) (λ n. eqb n 11 || (eqb n 14 || eqb n 17)) refl
+    (λ n h. rw (ne-eqb n 11 (λ z. omega arith), ne-eqb n 14 (λ z. omega arith), ne-eqb n 17 (λ z. omega arith))) n
+
+role-numbers : (n : ℕ) → eqb n 14 ≡ roleSource (componentOf (wordOf n))
+unfolding same lookup reserved keywords words componentOf agreeing
+role-numbers n = agree (λ w. roleSource (componentOf w)) (λ n. eqb n 14) refl (λ n h. ne-eqb n 14 (λ z. omega arith)) n
+
+-- the first of two sides is a source
+no-source : (v c : Option Component) → sourceOf v ≡ false → sidesOf v c ≡ false
+no-source none c e = refl
+no-source (some x) none e = refl
+no-source (some x) (some y) e = go (x .side) refl
+  where
+    go : (s : Side) → x .side ≡ s → areSides x y ≡ false
+    go source d = never (rw d at e)
+    go target d = rw d
+
+pub not-first : (n : ℕ) (c : Option Component) → (n ≡ 11 → ⊥) → (n ≡ 14 → ⊥) → (n ≡ 17 → ⊥) → sidesOf (componentOf (wordOf n)) c ≡ false
+not-first n c a b d = no-source (componentOf (wordOf n)) c (sym (source-numbers n) ∙ rw (ne-eqb n 11 a, ne-eqb n 14 b, ne-eqb n 17 d))
+
+-- ---- the operators that two sides may have
+
+role-op : (o : Option Op) → anyOp o (some (component roles source)) ≡ isSome o
+role-op none = refl
+role-op (some eq) = refl
+role-op (some neq) = refl
+role-op (some dom) = refl
+role-op (some domby) = refl
+role-op (some incomp) = refl
+
+or-false : (b : Bool) → b || false ≡ b
+or-false true = refl
+or-false false = refl
+
+other-op : (o : Option Op) (v c : Option Component) → sidesOf v c ≡ true → roleSource v ≡ false → anyOp o v ≡ plainOp o
+other-op none v c e f = refl
+other-op (some o) none c e f = never (sym e)
+other-op (some o) (some x) c e f = go (x .side) refl (isRoles (x .family)) refl
+  where
+    go : (s : Side) → x .side ≡ s → (r : Bool) → isRoles (x .family) ≡ r → isPlain o || isRoles (x .family) ≡ isPlain o
+    go target d r g = never (sym e ∙ no-source (some x) c (rw d))
+    go source d false g = rw g (or-false (isPlain o))
+    go source d true g = never (rw (g, d) at f)
+
+-- ---- comparisons by the numbers of their words
+
+module _ (op x y : ℕ) where
+  name-last : not (isReserved (wordOf y)) ≡ true → comparing op x y ≡ isSome (componentOf (wordOf x)) && plainOp (opOf (wordOf op))
+  unfolding comparing
+  name-last e = by-name (opOf (wordOf op)) (componentOf (wordOf x)) (wordOf y) (not-true _ e) (named y (not-true _ e))
+
+  pub compares-name : not (isReserved (wordOf y)) ≡ true → isSome (componentOf (wordOf x)) ≡ true → comparing op x y ≡ plainOp (opOf (wordOf op))
+  compares-name e f = name-last e ∙ rw f
+
+  pub compares-nothing : not (isReserved (wordOf y)) ≡ true → isSome (componentOf (wordOf x)) ≡ false → comparing op x y ≡ false
+  compares-nothing e f = name-last e ∙ rw f
+
+  sides-first : not (isReserved (wordOf y)) ≡ false
+      → comparing op x y ≡ sidesOf (componentOf (wordOf x)) (componentOf (wordOf y)) && anyOp (opOf (wordOf op)) (componentOf (wordOf x))
+  unfolding comparing
+  sides-first e = by-sides (opOf (wordOf op)) (componentOf (wordOf x)) (wordOf y) (not-false _ e)
+
+  pub compares-not : not (isReserved (wordOf y)) ≡ false → sidesOf (componentOf (wordOf x)) (componentOf (wordOf y)) ≡ false → comparing op x y ≡ false
+  compares-not e f = sides-first e ∙ rw f
+
+  pub compares-roles : not (isReserved (wordOf y)) ≡ false → sidesOf (componentOf (wordOf x)) (componentOf (wordOf y)) ≡ true → x ≡ 14
+      → comparing op x y ≡ isSome (opOf (wordOf op))
+  unfolding same lookup reserved keywords words wordOf componentOf
+  compares-roles e f g =
+      sides-first e
+      ∙ ap (λ (b : Bool). b && anyOp (opOf (wordOf op)) (componentOf (wordOf x))) f
+      ∙ ap (λ (n : ℕ). anyOp (opOf (wordOf op)) (componentOf (wordOf n))) g
+      ∙ role-op (opOf (wordOf op))
+
+  pub compares-others : not (isReserved (wordOf y)) ≡ false → sidesOf (componentOf (wordOf x)) (componentOf (wordOf y)) ≡ true → (x ≡ 14 → ⊥)
+      → comparing op x y ≡ plainOp (opOf (wordOf op))
+  compares-others e f g =
+      sides-first e
+      ∙ ap (λ (b : Bool). b && anyOp (opOf (wordOf op)) (componentOf (wordOf x))) f
+      ∙ other-op (opOf (wordOf op)) (componentOf (wordOf x)) (componentOf (wordOf y)) f (sym (role-numbers x) ∙ ne-eqb x 14 g)
+
+-- the last word by its number
+by-last : (o : Option Op) (v : Option Component) (w : Name) → isSome (comparisonOf o v w) ≡ isSome (comparisonOf o v (wordOf (numberOf w)))
+by-last o v w = go (isReserved w) refl
+  where
+    go : (b : Bool) → isReserved w ≡ b → isSome (comparisonOf o v w) ≡ isSome (comparisonOf o v (wordOf (numberOf w)))
+    go true e =
+        by-sides o v w e
+        ∙ ap (λ (c : Option Component). sidesOf v c && anyOp o v) (component-number w)
+        ∙ sym (by-sides o v (wordOf (numberOf w)) (sym (reserved-number w) ∙ e))
+    go false e =
+        let n = named (numberOf w) (sym (reserved-number w) ∙ e) in
+        by-name o v w e (component-number w ∙ n) ∙ sym (by-name o v (wordOf (numberOf w)) (sym (reserved-number w) ∙ e) n)
+
+by-numbers : (o v w : Name) → isSome (comparisonOf (opOf o) (componentOf v) w) ≡ comparing (numberOf o) (numberOf v) (numberOf w)
+unfolding comparing
+by-numbers o v w =
+    by-last (opOf o) (componentOf v) w
+    ∙ ap (λ (x : Option Op). isSome (comparisonOf x (componentOf v) (wordOf (numberOf w)))) (op-number o)
+    ∙ ap (λ (x : Option Component). isSome (comparisonOf (opOf (wordOf (numberOf o))) x (wordOf (numberOf w)))) (component-number v)
+
+-- ---- "a comparison 1"; "one per operator and comparison"
+
+given-one : (b : Bool) (e : Constraint Name) → measureOf (some e) ≡ some (measure 1 1) → measureOf (given b e) ≡ given (isSome (given b e)) (measure 1 1)
+given-one true e h = h
+given-one false e h = refl
+
+named-one : (b p : Bool) (w : Name) (e : Name → Constraint Name) → ((n : Name) → measureOf (some (e n)) ≡ some (measure 1 1))
+    → measureOf (given b w >>= λ n. given p (e n)) ≡ given (isSome (given b w >>= λ n. given p (e n))) (measure 1 1)
+named-one true p w e h = given-one p (e w) (h w)
+named-one false p w e h = refl
+
+one : (o : Option Op) (v : Option Component) (w : Name) → measureOf (comparisonOf o v w) ≡ given (isSome (comparisonOf o v w)) (measure 1 1)
+unfolding need size
+one none v w = refl
+one (some o) none w = refl
+one (some o) (some x) w = go (componentOf w)
+  where
+    go : (c : Option Component) → measureOf (compared o x w c) ≡ given (isSome (compared o x w c)) (measure 1 1)
+    go none = named-one (not (isReserved w)) (isPlain o) w (nameE (x .family) (x .side) o) (λ n. refl)
+    go (some y) = given-one (areSides x y && (isPlain o || isRoles (x .family))) (sidesE (x .family) o) refl
+
+wrong : (o : Option Op) → measureOf (o >>= λ x. none) ≡ none
+wrong none = refl
+wrong (some o) = refl
+
+and-true : (b : Bool) → b && true ≡ b
+and-true true = refl
+and-true false = refl
+
+-- a comparison by the number of its first word
+pub compare-is : (w : Name) (f : Forms) → measureOf (comparison w f) ≡ compareOf (numberOf w) f
+compare-is w closed = wrong (opOf w)
+compare-is w ended = wrong (opOf w)
+compare-is w (part p f g) = wrong (opOf w)
+compare-is w (word s v closed) = wrong (opOf w)
+compare-is w (word s v ended) = wrong (opOf w)
+compare-is w (word s v (part p f g)) = wrong (opOf w)
+compare-is w (word s v (word r u closed)) =
+    one (opOf w) (componentOf v) u
+    ∙ ap (λ (b : Bool). given b (measure 1 1)) (by-numbers w v u ∙ sym (and-true (comparing (numberOf w) (numberOf v) (numberOf u))))
+compare-is w (word s v (word r u ended)) = wrong (opOf w) ∙ rw (and-false (comparing (numberOf w) (numberOf v) (numberOf u)))
+compare-is w (word s v (word r u (word q x f))) = wrong (opOf w) ∙ rw (and-false (comparing (numberOf w) (numberOf v) (numberOf u)))
+compare-is w (word s v (word r u (part p f g))) = wrong (opOf w) ∙ rw (and-false (comparing (numberOf w) (numberOf v) (numberOf u)))
+
+-- ---- a cut changes nothing in a comparison
+
+trim-second : (f : Forms) (n op x : ℕ) → secondSide op x (trim f n) ≡ secondSide op x f
+unfolding trim
+trim-second closed n op x = refl
+trim-second ended n op x = refl
+trim-second (word s b f) n op x = ap (λ (c : Bool). comparing op x (numberOf b) && c) (trim-closed f n)
+trim-second (part p f g) n op x = cut-or-whole p f g n (secondSide op x) refl (λ a b. refl)
+
+pub trim-sides : (f : Forms) (n op : ℕ) → bothSides op (trim f n) ≡ bothSides op f
+unfolding trim
+trim-sides closed n op = refl
+trim-sides ended n op = refl
+trim-sides (word s b f) n op = trim-second f n op (numberOf b)
+trim-sides (part p f g) n op = cut-or-whole p f g n (bothSides op) refl (λ a b. refl)

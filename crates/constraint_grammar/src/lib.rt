@@ -1,0 +1,229 @@
+// The form of a constraint expression, with its stack need and its rows.
+ghost use mathlib.Core.Path.{_≡_};
+ghost use Prim.Native.Nat.{max};
+ghost use Rattle.lexer.specs.Forms.{framesAt, trim};
+ghost use Rattle.policy.specs.Words.{expressionWord, opOf, componentOf};
+ghost use Rattle.policy.specs.Grammar.{expressionIn};
+ghost use Rattle.words.specs.Numbers.{wordOf};
+ghost use Rattle.items.specs.Looks.{itemAt};
+ghost use Rattle.items.specs.Reads.{isSome, Reads};
+ghost use Rattle.constraint_grammar.specs.Comparisons.{plainOp, sidesOf, comparing, secondSide, bothSides};
+ghost use Rattle.constraint_grammar.specs.Measures.{Measures, measureOf, compareOf, joinsOf, headOf};
+use items::Item;
+use items::Parsed;
+use words::Word;
+
+// The stack need of a constraint expression, and how many rows it has.
+pub struct Measure {
+    pub need: usize,
+    pub rows: usize,
+}
+
+// The measure of the constraint expression that was read and the place behind its close, or that its form is wrong.
+pub enum Measured {
+    Good(Measure, usize),
+    Bad,
+}
+
+// How a constraint expression begins: how many operands its operator joins, 0 for a comparison; the number of its first word; and where it
+// goes on.
+struct Head {
+    wanted: usize,
+    word: usize,
+    next: usize,
+}
+
+// How many constraint expressions an operator joins, 0 for no operator.
+fn joins(number: usize) -> usize
+    ensures { λ r. ⌜ r ≡ joinsOf (expressionWord (wordOf number)) ⌝ }
+{
+    if number == Word::NOT {
+        return 1;
+    }
+    if number == Word::AND {
+        return 2;
+    }
+    if number == Word::OR {
+        return 2;
+    }
+    0
+}
+
+// Whether a word compares things of every family.
+fn is_plain(op: usize) -> bool
+    ensures { λ r. ⌜ r ≡ plainOp (opOf (wordOf op)) ⌝ }
+{
+    if Word::NEQ < op {
+        return false;
+    }
+    Word::EQ <= op
+}
+
+// Whether a word compares roles.
+fn is_operator(op: usize) -> bool
+    ensures { λ r. ⌜ r ≡ isSome (opOf (wordOf op)) ⌝ }
+{
+    if Word::INCOMP < op {
+        return false;
+    }
+    Word::EQ <= op
+}
+
+// Whether a word is one of u1 u2 r1 r2 t1 t2.
+fn is_component(x: usize) -> bool
+    ensures { λ r. ⌜ r ≡ isSome (componentOf (wordOf x)) ⌝ }
+{
+    if x == Word::U3 {
+        return false;
+    }
+    if x == Word::R3 {
+        return false;
+    }
+    if Word::T2 < x {
+        return false;
+    }
+    Word::U1 <= x
+}
+
+// Whether the words are the two sides of one family, source first.
+fn are_sides(x: usize, y: usize) -> bool
+    ensures { λ r. ⌜ r ≡ sidesOf (componentOf (wordOf x)) (componentOf (wordOf y)) ⌝ }
+{
+    if x == Word::U1 {
+        return y == Word::U2;
+    }
+    if x == Word::R1 {
+        return y == Word::R2;
+    }
+    if x == Word::T1 {
+        return y == Word::T2;
+    }
+    false
+}
+
+// Whether a comparison may have these three words: (op x name), (op u1 u2), (op t1 t2), (rop r1 r2).
+fn compares(op: usize, x: usize, y: usize) -> bool
+    ensures { λ r. ⌜ r ≡ comparing op x y ⌝ }
+{
+    if words::is_name(y) {
+        if is_component(x) {
+            return is_plain(op);
+        }
+        return false;
+    }
+    if are_sides(x, y) {
+        if x == Word::R1 {
+            return is_operator(op);
+        }
+        return is_plain(op);
+    }
+    false
+}
+
+// The second word of a comparison, and the close.
+fn second_side(text: &[u8], at: usize, op: usize, x: usize) -> Parsed
+    ensures { λ r. ⌜ Reads (now (text .entry)) at (secondSide op x (framesAt (now (text .entry)) at .here)) r ⌝ }
+{
+    let item = items::look(text, at);
+    match item {
+        Item::Word { number, next, .. } => {
+            if compares(op, x, number) {
+                return items::close_form(text, next);
+            }
+            Parsed::Bad
+        }
+        Item::Open { .. } | Item::Close { .. } | Item::End => Parsed::Bad,
+    }
+}
+
+// Both words that a comparison is of, and the close.
+fn both_sides(text: &[u8], at: usize, op: usize) -> Parsed
+    ensures { λ r. ⌜ Reads (now (text .entry)) at (bothSides op (framesAt (now (text .entry)) at .here)) r ⌝ }
+{
+    let item = items::look(text, at);
+    match item {
+        Item::Word { number, next, .. } => second_side(text, next, op, number),
+        Item::Open { .. } | Item::Close { .. } | Item::End => Parsed::Bad,
+    }
+}
+
+// A comparison, behind its first word.
+fn comparison_form(text: &[u8], at: usize, op: usize) -> Measured
+    ensures { λ r. ⌜ Measures (now (text .entry)) at (compareOf op (framesAt (now (text .entry)) at .here)) r ⌝ }
+{
+    let sides = both_sides(text, at, op);
+    match sides {
+        Parsed::Next(next) => Measured::Good(Measure { need: 1, rows: 1 }, next),
+        Parsed::Bad => Measured::Bad,
+    }
+}
+
+// How a constraint expression begins.
+fn head_of(text: &[u8], at: usize) -> Head
+    ensures { λ r. ⌜ r ≡ headOf at (itemAt (now (text .entry)) at) ⌝ }
+{
+    let item = items::look(text, at);
+    match item {
+        Item::Word { number, next, .. } => Head {
+            wanted: joins(number),
+            word: number,
+            next,
+        },
+        Item::Open { .. } | Item::Close { .. } | Item::End => Head {
+            wanted: 0,
+            word: Word::OTHER,
+            next: at,
+        },
+    }
+}
+
+fn larger(a: usize, b: usize) -> usize
+    ensures { λ r. ⌜ r ≡ max a b ⌝ }
+{
+    if a < b {
+        return b;
+    }
+    a
+}
+
+// What the parentheses of a constraint expression hold. It calls itself on each operand; the number that falls is the levels left. An operand
+// is worked out with the values of those before it on the stack.
+pub fn constraint_form(text: &[u8], at: usize, levels: usize) -> Measured
+    ensures { λ r. ⌜ Measures (now (text .entry)) at (measureOf (expressionIn (trim (framesAt (now (text .entry)) at .here) levels))) r ⌝ }
+{
+    let head = head_of(text, at);
+    let mut i = head.next;
+    if head.wanted == 0 {
+        return comparison_form(text, i, head.word);
+    }
+    let mut count: usize = 0;
+    let mut need: usize = 0;
+    let mut rows: usize = 1;
+    loop {
+        let item = items::look(text, i);
+        match item {
+            Item::Open { next, .. } => {
+                if levels == 0 {
+                    return Measured::Bad;
+                }
+                let operand = constraint_form(text, next, levels - 1);
+                match operand {
+                    Measured::Good(measure, past) => {
+                        need = larger(need, count + measure.need);
+                        rows += measure.rows;
+                        count += 1;
+                        i = past;
+                    }
+                    Measured::Bad => return Measured::Bad,
+                }
+            }
+            Item::Close { next } => {
+                if count == head.wanted {
+                    return Measured::Good(Measure { need, rows }, next);
+                }
+                return Measured::Bad;
+            }
+            Item::Word { .. } | Item::End => return Measured::Bad,
+        }
+    }
+}

@@ -1,0 +1,178 @@
+-- `constraint_writer::write_constraint` meets its contract. It calls itself with one level less. Before each operand and before the close the rows of
+-- the operands so far are written (Joining's Loop); each row has a byte of the text of its own, so that no count passes what a usize holds.
+-- Assumes nothing.
+use mathlib.Core.List.{[], _∷_}
+use mathlib.Core.Option.{none}
+use Prim.Native.Nat.{_-_}
+use Rattle.policy.specs.Grammar.{expressions, expressionIn}
+use Rattle.items.proofs.Frames.{sees, around-of, too-deep}
+use Rattle.items.proofs.Items.{alike}
+use Rattle.constraint_writer.proofs.Putting.{all-kept}
+use Rattle.constraint_writer.proofs.Resolving.{told, no-form, moved}
+use Rattle.constraint_writer.proofs.Joining.{Loop, no-word, begun, compares, end-none, word-none, no-operand, operand-done, operand-undeclared, finished}
+use borrow.Author.Needs.{needs}
+use native.Mathlib.Omega.{arith}
+use lib.ListN.{length}
+use mathlib.Core.Path.{sym, _∙_}
+use Prim.Native.Nat.{ℕ, _<_}
+use borrow.Fn.Kinds.{In}
+use borrow.Fn.PlainCycle.{Measures, is, falls, and}
+use Rattle.constraint_writer.proofs.write_constraint.Reads as write-constraint
+use Rattle.constraint_writer.proofs.write_constraint.Kinds as write-constraint-kinds
+use Rattle.constraint_writer.proofs.+write_constraint.Lts-write_constraint as lts
+use Rattle.constraint_writer.proofs.comparison.Reads as comparison-reads
+use Rattle.constraint_writer.proofs.kind_of.Reads as kind-of-reads
+use Rattle.constraint_writer.proofs.put_row.Reads as put-row-reads
+use Rattle.items.proofs.look.Reads as look-reads
+use Rattle.constraint_writer.proofs.+write_constraint.{statement}
+use Rattle.constraint_writer.proofs.+write_constraint.Tie.{close}
+
+abbrev μ : Measures 3 write-constraint-kinds.ps ℕ
+μ κs a = a .1 .1 .0
+
+abbrev at-level : ℕ → In 3 write-constraint-kinds.ps
+at-level t = and 3 write-constraint-kinds.ps (is 3 write-constraint-kinds.ps μ t) write-constraint.Pre
+
+abbrev below : ℕ → In 3 write-constraint-kinds.ps
+below t = and 3 write-constraint-kinds.ps (falls 3 write-constraint-kinds.ps _<_ μ t) write-constraint.Pre
+
+abbrev claims : ℕ → lts.Claims
+claims t = (look-reads.Asked, look-reads.Learnt, kind-of-reads.Asked, kind-of-reads.Learnt, comparison-reads.Asked, comparison-reads.Learnt, below t, write-constraint.Post, put-row-reads.Asked, put-row-reads.Learnt)
+
+abbrev Inv-loop : lts.InvT-loop
+Inv-loop text at levels symbols end rows₀ row number next kind i₀ n₀ rows i n = Loop text at levels symbols end kind row rows₀ i n rows
+
+abbrev μ-loop : lts.MeasureT-loop
+μ-loop text at levels symbols end rows₀ row number next kind i₀ n₀ rows i n = length text - i
+
+module _ (t : ℕ) where
+  look-requires : lts.Need-look-requires (claims t) (at-level t) write-constraint.Post Inv-loop μ-loop
+  look-requires c κs = search needs
+
+  enum-known-first : lts.Need-enum-known-first (claims t) (at-level t) write-constraint.Post Inv-loop μ-loop
+  enum-known-first c = search needs
+
+  returns : lts.Need-returns (claims t) (at-level t) write-constraint.Post Inv-loop μ-loop
+  returns c =
+      no-form (all-kept _ _) (alike expressionIn (λ f. none) _ _ _ (1 ∷ 2 ∷ 3 ∷ []) _ no-word (c .before .look .ensures) (c .match .keys2))
+
+  kind-of-requires : lts.Need-kind-of-requires (claims t) (at-level t) write-constraint.Post Inv-loop μ-loop
+  kind-of-requires c κs = search needs
+
+  comparison-requires : lts.Need-comparison-requires (claims t) (at-level t) write-constraint.Post Inv-loop μ-loop
+  comparison-requires c κs =
+      let l = sees (c .before .before .before .before .before .before .look .ensures) (c .before .before .before .before .first .given .1) in omega (arith, l .ahead .0, c .before .before .before .before .before .before .before .before .before .before .pre .1)
+
+  same-length : lts.Need-same-length (claims t) (at-level t) write-constraint.Post Inv-loop μ-loop
+  same-length c = search needs
+
+  returns-2 : lts.Need-returns-2 (claims t) (at-level t) write-constraint.Post Inv-loop μ-loop
+  returns-2 c =
+      let l = sees (c .before .before .before .before .before .before .before .before .before .look .ensures) (c .before .before .before .before .before .before .before .first .given .1) in moved (sym (around-of l)) (l .ahead .0) (compares l (c .before .before .before .before .before .kind-of .ensures) _ (c .before .before .before .before .if1 .taken)) (c .before .before .comparison .ensures)
+
+  loop-holds : lts.Need-loop-holds (claims t) (at-level t) write-constraint.Post Inv-loop μ-loop
+  loop-holds c =
+      begun (sees (c .before .before .before .before .before .look .ensures) (c .before .before .before .first .given .1)) (c .before .kind-of .ensures) _ (c .if1 .left)
+
+  look-requires-2 : lts.Need-look-requires-2 (claims t) (at-level t) write-constraint.Post Inv-loop μ-loop
+  look-requires-2 c κs = search needs
+
+  enum-known-item : lts.Need-enum-known-item (claims t) (at-level t) write-constraint.Post Inv-loop μ-loop
+  enum-known-item c = search needs
+
+  same-length-2 : lts.Need-same-length-2 (claims t) (at-level t) write-constraint.Post Inv-loop μ-loop
+  same-length-2 c =
+      c .before .before .before .before .before .loop .inv .kept .long
+
+  returns-3 : lts.Need-returns-3 (claims t) (at-level t) write-constraint.Post Inv-loop μ-loop
+  returns-3 c =
+      no-operand (c .before .before .before .before .before .loop .inv) (too-deep expressions _ (sees (c .before .before .before .before .look2 .ensures) (c .before .before .item .given .1)) (c .if2 .taken) ∙ end-none)
+
+  sub-write-constraint : lts.Need-sub-write-constraint (claims t) (at-level t) write-constraint.Post Inv-loop μ-loop
+  sub-write-constraint c = search needs
+
+  write-constraint-requires : lts.Need-write-constraint-requires (claims t) (at-level t) write-constraint.Post Inv-loop μ-loop
+  write-constraint-requires c κs =
+      let l = sees (c .before .before .before .before .before .look2 .ensures) (c .before .before .before .item .given .1) in (omega arith, omega (arith, c .before .before .before .before .before .before .loop .inv .few, c .before .before .before .before .before .before .loop .inv .ahead, l .ahead .0, l .ahead .1, c .before .before .before .before .before .before .before .before .before .before .before .before .before .before .before .before .pre .1))
+
+  enum-known-operand : lts.Need-enum-known-operand (claims t) (at-level t) write-constraint.Post Inv-loop μ-loop
+  enum-known-operand c = search needs
+
+  enum-told : lts.Need-enum-told (claims t) (at-level t) write-constraint.Post Inv-loop μ-loop
+  enum-told c = search needs
+
+  same-length-3 : lts.Need-same-length-3 (claims t) (at-level t) write-constraint.Post Inv-loop μ-loop
+  same-length-3 c =
+      c .before .before .before .before .write-constraint .ensures .kept .long ∙ c .before .before .before .before .before .before .before .before .before .before .before .loop .inv .kept .long
+
+  returns-4 : lts.Need-returns-4 (claims t) (at-level t) write-constraint.Post Inv-loop μ-loop
+  returns-4 c =
+      operand-undeclared (c .before .before .before .before .before .before .before .before .before .before .before .loop .inv) (sees (c .before .before .before .before .before .before .before .before .before .before .look2 .ensures) (c .before .before .before .before .before .before .before .before .item .given .1)) (c .before .before .before .before .before .before .if2 .left) (told (c .before .before .before .before .write-constraint .ensures) (c .enum-told .given .1))
+
+  loop-less : lts.Need-loop-less (claims t) (at-level t) write-constraint.Post Inv-loop μ-loop
+  loop-less c =
+      let l = sees (c .before .before .before .before .before .before .before .before .before .before .before .look2 .ensures) (c .before .before .before .before .before .before .before .before .before .item .given .1) in
+      let w = told (c .before .before .before .before .before .write-constraint .ensures) (c .before .operand .given .1) in
+      omega (arith, l .ahead .0, w .reads .less, w .reads .fits)
+
+  loop-again : lts.Need-loop-again (claims t) (at-level t) write-constraint.Post Inv-loop μ-loop
+  loop-again c =
+      operand-done (c .before .before .before .before .before .before .before .before .before .before .before .before .loop .inv) (sees (c .before .before .before .before .before .before .before .before .before .before .before .look2 .ensures) (c .before .before .before .before .before .before .before .before .before .item .given .1)) (c .before .before .before .before .before .before .before .if2 .left) (told (c .before .before .before .before .before .write-constraint .ensures) (c .before .operand .given .1))
+
+  enum-known-item-2 : lts.Need-enum-known-item-2 (claims t) (at-level t) write-constraint.Post Inv-loop μ-loop
+  enum-known-item-2 c = search needs
+
+  put-row-requires : lts.Need-put-row-requires (claims t) (at-level t) write-constraint.Post Inv-loop μ-loop
+  put-row-requires c κs = search needs
+
+  add-m : lts.Need-add-m (claims t) (at-level t) write-constraint.Post Inv-loop μ-loop
+  add-m c =
+      let l = sees (c .before .before .before .before .before .before .before .look2 .ensures) (c .before .before .before .before .before .item2 .given .1) in omega (arith, c .before .before .before .before .before .before .before .before .loop .inv .few, c .before .before .before .before .before .before .before .before .loop .inv .ahead, l .ahead .0, l .ahead .1, c .before .before .before .before .before .before .before .before .before .before .before .before .before .before .before .before .before .before .pre .1)
+
+  same-length-4 : lts.Need-same-length-4 (claims t) (at-level t) write-constraint.Post Inv-loop μ-loop
+  same-length-4 c =
+      c .before .before .put-row .ensures .kept .long ∙ c .before .before .before .before .before .before .before .before .loop .inv .kept .long
+
+  returns-5 : lts.Need-returns-5 (claims t) (at-level t) write-constraint.Post Inv-loop μ-loop
+  returns-5 c =
+      finished (c .before .before .before .before .before .before .before .before .loop .inv) (sees (c .before .before .before .before .before .before .before .look2 .ensures) (c .before .before .before .before .before .item2 .given .1)) (c .before .before .put-row .ensures)
+
+  same-length-5 : lts.Need-same-length-5 (claims t) (at-level t) write-constraint.Post Inv-loop μ-loop
+  same-length-5 c =
+      c .before .before .loop .inv .kept .long
+
+  returns-6 : lts.Need-returns-6 (claims t) (at-level t) write-constraint.Post Inv-loop μ-loop
+  returns-6 c =
+      no-operand (c .before .before .loop .inv) (alike expressions (λ f. none) _ _ _ (0 ∷ 3 ∷ []) _ (word-none, tt, tt, end-none) (c .before .look2 .ensures) (c .match2 .keys3))
+
+pub +write-constraint-spec : {M : Type 1} → statement M
++write-constraint-spec =
+    close μ
+    (λ t. lts.spec (claims t) (at-level t) write-constraint.Post Inv-loop μ-loop
+    (look-requires t)
+    (enum-known-first t)
+    (returns t)
+    (kind-of-requires t)
+    (comparison-requires t)
+    (same-length t)
+    (returns-2 t)
+    (loop-holds t)
+    (look-requires-2 t)
+    (enum-known-item t)
+    (same-length-2 t)
+    (returns-3 t)
+    (sub-write-constraint t)
+    (write-constraint-requires t)
+    (enum-known-operand t)
+    (enum-told t)
+    (same-length-3 t)
+    (returns-4 t)
+    (loop-less t)
+    (loop-again t)
+    (enum-known-item-2 t)
+    (put-row-requires t)
+    (add-m t)
+    (same-length-4 t)
+    (returns-5 t)
+    (same-length-5 t)
+    (returns-6 t))

@@ -1,0 +1,195 @@
+-- The row of a comparison, by its three words. Assumes nothing.
+use mathlib.Core.Path.{_≡_, refl, sym, ap, _∙_}
+use mathlib.Core.Bool.{Bool, true, false, not, _&&_, _||_}
+use mathlib.Core.List.{List, [], _∷_}
+use mathlib.Core.Option.{Option, none, some, Option·some-injective}
+use Prim.Native.Nat.{ℕ, _+_, _-_}
+use native.Mathlib.Omega.{arith}
+use lib.Dec.{eqb}
+use lib.ListN.{take, drop}
+use types.Run.{OneOf}
+use denote.Enum.Declared.{tagOf}
+use Rattle.lexer.specs.Forms.{Forms, closed, ended, word, part, framesAt, trim}
+use Rattle.policy.specs.Basics.{Name, _>>=_, given}
+use Rattle.policy.specs.Words.{isReserved, isPlain, opOf, Component, componentOf}
+use Rattle.policy.specs.Statements.{Family, Side, source, target, Op, Declaration, Reference, thing, attribute, Constraint, sidesE, nameE}
+use Rattle.policy.specs.Grammar.{areSides, isRoles, compared, comparison}
+use Rattle.policy.specs.Reading.{refer, referE}
+use Rattle.policy.specs.Rows.{Row, row, compCode, opCode, rowsOf}
+use Rattle.words.specs.Numbers.{wordOf}
+use Rattle.words.proofs.Meaning.{component-number}
+use Rattle.items.proofs.Frames.{Looked}
+use Rattle.items.specs.Looks.{itemAt}
+use Rattle.items.specs.declared.Item.{Item}
+use Rattle.items.proofs.Frames.{here-of, around-of, closes}
+use Rattle.items.proofs.Items.{Alike, alike-here}
+use Rattle.items.proofs.Item.{the-type}
+use Rattle.symbols.specs.Symbols.{Symbols}
+use Rattle.constraint_writer.specs.Writing.{Wrote, Writes}
+use Rattle.constraint_writer.specs.Comparing.{codeOf, operatorOf, operandOf, Compares}
+use Rattle.constraint_writer.specs.declared.Operand.{Operand}
+use Rattle.constraint_writer.specs.declared.RowsWritten.{RowsWritten}
+use Rattle.constraint_writer.proofs.Putting.{all-kept}
+use Rattle.constraint_writer.proofs.Resolving.{rowsNamed, never, settled, unsettled}
+
+-- ---- the row
+
+abbrev rowBy : ℕ → ℕ → Operand → Option (List Row)
+rowBy o c (Operand.Is k n) = some (row k c o n ∷ [])
+rowBy o c Operand.Undeclared = none
+
+-- a comparison by the meanings of its first two words, its last word and whether that is a component
+abbrev byWords : Option Op → Option Component → Name → Option Component → Option (Constraint Name)
+byWords o x u y = o >>= λ o. x >>= λ x. compared o x u y
+
+given-is : {A : Type 0} (b : Bool) (a c : A) → given b a ≡ some c → (b ≡ true) × (a ≡ c)
+given-is true a c e = (refl, Option·some-injective a c e)
+given-is false a c e = never e
+
+side-first : (x y : Component) (b : Bool) → areSides x y && b ≡ true → x .side ≡ source
+side-first x y b e = go (x .side) refl
+  where
+    false-true : {X : Type 0} → false ≡ true → X
+    false-true d = absurd (let z : _≡_ {A = ℕ} 0 1 = cc in omega arith)
+
+    go : (s : Side) → x .side ≡ s → s ≡ source
+    go source d = refl
+    go target d = false-true (rw d at e)
+
+module _ (ds : List Declaration) (u : Name) where
+  of-sides : (o : Op) (x y : Component) (e : Constraint Name) → compared o x u (some y) ≡ some e → rowsNamed ds e ≡ rowBy (opCode o) (compCode (x .family) (x .side)) (Operand.Is 3 0)
+  unfolding referE rowsOf
+  of-sides o x y e h =
+      let b = given-is (areSides x y && (isPlain o || isRoles (x .family))) (sidesE (x .family) o) e h in
+      rw (side-first x y (isPlain o || isRoles (x .family)) (b .0)) (ap (rowsNamed ds) (sym (b .1)))
+
+  of-name : (o : Op) (x : Component) (e : Constraint Name) → compared o x u none ≡ some e
+      → rowsNamed ds e ≡ rowBy (opCode o) (compCode (x .family) (x .side)) (operandOf none (refer ds (x .family) u))
+  unfolding referE rowsOf
+  of-name o x e h = go (not (isReserved u)) h
+    where
+      by-reference : (r : Option Reference) → refer ds (x .family) u ≡ r
+          → rowsNamed ds (nameE (x .family) (x .side) o u) ≡ rowBy (opCode o) (compCode (x .family) (x .side)) (operandOf none r)
+      by-reference none p = rw p
+      by-reference (some (thing n)) p = rw p
+      by-reference (some (attribute n)) p = rw p
+
+      go : (b : Bool) → (given b u >>= λ n. given (isPlain o) (nameE (x .family) (x .side) o n)) ≡ some e
+          → rowsNamed ds e ≡ rowBy (opCode o) (compCode (x .family) (x .side)) (operandOf none (refer ds (x .family) u))
+      go false g = never g
+      go true g =
+          ap (rowsNamed ds) (sym (given-is (isPlain o) (nameE (x .family) (x .side) o u) e g .1)) ∙ by-reference (refer ds (x .family) u) refl
+
+  row-of : (o : Option Op) (x y : Option Component) (e : Constraint Name) → byWords o x u y ≡ some e
+      → (k : Operand) → ((f : Family) (s : Side) → codeOf x ≡ compCode f s → k ≡ operandOf y (refer ds f u))
+      → rowsNamed ds e ≡ rowBy (operatorOf o) (codeOf x) k
+  row-of none x y e h k g = never h
+  row-of (some o) none y e h k g = never h
+  row-of (some o) (some x) (some y) e h k g = of-sides o x y e h ∙ ap (rowBy (opCode o) (compCode (x .family) (x .side))) (sym (g (x .family) (x .side) refl))
+  row-of (some o) (some x) none e h k g = of-name o x e h ∙ ap (rowBy (opCode o) (compCode (x .family) (x .side))) (sym (g (x .family) (x .side) refl))
+
+-- ---- rows that are no comparison
+
+nothing : {A B : Type 0} (o : Option A) (f : A → Option B) → ((a : A) → f a ≡ none) → (o >>= f) ≡ none
+nothing none f h = refl
+nothing (some a) f h = h a
+
+module _ (w : Name) where
+  no-first : Alike (comparison w) (λ f. none) (1 ∷ 2 ∷ 3 ∷ [])
+  no-first = (tt, λ x f g. nothing (opOf w) _ (λ o. refl), nothing (opOf w) _ (λ o. refl), nothing (opOf w) _ (λ o. refl))
+
+  module _ (s : ℕ) (v : Name) where
+    no-second : Alike (λ f. comparison w (word s v f)) (λ f. none) (1 ∷ 2 ∷ 3 ∷ [])
+    no-second = (tt, λ x f g. nothing (opOf w) _ (λ o. refl), nothing (opOf w) _ (λ o. refl), nothing (opOf w) _ (λ o. refl))
+
+    module _ (r : ℕ) (u : Name) where
+      no-close : Alike (λ f. comparison w (word s v (word r u f))) (λ f. none) (0 ∷ 1 ∷ 3 ∷ [])
+      no-close = (λ a b f. nothing (opOf w) _ (λ o. refl), λ x f g. nothing (opOf w) _ (λ o. refl), tt, nothing (opOf w) _ (λ o. refl))
+
+-- what stands where a comparison has its first word, its second, its close
+abbrev tag : Item → ℕ
+tag k = tagOf the-type k
+
+pub first-missing : (t : List ℕ) (at : ℕ) (w : Name) {i : Item} → i ≡ itemAt t at → OneOf (1 ∷ 2 ∷ 3 ∷ []) (tag i) → comparison w (framesAt t at .here) ≡ none
+first-missing t at w {i} d h = alike-here (comparison w) (λ f. none) t at i (1 ∷ 2 ∷ 3 ∷ []) (no-first w) d h
+
+module _ {t : List ℕ} {at : ℕ} (w : Name) where
+  module _ {s n x p : ℕ} (l : Looked t at (Item.Word s n x p)) where
+    pub second-missing : {i : Item} → i ≡ itemAt t p → OneOf (1 ∷ 2 ∷ 3 ∷ []) (tag i) → comparison w (framesAt t at .here) ≡ none
+    second-missing {i} d h =
+        let v = take n (drop s t) in
+        ap (comparison w) (here-of l) ∙ alike-here (λ f. comparison w (word s v f)) (λ f. none) t p i (1 ∷ 2 ∷ 3 ∷ []) (no-second w s v) d h
+
+    pub close-missing : {r k y q : ℕ} → Looked t p (Item.Word r k y q) → {i : Item} → i ≡ itemAt t q → OneOf (0 ∷ 1 ∷ 3 ∷ []) (tag i) → comparison w (framesAt t at .here) ≡ none
+    close-missing {r} {k} {y} {q} l2 {i} d h =
+        let v = take n (drop s t) in
+        let u = take k (drop r t) in
+        ap (comparison w) (here-of l ∙ ap (word s v) (here-of l2))
+        ∙ alike-here (λ f. comparison w (word s v (word r u f))) (λ f. none) t q i (0 ∷ 1 ∷ 3 ∷ []) (no-close w s v r u) d h
+
+-- ---- a cut changes nothing in a comparison
+
+cut-alike : {B : Type 0} (q : Forms → B) (b : B) → q ended ≡ b → ((x : ℕ) (f g : Forms) → q (part x f g) ≡ b) → (x : ℕ) (f g : Forms) (n : ℕ) → q (trim (part x f g) n) ≡ q (part x f g)
+unfolding trim
+cut-alike q b e h x f g n = go (eqb n 0)
+  where
+    go : (c : Bool) → q (elim c [ true ↦ ended | false ↦ part x (trim f (n - 1)) (trim g n) ]) ≡ q (part x f g)
+    go true = e ∙ sym (h x f g)
+    go false = h x (trim f (n - 1)) (trim g n) ∙ sym (h x f g)
+
+pub cut-comparison : (w : Name) (f : Forms) (n : ℕ) → comparison w (trim f n) ≡ comparison w f
+unfolding trim
+cut-comparison w closed n = refl
+cut-comparison w ended n = refl
+cut-comparison w (part x f g) n = cut-alike (comparison w) none (no-first w .3) (no-first w .1) x f g n
+cut-comparison w (word s v closed) n = refl
+cut-comparison w (word s v ended) n = refl
+cut-comparison w (word s v (part x f g)) n = cut-alike (λ f. comparison w (word s v f)) none (no-second w s v .3) (no-second w s v .1) x f g n
+cut-comparison w (word s v (word r u closed)) n = refl
+cut-comparison w (word s v (word r u ended)) n = refl
+cut-comparison w (word s v (word r u (word a b f))) n = refl
+cut-comparison w (word s v (word r u (part x f g))) n =
+    cut-alike (λ f. comparison w (word s v (word r u f))) none (no-close w s v r u .3) (no-close w s v r u .1) x f g n
+
+-- ---- two words and a close
+
+module _ {t : List ℕ} {at s n x p r k y q j : ℕ} (l : Looked t at (Item.Word s n x p)) (l2 : Looked t p (Item.Word r k y q)) (l3 : Looked t q (Item.Close j)) (w : Name) where
+  in-words : comparison w (framesAt t at .here) ≡ byWords (opOf w) (componentOf (take n (drop s t))) (take k (drop r t)) (componentOf (take k (drop r t)))
+  in-words = ap (comparison w) (here-of l ∙ ap (word s (take n (drop s t))) (here-of l2 ∙ ap (word r (take k (drop r t))) (here-of l3)))
+
+  component-is : componentOf (take n (drop s t)) ≡ componentOf (wordOf x)
+  component-is = component-number (take n (drop s t)) ∙ ap (λ (i : ℕ). componentOf (wordOf i)) (l .ahead .2)
+
+  component-is-2 : componentOf (take k (drop r t)) ≡ componentOf (wordOf y)
+  component-is-2 = component-number (take k (drop r t)) ∙ ap (λ (i : ℕ). componentOf (wordOf i)) (l2 .ahead .2)
+
+  module _ {symbols : List ℕ} {end side : ℕ} (a : side ≡ codeOf (componentOf (wordOf x))) where
+    one-row : {o : Operand} → Compares t r k y side symbols end o → (ds : List Declaration) (e : Constraint Name) → Symbols symbols end ds
+        → comparison w (framesAt t at .here) ≡ some e → rowsNamed ds e ≡ rowBy (operatorOf (opOf w)) side o
+    one-row {o} c ds e h g =
+        let side-is : side ≡ codeOf (componentOf (take n (drop s t))) = a ∙ ap codeOf (sym component-is) in
+        row-of ds (take k (drop r t)) (opOf w) (componentOf (take n (drop s t))) (componentOf (take k (drop r t))) e (sym in-words ∙ g) o
+        (λ f i d. c .operand ds f i h (side-is ∙ d) ∙ ap (λ (z : Option Component). operandOf z (refer ds f (take k (drop r t)))) (sym component-is-2))
+        ∙ ap (λ (i : ℕ). rowBy (operatorOf (opOf w)) i o) (sym side-is)
+
+    pub not-declared : {before : List ℕ} {first : ℕ} → Compares t r k y side symbols end Operand.Undeclared → Writes t at (comparison w (framesAt t at .here)) symbols end before before first RowsWritten.Undeclared
+    not-declared {before} {first} c = record {
+      kept = all-kept before first;
+      reads = tt;
+      rows = λ ds e h g. unsettled ds e before before first (one-row c ds e h g);
+    }
+
+    pub compared-row : {before after : List ℕ} {first kind number operator : ℕ} → Compares t r k y side symbols end (Operand.Is kind number) → operator ≡ operatorOf (opOf w)
+        → Wrote before after first (row kind side operator number ∷ [])
+        → Writes t at (comparison w (framesAt t at .here)) symbols end before after first (RowsWritten.Next j (first + 1))
+    compared-row {before} {after} {first} {kind} {number} {operator} c b u = record {
+      kept = u .kept;
+      reads = record {
+        rest = sym (closes at l3 (sym (around-of l ∙ around-of l2)));
+        less = omega (arith, l .ahead .0, l2 .ahead .0, l3 .ahead .0);
+        fits = l3 .ahead .1;
+        some-row = omega arith;
+        few-rows = omega (arith, l .ahead .0, l2 .ahead .0, l3 .ahead .0);
+      };
+      rows = λ ds e h g. settled ds e before after first j (first + 1) (row kind side operator number ∷ []) (one-row c ds e h g ∙ rw (← b)) refl u;
+    }

@@ -1,0 +1,7 @@
+pub mod WordNumbers
+pub mod Putting
+pub mod Operands
+pub mod Resolving
+pub mod Comparisons
+pub mod Joining
+pub mod Answers

@@ -1,0 +1,106 @@
+-- `constraint_writer::comparison` meets its contract: two words and a close, and one row by the three words. Assumes nothing.
+use native.Mathlib.Omega.{arith}
+use borrow.Author.Needs.{needs}
+use Rattle.items.proofs.Frames.{sees}
+use Rattle.constraint_writer.proofs.Putting.{all-kept}
+use Rattle.constraint_writer.proofs.Operands.{compares-told}
+use Rattle.constraint_writer.proofs.Resolving.{no-form}
+use Rattle.constraint_writer.proofs.Comparisons.{first-missing, second-missing, close-missing, not-declared, compared-row}
+use Rattle.constraint_writer.proofs.comparison.Statement.{statement}
+use Rattle.constraint_writer.proofs.comparison.Tie as tie
+
+look-requires : tie.Need-look-requires
+look-requires c κs = search needs
+
+enum-known-first : tie.Need-enum-known-first
+enum-known-first c = search needs
+
+returns : tie.Need-returns
+returns c =
+    no-form (all-kept _ _) (first-missing _ _ _ (c .before .look .ensures) (c .match .keys2))
+
+component-of-requires : tie.Need-component-of-requires
+component-of-requires c κs = search needs
+
+look-requires-2 : tie.Need-look-requires-2
+look-requires-2 c κs = search needs
+
+enum-known-second : tie.Need-enum-known-second
+enum-known-second c = search needs
+
+returns-2 : tie.Need-returns-2
+returns-2 c =
+    no-form (all-kept _ _) (second-missing _ (sees (c .before .before .before .before .before .before .look .ensures) (c .before .before .before .before .first .given .1)) (c .before .look2 .ensures) (c .match2 .keys2))
+
+look-requires-3 : tie.Need-look-requires-3
+look-requires-3 c κs = search needs
+
+enum-known-last : tie.Need-enum-known-last
+enum-known-last c = search needs
+
+returns-3 : tie.Need-returns-3
+returns-3 c =
+    no-form (all-kept _ _) (close-missing _ (sees (c .before .before .before .before .before .before .before .before .before .before .look .ensures) (c .before .before .before .before .before .before .before .before .first .given .1)) (sees (c .before .before .before .before .before .look2 .ensures) (c .before .before .before .second .given .1)) (c .before .look3 .ensures) (c .match3 .keys2))
+
+operand-of-requires : tie.Need-operand-of-requires
+operand-of-requires c κs = search needs
+
+enum-known-operand : tie.Need-enum-known-operand
+enum-known-operand c = search needs
+
+enum-told : tie.Need-enum-told
+enum-told c = search needs
+
+returns-4 : tie.Need-returns-4
+returns-4 c =
+    let l = sees (c .before .before .before .before .before .before .before .before .before .before .before .before .before .before .before .look .ensures) (c .before .before .before .before .before .before .before .before .before .before .before .before .before .first .given .1) in
+    let l2 = sees (c .before .before .before .before .before .before .before .before .before .before .look2 .ensures) (c .before .before .before .before .before .before .before .before .second .given .1) in
+    let l3 = sees (c .before .before .before .before .before .before .look3 .ensures) (c .before .before .before .before .last .given .1) in
+    not-declared l l2 l3 _ (c .before .before .before .before .before .before .before .before .before .before .before .component-of .ensures) (compares-told (c .before .before .operand-of .ensures) (c .enum-told .given .1))
+
+operator-of-requires : tie.Need-operator-of-requires
+operator-of-requires c κs = search needs
+
+put-row-requires : tie.Need-put-row-requires
+put-row-requires c κs = search needs
+
+add-row : tie.Need-add-row
+add-row c =
+    let l = sees (c .before .before .before .before .before .before .before .before .before .before .before .before .before .before .before .before .before .before .before .before .before .look .ensures) (c .before .before .before .before .before .before .before .before .before .before .before .before .before .before .before .before .before .before .before .first .given .1) in
+    let l2 = sees (c .before .before .before .before .before .before .before .before .before .before .before .before .before .before .before .before .look2 .ensures) (c .before .before .before .before .before .before .before .before .before .before .before .before .before .before .second .given .1) in
+    let l3 = sees (c .before .before .before .before .before .before .before .before .before .before .before .before .look3 .ensures) (c .before .before .before .before .before .before .before .before .before .before .last .given .1) in
+    omega (arith, l .ahead .0, l2 .ahead .0, l3 .ahead .0, l3 .ahead .1, c .before .before .before .before .before .before .before .before .before .before .before .before .before .before .before .before .before .before .before .before .before .before .before .before .before .pre)
+
+same-length : tie.Need-same-length
+same-length c = search needs
+
+returns-5 : tie.Need-returns-5
+returns-5 c =
+    let l = sees (c .before .before .before .before .before .before .before .before .before .before .before .before .before .before .before .before .before .before .before .before .before .look .ensures) (c .before .before .before .before .before .before .before .before .before .before .before .before .before .before .before .before .before .before .before .first .given .1) in
+    let l2 = sees (c .before .before .before .before .before .before .before .before .before .before .before .before .before .before .before .before .look2 .ensures) (c .before .before .before .before .before .before .before .before .before .before .before .before .before .before .second .given .1) in
+    let l3 = sees (c .before .before .before .before .before .before .before .before .before .before .before .before .look3 .ensures) (c .before .before .before .before .before .before .before .before .before .before .last .given .1) in
+    compared-row l l2 l3 _ (c .before .before .before .before .before .before .before .before .before .before .before .before .before .before .before .before .before .component-of .ensures) (compares-told (c .before .before .before .before .before .before .before .before .operand-of .ensures) (c .before .before .before .before .before .before .operand .given .1)) (c .before .before .before .operator-of .ensures) (c .before .before .put-row .ensures)
+
+pub comparison-spec : {M : Type 1} → statement M
+comparison-spec =
+    tie.close
+    (tie.spec
+    look-requires
+    enum-known-first
+    returns
+    component-of-requires
+    look-requires-2
+    enum-known-second
+    returns-2
+    look-requires-3
+    enum-known-last
+    returns-3
+    operand-of-requires
+    enum-known-operand
+    enum-told
+    returns-4
+    operator-of-requires
+    put-row-requires
+    add-row
+    same-length
+    returns-5)

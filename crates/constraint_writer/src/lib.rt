@@ -1,0 +1,291 @@
+// Writes the rows of a constraint expression, with its names resolved.
+ghost use mathlib.Core.Path.{_≡_};
+ghost use mathlib.Core.List.{[], _∷_};
+ghost use Rattle.lexer.specs.Forms.{framesAt, trim};
+ghost use Rattle.policy.specs.Words.{expressionWord, opOf, componentOf};
+ghost use Rattle.policy.specs.Grammar as grammar;
+ghost use Rattle.policy.specs.Rows as policy;
+ghost use Rattle.words.specs.Numbers.{wordOf};
+ghost use Rattle.constraint_writer.specs.Writing.{Countable, Wrote, Writes};
+ghost use Rattle.constraint_writer.specs.Comparing.{kindOf, codeOf, operatorOf, Compares};
+use items::Item;
+use symbols::Found;
+use words::Word;
+
+// The place past the close of the expression and the number of the row after its rows, or that a name of it is not declared.
+pub enum RowsWritten {
+    Next { at: usize, row: usize },
+    Undeclared,
+}
+
+// What a side is compared with: the kind of the row, and the number of a thing or an attribute.
+enum Operand {
+    Is { kind: u8, number: usize },
+    Undeclared,
+}
+
+// The bytes of a row.
+const ROW_BYTES: usize = 6;
+
+// The kinds of rows.
+struct Kind;
+
+impl Kind {
+    const NOT: u8 = 0;
+
+    const AND: u8 = 1;
+
+    const OR: u8 = 2;
+
+    const SIDES: u8 = 3;
+
+    const THING: u8 = 4;
+
+    const ATTRIBUTE: u8 = 5;
+}
+
+// The operators of comparisons.
+struct Operator;
+
+impl Operator {
+    const EQ: u8 = 0;
+
+    const NEQ: u8 = 1;
+
+    const DOM: u8 = 2;
+
+    const DOMBY: u8 = 3;
+
+    const INCOMP: u8 = 4;
+
+    // What stands for no operator.
+    const NONE: u8 = 5;
+}
+
+// The components of comparisons, two for each family.
+struct Component;
+
+impl Component {
+    const U1: u8 = 0;
+
+    const U2: u8 = 1;
+
+    const R1: u8 = 2;
+
+    const R2: u8 = 3;
+
+    const T1: u8 = 4;
+
+    const T2: u8 = 5;
+
+    // What stands for no component.
+    const NONE: u8 = 6;
+}
+
+// The first of the sorts that are attributes, in the symbol table; those before it are things.
+const FIRST_ATTRIBUTE: usize = 3;
+
+// Writes a row, if there is room for it.
+fn put_row(rows: &mut [u8], row: usize, kind: u8, component: u8, operator: u8, number: usize)
+    ensures { λ _. ⌜ Wrote (now (rows .entry)) (now (rows .exit)) row (policy.row kind component operator number ∷ []) ⌝ }
+{
+    if rows.len() / ROW_BYTES <= row {
+        return;
+    }
+    let at = ROW_BYTES * row;
+    rows[at] = kind;
+    rows[at + 1] = component;
+    rows[at + 2] = operator;
+    rows[at + 3] = 0;
+    rows[at + 4] = (number % 256) as u8;
+    rows[at + 5] = (number / 256 % 256) as u8;
+}
+
+// The kind of an operator's row, by the number of its word; that of two sides for a word that is no operator.
+fn kind_of(number: usize) -> u8
+    ensures { λ r. ⌜ r ≡ kindOf (expressionWord (wordOf number)) ⌝ }
+{
+    if number == Word::NOT {
+        return Kind::NOT;
+    }
+    if number == Word::AND {
+        return Kind::AND;
+    }
+    if number == Word::OR {
+        return Kind::OR;
+    }
+    Kind::SIDES
+}
+
+// The operator of a comparison, by the number of its word.
+fn operator_of(number: usize) -> u8
+    ensures { λ r. ⌜ r ≡ operatorOf (opOf (wordOf number)) ⌝ }
+{
+    if number == Word::EQ {
+        return Operator::EQ;
+    }
+    if number == Word::NEQ {
+        return Operator::NEQ;
+    }
+    if number == Word::DOM {
+        return Operator::DOM;
+    }
+    if number == Word::DOMBY {
+        return Operator::DOMBY;
+    }
+    if number == Word::INCOMP {
+        return Operator::INCOMP;
+    }
+    Operator::NONE
+}
+
+// One of u1 u2 r1 r2 t1 t2, by the number of its word.
+fn component_of(number: usize) -> u8
+    ensures { λ r. ⌜ r ≡ codeOf (componentOf (wordOf number)) ⌝ }
+{
+    if number == Word::U1 {
+        return Component::U1;
+    }
+    if number == Word::U2 {
+        return Component::U2;
+    }
+    if number == Word::R1 {
+        return Component::R1;
+    }
+    if number == Word::R2 {
+        return Component::R2;
+    }
+    if number == Word::T1 {
+        return Component::T1;
+    }
+    if number == Word::T2 {
+        return Component::T2;
+    }
+    Component::NONE
+}
+
+// What a side is compared with, by the second word: the other side, or a name of the side's family.
+fn operand_of(
+    text: &[u8],
+    start: usize,
+    len: usize,
+    number: usize,
+    side: u8,
+    symbols: &[u8],
+    end: usize,
+) -> Operand
+    ensures { λ r. ⌜ Compares (now (text .entry)) start len number side (now (symbols .entry)) end r ⌝ }
+{
+    if component_of(number) != Component::NONE {
+        return Operand::Is {
+            kind: Kind::SIDES,
+            number: 0,
+        };
+    }
+    let family = (side / 2) as usize;
+    let found = symbols::find(symbols, 0, end, family, text, start, len);
+    match found {
+        Found::At { sort, number } => {
+            if sort < FIRST_ATTRIBUTE {
+                return Operand::Is {
+                    kind: Kind::THING,
+                    number,
+                };
+            }
+            Operand::Is {
+                kind: Kind::ATTRIBUTE,
+                number,
+            }
+        }
+        Found::Missing => Operand::Undeclared,
+    }
+}
+
+// A comparison behind its operator's word, of which it has the number: two words and the close, and one row.
+fn comparison(
+    text: &[u8],
+    at: usize,
+    operator: usize,
+    symbols: &[u8],
+    end: usize,
+    rows: &mut [u8],
+    row: usize,
+) -> RowsWritten
+    requires { ⌜ Countable (now text) at row ⌝ }
+    ensures { λ r. ⌜ Writes (now (text .entry)) at (grammar.comparison (wordOf operator) (framesAt (now (text .entry)) at .here)) (now (symbols .entry)) end (now (rows .entry)) (now (rows .exit)) row r ⌝ }
+{
+    let first = items::look(text, at);
+    let Item::Word { number, next, .. } = first else {
+        return RowsWritten::Undeclared;
+    };
+    let side = component_of(number);
+    let second = items::look(text, next);
+    let Item::Word {
+        start,
+        len,
+        number,
+        next,
+    } = second
+    else {
+        return RowsWritten::Undeclared;
+    };
+    let last = items::look(text, next);
+    let Item::Close { next } = last else {
+        return RowsWritten::Undeclared;
+    };
+    let operand = operand_of(text, start, len, number, side, symbols, end);
+    let Operand::Is { kind, number } = operand else {
+        return RowsWritten::Undeclared;
+    };
+    put_row(rows, row, kind, side, operator_of(operator), number);
+    let row = row + 1;
+    RowsWritten::Next { at: next, row }
+}
+
+// Writes the rows of a constraint expression, behind its open parenthesis, from a row on. It calls itself on each operand; the number that
+// falls is the levels left. Rows for which there is no room are counted and not written.
+pub fn write_constraint(
+    text: &[u8],
+    at: usize,
+    levels: usize,
+    symbols: &[u8],
+    end: usize,
+    rows: &mut [u8],
+    row: usize,
+) -> RowsWritten
+    requires { ⌜ Countable (now text) at row ⌝ }
+    ensures { λ r. ⌜ Writes (now (text .entry)) at (grammar.expressionIn (trim (framesAt (now (text .entry)) at .here) levels)) (now (symbols .entry)) end (now (rows .entry)) (now (rows .exit)) row r ⌝ }
+{
+    let first = items::look(text, at);
+    let Item::Word { number, next, .. } = first else {
+        return RowsWritten::Undeclared;
+    };
+    let kind = kind_of(number);
+    if kind == Kind::SIDES {
+        return comparison(text, next, number, symbols, end, rows, row);
+    }
+    let mut i = next;
+    let mut n = row;
+    loop {
+        let item = items::look(text, i);
+        match item {
+            Item::Open { next: inside, .. } => {
+                if levels == 0 {
+                    return RowsWritten::Undeclared;
+                }
+                let operand = write_constraint(text, inside, levels - 1, symbols, end, rows, n);
+                let RowsWritten::Next { at: past, row: m } = operand else {
+                    return RowsWritten::Undeclared;
+                };
+                i = past;
+                n = m;
+            }
+            Item::Close { next: past } => {
+                put_row(rows, n, kind, 0, 0, 0);
+                let m = n + 1;
+                return RowsWritten::Next { at: past, row: m };
+            }
+            Item::Word { .. } | Item::End => return RowsWritten::Undeclared,
+        }
+    }
+}

@@ -1,0 +1,148 @@
+-- The law that ties the reader's shapes to policy's forms: there is something `written` exactly if the row is of the shape that its keyword asks for.
+-- Assumes nothing.
+use mathlib.Core.Path.{_≡_, refl, sym, ap, _∙_}
+use mathlib.Core.Bool.{Bool, true, false, not, _&&_, and-false}
+use mathlib.Core.List.{List, [], _∷_}
+use mathlib.Core.Option.{Option, none, some}
+use Prim.Native.Nat.{ℕ, suc, _+_, _-_}
+use native.Mathlib.Omega.{arith}
+use borrow.Author.Tests.{lt-ltb, ne-eqb}
+use lib.ListN.{length, take, drop}
+use Rattle.lexer.specs.Forms.{Forms, closed, ended, word, part, framesAt, trim}
+use Rattle.lexer.specs.Scan.{maxLevel}
+use Rattle.lexer.proofs.Trim.{whole}
+use Rattle.policy.specs.Basics.{Name, _>>=_}
+use Rattle.policy.specs.Words.{isReserved, asName, Keyword, declareK, classK, setK, relationK, transitionK, constrainK, keywordOf}
+use Rattle.policy.specs.Statements.{SetExpr, plain, class, declare, attributeset, gives, constrain}
+use Rattle.policy.specs.Grammar.{wordAndPart, setIn, expressionIn, namesIn, oneOrMore, classIn, ofFour, formed, written}
+use Rattle.words.specs.Numbers.{wordOf}
+use Rattle.words.proofs.Meaning.{keyword-number}
+use Rattle.items.specs.Reads.{isSome, counted}
+use Rattle.items.specs.declared.Item.{Item}
+use Rattle.items.specs.declared.Wanted.{Wanted}
+use Rattle.items.proofs.Items.{Looked, by-word}
+use Rattle.items.proofs.Counts.{of-one, of-two}
+use Rattle.grammar.specs.Shapes.{isStatement, contentOf, nameAndPart, classAndConstraint, shapeOf, byShape}
+use Rattle.grammar.specs.declared.Content.{Content}
+use Rattle.grammar.specs.declared.Shape.{Shape}
+
+-- ---- what is written
+
+and-true : (b : Bool) → b && true ≡ b
+and-true true = refl
+and-true false = refl
+
+-- a word, a part and a close, of which g asks what is asked of a name and a part, and b besides
+module _ {A : Type 0} (g : Name → Forms → Option A) (k : Content) (b : Bool)
+    (asks : (w : Name) (i : Forms) → isSome (g w i) ≡ (not (isReserved w) && contentOf k i) && b) where
+  word-and-part : (f : Forms) → isSome (wordAndPart f g) ≡ nameAndPart k f && b
+  word-and-part closed = refl
+  word-and-part ended = refl
+  word-and-part (part p f h) = refl
+  word-and-part (word s w closed) = rw (and-false (not (isReserved w)))
+  word-and-part (word s w ended) = rw (and-false (not (isReserved w)))
+  word-and-part (word s w (word r v f)) = rw (and-false (not (isReserved w)))
+  word-and-part (word s w (part p i closed)) = rw (and-true (contentOf k i)) (asks w i)
+  word-and-part (word s w (part p i ended)) = rw (and-false (contentOf k i), and-false (not (isReserved w)))
+  word-and-part (word s w (part p i (word r v f))) = rw (and-false (contentOf k i), and-false (not (isReserved w)))
+  word-and-part (word s w (part p i (part r v f))) = rw (and-false (contentOf k i), and-false (not (isReserved w)))
+
+-- a class and its permissions
+module _ {A : Type 0} (h : Name → List Name → Option A) (b : Bool) (then : (c : Name) (ps : List Name) → isSome (h c ps) ≡ b) where
+  some-permissions : (c : Name) (ps : Option (List Name)) → isSome (ps >>= λ ps. oneOrMore ps >>= λ ps. h c ps) ≡ counted Wanted.OneOrMore 0 ps && b
+  unfolding counted
+  some-permissions c none = refl
+  some-permissions c (some []) = refl
+  some-permissions c (some (p ∷ ps)) = rw (lt-ltb 0 (0 + suc (length ps)) (omega arith)) (then c (p ∷ ps))
+
+  class-asks : (w : Name) (i : Forms) → isSome (asName w >>= λ c. namesIn i >>= λ ps. oneOrMore ps >>= λ ps. h c ps)
+      ≡ (not (isReserved w) && contentOf Content.Permissions i) && b
+  class-asks w i = go (not (isReserved w)) refl
+    where
+      go : (q : Bool) → not (isReserved w) ≡ q → isSome (asName w >>= λ c. namesIn i >>= λ ps. oneOrMore ps >>= λ ps. h c ps)
+          ≡ (not (isReserved w) && contentOf Content.Permissions i) && b
+      go true e = rw e (some-permissions w (namesIn i))
+      go false e = rw e
+
+  class-is : (f : Forms) → isSome (classIn f h) ≡ nameAndPart Content.Permissions f && b
+  class-is f = word-and-part (λ w i. asName w >>= λ c. namesIn i >>= λ ps. oneOrMore ps >>= λ ps. h c ps) Content.Permissions b class-asks f
+
+-- a name and an S
+set-then : {A : Type 0} (s : Option (SetExpr Name)) (h : SetExpr Name → A) → isSome (s >>= λ s. some (h s)) ≡ isSome s && true
+set-then none h = refl
+set-then (some s) h = refl
+
+set-asks : {A : Type 0} (h : Name → SetExpr Name → A) (w : Name) (i : Forms) → isSome (asName w >>= λ w. setIn i >>= λ s. some (h w s))
+    ≡ (not (isReserved w) && contentOf Content.Set i) && true
+set-asks h w i = go (not (isReserved w)) refl
+  where
+    go : (q : Bool) → not (isReserved w) ≡ q → isSome (asName w >>= λ w. setIn i >>= λ s. some (h w s)) ≡ (not (isReserved w) && contentOf Content.Set i) && true
+    go true e = rw e (set-then (setIn i) (h w))
+    go false e = rw e
+
+-- a class with permissions, and an E
+then-expression : {A B : Type 0} (h : B → A) (e : Option B) → isSome (e >>= λ e. some (h e)) ≡ isSome e
+then-expression h none = refl
+then-expression h (some e) = refl
+
+constrain-is : (f : Forms) → isSome (formed constrainK f) ≡ classAndConstraint f
+constrain-is closed = refl
+constrain-is ended = refl
+constrain-is (word s w f) = refl
+constrain-is (part p i closed) = sym (and-false (nameAndPart Content.Permissions i))
+constrain-is (part p i ended) = sym (and-false (nameAndPart Content.Permissions i))
+constrain-is (part p i (word s w f)) = sym (and-false (nameAndPart Content.Permissions i))
+constrain-is (part p i (part q j closed)) =
+    class-is (λ c ps. expressionIn j >>= λ e. some (constrain c ps e)) (isSome (expressionIn j)) (λ c ps. then-expression (constrain c ps) (expressionIn j)) i
+    ∙ ap (λ (b : Bool). nameAndPart Content.Permissions i && b) (sym (and-true (isSome (expressionIn j))))
+constrain-is (part p i (part q j ended)) = rw (and-false (isSome (expressionIn j)), and-false (nameAndPart Content.Permissions i))
+constrain-is (part p i (part q j (word s w f))) = rw (and-false (isSome (expressionIn j)), and-false (nameAndPart Content.Permissions i))
+constrain-is (part p i (part q j (part r f g))) = rw (and-false (isSome (expressionIn j)), and-false (nameAndPart Content.Permissions i))
+
+four : (xs : Option (List Name)) → counted (Wanted.Exactly 4) 0 xs ≡ isSome (xs >>= ofFour)
+unfolding counted
+four none = refl
+four (some []) = refl
+four (some (r ∷ [])) = refl
+four (some (r ∷ t ∷ [])) = refl
+four (some (r ∷ t ∷ c ∷ [])) = refl
+four (some (r ∷ t ∷ c ∷ n ∷ [])) = refl
+four (some (r ∷ t ∷ c ∷ n ∷ x ∷ xs)) = ne-eqb (0 + suc (suc (suc (suc (suc (length xs)))))) 4 (λ z. omega arith)
+
+-- what follows a keyword
+formed-is : (k : Keyword) (f : Forms) → isSome (formed k f) ≡ byShape (shapeOf (some k)) f
+formed-is (declareK s) f = sym (of-one (λ w. declare (plain s w)) (namesIn f))
+formed-is classK f = class-is (λ c ps. some (declare (class c ps))) true (λ c ps. refl) f ∙ and-true (nameAndPart Content.Permissions f)
+formed-is (setK a) f =
+    word-and-part (λ w i. asName w >>= λ w. setIn i >>= λ s. some (attributeset a w s)) Content.Set true (set-asks (attributeset a)) f
+    ∙ and-true (nameAndPart Content.Set f)
+formed-is (relationK r) f = sym (of-two (gives r) (namesIn f))
+formed-is transitionK f = sym (four (namesIn f))
+formed-is constrainK f = constrain-is f
+
+by-keyword : (k : Option Keyword) (f : Forms) → isSome (k >>= λ k. formed k f) ≡ byShape (shapeOf k) f
+by-keyword none f = refl
+by-keyword (some k) f = formed-is k f
+
+-- what the parentheses of a statement hold
+pub statement-is : (f : Forms) → isSome (written f) ≡ isStatement f
+statement-is closed = refl
+statement-is ended = refl
+statement-is (word s w f) = by-keyword (keywordOf w) f
+statement-is (part p f g) = refl
+
+-- the same at a place, by the shape of the first word
+pub statement-row : {t : List ℕ} {i s n k j : ℕ} (levels : ℕ) → Looked t i (Item.Word s n k j) → (r : Shape) → r ≡ shapeOf (keywordOf (wordOf k))
+    → isSome (written (trim (framesAt t i .here) levels)) ≡ byShape r (trim (framesAt t j .here) levels)
+statement-row {t} {i} {s} {n} {k} {j} levels l r e =
+    let w = take n (drop s t) in
+    statement-is (trim (framesAt t i .here) levels)
+    ∙ by-word isStatement levels l
+    ∙ ap (λ (x : Option Keyword). byShape (shapeOf x) (trim (framesAt t j .here) levels)) (keyword-number w ∙ ap (λ (m : ℕ). keywordOf (wordOf m)) (l .ahead .2))
+    ∙ ap (λ (x : Shape). byShape x (trim (framesAt t j .here) levels)) (sym e)
+
+-- where no part of a text lies deeper than the levels, the reader cuts nothing off
+pub uncut : (p : ℕ) (f g : Forms) → trim (part p f g) maxLevel ≡ part p f g → (trim f (maxLevel - 1) ≡ f) × (trim g maxLevel ≡ g)
+uncut p f g e =
+    let h = sym (whole p f g maxLevel (λ z. omega arith)) ∙ e in
+    (cc, cc)

@@ -1,0 +1,46 @@
+-- `grammar::content_form` meets its contract. Assumes nothing.
+use borrow.Author.Needs.{needs}
+use Rattle.items.proofs.Counts.{trim-names}
+use Rattle.grammar.proofs.content_form.Statement.{statement}
+use Rattle.grammar.proofs.content_form.Tie as tie
+
+enum-told : tie.Need-enum-told
+enum-told c = search needs
+
+names-form-requires : tie.Need-names-form-requires
+names-form-requires c κs = search needs
+
+enum-told-2 : tie.Need-enum-told-2
+enum-told-2 c = search needs
+
+set-form-requires : tie.Need-set-form-requires
+set-form-requires c κs = search needs
+
+enum-told-3 : tie.Need-enum-told-3
+enum-told-3 c = search needs
+
+expression-form-requires : tie.Need-expression-form-requires
+expression-form-requires c κs = search needs
+
+returns : tie.Need-returns
+returns c = rw (c .before .enum-told .given .1, trim-names) (c .names-form .ensures)
+
+returns-2 : tie.Need-returns-2
+returns-2 c = rw (c .before .enum-told2 .given .1) (c .set-form .ensures)
+
+returns-3 : tie.Need-returns-3
+returns-3 c = rw (c .before .enum-told3 .given .1) (c .expression-form .ensures)
+
+pub content-form-spec : {M : Type 1} → statement M
+content-form-spec =
+    tie.close
+    (tie.spec
+    enum-told
+    names-form-requires
+    enum-told-2
+    set-form-requires
+    enum-told-3
+    expression-form-requires
+    returns
+    returns-2
+    returns-3)

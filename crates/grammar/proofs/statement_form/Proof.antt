@@ -1,0 +1,53 @@
+-- `grammar::statement_form` meets its contract: a row is of the shape that its keyword asks for exactly if there is something written. Assumes nothing.
+use mathlib.Core.Path.{refl}
+use mathlib.Core.Bool.{Bool, false}
+use mathlib.Core.List.{[], _∷_}
+use borrow.Author.Needs.{needs}
+use Rattle.lexer.specs.Forms.{Forms}
+use Rattle.policy.specs.Grammar.{written}
+use Rattle.items.specs.Reads.{isSome}
+use Rattle.items.proofs.Items.{sees, alike}
+use Rattle.items.proofs.Rows.{refuse, after-word}
+use Rattle.grammar.proofs.Statements.{statement-row}
+use Rattle.grammar.proofs.statement_form.Statement.{statement}
+use Rattle.grammar.proofs.statement_form.Tie as tie
+use Rattle.grammar.proofs.statement_form.Reads as reads
+use Rattle.grammar.proofs.statement_form.Lts as lts
+
+abbrev isWritten : Forms → Bool
+isWritten f = isSome (written f)
+
+look-requires : tie.Need-look-requires
+look-requires c κs = search needs
+
+enum-known-item : tie.Need-enum-known-item
+enum-known-item c = search needs
+
+shape-of-requires : tie.Need-shape-of-requires
+shape-of-requires c κs = search needs
+
+sub-shape-form : tie.Need-sub-shape-form
+sub-shape-form c = search needs
+
+shape-form-requires : tie.Need-shape-form-requires
+shape-form-requires c κs = search needs
+
+returns : tie.Need-returns
+returns c =
+    let l = sees (c .before .before .before .before .before .look .ensures) (c .before .before .before .item .given .1) in
+    after-word l (statement-row 31 l _ (c .before .shape-of .ensures)) (c .shape-form .ensures)
+
+returns-2 : tie.Need-returns-2
+returns-2 c = refuse (alike isWritten (λ f. false) _ _ _ (1 ∷ 2 ∷ 3 ∷ []) 31 (tt, λ x f g. refl, refl, refl) (c .before .look .ensures) (c .match .keys2))
+
+pub statement-form-spec : {M : Type 1} → statement M
+statement-form-spec =
+    tie.close
+    (tie.spec
+    look-requires
+    enum-known-item
+    shape-of-requires
+    sub-shape-form
+    shape-form-requires
+    returns
+    returns-2)

@@ -1,0 +1,163 @@
+// The forms of the statements: fault 3.
+ghost use mathlib.Core.Path.{_≡_};
+ghost use Prim.Native.Nat.{_-_};
+ghost use Rattle.lexer.specs.Forms.{framesAt, trim};
+ghost use Rattle.lexer.specs.Scan.{maxLevel};
+ghost use Rattle.policy.specs.Words.{keywordOf};
+ghost use Rattle.policy.specs.Grammar.{expressionIn, written};
+ghost use Rattle.words.specs.Numbers.{wordOf};
+ghost use Rattle.items.specs.Reads.{isSome, Reads};
+ghost use Rattle.grammar.specs.Shapes.{contentOf, onlyPart, nameAndPart, classAndConstraint, shapeOf, byShape};
+use constraint_grammar::Measured;
+use items::Item;
+use items::Parsed;
+use items::Wanted;
+use lexer::Level;
+use words::Word;
+
+// What a part of a statement holds.
+enum Content {
+    Permissions,
+    Set,
+    Constraint,
+}
+
+// What follows a keyword: so many names; a name and permissions; a name and a set expression; a class with permissions and a constraint
+// expression. Or the word is no keyword.
+enum Shape {
+    Names(usize),
+    Class,
+    Set,
+    Constrain,
+    Unknown,
+}
+
+// The shape of what follows the word of a number.
+fn shape_of(number: usize) -> Shape
+    ensures { λ r. ⌜ r ≡ shapeOf (keywordOf (wordOf number)) ⌝ }
+{
+    if number <= Word::LAST_RESERVED {
+        return Shape::Unknown;
+    }
+    if number <= Word::TYPEATTRIBUTE {
+        return Shape::Names(1);
+    }
+    if number == Word::CLASS {
+        return Shape::Class;
+    }
+    if number <= Word::TYPEATTRIBUTESET {
+        return Shape::Set;
+    }
+    if number <= Word::ROLEALLOW {
+        return Shape::Names(2);
+    }
+    if number == Word::ROLETRANSITION {
+        return Shape::Names(4);
+    }
+    if number == Word::CONSTRAIN {
+        return Shape::Constrain;
+    }
+    Shape::Unknown
+}
+
+// A constraint expression, without its measure.
+fn expression_form(text: &[u8], at: usize, levels: usize) -> Parsed
+    ensures { λ r. ⌜ Reads (now (text .entry)) at (isSome (expressionIn (trim (framesAt (now (text .entry)) at .here) levels))) r ⌝ }
+{
+    let measured = constraint_grammar::constraint_form(text, at, levels);
+    match measured {
+        Measured::Good(_, next) => Parsed::Next(next),
+        Measured::Bad => Parsed::Bad,
+    }
+}
+
+// What a part holds, to its close.
+fn content_form(text: &[u8], at: usize, content: Content, levels: usize) -> Parsed
+    ensures { λ r. ⌜ Reads (now (text .entry)) at (contentOf content (trim (framesAt (now (text .entry)) at .here) levels)) r ⌝ }
+{
+    match content {
+        Content::Permissions => items::names_form(text, at, Wanted::OneOrMore),
+        Content::Set => set_grammar::set_form(text, at, levels),
+        Content::Constraint => expression_form(text, at, levels),
+    }
+}
+
+// One part, and the close.
+fn only_part(text: &[u8], at: usize, content: Content, levels: usize) -> Parsed
+    ensures { λ r. ⌜ Reads (now (text .entry)) at (onlyPart content (trim (framesAt (now (text .entry)) at .here) levels)) r ⌝ }
+{
+    let item = items::look(text, at);
+    match item {
+        Item::Open { next, .. } => {
+            if levels == 0 {
+                return Parsed::Bad;
+            }
+            let inner = content_form(text, next, content, levels - 1);
+            match inner {
+                Parsed::Next(past) => items::close_form(text, past),
+                Parsed::Bad => Parsed::Bad,
+            }
+        }
+        Item::Word { .. } | Item::Close { .. } | Item::End => Parsed::Bad,
+    }
+}
+
+// A name, one part, and the close.
+fn name_and_part(text: &[u8], at: usize, content: Content, levels: usize) -> Parsed
+    ensures { λ r. ⌜ Reads (now (text .entry)) at (nameAndPart content (trim (framesAt (now (text .entry)) at .here) levels)) r ⌝ }
+{
+    let item = items::look(text, at);
+    match item {
+        Item::Word { number, next, .. } => {
+            if words::is_name(number) {
+                return only_part(text, next, content, levels);
+            }
+            Parsed::Bad
+        }
+        Item::Open { .. } | Item::Close { .. } | Item::End => Parsed::Bad,
+    }
+}
+
+// A class with permissions in one part, a constraint expression in the next, and the close.
+fn constrain_form(text: &[u8], at: usize, levels: usize) -> Parsed
+    ensures { λ r. ⌜ Reads (now (text .entry)) at (classAndConstraint (trim (framesAt (now (text .entry)) at .here) levels)) r ⌝ }
+{
+    let item = items::look(text, at);
+    match item {
+        Item::Open { next, .. } => {
+            if levels == 0 {
+                return Parsed::Bad;
+            }
+            let class = name_and_part(text, next, Content::Permissions, levels - 1);
+            match class {
+                Parsed::Next(past) => only_part(text, past, Content::Constraint, levels),
+                Parsed::Bad => Parsed::Bad,
+            }
+        }
+        Item::Word { .. } | Item::Close { .. } | Item::End => Parsed::Bad,
+    }
+}
+
+// What follows a keyword, by its shape.
+fn shape_form(text: &[u8], at: usize, shape: Shape, levels: usize) -> Parsed
+    ensures { λ r. ⌜ Reads (now (text .entry)) at (byShape shape (trim (framesAt (now (text .entry)) at .here) levels)) r ⌝ }
+{
+    match shape {
+        Shape::Names(n) => items::names_form(text, at, Wanted::Exactly(n)),
+        Shape::Class => name_and_part(text, at, Content::Permissions, levels),
+        Shape::Set => name_and_part(text, at, Content::Set, levels),
+        Shape::Constrain => constrain_form(text, at, levels),
+        Shape::Unknown => Parsed::Bad,
+    }
+}
+
+// What the parentheses of a statement hold, behind the open one: the place past the close, or that the statement is of no form.
+pub fn statement_form(text: &[u8], at: usize) -> Parsed
+    ensures { λ r. ⌜ Reads (now (text .entry)) at (isSome (written (trim (framesAt (now (text .entry)) at .here) (maxLevel - 1)))) r ⌝ }
+{
+    let item = items::look(text, at);
+    match item {
+        Item::Word { number, next, .. } => shape_form(text, next, shape_of(number), Level::MAX - 1),
+        Item::Open { .. } | Item::Close { .. } | Item::End => Parsed::Bad,
+    }
+}

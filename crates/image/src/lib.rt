@@ -1,0 +1,240 @@
+// Whether the bodies of a table stand where its header says, and whether the bodies 2 to 8 are sound for what the names of body 1 declare.
+// Every function answers for every table, whatever its bytes are.
+use image_rows::Counts;
+use policy::Constraint;
+use policy::Role;
+use policy::Row;
+use policy::Transition;
+use policy::Type;
+use policy::User;
+use table_reader::ConstraintRecord;
+use table_reader::RowRecord;
+ghost use mathlib.Core.Path.{_≡_};
+ghost use Prim.Native.Nat.{_+_, _*_, _<_};
+ghost use lib.ListN.{length, take, drop};
+ghost use Rattle.policy.specs.Sound.{bodiesIn, transitionAt};
+ghost use Rattle.image_rows.specs.Totals.{thingsOf, attributesOf, totalsIn};
+ghost use Rattle.image_rows.specs.SoundRows.{isSome};
+ghost use Rattle.image.specs.SoundBodies.{follow, setsWithin, setsSound, fitsTransition, transitionsFit, transitionsSound, constraintsSound, attributesSound, bodiesSound};
+
+// ---- the layout
+
+// What the first four bytes say, and where the first body starts.
+const EDITION: u16 = 1;
+
+const BODIES: u8 = 8;
+
+const FIRST_BODY: usize = 68;
+
+// Whether each body starts where the one before it ends, and the last ends within the table.
+fn bodies_follow(table: &[u8]) -> bool
+    ensures { λ r. ⌜ r ≡ follow 8 68 (length (now (table .entry))) (drop 4 (now (table .entry))) ⌝ }
+{
+    let mut end = FIRST_BODY;
+    let mut body = 0;
+    while body < BODIES {
+        if table_reader::body_start(table, body) as usize != end {
+            return false;
+        }
+        end += table_reader::body_length(table, body) as usize;
+        body += 1;
+    }
+    end <= table.len()
+}
+
+// Whether the table has a header and eight bodies that stand one after the other. Where they stand, the header says.
+pub fn is_laid_out(table: &[u8]) -> bool
+    ensures { λ r. ⌜ r ≡ isSome (bodiesIn (now (table .entry))) ⌝ }
+{
+    if table.len() < FIRST_BODY {
+        return false;
+    }
+    if table_reader::u16_at(table, 0) != EDITION {
+        return false;
+    }
+    if table_reader::u16_at(table, 2) != BODIES as u16 {
+        return false;
+    }
+    bodies_follow(table)
+}
+
+// ---- sets
+
+// Whether so many sets of `width` bytes from `start` on have no number at or above total. The start is so low that no place overflows.
+fn sets_within(table: &[u8], start: usize, count: u16, width: u16, total: u16) -> bool
+    requires { ⌜ start < 1099511627776 ⌝ }
+    ensures { λ r. ⌜ r ≡ setsWithin count width total (drop start (now (table .entry))) ⌝ }
+{
+    let mut place = start;
+    let mut left = count;
+    while 0 < left {
+        if !bitset::is_within_at(table, place, width as usize, total as usize) {
+            return false;
+        }
+        place += width as usize;
+        left -= 1;
+    }
+    true
+}
+
+// Whether a body, counted from 0, is so many sets of `width` bytes that have no number at or above total.
+fn sets_sound(table: &[u8], body: u8, count: u16, width: u16, total: u16) -> bool
+    ensures { λ r. ⌜ r ≡ setsSound body count width total (now (table .entry)) ⌝ }
+{
+    if table_reader::body_length(table, body) as usize != count as usize * (width as usize) {
+        return false;
+    }
+    sets_within(
+        table,
+        table_reader::body_start(table, body) as usize,
+        count,
+        width,
+        total,
+    )
+}
+
+// ---- transitions
+
+// The bytes of a transition: a set of roles, a set of types from byte 16 on, a class in byte 80, a role in byte 81.
+const TRANSITION_BYTES: usize = 82;
+
+// Whether the transition of this number, where the transitions of 82 bytes start at `start`, names nothing undeclared.
+fn fits_transition(table: &[u8], start: u32, number: u32, counts: Counts) -> bool
+    ensures { λ r. ⌜ r ≡ fitsTransition (thingsOf counts) (counts .classes) (transitionAt (take 82 (drop (start + 82 * number) (now (table .entry))))) ⌝ }
+{
+    let at = start as usize + TRANSITION_BYTES * (number as usize);
+    if !bitset::is_within_at(table, at, Role::SET_BYTES, counts.roles as usize) {
+        return false;
+    }
+    if !bitset::is_within_at(
+        table,
+        at + Role::SET_BYTES,
+        Type::SET_BYTES,
+        counts.types as usize,
+    ) {
+        return false;
+    }
+    if counts.classes <= table_reader::byte_at(table, at + 80) as u16 {
+        return false;
+    }
+    (table_reader::byte_at(table, at + 81) as u16) < counts.roles
+}
+
+// Whether so many transitions from `start` on name nothing undeclared.
+fn transitions_fit(table: &[u8], start: u32, count: u32, counts: Counts) -> bool
+    ensures { λ r. ⌜ r ≡ transitionsFit (thingsOf counts) (counts .classes) count (drop start (now (table .entry))) ⌝ }
+{
+    let mut number = 0;
+    while number < count {
+        if !fits_transition(table, start, number, counts) {
+            return false;
+        }
+        number += 1;
+    }
+    true
+}
+
+// Whether body 5 is sound.
+fn transitions_sound(table: &[u8], counts: Counts) -> bool
+    ensures { λ r. ⌜ r ≡ transitionsSound (thingsOf counts) (counts .classes) (now (table .entry)) ⌝ }
+{
+    let length = table_reader::body_length(table, 4);
+    let count = length / TRANSITION_BYTES as u32;
+    if length != count * TRANSITION_BYTES as u32 {
+        return false;
+    }
+    if (Transition::MAX as u32) < count {
+        return false;
+    }
+    transitions_fit(table, table_reader::body_start(table, 4), count, counts)
+}
+
+// ---- constraints
+
+// Whether the bodies 6 and 7 are sound.
+fn constraints_sound(table: &[u8], counts: Counts, permissions: &[usize]) -> bool
+    ensures { λ r. ⌜ r ≡ constraintsSound (totalsIn counts (now (permissions .entry))) (now (table .entry)) ⌝ }
+{
+    let heads = table_reader::body_length(table, 5);
+    let count = heads / ConstraintRecord::BYTES as u32;
+    if heads != count * ConstraintRecord::BYTES as u32 {
+        return false;
+    }
+    if (Constraint::MAX as u32) < count {
+        return false;
+    }
+    let lines = table_reader::body_length(table, 6);
+    let rows = lines / RowRecord::BYTES as u32;
+    if lines != rows * RowRecord::BYTES as u32 {
+        return false;
+    }
+    if (Row::MAX as u32) < rows {
+        return false;
+    }
+    let first = table_reader::body_start(table, 5);
+    let start = table_reader::body_start(table, 6);
+    image_rows::constraints_fit(table, first, count, start, rows as u16, counts, permissions)
+}
+
+// ---- attributes, and all
+
+// Whether body 8 is sound.
+fn attributes_sound(table: &[u8], counts: Counts) -> bool
+    ensures { λ r. ⌜ r ≡ attributesSound (thingsOf counts) (attributesOf counts) (now (table .entry)) ⌝ }
+{
+    let users = User::SET_BYTES * (counts.userattributes as usize);
+    let roles = Role::SET_BYTES * (counts.roleattributes as usize);
+    let types = Type::SET_BYTES * (counts.typeattributes as usize);
+    if table_reader::body_length(table, 7) as usize != users + roles + types {
+        return false;
+    }
+    let start = table_reader::body_start(table, 7) as usize;
+    if !sets_within(
+        table,
+        start,
+        counts.userattributes,
+        User::SET_BYTES as u16,
+        counts.users,
+    ) {
+        return false;
+    }
+    if !sets_within(
+        table,
+        start + users,
+        counts.roleattributes,
+        Role::SET_BYTES as u16,
+        counts.roles,
+    ) {
+        return false;
+    }
+    sets_within(
+        table,
+        start + users + roles,
+        counts.typeattributes,
+        Type::SET_BYTES as u16,
+        counts.types,
+    )
+}
+
+// Whether the bodies 2 to 8 are sound, where body 1 declares so many things of each sort and `permissions` holds how many permissions each
+// class has.
+pub fn bodies_sound(table: &[u8], counts: Counts, permissions: &[usize]) -> bool
+    ensures { λ r. ⌜ r ≡ bodiesSound (totalsIn counts (now (permissions .entry))) (now (table .entry)) ⌝ }
+{
+    if !sets_sound(table, 1, counts.users, Role::SET_BYTES as u16, counts.roles) {
+        return false;
+    }
+    if !sets_sound(table, 2, counts.roles, Type::SET_BYTES as u16, counts.types) {
+        return false;
+    }
+    if !sets_sound(table, 3, counts.roles, Role::SET_BYTES as u16, counts.roles) {
+        return false;
+    }
+    if !transitions_sound(table, counts) {
+        return false;
+    }
+    if !constraints_sound(table, counts, permissions) {
+        return false;
+    }
+    attributes_sound(table, counts)
+}

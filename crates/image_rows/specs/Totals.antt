@@ -1,0 +1,43 @@
+-- How many things of each sort the names of a table declare: all that the other bodies are held against. Assumes nothing.
+use Prim.Native.Nat.{ℕ, _<_}
+use mathlib.Core.Path.{_≡_}
+use mathlib.Core.List.{List}
+use lib.ListN.{length, getD}
+use Rattle.policy.specs.Statements.{Family, users, roles, types, thingOf, attributeOf, Declaration, count, classNames, permissions}
+use Rattle.image_rows.specs.declared.Counts.{Counts}
+
+pub record Totals : Type 0 where
+  pub things : Family → ℕ
+  pub attributes : Family → ℕ
+  pub classes : ℕ
+  pub permissions : ℕ → ℕ
+
+-- those of a list of declarations
+abbrev pub totalsOf : List Declaration → Totals
+totalsOf ds = record {
+  things = λ f. count (thingOf f) ds;
+  attributes = λ f. count (attributeOf f) ds;
+  classes = length (classNames ds);
+  permissions = λ c. length (permissions ds c);
+}
+
+-- those that the struct of src/ and the lent numbers of permissions stand for
+abbrev pub thingsOf : Counts → Family → ℕ
+thingsOf c users = c .users
+thingsOf c roles = c .roles
+thingsOf c types = c .types
+
+abbrev pub attributesOf : Counts → Family → ℕ
+attributesOf c users = c .userattributes
+attributesOf c roles = c .roleattributes
+attributesOf c types = c .typeattributes
+
+abbrev pub totalsIn : Counts → List ℕ → Totals
+totalsIn c ps = record { things = thingsOf c; attributes = attributesOf c; classes = c .classes; permissions = λ k. getD ps k 0 }
+
+-- the struct and the lent numbers are those of the declarations
+pub record Counted (ds : List Declaration) (c : Counts) (ps : List ℕ) : Type 0 where
+  pub things : (f : Family) → thingsOf c f ≡ count (thingOf f) ds
+  pub attributes : (f : Family) → attributesOf c f ≡ count (attributeOf f) ds
+  pub classes : c .classes ≡ length (classNames ds)
+  pub permissions : (k : ℕ) → k < length (classNames ds) → getD ps k 0 ≡ length (permissions ds k)

@@ -1,0 +1,97 @@
+-- How operands and names are counted, and how a row of names goes on by an item. Assumes nothing.
+use mathlib.Core.Path.{_≡_, refl, sym, ap, _∙_}
+use mathlib.Core.Bool.{Bool, true, false, not, _&&_}
+use mathlib.Core.List.{List, [], _∷_}
+use mathlib.Core.Option.{Option, none, some}
+use Prim.Native.Nat.{ℕ, suc, _+_, _-_}
+use native.Mathlib.Nat.{add-zero}
+use native.Mathlib.Omega.{arith}
+use borrow.Author.Tests.{ne-eqb}
+use lib.Dec.{eqb}
+use lib.ListN.{length}
+use Rattle.lexer.specs.Forms.{Forms, closed, ended, word, part, trim}
+use Rattle.policy.specs.Basics.{Name, _>>=_, more, ofNone, ofOne, ofTwo}
+use Rattle.policy.specs.Words.{isReserved, asName}
+use Rattle.policy.specs.Grammar.{namesIn}
+use Rattle.words.specs.Numbers.{numberOf, wordOf}
+use Rattle.words.proofs.Meaning.{reserved-number}
+use Rattle.items.specs.Reads.{isSome, enough, counted}
+use Rattle.items.specs.declared.Wanted.{Wanted}
+
+-- one more that is there; one that is not
+pub one-more : {A : Type 0} (w : Wanted) (n : ℕ) (o : Option A) (r : Option (List A)) → isSome o ≡ true → counted w n (more o r) ≡ counted w (n + 1) r
+unfolding counted
+one-more w n none r e = absurd (let z : _≡_ {A = ℕ} 0 1 = cc in omega arith)
+one-more w n (some a) none e = refl
+one-more w n (some a) (some xs) e = ap (enough w) (let d : n + suc (length xs) ≡ n + 1 + length xs = omega arith in d)
+
+pub one-less : {A : Type 0} (w : Wanted) (n : ℕ) (o : Option A) (r : Option (List A)) → isSome o ≡ false → counted w n (more o r) ≡ false
+unfolding counted
+one-less w n none r e = refl
+one-less w n (some a) r e = absurd (let z : _≡_ {A = ℕ} 0 1 = cc in omega arith)
+
+-- none any more
+pub no-more : (A : Type 0) (w : Wanted) (n : ℕ) → counted {A = A} w n (some []) ≡ enough w n
+unfolding counted
+no-more A w n = ap (enough w) (add-zero n)
+
+-- none, one or two of them
+module _ {A B : Type 0} where
+  pub of-none : (b : B) (xs : Option (List A)) → counted (Wanted.Exactly 0) 0 xs ≡ isSome (xs >>= ofNone b)
+  unfolding counted
+  of-none b none = refl
+  of-none b (some []) = refl
+  of-none b (some (x ∷ xs)) = ne-eqb (0 + suc (length xs)) 0 (λ z. omega arith)
+
+  pub of-one : (f : A → B) (xs : Option (List A)) → counted (Wanted.Exactly 1) 0 xs ≡ isSome (xs >>= ofOne f)
+  unfolding counted
+  of-one f none = refl
+  of-one f (some []) = refl
+  of-one f (some (x ∷ [])) = refl
+  of-one f (some (x ∷ y ∷ xs)) = ne-eqb (0 + suc (suc (length xs))) 1 (λ z. omega arith)
+
+  pub of-two : (f : A → A → B) (xs : Option (List A)) → counted (Wanted.Exactly 2) 0 xs ≡ isSome (xs >>= ofTwo f)
+  unfolding counted
+  of-two f none = refl
+  of-two f (some []) = refl
+  of-two f (some (x ∷ [])) = refl
+  of-two f (some (x ∷ y ∷ [])) = refl
+  of-two f (some (x ∷ y ∷ z ∷ xs)) = ne-eqb (0 + suc (suc (suc (length xs)))) 2 (λ z. omega arith)
+
+-- ---- names
+
+-- a word whose number is that of a name
+pub is-name : (w : Name) (k : ℕ) (b : Bool) → numberOf w ≡ k → b ≡ not (isReserved (wordOf k)) → not (isReserved w) ≡ b
+is-name w k b e f = ap not (reserved-number w ∙ ap (λ (n : ℕ). isReserved (wordOf n)) e) ∙ sym f
+
+-- a row of names by the first of them, after n
+module _ (v : Wanted) (n : ℕ) where
+  pub word-name : (w : Name) (s k : ℕ) (f : Forms) (b : Bool) → numberOf w ≡ k → b ≡ not (isReserved (wordOf k))
+      → counted v n (namesIn (word s w f)) ≡ b && counted v (n + 1) (namesIn f)
+  unfolding namesIn
+  word-name w s k f true e h = one-more v n (asName w) (namesIn f) (rw (is-name w k true e h))
+  word-name w s k f false e h = one-less v n (asName w) (namesIn f) (rw (is-name w k false e h))
+
+  pub close-name : counted v n (namesIn closed) ≡ enough v n
+  unfolding namesIn
+  close-name = no-more Name v n
+
+  pub end-name : counted v n (namesIn ended) ≡ false
+  unfolding namesIn counted
+  end-name = refl
+
+  pub part-name : (p : ℕ) (f g : Forms) → counted v n (namesIn (part p f g)) ≡ false
+  unfolding namesIn counted
+  part-name p f g = refl
+
+-- a cut does not change whether a row is one of names
+pub trim-names : (f : Forms) (n : ℕ) → namesIn (trim f n) ≡ namesIn f
+unfolding trim namesIn
+trim-names closed n = refl
+trim-names ended n = refl
+trim-names (word s b f) n = ap (more (asName b)) (trim-names f n)
+trim-names (part p f g) n = go (eqb n 0)
+  where
+    go : (b : Bool) → namesIn (elim b [ true ↦ ended | false ↦ part p (trim f (n - 1)) (trim g n) ]) ≡ none
+    go true = refl
+    go false = refl

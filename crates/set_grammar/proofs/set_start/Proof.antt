@@ -1,0 +1,52 @@
+-- `set_grammar::set_start` meets its contract, by the first item. Assumes nothing.
+use mathlib.Core.Path.{_≡_, refl}
+use mathlib.Core.List.{[], _∷_}
+use borrow.Author.Needs.{needs}
+use Rattle.items.specs.declared.Item.{Item}
+use Rattle.items.specs.declared.Wanted.{Wanted}
+use Rattle.items.proofs.Items.{among}
+use Rattle.set_grammar.specs.Starts.{begun, startOf}
+use Rattle.set_grammar.proofs.set_start.Statement.{statement}
+use Rattle.set_grammar.proofs.set_start.Tie as tie
+use Rattle.set_grammar.proofs.set_start.Reads as reads
+use Rattle.set_grammar.proofs.set_start.Lts as lts
+
+look-requires : tie.Need-look-requires
+look-requires c κs = search needs
+
+enum-known-item : tie.Need-enum-known-item
+enum-known-item c = search needs
+
+operands-of-requires : tie.Need-operands-of-requires
+operands-of-requires c κs = search needs
+
+enum-told : tie.Need-enum-told
+enum-told c = search needs
+
+enum-told-2 : tie.Need-enum-told-2
+enum-told-2 c = search needs
+
+returns : tie.Need-returns
+returns c = rw (← c .before .before .before .before .before .before .look .ensures, c .before .before .before .before .item .given .1, ← c .before .before .operands-of .ensures, c .enum-told .given .1)
+
+returns-2 : tie.Need-returns-2
+returns-2 c = rw (← c .before .before .before .before .before .before .look .ensures, c .before .before .before .before .item .given .1, ← c .before .before .operands-of .ensures, c .enum-told2 .given .1)
+
+returns-3 : tie.Need-returns-3
+returns-3 c =
+    let at = c .before .before .before .args .at in
+    rw (← c .before .look .ensures)
+    (among (1 ∷ 2 ∷ 3 ∷ []) (λ (r : Item). begun Wanted.OneOrMore at ≡ startOf at r) (tt, λ p q. refl, λ q. refl, refl) (c .before .look .result) (c .match .keys2))
+
+pub set-start-spec : {M : Type 1} → statement M
+set-start-spec =
+    tie.close
+    (tie.spec
+    look-requires
+    enum-known-item
+    operands-of-requires
+    enum-told
+    enum-told-2
+    returns
+    returns-2
+    returns-3)

@@ -1,0 +1,7 @@
+pub mod Putting
+pub mod Referring
+pub mod Operating
+pub mod Leaving
+pub mod Starting
+pub mod Going
+pub mod Answering

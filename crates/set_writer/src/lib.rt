@@ -1,0 +1,155 @@
+// Set expressions with their names resolved: the part of the statement code that stands for one set expression. Its form is known to be good
+// where this is called; what is found out here is whether its names are declared, and its units are written on the way.
+ghost use mathlib.Core.Path.{_≡_};
+ghost use Rattle.bitset.specs.Parts.{part};
+ghost use Rattle.policy.specs.Words.{setWord};
+ghost use Rattle.words.specs.Numbers.{wordOf};
+ghost use Rattle.set_writer.specs.Writing.{Stored};
+ghost use Rattle.set_writer.specs.Naming.{Refers};
+ghost use Rattle.set_writer.specs.Sets.{operatorUnit, Begins, WritesSet};
+use items::Item;
+use statement_code::Unit;
+use symbols::Found;
+use words::Word;
+
+// The unit of a reference to what a name of a family stands for, or that none is declared.
+pub enum Referred {
+    Unit(u16),
+    Missing,
+}
+
+// The operator of a set expression, and where its operands begin.
+struct Begun {
+    operator: u16,
+    next: usize,
+}
+
+// The place past the close of the set expression and the place past its units, or that one of its names is not declared.
+pub enum SetWritten {
+    Next { at: usize, to: usize },
+    Undeclared,
+}
+
+// Writes a unit at a place, if the code reaches there, and answers the next place.
+pub fn put_unit(code: &mut [u16], at: usize, unit: u16) -> usize
+    ensures { λ r. ⌜ Stored (now (code .entry)) at unit (now (code .exit)) r ⌝ }
+{
+    if at < code.len() {
+        code[at] = unit;
+        return at + 1;
+    }
+    at
+}
+
+// The unit of what the len bytes of the text from a place on name in a family.
+pub fn reference(
+    symbols: &[u8],
+    end: usize,
+    family: usize,
+    text: &[u8],
+    start: usize,
+    len: usize,
+) -> Referred
+    ensures { λ r. ⌜ Refers (now (symbols .entry)) end family (part (now (text .entry)) start len) r ⌝ }
+{
+    let found = symbols::find(symbols, 0, end, family, text, start, len);
+    match found {
+        Found::At { sort, number } => {
+            if Unit::ATTRIBUTE as usize <= number {
+                return Referred::Missing;
+            }
+            if sort < 3 {
+                return Referred::Unit(number as u16);
+            }
+            Referred::Unit(Unit::ATTRIBUTE + number as u16)
+        }
+        Found::Missing => Referred::Missing,
+    }
+}
+
+// The operator of a set expression that starts with the word of the number.
+fn operator_of(number: usize) -> u16
+    ensures { λ r. ⌜ r ≡ operatorUnit (setWord (wordOf number)) ⌝ }
+{
+    match number {
+        Word::ALL => Unit::ALL,
+        Word::AND => Unit::AND,
+        Word::OR => Unit::OR,
+        Word::XOR => Unit::XOR,
+        Word::NOT => Unit::NOT,
+        _ => Unit::UNION,
+    }
+}
+
+// How a set expression begins. What a union begins with is its first operand.
+fn set_start(text: &[u8], at: usize) -> Begun
+    ensures { λ r. ⌜ Begins (now (text .entry)) at r ⌝ }
+{
+    let item = items::look(text, at);
+    match item {
+        Item::Word { number, next, .. } => {
+            let operator = operator_of(number);
+            if operator == Unit::UNION {
+                return Begun { operator, next: at };
+            }
+            Begun { operator, next }
+        }
+        Item::Open { .. } | Item::Close { .. } | Item::End => Begun {
+            operator: Unit::UNION,
+            next: at,
+        },
+    }
+}
+
+// Writes the units of what the parentheses of a set expression hold: the operator, the operands, the end mark. It calls itself on each
+// operand in parentheses; the number that falls is the levels left.
+pub fn write_set(
+    text: &[u8],
+    at: usize,
+    levels: usize,
+    symbols: &[u8],
+    end: usize,
+    family: usize,
+    code: &mut [u16],
+    to: usize,
+) -> SetWritten
+    ensures { λ r. ⌜ WritesSet (now (text .entry)) at levels (now (symbols .entry)) end family (now (code .entry)) to (now (code .exit)) r ⌝ }
+{
+    let begun = set_start(text, at);
+    let mut i = begun.next;
+    let mut u = put_unit(code, to, begun.operator);
+    loop {
+        let item = items::look(text, i);
+        match item {
+            Item::Word {
+                start,
+                len,
+                next,
+                ..
+            } => {
+                let name = reference(symbols, end, family, text, start, len);
+                let Referred::Unit(unit) = name else {
+                    return SetWritten::Undeclared;
+                };
+                u = put_unit(code, u, unit);
+                i = next;
+            }
+            Item::Open { next, .. } => {
+                if levels == 0 {
+                    return SetWritten::Undeclared;
+                }
+                let operand = write_set(text, next, levels - 1, symbols, end, family, code, u);
+                let SetWritten::Next { at: past, to: v } = operand else {
+                    return SetWritten::Undeclared;
+                };
+                i = past;
+                u = v;
+            }
+            Item::Close { next } => {
+                let v = put_unit(code, u, Unit::END);
+                return SetWritten::Next { at: next, to: v };
+            }
+            Item::End => return SetWritten::Undeclared,
+        }
+    }
+}

@@ -1,0 +1,164 @@
+-- What words mean, by their numbers. A word means what the word of its number means: one law for every meaning that words outside the list do not
+-- have, and a case of it for each list of words that policy names. And what the words of some numbers mean, by one computation over the list.
+-- Assumes nothing.
+use mathlib.Core.Path.{_≡_, refl, sym, ap, subst, _∙_}
+use mathlib.Core.Bool.{Bool, true, false, not, _&&_, cond}
+use mathlib.Core.List.{List, [], _∷_, map}
+use mathlib.Core.Option.{none, some}
+use Prim.Native.Nat.{ℕ, zero, suc, _+_, _-_, _<_, _≤_}
+use native.Mathlib.Nat.{add-zero, zero-add, le-of-suc-le-suc, not-suc-le-zero}
+use native.Mathlib.Omega.{arith}
+use borrow.Author.Tests.{eqb-true, ltb-true, ltb-false, not-true}
+use lib.Dec.{eqb, ltb}
+use lib.ListN.{length, getD, take, drop, replicate, getD-replicate, List·getD-map, List·getD-eq-default}
+use lib.Seq.{getD-take, getD-drop}
+use Rattle.policy.specs.Basics.{Name, same, any, every, isIn, Under, lookup}
+use Rattle.policy.specs.Words.{reserved, isReserved, keywordOf, setWord, expressionWord, opOf, componentOf}
+use Rattle.policy.proofs.Lists.{both-true, neither, any-append}
+use Rattle.words.specs.Numbers.{keywords, words, numberIn, numberOf, wordOf}
+use Rattle.words.proofs.Table.{counted}
+
+-- ---- from a word to its number
+
+pub same-is : (v w : Name) → same v w ≡ true → v ≡ w
+unfolding same
+same-is [] [] e = refl
+same-is [] (y ∷ w) e = absurd (let z : _≡_ {A = ℕ} 0 1 = cc in omega arith)
+same-is (x ∷ v) [] e = absurd (let z : _≡_ {A = ℕ} 0 1 = cc in omega arith)
+same-is (x ∷ v) (y ∷ w) e =
+    let b = both-true (eqb x y) (same v w) e in
+    let h = eqb-true x y (b .0) in
+    let t = same-is v w (b .1) in
+    cc
+
+-- what holds at 0 if w is none of them, and at the number of each of them that is w, holds at the number of w
+by-cases : (P : ℕ → Type 0) (xs : List Name) (w : Name) (n : ℕ) → (isIn w xs ≡ false → P 0) → ((j : ℕ) → w ≡ getD xs j [] → P (n + j)) → P (numberIn xs w n)
+unfolding numberIn isIn any
+by-cases P [] w n a b = a refl
+by-cases P (x ∷ xs) w n a b = go (same w x) refl (λ h k. by-cases P xs w (n + 1) h k)
+  where
+    go : (q : Bool) → same w x ≡ q → ((isIn w xs ≡ false → P 0) → ((j : ℕ) → w ≡ getD xs j [] → P (n + 1 + j)) → P (numberIn xs w (n + 1)))
+        → P (elim (same w x) [ true ↦ n | false ↦ numberIn xs w (n + 1) ])
+    go true e i = rw e (rw (add-zero n) at (b 0 (same-is w x e)))
+    go false e i = rw e (i (λ h. a (rw e h)) (λ j h. subst P (omega arith) (b (suc j) h)))
+
+pub by-number : {B : Type 0} (meaning : Name → B) → ((v : Name) → isIn v words ≡ false → meaning v ≡ meaning []) → (w : Name)
+    → meaning w ≡ meaning (wordOf (numberOf w))
+unfolding numberOf wordOf
+by-number meaning other w =
+    by-cases (λ n. meaning w ≡ meaning (getD ([] ∷ words) n [])) words w 1 (other w)
+    (λ j h. let d : suc j ≡ 1 + j = omega arith in ap meaning h ∙ ap (λ (n : ℕ). meaning (getD ([] ∷ words) n [])) d)
+
+-- ---- the meanings that policy names
+
+-- a word outside the list is under no word of a list of some of them
+missing : {A : Type 0} (v : Name) (xs : List (Under A)) → every (λ x. isIn (x .word) words) xs ≡ true → isIn v words ≡ false → lookup v xs ≡ none
+unfolding every lookup
+missing v [] e h = refl
+missing v (x ∷ xs) e h =
+    let b = both-true (isIn (x .word) words) (every (λ x. isIn (x .word) words) xs) e in
+    go (same v (x .word)) refl (b .0) (missing v xs (b .1) h)
+  where
+    go : (q : Bool) → same v (x .word) ≡ q → isIn (x .word) words ≡ true → lookup v xs ≡ none → cond (same v (x .word)) (some (x .value)) (lookup v xs) ≡ none
+    go true d i k =
+        let w = same-is v (x .word) d in
+        let z : _≡_ {A = Bool} true false = sym (ap (λ (u : Name). isIn u words) w ∙ i) ∙ h in
+        absurd (let z : _≡_ {A = ℕ} 0 1 = cc in omega arith)
+    go false d i k = rw d k
+
+-- so a word is under the same words of a list of some of them as the word of its number is
+by-list : {A : Type 0} (xs : List (Under A)) → every (λ x. isIn (x .word) words) xs ≡ true → (w : Name) → lookup w xs ≡ lookup (wordOf (numberOf w)) xs
+unfolding same any isIn reserved keywords words
+by-list xs e w = by-number (λ v. lookup v xs) (λ v h. missing v xs e h ∙ sym (missing [] xs e refl)) w
+
+module _ (w : Name) where
+  pub reserved-number : isReserved w ≡ isReserved (wordOf (numberOf w))
+  unfolding same any isIn reserved isReserved words
+  reserved-number =
+      by-number isReserved (λ v h. neither (isIn v reserved) (isIn v keywords) (sym (any-append (same v) reserved keywords) ∙ h) .0) w
+
+  pub keyword-number : keywordOf w ≡ keywordOf (wordOf (numberOf w))
+  unfolding same any every isIn reserved keywords words keywordOf
+  keyword-number = by-list _ refl w
+
+  pub set-number : setWord w ≡ setWord (wordOf (numberOf w))
+  unfolding same any every isIn reserved keywords words setWord
+  set-number = by-list _ refl w
+
+  pub expression-number : expressionWord w ≡ expressionWord (wordOf (numberOf w))
+  unfolding same any every isIn reserved keywords words expressionWord
+  expression-number = by-list _ refl w
+
+  pub op-number : opOf w ≡ opOf (wordOf (numberOf w))
+  unfolding same any every isIn reserved keywords words opOf
+  op-number = by-list _ refl w
+
+  pub component-number : componentOf w ≡ componentOf (wordOf (numberOf w))
+  unfolding same any every isIn reserved keywords words componentOf
+  component-number = by-list _ refl w
+
+-- ---- from a number to its word
+
+module _ {B : Type 0} (meaning : Name → B) (lo : ℕ) where
+  -- what the words from a number on mean, in the order of their numbers
+  abbrev pub meanings : List B
+  meanings = drop lo (map meaning ([] ∷ words))
+
+  meant : (n : ℕ) → lo ≤ n → meaning (wordOf n) ≡ getD meanings (n - lo) (meaning [])
+  unfolding wordOf
+  meant n h =
+      let d : lo + (n - lo) ≡ n = omega arith in
+      sym (List·getD-map meaning ([] ∷ words) n [])
+      ∙ ap (λ (k : ℕ). getD (map meaning ([] ∷ words)) k (meaning [])) (sym d)
+      ∙ sym (getD-drop lo (map meaning ([] ∷ words)) (n - lo) (meaning []))
+
+  -- what the words of a stretch of numbers all mean, the word of such a number means
+  pub stretch : (size : ℕ) (b : B) → take size meanings ≡ replicate size b → (n : ℕ) → lo ≤ n → n < lo + size → meaning (wordOf n) ≡ b
+  stretch size b e n h g =
+      meant n h
+      ∙ sym (getD-take size meanings (n - lo) (meaning []) (omega arith))
+      ∙ ap (λ (l : List B). getD l (n - lo) (meaning [])) e
+      ∙ getD-replicate size (n - lo) b (meaning []) (omega arith)
+
+  -- where the words from a number on all mean what the empty word does, so does the word of every number from there on
+  pub from-on : meanings ≡ replicate (39 - lo) (meaning []) → (n : ℕ) → lo ≤ n → meaning (wordOf n) ≡ meaning []
+  from-on e n h = meant n h ∙ ap (λ (l : List B). getD l (n - lo) (meaning [])) e ∙ all-same (39 - lo) (n - lo)
+    where
+      all-same : (k i : ℕ) → getD (replicate k (meaning [])) i (meaning []) ≡ meaning []
+      all-same zero i = refl
+      all-same (suc k) zero = refl
+      all-same (suc k) (suc i) = all-same k i
+
+-- a test of words and a test of numbers agree at each word of a list and its number, from a number on
+abbrev alike : Bool → Bool → Bool
+alike true b = b
+alike false b = not b
+
+unfoldable pub agreeing : (Name → Bool) → (ℕ → Bool) → List Name → ℕ → Bool
+agreeing test f [] n = true
+agreeing test f (w ∷ ws) n = alike (f n) (test w) && agreeing test f ws (n + 1)
+
+alike-is : (a b : Bool) → alike a b ≡ true → a ≡ b
+alike-is true b e = sym e
+alike-is false b e = sym (not-true b e)
+
+agreed : (test : Name → Bool) (f : ℕ → Bool) (ws : List Name) (n k : ℕ) → agreeing test f ws n ≡ true → k < length ws → f (n + k) ≡ test (getD ws k [])
+unfolding agreeing
+agreed test f [] n k e h = absurd (not-suc-le-zero h)
+agreed test f (w ∷ ws) n zero e h = ap f (add-zero n) ∙ alike-is (f n) (test w) (both-true (alike (f n) (test w)) (agreeing test f ws (n + 1)) e .0)
+agreed test f (w ∷ ws) n (suc k) e h =
+    let d : n + suc k ≡ n + 1 + k = omega arith in
+    ap f d ∙ agreed test f ws (n + 1) k (both-true (alike (f n) (test w)) (agreeing test f ws (n + 1)) e .1) (le-of-suc-le-suc h)
+
+-- so they agree at every number and its word, if they do past the last
+pub agree : (test : Name → Bool) (f : ℕ → Bool) → agreeing test f ([] ∷ words) 0 ≡ true → ((n : ℕ) → 38 < n → f n ≡ test []) → (n : ℕ) → f n ≡ test (wordOf n)
+unfolding wordOf
+agree test f e beyond n = go (ltb 38 n) refl
+  where
+    go : (q : Bool) → ltb 38 n ≡ q → f n ≡ test (getD ([] ∷ words) n [])
+    go true h =
+        let g = ltb-true 38 n h in
+        beyond n g ∙ ap test (sym (List·getD-eq-default ([] ∷ words) [] {n = n} (rw counted g)))
+    go false h =
+        let d : 0 + n ≡ n = zero-add n in
+        sym (ap f d) ∙ agreed test f ([] ∷ words) 0 n e (rw counted (let g = ltb-false 38 n h in omega arith))

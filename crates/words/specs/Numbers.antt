@@ -1,0 +1,36 @@
+-- The words that mean something, and the number of a word. What they mean is said in policy's Words; a number only stands for the word.
+-- Assumes nothing.
+use Prim.Native.Nat.{ℕ, _+_}
+use mathlib.Core.Bool.{true, false}
+use mathlib.Core.List.{List, [], _∷_, _++_}
+use lib.ListN.{getD}
+use Rattle.lexer.specs.Spell.{bytes}
+use Rattle.policy.specs.Basics.{Name, same}
+use Rattle.policy.specs.Words.{reserved}
+
+-- "Statement keywords are not reserved: `(role role)` is good."
+unfoldable pub keywords : List Name
+keywords =
+    bytes "user" ∷ bytes "role" ∷ bytes "type"
+    ∷ bytes "userattribute" ∷ bytes "roleattribute" ∷ bytes "typeattribute"
+    ∷ bytes "class"
+    ∷ bytes "userattributeset" ∷ bytes "roleattributeset" ∷ bytes "typeattributeset"
+    ∷ bytes "userrole" ∷ bytes "roletype" ∷ bytes "roleallow"
+    ∷ bytes "roletransition" ∷ bytes "constrain" ∷ []
+
+-- in the order of their numbers, from 1
+unfoldable pub words : List Name
+words = reserved ++ keywords
+
+-- the number of w among xs, which are numbered from n on; 0 where it is none of them
+unfoldable pub numberIn : List Name → Name → ℕ → ℕ
+numberIn [] w n = 0
+numberIn (x ∷ xs) w n = elim (same w x) [ true ↦ n | false ↦ numberIn xs w (n + 1) ]
+
+-- the number of a word: 0 for a word that means nothing
+unfoldable pub numberOf : Name → ℕ
+numberOf w = numberIn words w 1
+
+-- the word of a number; the empty word, which means nothing, stands for 0 and for a number of no word
+unfoldable pub wordOf : ℕ → Name
+wordOf n = getD ([] ∷ words) n []
