@@ -14,34 +14,9 @@ use Rattle.policy.specs.Reading.{isNew, hasRoom}
 use Rattle.policy.specs.Sound.{goodNames, goodFrom}
 use Rattle.policy.specs.Accepted.{All, ReferenceIn, SetIn, StatementIn, Accepted}
 use Rattle.policy.proofs.Lists.{both-true, gather-over, gather-last}
-use Rattle.policy.proofs.Counts.{few-of}
+use Rattle.policy.proofs.Counts.{few-of, few-classes}
 use Rattle.policy.proofs.Gathered.{all-map}
 use Rattle.statement_code.specs.Numbered.{NumberedR, Numbered, StatementNumbered}
-
--- what `goodFrom` says of the first declaration, and of those after it
-first-good : (e : List Declaration) (d : Declaration) (ds : List Declaration) → goodFrom e (d ∷ ds) ≡ true → (hasRoom e d ≡ true) × (goodFrom (e ++ (d ∷ [])) ds ≡ true)
-unfolding goodFrom
-first-good e d ds h =
-    let both = both-true (goodNames d && isNew e d && hasRoom e d) (goodFrom (e ++ (d ∷ [])) ds) h in
-    (both-true (goodNames d && isNew e d) (hasRoom e d) (both .0) .1, both .1)
-
--- "classes 32"
-one-class-more : (e : List Declaration) (d : Declaration) → hasRoom e d ≡ true → length (classNames e) ≤ maxClasses → length (classNames (e ++ (d ∷ []))) ≤ maxClasses
-unfolding classNames
-one-class-more e (plain s w) h l = rw (gather-over ofClass e (plain s w) refl) l
-one-class-more e (class w ps) h l =
-    let room = ltb-true (length (gather ofClass e)) maxClasses (both-true (ltb (length (gather ofClass e)) maxClasses) (leb (length ps) maxPermissions) h .0) in
-    rw (gather-last ofClass e (class w ps) w refl, length-append (gather ofClass e) (w ∷ [])) (omega arith)
-
-few-classes-from : (e ds : List Declaration) → goodFrom e ds ≡ true → length (classNames e) ≤ maxClasses → length (classNames (e ++ ds)) ≤ maxClasses
-few-classes-from e [] h l = rw append-nil l
-few-classes-from e (d ∷ ds) h l =
-    subst (λ (xs : List Declaration). length (classNames xs) ≤ maxClasses) (append-assoc e (d ∷ []) ds)
-    (few-classes-from (e ++ (d ∷ [])) ds (first-good e d ds h .1) (one-class-more e d (first-good e d ds h .0) l))
-
-pub few-classes : (ds : List Declaration) → goodFrom [] ds ≡ true → length (classNames ds) ≤ maxClasses
-unfolding classNames gather
-few-classes ds h = few-classes-from [] ds h (omega arith)
 
 max-small : (s : Sort) → maxOf s ≤ 512
 max-small (thingOf users) = omega arith

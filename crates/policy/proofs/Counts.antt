@@ -10,7 +10,7 @@ use lib.Dec.{ltb, leb}
 use lib.ListN.{length, length-append}
 use borrow.Author.Tests.{ltb-true, leb-true}
 use Rattle.policy.specs.Basics.{Name, gather}
-use Rattle.policy.specs.Statements.{Family, users, roles, types, Sort, thingOf, attributeOf, Declaration, plain, class, sameFamily, sameSort, ofSort, withPermissions, namesOf, classNames, count, permissions}
+use Rattle.policy.specs.Statements.{Family, users, roles, types, Sort, thingOf, attributeOf, Declaration, plain, class, sameFamily, sameSort, ofSort, withPermissions, ofClass, namesOf, classNames, count, permissions}
 use Rattle.policy.specs.Maxima.{maxOf, maxClasses, maxPermissions}
 use Rattle.policy.specs.Reading.{isNew, hasRoom}
 use Rattle.policy.specs.Sound.{goodNames, goodFrom}
@@ -65,3 +65,21 @@ few-permissions-of ds h c =
     kept : (d : Declaration) → FewPermissions d → OfValue (λ (ps : List Name). length ps ≤ maxPermissions) (withPermissions d)
     kept (plain s w) k = tt
     kept (class w ps) k = k
+
+-- "classes 32"
+class-more : (e : List Declaration) (d : Declaration) → hasRoom e d ≡ true → length (classNames e) ≤ maxClasses → length (classNames (e ++ (d ∷ []))) ≤ maxClasses
+unfolding classNames
+class-more e (plain s w) h l = rw (gather-over ofClass e (plain s w) refl) l
+class-more e (class w ps) h l =
+    let room = ltb-true (length (gather ofClass e)) maxClasses (both-true (ltb (length (gather ofClass e)) maxClasses) (leb (length ps) maxPermissions) h .0) in
+    rw (gather-last ofClass e (class w ps) w refl, length-append (gather ofClass e) (w ∷ [])) (omega arith)
+
+few-classes-from : (e ds : List Declaration) → goodFrom e ds ≡ true → length (classNames e) ≤ maxClasses → length (classNames (e ++ ds)) ≤ maxClasses
+few-classes-from e [] h l = rw append-nil l
+few-classes-from e (d ∷ ds) h l =
+    subst (λ (xs : List Declaration). length (classNames xs) ≤ maxClasses) (append-assoc e (d ∷ []) ds)
+    (few-classes-from (e ++ (d ∷ [])) ds (good-rest e d ds h) (class-more e d (good-first e d ds h .room) l))
+
+pub few-classes : (ds : List Declaration) → goodFrom [] ds ≡ true → length (classNames ds) ≤ maxClasses
+unfolding classNames gather
+few-classes ds h = few-classes-from [] ds h (omega arith)

@@ -19,34 +19,9 @@ use Rattle.policy.proofs.Lists.{both-true, gather-over, gather-last, all-append
 use Rattle.statement_code.specs.Code.{referenceUnit, endUnit, setCode, rowCode}
 use Rattle.statement_code.specs.Numbered.{NumberedR, Numbered}
 use Rattle.meaning_laws.proofs.ListLaws.{all-gathered}
-use Rattle.policy.proofs.Counts.{few-of}
+use Rattle.policy.proofs.Counts.{few-of, few-classes}
 use Rattle.resolver.proofs.OperandLaws.{attribute-unit}
 use Rattle.resolver.proofs.Items.{Item, declares, fills, relates, moves, unitsOf, itemOf, items, ItemIn, item-declared}
-
--- ---- how many classes there are
-
-class-after : (ds : List Declaration) (d : Declaration) → hasRoom ds d ≡ true → length (classNames ds) ≤ maxClasses → length (classNames (ds ++ (d ∷ []))) ≤ maxClasses
-unfolding classNames
-class-after ds (plain s w) h k = rw (gather-over ofClass ds (plain s w) refl) k
-class-after ds (class w ps) h k =
-    rw (gather-last ofClass ds (class w ps) w refl, length-append (gather ofClass ds) (w ∷ []))
-    (omega (arith, ltb-true (length (classNames ds)) maxClasses (both-true _ _ h .0)))
-
-classes-room : (earlier ds : List Declaration) → goodFrom earlier ds ≡ true → length (classNames earlier) ≤ maxClasses → length (classNames (earlier ++ ds)) ≤ maxClasses
-unfolding goodFrom
-classes-room earlier [] h k = rw (append-nil earlier) k
-classes-room earlier (d ∷ ds) h k =
-    let told = both-true (goodNames d && isNew earlier d && hasRoom earlier d) (goodFrom (earlier ++ (d ∷ [])) ds) h in
-    let room = both-true (goodNames d && isNew earlier d) (hasRoom earlier d) (told .0) .1 in
-    subst (λ (r : List Declaration). length (classNames r) ≤ maxClasses) (append-assoc earlier (d ∷ []) ds)
-    (classes-room (earlier ++ (d ∷ [])) ds (told .1) (class-after earlier d room k))
-
-few-classes : (p : Policy) → Accepted p → length (classNames (declarations p)) ≤ maxClasses
-unfolding classNames gather
-few-classes p ok = classes-room [] (declarations p) (ok .names) none-yet
-  where
-    none-yet : length (classNames []) ≤ maxClasses
-    none-yet = omega arith
 
 -- ---- the numbers of things and attributes
 
@@ -120,7 +95,7 @@ small-units p ok (moves t) h = (
   small-reference (t .role) (numbered-R p ok roles (t .role) (h .0)),
   (
     small-reference (t .type) (numbered-R p ok types (t .type) (h .1)),
-    (omega (arith, h .2, few-classes p ok), (omega (arith, h .3, few-things p ok roles), tt)),
+    (omega (arith, h .2, few-classes (declarations p) (ok .names)), (omega (arith, h .3, few-things p ok roles), tt)),
   ),
 )
 

@@ -19,6 +19,7 @@ use Rattle.policy.specs.Encode.{NameEntry, sortCode, permissionEntries, entries
 use Rattle.policy.specs.Sound.{isGood, someGood, goodNames, goodFrom}
 use Rattle.policy.proofs.Lists.{both-true, all-append, gather-over, gather-last}
 use Rattle.table_laws.proofs.ListLaws.{every-all}
+use Rattle.policy.proofs.Counts.{few-classes}
 use Rattle.policy.proofs.Good.{good-first, good-rest}
 use Rattle.table_laws.proofs.NamesReadBack.{Peopled}
 
@@ -31,24 +32,6 @@ peopled-one (class w (p ∷ ps)) h = tt
 pub peopled : (e ds : List Declaration) → goodFrom e ds ≡ true → All Peopled ds
 peopled e [] h = tt
 peopled e (d ∷ ds) h = (peopled-one d (good-first e d ds h .names), peopled (e ++ (d ∷ [])) ds (good-rest e d ds h))
-
--- "classes 32"
-class-more : (e : List Declaration) (d : Declaration) → hasRoom e d ≡ true → length (classNames e) ≤ 32 → length (classNames (e ++ (d ∷ []))) ≤ 32
-unfolding classNames
-class-more e (plain s w) h l = rw (gather-over ofClass e (plain s w) refl) l
-class-more e (class w ps) h l =
-    let room = ltb-true (length (gather ofClass e)) 32 (both-true (ltb (length (gather ofClass e)) maxClasses) (leb (length ps) maxPermissions) h .0) in
-    rw (gather-last ofClass e (class w ps) w refl, length-append (gather ofClass e) (w ∷ [])) (omega arith)
-
-few-classes-from : (e ds : List Declaration) → goodFrom e ds ≡ true → length (classNames e) ≤ 32 → length (classNames (e ++ ds)) ≤ 32
-few-classes-from e [] h l = rw append-nil l
-few-classes-from e (d ∷ ds) h l =
-    subst (λ (xs : List Declaration). length (classNames xs) ≤ 32) (append-assoc e (d ∷ []) ds)
-    (few-classes-from (e ++ (d ∷ [])) ds (good-rest e d ds h) (class-more e d (good-first e d ds h .room) l))
-
-pub few-classes : (ds : List Declaration) → goodFrom [] ds ≡ true → length (classNames ds) ≤ 32
-unfolding classNames gather
-few-classes ds h = few-classes-from [] ds h (omega arith)
 
 -- an entry's number fits two bytes, its sort one, and its name is good
 pub record GoodEntry (e : NameEntry) : Type 0 where

@@ -16,9 +16,9 @@ use Rattle.policy.specs.Encode.{NameEntry, permissionEntries, entriesFrom, entr
 use Rattle.policy.specs.Sound.{goodFrom}
 use Rattle.policy.proofs.Lists.{both-true}
 use Rattle.table_laws.specs.SoundTable.{namesLength}
+use Rattle.policy.proofs.Counts.{few-of, few-classes}
 use Rattle.policy.proofs.Good.{good-first, good-rest}
-use Rattle.policy.proofs.Counts.{few-of}
-use Rattle.table_laws.proofs.NamesFit.{GoodEntry, few-classes, entries-fit}
+use Rattle.table_laws.proofs.NamesFit.{GoodEntry, entries-fit}
 
 -- body 1 by its names
 pub names-length : (es : List NameEntry) → length (joined (each entryBytes es)) ≡ namesLength es

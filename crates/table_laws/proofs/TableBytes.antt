@@ -18,7 +18,8 @@ use Rattle.table_laws.specs.SoundTable.{Bytes, SetsOfBytes, allRows}
 use Rattle.table_laws.proofs.ListLaws.{joined-all, all-joined, all-each, all-both}
 use Rattle.table_laws.proofs.LittleEndian.{le-bytes}
 use Rattle.policy.proofs.Counts.{few-of}
-use Rattle.table_laws.proofs.NamesFit.{GoodEntry, few-classes, entries-fit}
+use Rattle.policy.proofs.Counts.{few-classes}
+use Rattle.table_laws.proofs.NamesFit.{GoodEntry, entries-fit}
 use Rattle.table_laws.proofs.NamesRoom.{name-short}
 use Rattle.table_laws.proofs.NameBytes.{name-bytes}
 use Rattle.table_laws.proofs.WellFormed.{formed, GoodTransition, SmallRow}

@@ -23,7 +23,8 @@ use Rattle.table_laws.proofs.Records.{WideTransition, SmallHead}
 use Rattle.table_laws.proofs.Constraints.{rowsIn}
 use Rattle.table_laws.proofs.ImageReadBack.{Sets, Laid, image-back}
 use Rattle.table_laws.proofs.NamesReadBack.{SmallNumber}
-use Rattle.table_laws.proofs.NamesFit.{GoodEntry, most, few-classes, peopled, entries-fit}
+use Rattle.policy.proofs.Counts.{few-classes}
+use Rattle.table_laws.proofs.NamesFit.{GoodEntry, most, peopled, entries-fit}
 use Rattle.table_laws.proofs.NamesRoom.{names-room}
 use Rattle.table_laws.proofs.Lengths.{Widths, bodies-length, encode-bodies-length}
 use Rattle.table_laws.proofs.WellFormed.{formed, sets-of, GoodTransition, good-transition, GoodConstraint, good-constraint, SmallRow, good-row}
