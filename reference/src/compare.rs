@@ -1,6 +1,6 @@
 //! The comparison with the other program linked as a library, and the shrinker for what it finds.
 
-use crate::corpus::{policy_text, question_line};
+use crate::corpus::{policy_text, question_line, scan_line};
 use crate::fault::Fault;
 use crate::generator::damage::damage;
 use crate::generator::policies::Shape;
@@ -53,9 +53,16 @@ impl fmt::Display for Tally {
     }
 }
 
-/// The first case on which the two programs differ.
+/// The first case on which the two programs differ, and what they say of it.
 #[derive(Clone, Debug, PartialEq, Eq)]
-pub enum Difference {
+pub struct Difference {
+    pub case: Case,
+    pub here: String,
+    pub there: String,
+}
+
+#[derive(Clone, Debug, PartialEq, Eq)]
+pub enum Case {
     /// A text, shrunk.
     Scan(Vec<u8>),
     Compile(Vec<u8>),
@@ -66,22 +73,13 @@ pub enum Difference {
 
 impl fmt::Display for Difference {
     fn fmt(&self, f: &mut fmt::Formatter<'_>) -> fmt::Result {
-        match self {
-            Difference::Scan(text) => {
-                write!(f, "the scan differs on {}\nhere: {:?}", shown(text), scan(text).err())
-            }
-            Difference::Compile(text) => {
-                write!(f, "compiling differs on {}\nhere: {:?}", shown(text), table_of(text))
-            }
-            Difference::Sound(table) => {
-                write!(f, "soundness differs on the table {table:?}\nhere: {:?}", decode(table).err())
-            }
-            Difference::Question(text, question) => {
-                let table = table_of(text).expect("the text of a table");
-                let line = question_line(&table, question);
-                write!(f, "the answer differs on {}\nasked {question:?}\nhere: {line:?}", shown(text))
-            }
+        match &self.case {
+            Case::Scan(text) => write!(f, "the scan differs on {}", shown(text))?,
+            Case::Compile(text) => write!(f, "compiling differs on {}", shown(text))?,
+            Case::Sound(table) => write!(f, "soundness differs on the table {table:?}")?,
+            Case::Question(text, question) => write!(f, "the answer to {question:?} differs on {}", shown(text))?,
         }
+        write!(f, "\n this program: {}\n the library:  {}", self.here, self.there)
     }
 }
 
@@ -133,7 +131,9 @@ fn compare_scans(library: &Library, text: &[u8], random: &mut Random, tally: &mu
         let case = scans::variant(random, text);
         tally.scans += 1;
         if differs(&case) {
-            return Some(Difference::Scan(shrink(&case, &differs)));
+            let small = shrink(&case, &differs);
+            let there = theirs(&small).map_or("clean".to_string(), |fault| fault.to_string());
+            return Some(Difference { here: scan_line(&small), there, case: Case::Scan(small) });
         }
     }
     None
@@ -152,39 +152,51 @@ fn compare_policy(library: &Library, mut text: Vec<u8>, random: &mut Random, tal
 fn compare_compile(library: &Library, text: &[u8], random: &mut Random, tally: &mut Tally) -> Option<Difference> {
     let theirs = library.compile?;
     let spare = random.below(3);
-    let differs = |text: &[u8]| compiles_differently(theirs, text, spare);
+    let differs = |text: &[u8]| compiled(compile, text, spare) != compiled(theirs, text, spare);
     tally.compiles += 1;
-    differs(text).then(|| Difference::Compile(shrink(text, &differs)))
+    if !differs(text) {
+        return None;
+    }
+    let small = shrink(text, &differs);
+    let said = |outcome: (Outcome, Vec<u8>)| format!("{:?}, leaving {:?}", outcome.0, outcome.1);
+    let (here, there) = (said(compiled(compile, &small, spare)), said(compiled(theirs, &small, spare)));
+    Some(Difference { case: Case::Compile(small), here, there })
 }
 
-/// Lends one byte less than needed, just enough, or one more, as `spare` is 0, 1 or 2.
-fn compiles_differently(theirs: fn(&[u8], &mut [u8]) -> Outcome, text: &[u8], spare: usize) -> bool {
+/// The answer and the memory afterwards. Lent is one byte less than needed, just enough, or one more, as `spare` is 0, 1 or 2.
+fn compiled(compile: fn(&[u8], &mut [u8]) -> Outcome, text: &[u8], spare: usize) -> (Outcome, Vec<u8>) {
     let needed = table_of(text).map_or(64, |table| table.len());
-    let mut our_memory = vec![0xA5; needed + spare - 1];
-    let mut their_memory = our_memory.clone();
-    compile(text, &mut our_memory) != theirs(text, &mut their_memory) || our_memory != their_memory
+    let mut memory = vec![0xA5; needed + spare - 1];
+    let outcome = compile(text, &mut memory);
+    (outcome, memory)
 }
 
 fn compare_sound(library: &Library, text: &[u8], random: &mut Random, tally: &mut Tally) -> Option<Difference> {
     let theirs = library.is_sound?;
     let table = flip(random, &table_of(text).ok()?);
     tally.tables += 1;
-    (theirs(&table) != is_sound(&table)).then_some(Difference::Sound(table))
+    if theirs(&table) == is_sound(&table) {
+        return None;
+    }
+    let there = if theirs(&table) { "sound" } else { "unsound" }.to_string();
+    let here = decode(&table).err().map_or("sound".to_string(), |reason| format!("unsound: {reason}"));
+    Some(Difference { case: Case::Sound(table), here, there })
 }
 
 fn compare_answers(library: &Library, text: &[u8], random: &mut Random, tally: &mut Tally) -> Option<Difference> {
     let theirs = library.answer?;
+    let ours = |table: &[u8], question: &Question| question_line(table, question).expect("a known kind");
     let table = with_bytes_behind(random, &table_of(text).ok()?);
     let decoded = decode(&table).expect("a written table is sound");
-    let differs = |table: &[u8], question: &Question| {
-        theirs(table, question) != question_line(table, question).expect("a known kind")
-    };
     for _ in 0..QUESTIONS_PER_POLICY {
         let question = ask(random, &decoded);
         tally.questions += 1;
-        if differs(&table, &question) {
-            let still = |smaller: &[u8]| table_of(smaller).is_ok_and(|table| differs(&table, &question));
-            return Some(Difference::Question(shrink(text, &still), question));
+        if theirs(&table, &question) != ours(&table, &question) {
+            let differs = |table: &[u8]| theirs(table, &question) != ours(table, &question);
+            let small = shrink(text, &|smaller| table_of(smaller).is_ok_and(|table| differs(&table)));
+            let table = table_of(&small).expect("the text of a table");
+            let (here, there) = (ours(&table, &question), theirs(&table, &question));
+            return Some(Difference { case: Case::Question(small, question), here, there });
         }
     }
     None
@@ -322,8 +334,9 @@ mod tests {
             scan(&text).err()
         }
         let (_, difference) = compare(&Library { scan: Some(slipped), ..itself() }, 60, 7);
-        let Some(Difference::Scan(text)) = difference else { panic!("a text differs") };
-        assert_eq!(text, [b"(".as_slice(), &b"n".repeat(65)].concat());
+        let text = [b"(".as_slice(), &b"n".repeat(65)].concat();
+        let (here, there) = ("refused 2 at 1".to_string(), "refused 2 at 65".to_string());
+        assert_eq!(difference, Some(Difference { case: Case::Scan(text), here, there }));
     }
 
     #[test]
@@ -340,14 +353,15 @@ mod tests {
             outcome
         }
         let (_, difference) = compare(&Library { compile: Some(slipped), ..itself() }, 60, 7);
-        let Some(Difference::Compile(text)) = difference else { panic!("a text differs") };
+        let Some(Case::Compile(text)) = difference.map(|d| d.case) else { panic!("a text differs") };
         assert_eq!(statements(&text).len(), 3, "{}", String::from_utf8_lossy(&text));
     }
 
     #[test]
     fn finds_a_table_wrongly_taken_for_sound() {
         let (_, difference) = compare(&Library { is_sound: Some(|_| true), ..itself() }, 60, 7);
-        assert!(matches!(difference, Some(Difference::Sound(_))));
+        let difference = difference.expect("a table is not sound");
+        assert!(matches!(difference.case, Case::Sound(_)) && difference.here.starts_with("unsound: "), "{difference}");
     }
 
     #[test]
@@ -357,7 +371,7 @@ mod tests {
             question_line(table, question).unwrap().replace("consulted 1", "consulted 2")
         }
         let (_, difference) = compare(&Library { answer: Some(slipped), ..itself() }, 60, 7);
-        let Some(Difference::Question(text, question)) = difference else { panic!("an answer differs") };
+        let Some(Case::Question(text, question)) = difference.map(|d| d.case) else { panic!("an answer differs") };
         assert_eq!(question[0], 1);
         assert!(statements(&text).len() <= 12, "{}", String::from_utf8_lossy(&text));
     }

@@ -5,5 +5,10 @@ pub mod Refused3
 pub mod Refused4
 pub mod Accepted0
 pub mod Accepted1
-pub mod Accepted2
-pub mod Accepted3
+pub mod Lent0
+pub mod Asked0
+pub mod Asked1
+pub mod Unsound0
+pub mod Unsound1
+pub mod Odd0
+pub mod Printed0

@@ -1,11 +1,9 @@
 -- Texts and what the independent second program says of them, held to the definitions by computation. Written by reference/regenerate.
 -- Assumes nothing.
-use Prim.Native.Nat.{ℕ}
 use mathlib.Core.Path.{_≡_, refl}
 use mathlib.Core.List.{List, [], _∷_}
 use Rattle.lexer.specs.Spell.{bytes}
-use Rattle.policy.specs.Outcome.{rejected, outcome, after}
-use Rattle.policy.specs.Worked.{tableOf}
+use Rattle.policy.specs.Outcome.{rejected, outcome}
 use Rattle.policy.specs.Opened.{computing}
 
 -- P3
@@ -138,172 +136,172 @@ refused-25 : outcome (bytes "(role a;)") 65536 ≡ rejected 2 9
 unfolding computing
 refused-25 = refl
 
--- reading 9: a dot is wrong
-refused-26 : outcome (bytes "(role a.b)") 65536 ≡ rejected 2 7
+-- reading 8: a comment parts tokens
+refused-26 : outcome (bytes "(role a;b\nc)") 65536 ≡ rejected 3 0
 unfolding computing
 refused-26 = refl
 
--- a wrong byte
-refused-27 : outcome (bytes "(role a)!") 65536 ≡ rejected 2 8
+-- reading 8: LF alone ends a comment
+refused-27 : outcome (bytes "(role a;\r)") 65536 ≡ rejected 2 10
 unfolding computing
 refused-27 = refl
 
--- a wrong byte
-refused-28 : outcome (bytes "#") 65536 ≡ rejected 2 0
+-- reading 9: a dot is wrong
+refused-28 : outcome (bytes "(role a.b)") 65536 ≡ rejected 2 7
 unfolding computing
 refused-28 = refl
 
--- a wrong byte
-refused-29 : outcome (bytes "(role/a)") 65536 ≡ rejected 2 5
+-- reading 9: a quote is wrong
+refused-29 : outcome (bytes "(role \"a\")") 65536 ≡ rejected 2 6
 unfolding computing
 refused-29 = refl
 
--- a wrong byte
-refused-30 : outcome (bytes "(role a])") 65536 ≡ rejected 2 7
+-- reading 9: NUL is wrong
+refused-30 : outcome (bytes "(role a\0)") 65536 ≡ rejected 2 7
 unfolding computing
 refused-30 = refl
 
--- a wrong byte
-refused-31 : outcome (bytes "{role a}") 65536 ≡ rejected 2 0
+-- reading 9: VT is wrong
+refused-31 : outcome (bytes "(role\u{b}a)") 65536 ≡ rejected 2 5
 unfolding computing
 refused-31 = refl
 
--- a wrong byte
-refused-32 : outcome (bytes "(role a:b)") 65536 ≡ rejected 2 7
+-- reading 9: FF is wrong
+refused-32 : outcome (bytes "(role\u{c}a)") 65536 ≡ rejected 2 5
 unfolding computing
 refused-32 = refl
 
 -- a wrong byte
-refused-33 : outcome (bytes "(role a+)") 65536 ≡ rejected 2 7
+refused-33 : outcome (bytes "(role a)!") 65536 ≡ rejected 2 8
 unfolding computing
 refused-33 = refl
 
 -- a wrong byte
-refused-34 : outcome (bytes "(role a~)") 65536 ≡ rejected 2 7
+refused-34 : outcome (bytes "#") 65536 ≡ rejected 2 0
 unfolding computing
 refused-34 = refl
 
 -- a wrong byte
-refused-35 : outcome (bytes "(role `)") 65536 ≡ rejected 2 6
+refused-35 : outcome (bytes "(role/a)") 65536 ≡ rejected 2 5
 unfolding computing
 refused-35 = refl
 
--- reading 11: form before 4
-refused-36 : outcome (bytes "(class c (p p all))") 65536 ≡ rejected 3 0
+-- a wrong byte
+refused-36 : outcome (bytes "(role a])") 65536 ≡ rejected 2 7
 unfolding computing
 refused-36 = refl
 
--- reading 11: form before 5
-refused-37 : outcome (bytes "(roletransition nope nope nope r1)") 65536 ≡ rejected 3 0
+-- a wrong byte
+refused-37 : outcome (bytes "{role a}") 65536 ≡ rejected 2 0
 unfolding computing
 refused-37 = refl
 
--- reading 11: form before 5
-refused-38 : outcome (bytes "(role a)(class c (p))(constrain (c (nope)) (eq a u1))") 65536 ≡ rejected 3 21
+-- a wrong byte
+refused-38 : outcome (bytes "(role a:b)") 65536 ≡ rejected 2 7
 unfolding computing
 refused-38 = refl
 
--- reading 11: an earlier 4 beats a later 3
-refused-39 : outcome (bytes "(role a)(role a)()") 65536 ≡ rejected 4 8
+-- a wrong byte
+refused-39 : outcome (bytes "(role a+)") 65536 ≡ rejected 2 7
 unfolding computing
 refused-39 = refl
 
--- reading 11: an earlier 5 beats a later 3
-refused-40 : outcome (bytes "(roletype a t)()") 65536 ≡ rejected 5 0
+-- a wrong byte
+refused-40 : outcome (bytes "(role a~)") 65536 ≡ rejected 2 7
 unfolding computing
 refused-40 = refl
 
--- reading 12: the statement's own place
-refused-41 : outcome (bytes "(role a)(roleattribute x)(roleattributeset x (or a (and a (not a a))))") 65536 ≡ rejected 3 25
+-- a wrong byte
+refused-41 : outcome (bytes "(role `)") 65536 ≡ rejected 2 6
 unfolding computing
 refused-41 = refl
 
--- reading 12: the statement's own place
-refused-42 : outcome (bytes "(class c (p))(constrain (c (p)) (not (and (eq u1 u2) (eq u2 u1))))") 65536 ≡ rejected 3 13
+-- reading 11: form before 4
+refused-42 : outcome (bytes "(class c (p p all))") 65536 ≡ rejected 3 0
 unfolding computing
 refused-42 = refl
 
--- reading 17: S is parenthesised
-refused-43 : outcome (bytes "(role a)(roleattribute x)(roleattributeset x a)") 65536 ≡ rejected 3 25
+-- reading 11: form before 5
+refused-43 : outcome (bytes "(roletransition nope nope nope r1)") 65536 ≡ rejected 3 0
 unfolding computing
 refused-43 = refl
 
--- reading 17: () as S
-refused-44 : outcome (bytes "(roleattribute x)(roleattributeset x ())") 65536 ≡ rejected 3 17
+-- reading 11: form before 5
+refused-44 : outcome (bytes "(role a)(class c (p))(constrain (c (nope)) (eq a u1))") 65536 ≡ rejected 3 21
 unfolding computing
 refused-44 = refl
 
--- reading 17: () within S
-refused-45 : outcome (bytes "(role a)(roleattribute x)(roleattributeset x (a ()))") 65536 ≡ rejected 3 25
+-- reading 11: an earlier 4 beats a later 3
+refused-45 : outcome (bytes "(role a)(role a)()") 65536 ≡ rejected 4 8
 unfolding computing
 refused-45 = refl
 
--- one S only
-refused-46 : outcome (bytes "(role a)(roleattribute x)(roleattributeset x (a) (a))") 65536 ≡ rejected 3 25
+-- reading 11: an earlier 5 beats a later 3
+refused-46 : outcome (bytes "(roletype a t)()") 65536 ≡ rejected 5 0
 unfolding computing
 refused-46 = refl
 
--- S is missing
-refused-47 : outcome (bytes "(roleattribute x)(roleattributeset x)") 65536 ≡ rejected 3 17
+-- reading 12: the statement's own place
+refused-47 : outcome (bytes "(role a)(roleattribute x)(roleattributeset x (or a (and a (not a a))))") 65536 ≡ rejected 3 25
 unfolding computing
 refused-47 = refl
 
--- A is a name
-refused-48 : outcome (bytes "(role a)(roleattributeset (x) (a))") 65536 ≡ rejected 3 8
+-- reading 12: the statement's own place
+refused-48 : outcome (bytes "(class c (p))(constrain (c (p)) (not (and (eq u1 u2) (eq u2 u1))))") 65536 ≡ rejected 3 13
 unfolding computing
 refused-48 = refl
 
--- a reserved word for A
-refused-49 : outcome (bytes "(roleattributeset all (a))") 65536 ≡ rejected 3 0
+-- reading 17: S is parenthesised
+refused-49 : outcome (bytes "(role a)(roleattribute x)(roleattributeset x a)") 65536 ≡ rejected 3 25
 unfolding computing
 refused-49 = refl
 
--- reading 19
-refused-50 : outcome (bytes "(class c (p))(constrain (c p) (eq u1 u2))") 65536 ≡ rejected 3 13
+-- reading 17: () as S
+refused-50 : outcome (bytes "(roleattribute x)(roleattributeset x ())") 65536 ≡ rejected 3 17
 unfolding computing
 refused-50 = refl
 
--- reading 19
-refused-51 : outcome (bytes "(class c (p))(constrain (c ()) (eq u1 u2))") 65536 ≡ rejected 3 13
+-- reading 17: () within S
+refused-51 : outcome (bytes "(role a)(roleattribute x)(roleattributeset x (a ()))") 65536 ≡ rejected 3 25
 unfolding computing
 refused-51 = refl
 
--- reading 19
-refused-52 : outcome (bytes "(class c (p q))(constrain (c (p) (q)) (eq u1 u2))") 65536 ≡ rejected 3 15
+-- one S only
+refused-52 : outcome (bytes "(role a)(roleattribute x)(roleattributeset x (a) (a))") 65536 ≡ rejected 3 25
 unfolding computing
 refused-52 = refl
 
--- reading 19
-refused-53 : outcome (bytes "(class c (p))(constrain c (p) (eq u1 u2))") 65536 ≡ rejected 3 13
+-- S is missing
+refused-53 : outcome (bytes "(roleattribute x)(roleattributeset x)") 65536 ≡ rejected 3 17
 unfolding computing
 refused-53 = refl
 
--- reading 19
-refused-54 : outcome (bytes "(class c (p))(constrain ((c) (p)) (eq u1 u2))") 65536 ≡ rejected 3 13
+-- A is a name
+refused-54 : outcome (bytes "(role a)(roleattributeset (x) (a))") 65536 ≡ rejected 3 8
 unfolding computing
 refused-54 = refl
 
--- reading 19
-refused-55 : outcome (bytes "(class c (p))(constrain (c ((p))) (eq u1 u2))") 65536 ≡ rejected 3 13
+-- a reserved word for A
+refused-55 : outcome (bytes "(roleattributeset all (a))") 65536 ≡ rejected 3 0
 unfolding computing
 refused-55 = refl
 
 -- reading 19
-refused-56 : outcome (bytes "(class c (p))(constrain (c) (eq u1 u2))") 65536 ≡ rejected 3 13
+refused-56 : outcome (bytes "(class c (p))(constrain (c p) (eq u1 u2))") 65536 ≡ rejected 3 13
 unfolding computing
 refused-56 = refl
 
 -- reading 19
-refused-57 : outcome (bytes "(class c (p))(constrain () (eq u1 u2))") 65536 ≡ rejected 3 13
+refused-57 : outcome (bytes "(class c (p))(constrain (c ()) (eq u1 u2))") 65536 ≡ rejected 3 13
 unfolding computing
 refused-57 = refl
 
 -- reading 19
-refused-58 : outcome (bytes "(class c)") 65536 ≡ rejected 3 0
+refused-58 : outcome (bytes "(class c (p q))(constrain (c (p) (q)) (eq u1 u2))") 65536 ≡ rejected 3 15
 unfolding computing
 refused-58 = refl
 
 -- reading 19
-refused-59 : outcome (bytes "(class c ())") 65536 ≡ rejected 3 0
+refused-59 : outcome (bytes "(class c (p))(constrain c (p) (eq u1 u2))") 65536 ≡ rejected 3 13
 unfolding computing
 refused-59 = refl

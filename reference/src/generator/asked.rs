@@ -104,7 +104,13 @@ fn role_changes() -> Vec<Asked> {
         of(
             "no role allow on another class, or for a name that only begins alike",
             &with("(class file(transition))(class Process(transition))(class process(p transitions dyntransition-))"),
-            &[change_in(A, B, 0, 0), change_in(A, B, 1, 0), change_in(A, B, 2, 0), change_in(A, B, 2, 1), change_in(B, A, 2, 2)],
+            &[
+                change_in(A, B, 0, 0),
+                change_in(A, B, 1, 0),
+                change_in(A, B, 2, 0),
+                change_in(A, B, 2, 1),
+                change_in(B, A, 2, 2),
+            ],
         ),
         of(
             "denial 3 before 4",

@@ -1,0 +1,337 @@
+-- Questions and what the independent second program says of them, held to the definitions by computation. Written by reference/regenerate.
+-- Assumes nothing.
+use mathlib.Core.Path.{_≡_, refl}
+use mathlib.Core.List.{List, [], _∷_}
+use Prim.Native.Nat.{ℕ}
+use mathlib.Core.Bool.{true, false}
+use mathlib.Core.Option.{none, some}
+use Rattle.lexer.specs.Spell.{bytes}
+use Rattle.policy.specs.Basics.{each}
+use Rattle.policy.specs.Reading.{policy, refused}
+use Rattle.policy.specs.Answer.{Question, Answer, granted, denied, fails, refuses, answer}
+use Rattle.policy.specs.Questions.{answered, refused, changed, changeOn, validOn, newRoleOn, nameOn, entryOn}
+use Rattle.policy.specs.Sound.{imageIn}
+use Rattle.policy.specs.Outcome.{policyOf}
+use Rattle.policy.specs.Worked.{tableOf, context}
+use Rattle.policy.specs.Opened.{computing}
+
+-- what the statements of a text answer
+abbrev fromText : List ℕ → List Question → List Answer
+fromText text qs = elim (policyOf text) [ policy p ↦ each (answer p) qs | refused n at ↦ [] ]
+
+-- `changeOn` for each question
+abbrev changesOn : List ℕ → List Question → List Answer
+changesOn t qs = elim (imageIn t) [ some i ↦ each (λ q. changed q (some i)) qs | none ↦ each (λ q. changed q none) qs ]
+
+-- new role through attributes
+abbrev asked-24 : List ℕ
+asked-24 = bytes "(role a)(role b)(type s)(type t)(roleattribute x)(typeattribute y)(class c(p))(roletransition x y c b)(roleattributeset x(all))(typeattributeset y(not s))"
+
+abbrev asked-24-table : List ℕ
+asked-24-table = 1 ∷ 0 ∷ 8 ∷ 0 ∷ 68 ∷ 0 ∷ 0 ∷ 0 ∷ 40 ∷ 0 ∷ 0 ∷ 0 ∷ 108 ∷ 0 ∷ 0 ∷ 0 ∷ 0 ∷ 0 ∷ 0 ∷ 0 ∷ 108 ∷ 0 ∷ 0 ∷ 0 ∷ 128 ∷ 0 ∷ 0 ∷ 0 ∷ 236 ∷ 0 ∷ 0 ∷ 0 ∷ 32 ∷ 0 ∷ 0 ∷ 0 ∷ 12 ∷ 1 ∷ 0 ∷ 0 ∷ 82 ∷ 0 ∷ 0 ∷ 0 ∷ 94 ∷ 1 ∷ 0 ∷ 0 ∷ 0 ∷ 0 ∷ 0 ∷ 0 ∷ 94 ∷ 1 ∷ 0 ∷ 0 ∷ 0 ∷ 0 ∷ 0 ∷ 0 ∷ 94 ∷ 1 ∷ 0 ∷ 0 ∷ 80 ∷ 0 ∷ 0 ∷ 0 ∷ 1 ∷ 0 ∷ 0 ∷ 1 ∷ 97 ∷ 1 ∷ 1 ∷ 0 ∷ 1 ∷ 98 ∷ 2 ∷ 0 ∷ 0 ∷ 1 ∷ 115 ∷ 2 ∷ 1 ∷ 0 ∷ 1 ∷ 116 ∷ 4 ∷ 0 ∷ 0 ∷ 1 ∷ 120 ∷ 5 ∷ 0 ∷ 0 ∷ 1 ∷ 121 ∷ 6 ∷ 0 ∷ 0 ∷ 1 ∷ 99 ∷ 7 ∷ 0 ∷ 0 ∷ 1 ∷ 112 ∷ 0 ∷ 0 ∷ 0 ∷ 0 ∷ 0 ∷ 0 ∷ 0 ∷ 0 ∷ 0 ∷ 0 ∷ 0 ∷ 0 ∷ 0 ∷ 0 ∷ 0 ∷ 0 ∷ 0 ∷ 0 ∷ 0 ∷ 0 ∷ 0 ∷ 0 ∷ 0 ∷ 0 ∷ 0 ∷ 0 ∷ 0 ∷ 0 ∷ 0 ∷ 0 ∷ 0 ∷ 0 ∷ 0 ∷ 0 ∷ 0 ∷ 0 ∷ 0 ∷ 0 ∷ 0 ∷ 0 ∷ 0 ∷ 0 ∷ 0 ∷ 0 ∷ 0 ∷ 0 ∷ 0 ∷ 0 ∷ 0 ∷ 0 ∷ 0 ∷ 0 ∷ 0 ∷ 0 ∷ 0 ∷ 0 ∷ 0 ∷ 0 ∷ 0 ∷ 0 ∷ 0 ∷ 0 ∷ 0 ∷ 0 ∷ 0 ∷ 0 ∷ 0 ∷ 0 ∷ 0 ∷ 0 ∷ 0 ∷ 0 ∷ 0 ∷ 0 ∷ 0 ∷ 0 ∷ 0 ∷ 0 ∷ 0 ∷ 0 ∷ 0 ∷ 0 ∷ 0 ∷ 0 ∷ 0 ∷ 0 ∷ 0 ∷ 0 ∷ 0 ∷ 0 ∷ 0 ∷ 0 ∷ 0 ∷ 0 ∷ 0 ∷ 0 ∷ 0 ∷ 0 ∷ 0 ∷ 0 ∷ 0 ∷ 0 ∷ 0 ∷ 0 ∷ 0 ∷ 0 ∷ 0 ∷ 0 ∷ 0 ∷ 0 ∷ 0 ∷ 0 ∷ 0 ∷ 0 ∷ 0 ∷ 0 ∷ 0 ∷ 0 ∷ 0 ∷ 0 ∷ 0 ∷ 0 ∷ 0 ∷ 0 ∷ 0 ∷ 0 ∷ 0 ∷ 0 ∷ 0 ∷ 0 ∷ 0 ∷ 0 ∷ 0 ∷ 0 ∷ 0 ∷ 0 ∷ 0 ∷ 0 ∷ 0 ∷ 0 ∷ 0 ∷ 0 ∷ 0 ∷ 0 ∷ 0 ∷ 0 ∷ 0 ∷ 0 ∷ 0 ∷ 0 ∷ 0 ∷ 0 ∷ 0 ∷ 0 ∷ 0 ∷ 0 ∷ 0 ∷ 0 ∷ 0 ∷ 0 ∷ 3 ∷ 0 ∷ 0 ∷ 0 ∷ 0 ∷ 0 ∷ 0 ∷ 0 ∷ 0 ∷ 0 ∷ 0 ∷ 0 ∷ 0 ∷ 0 ∷ 0 ∷ 0 ∷ 2 ∷ 0 ∷ 0 ∷ 0 ∷ 0 ∷ 0 ∷ 0 ∷ 0 ∷ 0 ∷ 0 ∷ 0 ∷ 0 ∷ 0 ∷ 0 ∷ 0 ∷ 0 ∷ 0 ∷ 0 ∷ 0 ∷ 0 ∷ 0 ∷ 0 ∷ 0 ∷ 0 ∷ 0 ∷ 0 ∷ 0 ∷ 0 ∷ 0 ∷ 0 ∷ 0 ∷ 0 ∷ 0 ∷ 0 ∷ 0 ∷ 0 ∷ 0 ∷ 0 ∷ 0 ∷ 0 ∷ 0 ∷ 0 ∷ 0 ∷ 0 ∷ 0 ∷ 0 ∷ 0 ∷ 0 ∷ 0 ∷ 0 ∷ 0 ∷ 0 ∷ 0 ∷ 0 ∷ 0 ∷ 0 ∷ 0 ∷ 0 ∷ 0 ∷ 0 ∷ 0 ∷ 0 ∷ 0 ∷ 0 ∷ 0 ∷ 1 ∷ 3 ∷ 0 ∷ 0 ∷ 0 ∷ 0 ∷ 0 ∷ 0 ∷ 0 ∷ 0 ∷ 0 ∷ 0 ∷ 0 ∷ 0 ∷ 0 ∷ 0 ∷ 0 ∷ 2 ∷ 0 ∷ 0 ∷ 0 ∷ 0 ∷ 0 ∷ 0 ∷ 0 ∷ 0 ∷ 0 ∷ 0 ∷ 0 ∷ 0 ∷ 0 ∷ 0 ∷ 0 ∷ 0 ∷ 0 ∷ 0 ∷ 0 ∷ 0 ∷ 0 ∷ 0 ∷ 0 ∷ 0 ∷ 0 ∷ 0 ∷ 0 ∷ 0 ∷ 0 ∷ 0 ∷ 0 ∷ 0 ∷ 0 ∷ 0 ∷ 0 ∷ 0 ∷ 0 ∷ 0 ∷ 0 ∷ 0 ∷ 0 ∷ 0 ∷ 0 ∷ 0 ∷ 0 ∷ 0 ∷ 0 ∷ 0 ∷ 0 ∷ 0 ∷ 0 ∷ 0 ∷ 0 ∷ 0 ∷ 0 ∷ 0 ∷ 0 ∷ 0 ∷ 0 ∷ 0 ∷ 0 ∷ 0 ∷ 0 ∷ []
+
+asked-24-written : tableOf asked-24 ≡ asked-24-table
+unfolding computing
+asked-24-written = refl
+
+asked-24-0 : newRoleOn asked-24-table 0 1 0 ≡ answered 1
+unfolding computing
+asked-24-0 = refl
+
+asked-24-1 : newRoleOn asked-24-table 1 1 0 ≡ answered 1
+unfolding computing
+asked-24-1 = refl
+
+asked-24-2 : newRoleOn asked-24-table 0 0 0 ≡ answered 0
+unfolding computing
+asked-24-2 = refl
+
+-- name of
+abbrev asked-25 : List ℕ
+asked-25 = bytes "(user ab)(role a)(class long(p q))(type t)(userattribute x1)(roleattribute x)(typeattribute x)(class d(r))(user c)"
+
+abbrev asked-25-table : List ℕ
+asked-25-table = 1 ∷ 0 ∷ 8 ∷ 0 ∷ 68 ∷ 0 ∷ 0 ∷ 0 ∷ 65 ∷ 0 ∷ 0 ∷ 0 ∷ 133 ∷ 0 ∷ 0 ∷ 0 ∷ 32 ∷ 0 ∷ 0 ∷ 0 ∷ 165 ∷ 0 ∷ 0 ∷ 0 ∷ 64 ∷ 0 ∷ 0 ∷ 0 ∷ 229 ∷ 0 ∷ 0 ∷ 0 ∷ 16 ∷ 0 ∷ 0 ∷ 0 ∷ 245 ∷ 0 ∷ 0 ∷ 0 ∷ 0 ∷ 0 ∷ 0 ∷ 0 ∷ 245 ∷ 0 ∷ 0 ∷ 0 ∷ 0 ∷ 0 ∷ 0 ∷ 0 ∷ 245 ∷ 0 ∷ 0 ∷ 0 ∷ 0 ∷ 0 ∷ 0 ∷ 0 ∷ 245 ∷ 0 ∷ 0 ∷ 0 ∷ 96 ∷ 0 ∷ 0 ∷ 0 ∷ 0 ∷ 0 ∷ 0 ∷ 2 ∷ 97 ∷ 98 ∷ 1 ∷ 0 ∷ 0 ∷ 1 ∷ 97 ∷ 6 ∷ 0 ∷ 0 ∷ 4 ∷ 108 ∷ 111 ∷ 110 ∷ 103 ∷ 7 ∷ 0 ∷ 0 ∷ 1 ∷ 112 ∷ 7 ∷ 1 ∷ 0 ∷ 1 ∷ 113 ∷ 2 ∷ 0 ∷ 0 ∷ 1 ∷ 116 ∷ 3 ∷ 0 ∷ 0 ∷ 2 ∷ 120 ∷ 49 ∷ 4 ∷ 0 ∷ 0 ∷ 1 ∷ 120 ∷ 5 ∷ 0 ∷ 0 ∷ 1 ∷ 120 ∷ 6 ∷ 1 ∷ 0 ∷ 1 ∷ 100 ∷ 7 ∷ 32 ∷ 0 ∷ 1 ∷ 114 ∷ 0 ∷ 1 ∷ 0 ∷ 1 ∷ 99 ∷ 0 ∷ 0 ∷ 0 ∷ 0 ∷ 0 ∷ 0 ∷ 0 ∷ 0 ∷ 0 ∷ 0 ∷ 0 ∷ 0 ∷ 0 ∷ 0 ∷ 0 ∷ 0 ∷ 0 ∷ 0 ∷ 0 ∷ 0 ∷ 0 ∷ 0 ∷ 0 ∷ 0 ∷ 0 ∷ 0 ∷ 0 ∷ 0 ∷ 0 ∷ 0 ∷ 0 ∷ 0 ∷ 0 ∷ 0 ∷ 0 ∷ 0 ∷ 0 ∷ 0 ∷ 0 ∷ 0 ∷ 0 ∷ 0 ∷ 0 ∷ 0 ∷ 0 ∷ 0 ∷ 0 ∷ 0 ∷ 0 ∷ 0 ∷ 0 ∷ 0 ∷ 0 ∷ 0 ∷ 0 ∷ 0 ∷ 0 ∷ 0 ∷ 0 ∷ 0 ∷ 0 ∷ 0 ∷ 0 ∷ 0 ∷ 0 ∷ 0 ∷ 0 ∷ 0 ∷ 0 ∷ 0 ∷ 0 ∷ 0 ∷ 0 ∷ 0 ∷ 0 ∷ 0 ∷ 0 ∷ 0 ∷ 0 ∷ 0 ∷ 0 ∷ 0 ∷ 0 ∷ 0 ∷ 0 ∷ 0 ∷ 0 ∷ 0 ∷ 0 ∷ 0 ∷ 0 ∷ 0 ∷ 0 ∷ 0 ∷ 0 ∷ 0 ∷ 0 ∷ 0 ∷ 0 ∷ 0 ∷ 0 ∷ 0 ∷ 0 ∷ 0 ∷ 0 ∷ 0 ∷ 0 ∷ 0 ∷ 0 ∷ 0 ∷ 0 ∷ 0 ∷ 0 ∷ 0 ∷ 0 ∷ 0 ∷ 0 ∷ 0 ∷ 0 ∷ 0 ∷ 0 ∷ 0 ∷ 0 ∷ 0 ∷ 0 ∷ 0 ∷ 0 ∷ 0 ∷ 0 ∷ 0 ∷ 0 ∷ 0 ∷ 0 ∷ 0 ∷ 0 ∷ 0 ∷ 0 ∷ 0 ∷ 0 ∷ 0 ∷ 0 ∷ 0 ∷ 0 ∷ 0 ∷ 0 ∷ 0 ∷ 0 ∷ 0 ∷ 0 ∷ 0 ∷ 0 ∷ 0 ∷ 0 ∷ 0 ∷ 0 ∷ 0 ∷ 0 ∷ 0 ∷ 0 ∷ 0 ∷ 0 ∷ 0 ∷ 0 ∷ 0 ∷ 0 ∷ 0 ∷ 0 ∷ 0 ∷ 0 ∷ 0 ∷ 0 ∷ 0 ∷ 0 ∷ 0 ∷ 0 ∷ 0 ∷ 0 ∷ 0 ∷ 0 ∷ 0 ∷ 0 ∷ 0 ∷ 0 ∷ 0 ∷ 0 ∷ 0 ∷ 0 ∷ 0 ∷ 0 ∷ 0 ∷ 0 ∷ 0 ∷ 0 ∷ 0 ∷ 0 ∷ 0 ∷ 0 ∷ 0 ∷ 0 ∷ 0 ∷ 0 ∷ 0 ∷ 0 ∷ 0 ∷ 0 ∷ 0 ∷ 0 ∷ 0 ∷ []
+
+asked-25-written : tableOf asked-25 ≡ asked-25-table
+unfolding computing
+asked-25-written = refl
+
+asked-25-0 : nameOn asked-25-table 0 0 ≡ answered (record { start = 72; long = 2 })
+unfolding computing
+asked-25-0 = refl
+
+asked-25-1 : nameOn asked-25-table 0 1 ≡ answered (record { start = 132; long = 1 })
+unfolding computing
+asked-25-1 = refl
+
+asked-25-2 : nameOn asked-25-table 1 0 ≡ answered (record { start = 78; long = 1 })
+unfolding computing
+asked-25-2 = refl
+
+asked-25-3 : nameOn asked-25-table 2 0 ≡ answered (record { start = 101; long = 1 })
+unfolding computing
+asked-25-3 = refl
+
+asked-25-4 : nameOn asked-25-table 3 0 ≡ answered (record { start = 106; long = 2 })
+unfolding computing
+asked-25-4 = refl
+
+asked-25-5 : nameOn asked-25-table 4 0 ≡ answered (record { start = 112; long = 1 })
+unfolding computing
+asked-25-5 = refl
+
+asked-25-6 : nameOn asked-25-table 5 0 ≡ answered (record { start = 117; long = 1 })
+unfolding computing
+asked-25-6 = refl
+
+asked-25-7 : nameOn asked-25-table 6 1 ≡ answered (record { start = 122; long = 1 })
+unfolding computing
+asked-25-7 = refl
+
+asked-25-8 : nameOn asked-25-table 7 1 ≡ answered (record { start = 96; long = 1 })
+unfolding computing
+asked-25-8 = refl
+
+asked-25-9 : nameOn asked-25-table 7 32 ≡ answered (record { start = 127; long = 1 })
+unfolding computing
+asked-25-9 = refl
+
+asked-25-10 : nameOn asked-25-table 0 2 ≡ refused 12 0
+unfolding computing
+asked-25-10 = refl
+
+asked-25-11 : nameOn asked-25-table 6 2 ≡ refused 12 0
+unfolding computing
+asked-25-11 = refl
+
+asked-25-12 : nameOn asked-25-table 7 2 ≡ refused 12 0
+unfolding computing
+asked-25-12 = refl
+
+asked-25-13 : nameOn asked-25-table 7 33 ≡ refused 12 0
+unfolding computing
+asked-25-13 = refl
+
+asked-25-14 : nameOn asked-25-table 8 0 ≡ refused 12 0
+unfolding computing
+asked-25-14 = refl
+
+asked-25-15 : nameOn asked-25-table 256 0 ≡ refused 12 0
+unfolding computing
+asked-25-15 = refl
+
+asked-25-16 : nameOn asked-25-table 0 18446744073709551615 ≡ refused 12 0
+unfolding computing
+asked-25-16 = refl
+
+-- entry of
+abbrev asked-26 : List ℕ
+asked-26 = bytes "(user u)(user v)(role a)(role b)(type t)(class c(p))(typeattribute z)(roleattribute y)(userattribute x)(userattribute w)(roletransition a t c b)(roletransition b t c b)(constrain(c(p))(not(eq u1 u2)))(constrain(c(p))(eq t1 t2))"
+
+abbrev asked-26-table : List ℕ
+asked-26-table = 1 ∷ 0 ∷ 8 ∷ 0 ∷ 68 ∷ 0 ∷ 0 ∷ 0 ∷ 55 ∷ 0 ∷ 0 ∷ 0 ∷ 123 ∷ 0 ∷ 0 ∷ 0 ∷ 32 ∷ 0 ∷ 0 ∷ 0 ∷ 155 ∷ 0 ∷ 0 ∷ 0 ∷ 128 ∷ 0 ∷ 0 ∷ 0 ∷ 27 ∷ 1 ∷ 0 ∷ 0 ∷ 32 ∷ 0 ∷ 0 ∷ 0 ∷ 59 ∷ 1 ∷ 0 ∷ 0 ∷ 164 ∷ 0 ∷ 0 ∷ 0 ∷ 223 ∷ 1 ∷ 0 ∷ 0 ∷ 20 ∷ 0 ∷ 0 ∷ 0 ∷ 243 ∷ 1 ∷ 0 ∷ 0 ∷ 18 ∷ 0 ∷ 0 ∷ 0 ∷ 5 ∷ 2 ∷ 0 ∷ 0 ∷ 112 ∷ 0 ∷ 0 ∷ 0 ∷ 0 ∷ 0 ∷ 0 ∷ 1 ∷ 117 ∷ 0 ∷ 1 ∷ 0 ∷ 1 ∷ 118 ∷ 1 ∷ 0 ∷ 0 ∷ 1 ∷ 97 ∷ 1 ∷ 1 ∷ 0 ∷ 1 ∷ 98 ∷ 2 ∷ 0 ∷ 0 ∷ 1 ∷ 116 ∷ 6 ∷ 0 ∷ 0 ∷ 1 ∷ 99 ∷ 7 ∷ 0 ∷ 0 ∷ 1 ∷ 112 ∷ 5 ∷ 0 ∷ 0 ∷ 1 ∷ 122 ∷ 4 ∷ 0 ∷ 0 ∷ 1 ∷ 121 ∷ 3 ∷ 0 ∷ 0 ∷ 1 ∷ 120 ∷ 3 ∷ 1 ∷ 0 ∷ 1 ∷ 119 ∷ 0 ∷ 0 ∷ 0 ∷ 0 ∷ 0 ∷ 0 ∷ 0 ∷ 0 ∷ 0 ∷ 0 ∷ 0 ∷ 0 ∷ 0 ∷ 0 ∷ 0 ∷ 0 ∷ 0 ∷ 0 ∷ 0 ∷ 0 ∷ 0 ∷ 0 ∷ 0 ∷ 0 ∷ 0 ∷ 0 ∷ 0 ∷ 0 ∷ 0 ∷ 0 ∷ 0 ∷ 0 ∷ 0 ∷ 0 ∷ 0 ∷ 0 ∷ 0 ∷ 0 ∷ 0 ∷ 0 ∷ 0 ∷ 0 ∷ 0 ∷ 0 ∷ 0 ∷ 0 ∷ 0 ∷ 0 ∷ 0 ∷ 0 ∷ 0 ∷ 0 ∷ 0 ∷ 0 ∷ 0 ∷ 0 ∷ 0 ∷ 0 ∷ 0 ∷ 0 ∷ 0 ∷ 0 ∷ 0 ∷ 0 ∷ 0 ∷ 0 ∷ 0 ∷ 0 ∷ 0 ∷ 0 ∷ 0 ∷ 0 ∷ 0 ∷ 0 ∷ 0 ∷ 0 ∷ 0 ∷ 0 ∷ 0 ∷ 0 ∷ 0 ∷ 0 ∷ 0 ∷ 0 ∷ 0 ∷ 0 ∷ 0 ∷ 0 ∷ 0 ∷ 0 ∷ 0 ∷ 0 ∷ 0 ∷ 0 ∷ 0 ∷ 0 ∷ 0 ∷ 0 ∷ 0 ∷ 0 ∷ 0 ∷ 0 ∷ 0 ∷ 0 ∷ 0 ∷ 0 ∷ 0 ∷ 0 ∷ 0 ∷ 0 ∷ 0 ∷ 0 ∷ 0 ∷ 0 ∷ 0 ∷ 0 ∷ 0 ∷ 0 ∷ 0 ∷ 0 ∷ 0 ∷ 0 ∷ 0 ∷ 0 ∷ 0 ∷ 0 ∷ 0 ∷ 0 ∷ 0 ∷ 0 ∷ 0 ∷ 0 ∷ 0 ∷ 0 ∷ 0 ∷ 0 ∷ 0 ∷ 0 ∷ 0 ∷ 0 ∷ 0 ∷ 0 ∷ 0 ∷ 0 ∷ 0 ∷ 0 ∷ 0 ∷ 0 ∷ 0 ∷ 0 ∷ 0 ∷ 0 ∷ 0 ∷ 0 ∷ 0 ∷ 0 ∷ 0 ∷ 0 ∷ 0 ∷ 0 ∷ 0 ∷ 0 ∷ 0 ∷ 0 ∷ 0 ∷ 0 ∷ 0 ∷ 0 ∷ 0 ∷ 0 ∷ 0 ∷ 0 ∷ 0 ∷ 0 ∷ 0 ∷ 0 ∷ 0 ∷ 0 ∷ 0 ∷ 0 ∷ 0 ∷ 0 ∷ 0 ∷ 0 ∷ 0 ∷ 0 ∷ 0 ∷ 0 ∷ 0 ∷ 0 ∷ 0 ∷ 0 ∷ 1 ∷ 0 ∷ 0 ∷ 0 ∷ 0 ∷ 0 ∷ 0 ∷ 0 ∷ 0 ∷ 0 ∷ 0 ∷ 0 ∷ 0 ∷ 0 ∷ 0 ∷ 0 ∷ 1 ∷ 0 ∷ 0 ∷ 0 ∷ 0 ∷ 0 ∷ 0 ∷ 0 ∷ 0 ∷ 0 ∷ 0 ∷ 0 ∷ 0 ∷ 0 ∷ 0 ∷ 0 ∷ 0 ∷ 0 ∷ 0 ∷ 0 ∷ 0 ∷ 0 ∷ 0 ∷ 0 ∷ 0 ∷ 0 ∷ 0 ∷ 0 ∷ 0 ∷ 0 ∷ 0 ∷ 0 ∷ 0 ∷ 0 ∷ 0 ∷ 0 ∷ 0 ∷ 0 ∷ 0 ∷ 0 ∷ 0 ∷ 0 ∷ 0 ∷ 0 ∷ 0 ∷ 0 ∷ 0 ∷ 0 ∷ 0 ∷ 0 ∷ 0 ∷ 0 ∷ 0 ∷ 0 ∷ 0 ∷ 0 ∷ 0 ∷ 0 ∷ 0 ∷ 0 ∷ 0 ∷ 0 ∷ 0 ∷ 0 ∷ 0 ∷ 1 ∷ 2 ∷ 0 ∷ 0 ∷ 0 ∷ 0 ∷ 0 ∷ 0 ∷ 0 ∷ 0 ∷ 0 ∷ 0 ∷ 0 ∷ 0 ∷ 0 ∷ 0 ∷ 0 ∷ 1 ∷ 0 ∷ 0 ∷ 0 ∷ 0 ∷ 0 ∷ 0 ∷ 0 ∷ 0 ∷ 0 ∷ 0 ∷ 0 ∷ 0 ∷ 0 ∷ 0 ∷ 0 ∷ 0 ∷ 0 ∷ 0 ∷ 0 ∷ 0 ∷ 0 ∷ 0 ∷ 0 ∷ 0 ∷ 0 ∷ 0 ∷ 0 ∷ 0 ∷ 0 ∷ 0 ∷ 0 ∷ 0 ∷ 0 ∷ 0 ∷ 0 ∷ 0 ∷ 0 ∷ 0 ∷ 0 ∷ 0 ∷ 0 ∷ 0 ∷ 0 ∷ 0 ∷ 0 ∷ 0 ∷ 0 ∷ 0 ∷ 0 ∷ 0 ∷ 0 ∷ 0 ∷ 0 ∷ 0 ∷ 0 ∷ 0 ∷ 0 ∷ 0 ∷ 0 ∷ 0 ∷ 0 ∷ 0 ∷ 0 ∷ 0 ∷ 1 ∷ 0 ∷ 0 ∷ 1 ∷ 0 ∷ 0 ∷ 0 ∷ 0 ∷ 0 ∷ 2 ∷ 0 ∷ 0 ∷ 0 ∷ 1 ∷ 0 ∷ 0 ∷ 0 ∷ 2 ∷ 0 ∷ 1 ∷ 0 ∷ 3 ∷ 0 ∷ 0 ∷ 0 ∷ 0 ∷ 0 ∷ 0 ∷ 0 ∷ 0 ∷ 0 ∷ 0 ∷ 0 ∷ 3 ∷ 4 ∷ 0 ∷ 0 ∷ 0 ∷ 0 ∷ 0 ∷ 0 ∷ 0 ∷ 0 ∷ 0 ∷ 0 ∷ 0 ∷ 0 ∷ 0 ∷ 0 ∷ 0 ∷ 0 ∷ 0 ∷ 0 ∷ 0 ∷ 0 ∷ 0 ∷ 0 ∷ 0 ∷ 0 ∷ 0 ∷ 0 ∷ 0 ∷ 0 ∷ 0 ∷ 0 ∷ 0 ∷ 0 ∷ 0 ∷ 0 ∷ 0 ∷ 0 ∷ 0 ∷ 0 ∷ 0 ∷ 0 ∷ 0 ∷ 0 ∷ 0 ∷ 0 ∷ 0 ∷ 0 ∷ 0 ∷ 0 ∷ 0 ∷ 0 ∷ 0 ∷ 0 ∷ 0 ∷ 0 ∷ 0 ∷ 0 ∷ 0 ∷ 0 ∷ 0 ∷ 0 ∷ 0 ∷ 0 ∷ 0 ∷ 0 ∷ 0 ∷ 0 ∷ 0 ∷ 0 ∷ 0 ∷ 0 ∷ 0 ∷ 0 ∷ 0 ∷ 0 ∷ 0 ∷ 0 ∷ 0 ∷ 0 ∷ 0 ∷ 0 ∷ 0 ∷ 0 ∷ 0 ∷ 0 ∷ 0 ∷ 0 ∷ 0 ∷ 0 ∷ 0 ∷ 0 ∷ 0 ∷ 0 ∷ 0 ∷ 0 ∷ 0 ∷ 0 ∷ 0 ∷ 0 ∷ 0 ∷ 0 ∷ 0 ∷ 0 ∷ 0 ∷ 0 ∷ 0 ∷ 0 ∷ 0 ∷ 0 ∷ 0 ∷ 0 ∷ 0 ∷ 0 ∷ 0 ∷ 0 ∷ 0 ∷ 0 ∷ []
+
+asked-26-written : tableOf asked-26 ≡ asked-26-table
+unfolding computing
+asked-26-written = refl
+
+asked-26-0 : entryOn asked-26-table 2 1 ≡ answered (record { start = 139; long = 16 })
+unfolding computing
+asked-26-0 = refl
+
+asked-26-1 : entryOn asked-26-table 3 0 ≡ answered (record { start = 155; long = 64 })
+unfolding computing
+asked-26-1 = refl
+
+asked-26-2 : entryOn asked-26-table 3 1 ≡ answered (record { start = 219; long = 64 })
+unfolding computing
+asked-26-2 = refl
+
+asked-26-3 : entryOn asked-26-table 4 1 ≡ answered (record { start = 299; long = 16 })
+unfolding computing
+asked-26-3 = refl
+
+asked-26-4 : entryOn asked-26-table 5 1 ≡ answered (record { start = 397; long = 82 })
+unfolding computing
+asked-26-4 = refl
+
+asked-26-5 : entryOn asked-26-table 6 1 ≡ answered (record { start = 489; long = 10 })
+unfolding computing
+asked-26-5 = refl
+
+asked-26-6 : entryOn asked-26-table 7 2 ≡ answered (record { start = 511; long = 6 })
+unfolding computing
+asked-26-6 = refl
+
+asked-26-7 : entryOn asked-26-table 8 1 ≡ answered (record { start = 533; long = 16 })
+unfolding computing
+asked-26-7 = refl
+
+asked-26-8 : entryOn asked-26-table 8 2 ≡ answered (record { start = 549; long = 16 })
+unfolding computing
+asked-26-8 = refl
+
+asked-26-9 : entryOn asked-26-table 8 3 ≡ answered (record { start = 565; long = 64 })
+unfolding computing
+asked-26-9 = refl
+
+asked-26-10 : entryOn asked-26-table 2 2 ≡ refused 12 0
+unfolding computing
+asked-26-10 = refl
+
+asked-26-11 : entryOn asked-26-table 4 2 ≡ refused 12 0
+unfolding computing
+asked-26-11 = refl
+
+asked-26-12 : entryOn asked-26-table 5 2 ≡ refused 12 0
+unfolding computing
+asked-26-12 = refl
+
+asked-26-13 : entryOn asked-26-table 6 2 ≡ refused 12 0
+unfolding computing
+asked-26-13 = refl
+
+asked-26-14 : entryOn asked-26-table 7 3 ≡ refused 12 0
+unfolding computing
+asked-26-14 = refl
+
+asked-26-15 : entryOn asked-26-table 8 4 ≡ refused 12 0
+unfolding computing
+asked-26-15 = refl
+
+asked-26-16 : entryOn asked-26-table 0 0 ≡ refused 12 0
+unfolding computing
+asked-26-16 = refl
+
+asked-26-17 : entryOn asked-26-table 1 0 ≡ refused 12 0
+unfolding computing
+asked-26-17 = refl
+
+asked-26-18 : entryOn asked-26-table 9 0 ≡ refused 12 0
+unfolding computing
+asked-26-18 = refl
+
+asked-26-19 : entryOn asked-26-table 18446744073709551615 0 ≡ refused 12 0
+unfolding computing
+asked-26-19 = refl
+
+asked-26-20 : entryOn asked-26-table 8 18446744073709551615 ≡ refused 12 0
+unfolding computing
+asked-26-20 = refl
+
+-- 12 before any denial
+abbrev asked-27 : List ℕ
+asked-27 = bytes "(user u)(role a)(type t)(class c(p))(class d(p q))"
+
+abbrev asked-27-table : List ℕ
+asked-27-table = 1 ∷ 0 ∷ 8 ∷ 0 ∷ 68 ∷ 0 ∷ 0 ∷ 0 ∷ 40 ∷ 0 ∷ 0 ∷ 0 ∷ 108 ∷ 0 ∷ 0 ∷ 0 ∷ 16 ∷ 0 ∷ 0 ∷ 0 ∷ 124 ∷ 0 ∷ 0 ∷ 0 ∷ 64 ∷ 0 ∷ 0 ∷ 0 ∷ 188 ∷ 0 ∷ 0 ∷ 0 ∷ 16 ∷ 0 ∷ 0 ∷ 0 ∷ 204 ∷ 0 ∷ 0 ∷ 0 ∷ 0 ∷ 0 ∷ 0 ∷ 0 ∷ 204 ∷ 0 ∷ 0 ∷ 0 ∷ 0 ∷ 0 ∷ 0 ∷ 0 ∷ 204 ∷ 0 ∷ 0 ∷ 0 ∷ 0 ∷ 0 ∷ 0 ∷ 0 ∷ 204 ∷ 0 ∷ 0 ∷ 0 ∷ 0 ∷ 0 ∷ 0 ∷ 0 ∷ 0 ∷ 0 ∷ 0 ∷ 1 ∷ 117 ∷ 1 ∷ 0 ∷ 0 ∷ 1 ∷ 97 ∷ 2 ∷ 0 ∷ 0 ∷ 1 ∷ 116 ∷ 6 ∷ 0 ∷ 0 ∷ 1 ∷ 99 ∷ 7 ∷ 0 ∷ 0 ∷ 1 ∷ 112 ∷ 6 ∷ 1 ∷ 0 ∷ 1 ∷ 100 ∷ 7 ∷ 32 ∷ 0 ∷ 1 ∷ 112 ∷ 7 ∷ 33 ∷ 0 ∷ 1 ∷ 113 ∷ 0 ∷ 0 ∷ 0 ∷ 0 ∷ 0 ∷ 0 ∷ 0 ∷ 0 ∷ 0 ∷ 0 ∷ 0 ∷ 0 ∷ 0 ∷ 0 ∷ 0 ∷ 0 ∷ 0 ∷ 0 ∷ 0 ∷ 0 ∷ 0 ∷ 0 ∷ 0 ∷ 0 ∷ 0 ∷ 0 ∷ 0 ∷ 0 ∷ 0 ∷ 0 ∷ 0 ∷ 0 ∷ 0 ∷ 0 ∷ 0 ∷ 0 ∷ 0 ∷ 0 ∷ 0 ∷ 0 ∷ 0 ∷ 0 ∷ 0 ∷ 0 ∷ 0 ∷ 0 ∷ 0 ∷ 0 ∷ 0 ∷ 0 ∷ 0 ∷ 0 ∷ 0 ∷ 0 ∷ 0 ∷ 0 ∷ 0 ∷ 0 ∷ 0 ∷ 0 ∷ 0 ∷ 0 ∷ 0 ∷ 0 ∷ 0 ∷ 0 ∷ 0 ∷ 0 ∷ 0 ∷ 0 ∷ 0 ∷ 0 ∷ 0 ∷ 0 ∷ 0 ∷ 0 ∷ 0 ∷ 0 ∷ 0 ∷ 0 ∷ 0 ∷ 0 ∷ 0 ∷ 0 ∷ 0 ∷ 0 ∷ 0 ∷ 0 ∷ 0 ∷ 0 ∷ 0 ∷ 0 ∷ 0 ∷ 0 ∷ 0 ∷ 0 ∷ []
+
+asked-27-written : tableOf asked-27 ≡ asked-27-table
+unfolding computing
+asked-27-written = refl
+
+asked-27-10 : validOn asked-27-table (context 0 0 1) ≡ refused 12 0
+unfolding computing
+asked-27-10 = refl
+
+asked-27-11 : validOn asked-27-table (context 1 0 0) ≡ refused 12 0
+unfolding computing
+asked-27-11 = refl
+
+asked-27-12 : validOn asked-27-table (context 0 256 0) ≡ refused 12 0
+unfolding computing
+asked-27-12 = refl
+
+asked-27-13 : validOn asked-27-table (context 18446744073709551615 0 0) ≡ refused 12 0
+unfolding computing
+asked-27-13 = refl
+
+asked-27-15 : newRoleOn asked-27-table 65536 0 0 ≡ refused 12 0
+unfolding computing
+asked-27-15 = refl
+
+asked-27-changes : changesOn asked-27-table ((record { source = context 1 0 0; target = context 0 0 0; class = 0; perm = 0 }) ∷ (record { source = context 0 1 0; target = context 0 0 0; class = 0; perm = 0 }) ∷ (record { source = context 0 0 1; target = context 0 0 0; class = 0; perm = 0 }) ∷ (record { source = context 0 0 0; target = context 1 0 0; class = 0; perm = 0 }) ∷ (record { source = context 0 0 0; target = context 0 1 0; class = 0; perm = 0 }) ∷ (record { source = context 0 0 0; target = context 0 0 1; class = 0; perm = 0 }) ∷ (record { source = context 0 0 0; target = context 0 0 0; class = 2; perm = 0 }) ∷ (record { source = context 0 0 0; target = context 0 0 0; class = 0; perm = 1 }) ∷ (record { source = context 0 0 0; target = context 0 0 0; class = 1; perm = 2 }) ∷ (record { source = context 0 0 0; target = context 0 0 0; class = 1; perm = 1 }) ∷ (record { source = context 0 0 0; target = context 0 0 0; class = 0; perm = 4294967296 }) ∷ []) ≡ record { verdict = refuses 12 0; consulted = 0 } ∷ record { verdict = refuses 12 0; consulted = 0 } ∷ record { verdict = refuses 12 0; consulted = 0 } ∷ record { verdict = refuses 12 0; consulted = 0 } ∷ record { verdict = refuses 12 0; consulted = 0 } ∷ record { verdict = refuses 12 0; consulted = 0 } ∷ record { verdict = refuses 12 0; consulted = 0 } ∷ record { verdict = refuses 12 0; consulted = 0 } ∷ record { verdict = refuses 12 0; consulted = 0 } ∷ record { verdict = denied 1; consulted = 0 } ∷ record { verdict = refuses 12 0; consulted = 0 } ∷ []
+unfolding computing
+asked-27-changes = refl
+
+asked-27-statements : fromText asked-27 ((record { source = context 0 0 0; target = context 0 0 0; class = 1; perm = 1 }) ∷ []) ≡ record { verdict = denied 1; consulted = 0 } ∷ []
+unfolding computing
+asked-27-statements = refl
+
+-- a random policy and random questions
+abbrev asked-28 : List ℕ
+asked-28 = bytes "(user c1)(userattribute b5)(role c2)(roleattribute f1)(type __-)(class d1(a7 e6 d3))(userrole b5 f1)(roletype c2 __-)(userattributeset b5(not c1))(userrole c1 c2)(roleattributeset f1(or c2 c2))(userrole b5 c2)(role b8)(user d6)"
+
+abbrev asked-28-table : List ℕ
+asked-28-table = 1 ∷ 0 ∷ 8 ∷ 0 ∷ 68 ∷ 0 ∷ 0 ∷ 0 ∷ 67 ∷ 0 ∷ 0 ∷ 0 ∷ 135 ∷ 0 ∷ 0 ∷ 0 ∷ 32 ∷ 0 ∷ 0 ∷ 0 ∷ 167 ∷ 0 ∷ 0 ∷ 0 ∷ 128 ∷ 0 ∷ 0 ∷ 0 ∷ 39 ∷ 1 ∷ 0 ∷ 0 ∷ 32 ∷ 0 ∷ 0 ∷ 0 ∷ 71 ∷ 1 ∷ 0 ∷ 0 ∷ 0 ∷ 0 ∷ 0 ∷ 0 ∷ 71 ∷ 1 ∷ 0 ∷ 0 ∷ 0 ∷ 0 ∷ 0 ∷ 0 ∷ 71 ∷ 1 ∷ 0 ∷ 0 ∷ 0 ∷ 0 ∷ 0 ∷ 0 ∷ 71 ∷ 1 ∷ 0 ∷ 0 ∷ 32 ∷ 0 ∷ 0 ∷ 0 ∷ 0 ∷ 0 ∷ 0 ∷ 2 ∷ 99 ∷ 49 ∷ 3 ∷ 0 ∷ 0 ∷ 2 ∷ 98 ∷ 53 ∷ 1 ∷ 0 ∷ 0 ∷ 2 ∷ 99 ∷ 50 ∷ 4 ∷ 0 ∷ 0 ∷ 2 ∷ 102 ∷ 49 ∷ 2 ∷ 0 ∷ 0 ∷ 3 ∷ 95 ∷ 95 ∷ 45 ∷ 6 ∷ 0 ∷ 0 ∷ 2 ∷ 100 ∷ 49 ∷ 7 ∷ 0 ∷ 0 ∷ 2 ∷ 97 ∷ 55 ∷ 7 ∷ 1 ∷ 0 ∷ 2 ∷ 101 ∷ 54 ∷ 7 ∷ 2 ∷ 0 ∷ 2 ∷ 100 ∷ 51 ∷ 1 ∷ 1 ∷ 0 ∷ 2 ∷ 98 ∷ 56 ∷ 0 ∷ 1 ∷ 0 ∷ 2 ∷ 100 ∷ 54 ∷ 1 ∷ 0 ∷ 0 ∷ 0 ∷ 0 ∷ 0 ∷ 0 ∷ 0 ∷ 0 ∷ 0 ∷ 0 ∷ 0 ∷ 0 ∷ 0 ∷ 0 ∷ 0 ∷ 1 ∷ 0 ∷ 0 ∷ 0 ∷ 0 ∷ 0 ∷ 0 ∷ 0 ∷ 0 ∷ 0 ∷ 0 ∷ 0 ∷ 0 ∷ 0 ∷ 0 ∷ 0 ∷ 1 ∷ 0 ∷ 0 ∷ 0 ∷ 0 ∷ 0 ∷ 0 ∷ 0 ∷ 0 ∷ 0 ∷ 0 ∷ 0 ∷ 0 ∷ 0 ∷ 0 ∷ 0 ∷ 0 ∷ 0 ∷ 0 ∷ 0 ∷ 0 ∷ 0 ∷ 0 ∷ 0 ∷ 0 ∷ 0 ∷ 0 ∷ 0 ∷ 0 ∷ 0 ∷ 0 ∷ 0 ∷ 0 ∷ 0 ∷ 0 ∷ 0 ∷ 0 ∷ 0 ∷ 0 ∷ 0 ∷ 0 ∷ 0 ∷ 0 ∷ 0 ∷ 0 ∷ 0 ∷ 0 ∷ 0 ∷ 0 ∷ 0 ∷ 0 ∷ 0 ∷ 0 ∷ 0 ∷ 0 ∷ 0 ∷ 0 ∷ 0 ∷ 0 ∷ 0 ∷ 0 ∷ 0 ∷ 0 ∷ 0 ∷ 0 ∷ 0 ∷ 0 ∷ 0 ∷ 0 ∷ 0 ∷ 0 ∷ 0 ∷ 0 ∷ 0 ∷ 0 ∷ 0 ∷ 0 ∷ 0 ∷ 0 ∷ 0 ∷ 0 ∷ 0 ∷ 0 ∷ 0 ∷ 0 ∷ 0 ∷ 0 ∷ 0 ∷ 0 ∷ 0 ∷ 0 ∷ 0 ∷ 0 ∷ 0 ∷ 0 ∷ 0 ∷ 0 ∷ 0 ∷ 0 ∷ 0 ∷ 0 ∷ 0 ∷ 0 ∷ 0 ∷ 0 ∷ 0 ∷ 0 ∷ 0 ∷ 0 ∷ 0 ∷ 0 ∷ 0 ∷ 0 ∷ 0 ∷ 0 ∷ 0 ∷ 0 ∷ 0 ∷ 0 ∷ 0 ∷ 0 ∷ 0 ∷ 0 ∷ 0 ∷ 0 ∷ 0 ∷ 0 ∷ 0 ∷ 0 ∷ 0 ∷ 0 ∷ 0 ∷ 0 ∷ 0 ∷ 0 ∷ 0 ∷ 0 ∷ 0 ∷ 0 ∷ 0 ∷ 0 ∷ 0 ∷ 0 ∷ 0 ∷ 0 ∷ 0 ∷ 0 ∷ 0 ∷ 0 ∷ 0 ∷ 0 ∷ 0 ∷ 0 ∷ 0 ∷ 0 ∷ 0 ∷ 0 ∷ 0 ∷ 0 ∷ 0 ∷ 2 ∷ 0 ∷ 0 ∷ 0 ∷ 0 ∷ 0 ∷ 0 ∷ 0 ∷ 0 ∷ 0 ∷ 0 ∷ 0 ∷ 0 ∷ 0 ∷ 0 ∷ 0 ∷ 1 ∷ 0 ∷ 0 ∷ 0 ∷ 0 ∷ 0 ∷ 0 ∷ 0 ∷ 0 ∷ 0 ∷ 0 ∷ 0 ∷ 0 ∷ 0 ∷ 0 ∷ 0 ∷ []
+
+asked-28-written : tableOf asked-28 ≡ asked-28-table
+unfolding computing
+asked-28-written = refl
+
+asked-28-3 : newRoleOn asked-28-table 0 0 0 ≡ answered 0
+unfolding computing
+asked-28-3 = refl
+
+asked-28-5 : nameOn asked-28-table 2 0 ≡ answered (record { start = 96; long = 3 })
+unfolding computing
+asked-28-5 = refl
+
+asked-28-changes : changesOn asked-28-table ((record { source = context 0 0 0; target = context 0 0 0; class = 0; perm = 1 }) ∷ (record { source = context 0 0 0; target = context 1 0 0; class = 0; perm = 0 }) ∷ (record { source = context 0 0 0; target = context 0 0 0; class = 0; perm = 2 }) ∷ (record { source = context 0 0 0; target = context 1 0 0; class = 0; perm = 2 }) ∷ []) ≡ record { verdict = granted; consulted = 0 } ∷ record { verdict = granted; consulted = 0 } ∷ record { verdict = granted; consulted = 0 } ∷ record { verdict = granted; consulted = 0 } ∷ []
+unfolding computing
+asked-28-changes = refl
+
+asked-28-statements : fromText asked-28 ((record { source = context 0 0 0; target = context 0 0 0; class = 0; perm = 1 }) ∷ (record { source = context 0 0 0; target = context 1 0 0; class = 0; perm = 0 }) ∷ (record { source = context 0 0 0; target = context 0 0 0; class = 0; perm = 2 }) ∷ (record { source = context 0 0 0; target = context 1 0 0; class = 0; perm = 2 }) ∷ []) ≡ record { verdict = granted; consulted = 0 } ∷ record { verdict = granted; consulted = 0 } ∷ record { verdict = granted; consulted = 0 } ∷ record { verdict = granted; consulted = 0 } ∷ []
+unfolding computing
+asked-28-statements = refl
+
+-- a random policy and random questions
+abbrev asked-29 : List ℕ
+asked-29 = bytes "(user d6)(role c2)(roleattribute f6)(type a1)(class process(transition e1))(constrain(process(transition e1 e1))(or(domby r1 r2)(and(neq r1 c2)(or(incomp r1 r2)(or(neq r2 c2)(neq r2 f6))))))(roletype f6 a1)(userrole d6 f6)(class e4(b5 e6 d7))(constrain(e4(d7))(not(dom r1 r2)))(userrole d6 c2)(userattribute c9)(user a3)(user a5)(role b7)"
+
+abbrev asked-29-table : List ℕ
+asked-29-table = 1 ∷ 0 ∷ 8 ∷ 0 ∷ 68 ∷ 0 ∷ 0 ∷ 0 ∷ 103 ∷ 0 ∷ 0 ∷ 0 ∷ 171 ∷ 0 ∷ 0 ∷ 0 ∷ 48 ∷ 0 ∷ 0 ∷ 0 ∷ 219 ∷ 0 ∷ 0 ∷ 0 ∷ 128 ∷ 0 ∷ 0 ∷ 0 ∷ 91 ∷ 1 ∷ 0 ∷ 0 ∷ 32 ∷ 0 ∷ 0 ∷ 0 ∷ 123 ∷ 1 ∷ 0 ∷ 0 ∷ 0 ∷ 0 ∷ 0 ∷ 0 ∷ 123 ∷ 1 ∷ 0 ∷ 0 ∷ 20 ∷ 0 ∷ 0 ∷ 0 ∷ 143 ∷ 1 ∷ 0 ∷ 0 ∷ 66 ∷ 0 ∷ 0 ∷ 0 ∷ 209 ∷ 1 ∷ 0 ∷ 0 ∷ 32 ∷ 0 ∷ 0 ∷ 0 ∷ 0 ∷ 0 ∷ 0 ∷ 2 ∷ 100 ∷ 54 ∷ 1 ∷ 0 ∷ 0 ∷ 2 ∷ 99 ∷ 50 ∷ 4 ∷ 0 ∷ 0 ∷ 2 ∷ 102 ∷ 54 ∷ 2 ∷ 0 ∷ 0 ∷ 2 ∷ 97 ∷ 49 ∷ 6 ∷ 0 ∷ 0 ∷ 7 ∷ 112 ∷ 114 ∷ 111 ∷ 99 ∷ 101 ∷ 115 ∷ 115 ∷ 7 ∷ 0 ∷ 0 ∷ 10 ∷ 116 ∷ 114 ∷ 97 ∷ 110 ∷ 115 ∷ 105 ∷ 116 ∷ 105 ∷ 111 ∷ 110 ∷ 7 ∷ 1 ∷ 0 ∷ 2 ∷ 101 ∷ 49 ∷ 6 ∷ 1 ∷ 0 ∷ 2 ∷ 101 ∷ 52 ∷ 7 ∷ 32 ∷ 0 ∷ 2 ∷ 98 ∷ 53 ∷ 7 ∷ 33 ∷ 0 ∷ 2 ∷ 101 ∷ 54 ∷ 7 ∷ 34 ∷ 0 ∷ 2 ∷ 100 ∷ 55 ∷ 3 ∷ 0 ∷ 0 ∷ 2 ∷ 99 ∷ 57 ∷ 0 ∷ 1 ∷ 0 ∷ 2 ∷ 97 ∷ 51 ∷ 0 ∷ 2 ∷ 0 ∷ 2 ∷ 97 ∷ 53 ∷ 1 ∷ 1 ∷ 0 ∷ 2 ∷ 98 ∷ 55 ∷ 1 ∷ 0 ∷ 0 ∷ 0 ∷ 0 ∷ 0 ∷ 0 ∷ 0 ∷ 0 ∷ 0 ∷ 0 ∷ 0 ∷ 0 ∷ 0 ∷ 0 ∷ 0 ∷ 0 ∷ 0 ∷ 0 ∷ 0 ∷ 0 ∷ 0 ∷ 0 ∷ 0 ∷ 0 ∷ 0 ∷ 0 ∷ 0 ∷ 0 ∷ 0 ∷ 0 ∷ 0 ∷ 0 ∷ 0 ∷ 0 ∷ 0 ∷ 0 ∷ 0 ∷ 0 ∷ 0 ∷ 0 ∷ 0 ∷ 0 ∷ 0 ∷ 0 ∷ 0 ∷ 0 ∷ 0 ∷ 0 ∷ 0 ∷ 0 ∷ 0 ∷ 0 ∷ 0 ∷ 0 ∷ 0 ∷ 0 ∷ 0 ∷ 0 ∷ 0 ∷ 0 ∷ 0 ∷ 0 ∷ 0 ∷ 0 ∷ 0 ∷ 0 ∷ 0 ∷ 0 ∷ 0 ∷ 0 ∷ 0 ∷ 0 ∷ 0 ∷ 0 ∷ 0 ∷ 0 ∷ 0 ∷ 0 ∷ 0 ∷ 0 ∷ 0 ∷ 0 ∷ 0 ∷ 0 ∷ 0 ∷ 0 ∷ 0 ∷ 0 ∷ 0 ∷ 0 ∷ 0 ∷ 0 ∷ 0 ∷ 0 ∷ 0 ∷ 0 ∷ 0 ∷ 0 ∷ 0 ∷ 0 ∷ 0 ∷ 0 ∷ 0 ∷ 0 ∷ 0 ∷ 0 ∷ 0 ∷ 0 ∷ 0 ∷ 0 ∷ 0 ∷ 0 ∷ 0 ∷ 0 ∷ 0 ∷ 0 ∷ 0 ∷ 0 ∷ 0 ∷ 0 ∷ 0 ∷ 0 ∷ 0 ∷ 0 ∷ 0 ∷ 0 ∷ 0 ∷ 0 ∷ 0 ∷ 0 ∷ 0 ∷ 0 ∷ 0 ∷ 0 ∷ 0 ∷ 0 ∷ 0 ∷ 0 ∷ 0 ∷ 0 ∷ 0 ∷ 0 ∷ 0 ∷ 0 ∷ 0 ∷ 0 ∷ 0 ∷ 0 ∷ 0 ∷ 0 ∷ 0 ∷ 0 ∷ 0 ∷ 0 ∷ 0 ∷ 0 ∷ 0 ∷ 0 ∷ 0 ∷ 0 ∷ 0 ∷ 0 ∷ 0 ∷ 0 ∷ 0 ∷ 0 ∷ 0 ∷ 0 ∷ 0 ∷ 0 ∷ 0 ∷ 0 ∷ 0 ∷ 0 ∷ 0 ∷ 0 ∷ 0 ∷ 0 ∷ 0 ∷ 0 ∷ 0 ∷ 0 ∷ 0 ∷ 0 ∷ 0 ∷ 0 ∷ 0 ∷ 0 ∷ 0 ∷ 0 ∷ 0 ∷ 0 ∷ 0 ∷ 0 ∷ 0 ∷ 0 ∷ 0 ∷ 0 ∷ 0 ∷ 0 ∷ 0 ∷ 0 ∷ 0 ∷ 0 ∷ 0 ∷ 0 ∷ 0 ∷ 0 ∷ 0 ∷ 3 ∷ 0 ∷ 0 ∷ 0 ∷ 0 ∷ 0 ∷ 9 ∷ 0 ∷ 1 ∷ 0 ∷ 4 ∷ 0 ∷ 0 ∷ 0 ∷ 9 ∷ 0 ∷ 2 ∷ 0 ∷ 3 ∷ 2 ∷ 3 ∷ 0 ∷ 0 ∷ 0 ∷ 4 ∷ 2 ∷ 1 ∷ 0 ∷ 0 ∷ 0 ∷ 3 ∷ 2 ∷ 4 ∷ 0 ∷ 0 ∷ 0 ∷ 4 ∷ 3 ∷ 1 ∷ 0 ∷ 0 ∷ 0 ∷ 5 ∷ 3 ∷ 1 ∷ 0 ∷ 0 ∷ 0 ∷ 2 ∷ 0 ∷ 0 ∷ 0 ∷ 0 ∷ 0 ∷ 2 ∷ 0 ∷ 0 ∷ 0 ∷ 0 ∷ 0 ∷ 1 ∷ 0 ∷ 0 ∷ 0 ∷ 0 ∷ 0 ∷ 2 ∷ 0 ∷ 0 ∷ 0 ∷ 0 ∷ 0 ∷ 3 ∷ 2 ∷ 2 ∷ 0 ∷ 0 ∷ 0 ∷ 0 ∷ 0 ∷ 0 ∷ 0 ∷ 0 ∷ 0 ∷ 0 ∷ 0 ∷ 0 ∷ 0 ∷ 0 ∷ 0 ∷ 0 ∷ 0 ∷ 0 ∷ 0 ∷ 0 ∷ 0 ∷ 0 ∷ 0 ∷ 0 ∷ 0 ∷ 0 ∷ 0 ∷ 0 ∷ 0 ∷ 0 ∷ 0 ∷ 0 ∷ 0 ∷ 0 ∷ 0 ∷ 0 ∷ 0 ∷ 0 ∷ 0 ∷ 0 ∷ 0 ∷ []
+
+asked-29-written : tableOf asked-29 ≡ asked-29-table
+unfolding computing
+asked-29-written = refl
+
+asked-29-2 : entryOn asked-29-table 5 0 ≡ refused 12 0
+unfolding computing
+asked-29-2 = refl
+
+asked-29-3 : entryOn asked-29-table 3 0 ≡ answered (record { start = 219; long = 64 })
+unfolding computing
+asked-29-3 = refl
+
+asked-29-changes : changesOn asked-29-table ((record { source = context 0 1 0; target = context 1 0 0; class = 0; perm = 0 }) ∷ (record { source = context 0 1 2147483648; target = context 2 1 0; class = 0; perm = 0 }) ∷ (record { source = context 0 0 0; target = context 1 0 0; class = 1; perm = 0 }) ∷ (record { source = context 0 1 0; target = context 1 0 0; class = 0; perm = 0 }) ∷ []) ≡ record { verdict = denied 1; consulted = 0 } ∷ record { verdict = refuses 12 0; consulted = 0 } ∷ record { verdict = denied 1; consulted = 0 } ∷ record { verdict = denied 1; consulted = 0 } ∷ []
+unfolding computing
+asked-29-changes = refl
+
+asked-29-statements : fromText asked-29 ((record { source = context 0 1 0; target = context 1 0 0; class = 0; perm = 0 }) ∷ (record { source = context 0 0 0; target = context 1 0 0; class = 1; perm = 0 }) ∷ (record { source = context 0 1 0; target = context 1 0 0; class = 0; perm = 0 }) ∷ []) ≡ record { verdict = denied 1; consulted = 0 } ∷ record { verdict = denied 1; consulted = 0 } ∷ record { verdict = denied 1; consulted = 0 } ∷ []
+unfolding computing
+asked-29-statements = refl
+
+-- a random policy and random questions
+abbrev asked-30 : List ℕ
+asked-30 = bytes "(user f3)(userattribute f2)(role b3)(roleattribute e5)(type f8)(typeattribute d9)(class c5(e5))(userrole f3 b3)(userrole f2 e5)(userattributeset f2(not f3))(role b1)(type r)(type d2)(userattributeset f2(f3 f3))(type f7)(userrole f2 e5)"
+
+abbrev asked-30-table : List ℕ
+asked-30-table = 1 ∷ 0 ∷ 8 ∷ 0 ∷ 68 ∷ 0 ∷ 0 ∷ 0 ∷ 71 ∷ 0 ∷ 0 ∷ 0 ∷ 139 ∷ 0 ∷ 0 ∷ 0 ∷ 16 ∷ 0 ∷ 0 ∷ 0 ∷ 155 ∷ 0 ∷ 0 ∷ 0 ∷ 128 ∷ 0 ∷ 0 ∷ 0 ∷ 27 ∷ 1 ∷ 0 ∷ 0 ∷ 32 ∷ 0 ∷ 0 ∷ 0 ∷ 59 ∷ 1 ∷ 0 ∷ 0 ∷ 0 ∷ 0 ∷ 0 ∷ 0 ∷ 59 ∷ 1 ∷ 0 ∷ 0 ∷ 0 ∷ 0 ∷ 0 ∷ 0 ∷ 59 ∷ 1 ∷ 0 ∷ 0 ∷ 0 ∷ 0 ∷ 0 ∷ 0 ∷ 59 ∷ 1 ∷ 0 ∷ 0 ∷ 96 ∷ 0 ∷ 0 ∷ 0 ∷ 0 ∷ 0 ∷ 0 ∷ 2 ∷ 102 ∷ 51 ∷ 3 ∷ 0 ∷ 0 ∷ 2 ∷ 102 ∷ 50 ∷ 1 ∷ 0 ∷ 0 ∷ 2 ∷ 98 ∷ 51 ∷ 4 ∷ 0 ∷ 0 ∷ 2 ∷ 101 ∷ 53 ∷ 2 ∷ 0 ∷ 0 ∷ 2 ∷ 102 ∷ 56 ∷ 5 ∷ 0 ∷ 0 ∷ 2 ∷ 100 ∷ 57 ∷ 6 ∷ 0 ∷ 0 ∷ 2 ∷ 99 ∷ 53 ∷ 7 ∷ 0 ∷ 0 ∷ 2 ∷ 101 ∷ 53 ∷ 1 ∷ 1 ∷ 0 ∷ 2 ∷ 98 ∷ 49 ∷ 2 ∷ 1 ∷ 0 ∷ 1 ∷ 114 ∷ 2 ∷ 2 ∷ 0 ∷ 2 ∷ 100 ∷ 50 ∷ 2 ∷ 3 ∷ 0 ∷ 2 ∷ 102 ∷ 55 ∷ 1 ∷ 0 ∷ 0 ∷ 0 ∷ 0 ∷ 0 ∷ 0 ∷ 0 ∷ 0 ∷ 0 ∷ 0 ∷ 0 ∷ 0 ∷ 0 ∷ 0 ∷ 0 ∷ 0 ∷ 0 ∷ 0 ∷ 0 ∷ 0 ∷ 0 ∷ 0 ∷ 0 ∷ 0 ∷ 0 ∷ 0 ∷ 0 ∷ 0 ∷ 0 ∷ 0 ∷ 0 ∷ 0 ∷ 0 ∷ 0 ∷ 0 ∷ 0 ∷ 0 ∷ 0 ∷ 0 ∷ 0 ∷ 0 ∷ 0 ∷ 0 ∷ 0 ∷ 0 ∷ 0 ∷ 0 ∷ 0 ∷ 0 ∷ 0 ∷ 0 ∷ 0 ∷ 0 ∷ 0 ∷ 0 ∷ 0 ∷ 0 ∷ 0 ∷ 0 ∷ 0 ∷ 0 ∷ 0 ∷ 0 ∷ 0 ∷ 0 ∷ 0 ∷ 0 ∷ 0 ∷ 0 ∷ 0 ∷ 0 ∷ 0 ∷ 0 ∷ 0 ∷ 0 ∷ 0 ∷ 0 ∷ 0 ∷ 0 ∷ 0 ∷ 0 ∷ 0 ∷ 0 ∷ 0 ∷ 0 ∷ 0 ∷ 0 ∷ 0 ∷ 0 ∷ 0 ∷ 0 ∷ 0 ∷ 0 ∷ 0 ∷ 0 ∷ 0 ∷ 0 ∷ 0 ∷ 0 ∷ 0 ∷ 0 ∷ 0 ∷ 0 ∷ 0 ∷ 0 ∷ 0 ∷ 0 ∷ 0 ∷ 0 ∷ 0 ∷ 0 ∷ 0 ∷ 0 ∷ 0 ∷ 0 ∷ 0 ∷ 0 ∷ 0 ∷ 0 ∷ 0 ∷ 0 ∷ 0 ∷ 0 ∷ 0 ∷ 0 ∷ 0 ∷ 0 ∷ 0 ∷ 0 ∷ 0 ∷ 0 ∷ 0 ∷ 0 ∷ 0 ∷ 0 ∷ 0 ∷ 0 ∷ 0 ∷ 0 ∷ 0 ∷ 0 ∷ 0 ∷ 0 ∷ 0 ∷ 0 ∷ 0 ∷ 0 ∷ 0 ∷ 0 ∷ 0 ∷ 0 ∷ 0 ∷ 0 ∷ 0 ∷ 0 ∷ 0 ∷ 0 ∷ 0 ∷ 0 ∷ 0 ∷ 0 ∷ 0 ∷ 0 ∷ 0 ∷ 0 ∷ 0 ∷ 0 ∷ 0 ∷ 0 ∷ 0 ∷ 0 ∷ 0 ∷ 0 ∷ 0 ∷ 0 ∷ 1 ∷ 0 ∷ 0 ∷ 0 ∷ 0 ∷ 0 ∷ 0 ∷ 0 ∷ 0 ∷ 0 ∷ 0 ∷ 0 ∷ 0 ∷ 0 ∷ 0 ∷ 0 ∷ 0 ∷ 0 ∷ 0 ∷ 0 ∷ 0 ∷ 0 ∷ 0 ∷ 0 ∷ 0 ∷ 0 ∷ 0 ∷ 0 ∷ 0 ∷ 0 ∷ 0 ∷ 0 ∷ 0 ∷ 0 ∷ 0 ∷ 0 ∷ 0 ∷ 0 ∷ 0 ∷ 0 ∷ 0 ∷ 0 ∷ 0 ∷ 0 ∷ 0 ∷ 0 ∷ 0 ∷ 0 ∷ 0 ∷ 0 ∷ 0 ∷ 0 ∷ 0 ∷ 0 ∷ 0 ∷ 0 ∷ 0 ∷ 0 ∷ 0 ∷ 0 ∷ 0 ∷ 0 ∷ 0 ∷ 0 ∷ 0 ∷ 0 ∷ 0 ∷ 0 ∷ 0 ∷ 0 ∷ 0 ∷ 0 ∷ 0 ∷ 0 ∷ 0 ∷ 0 ∷ 0 ∷ 0 ∷ 0 ∷ 0 ∷ 0 ∷ 0 ∷ 0 ∷ 0 ∷ 0 ∷ 0 ∷ 0 ∷ 0 ∷ 0 ∷ 0 ∷ 0 ∷ 0 ∷ 0 ∷ 0 ∷ 0 ∷ 0 ∷ []
+
+asked-30-written : tableOf asked-30 ≡ asked-30-table
+unfolding computing
+asked-30-written = refl
+
+asked-30-1 : newRoleOn asked-30-table 0 0 0 ≡ answered 0
+unfolding computing
+asked-30-1 = refl
+
+asked-30-changes : changesOn asked-30-table ((record { source = context 0 0 1; target = context 0 1 2; class = 0; perm = 0 }) ∷ (record { source = context 0 0 3; target = context 0 1 0; class = 0; perm = 0 }) ∷ (record { source = context 0 1 1; target = context 0 0 3; class = 0; perm = 0 }) ∷ (record { source = context 0 1 2; target = context 0 1 0; class = 0; perm = 0 }) ∷ (record { source = context 0 1 2; target = context 0 0 1; class = 0; perm = 0 }) ∷ []) ≡ record { verdict = denied 1; consulted = 0 } ∷ record { verdict = denied 1; consulted = 0 } ∷ record { verdict = denied 1; consulted = 0 } ∷ record { verdict = denied 1; consulted = 0 } ∷ record { verdict = denied 1; consulted = 0 } ∷ []
+unfolding computing
+asked-30-changes = refl
+
+asked-30-statements : fromText asked-30 ((record { source = context 0 0 1; target = context 0 1 2; class = 0; perm = 0 }) ∷ (record { source = context 0 0 3; target = context 0 1 0; class = 0; perm = 0 }) ∷ (record { source = context 0 1 1; target = context 0 0 3; class = 0; perm = 0 }) ∷ (record { source = context 0 1 2; target = context 0 1 0; class = 0; perm = 0 }) ∷ (record { source = context 0 1 2; target = context 0 0 1; class = 0; perm = 0 }) ∷ []) ≡ record { verdict = denied 1; consulted = 0 } ∷ record { verdict = denied 1; consulted = 0 } ∷ record { verdict = denied 1; consulted = 0 } ∷ record { verdict = denied 1; consulted = 0 } ∷ record { verdict = denied 1; consulted = 0 } ∷ []
+unfolding computing
+asked-30-statements = refl
