@@ -36,9 +36,13 @@ module _ (text : List ℕ) (p : Policy) (read : policyOf text ≡ policy p) (res
   reads : Accepted p
   reads = policy-accepted text p read .0
 
+  -- the image of what is read and passes 8 and 9 is well-formed
+  pub read-well-formed : wellFormed (imageOf p) ≡ true
+  read-well-formed = image-well-formed p reads
+
   -- the table holds the image of the statements, whatever stands behind it
   pub table-read : imageIn (encode (imageOf p) ++ rest) ≡ some (imageOf p)
-  table-read = table-back (imageOf p) (image-well-formed p reads) rest
+  table-read = table-back (imageOf p) read-well-formed rest
 
   -- "the written table, unaltered and read without the text, gives the answer that the statements give"
   pub table-answers : (q : Question) → changeOn (encode (imageOf p) ++ rest) q ≡ answer p q
