@@ -1,5 +1,6 @@
 -- What reading a text without fault 1 to 7 gives of its statements: every reference is to something declared, every operator is one that
--- the form allows, and every maximum holds. No promise is stated with these words; they carry facts from the reading to the table.
+-- the form allows, and every maximum holds. These words carry facts from the reading to the passes behind it and to the table; what the library promises of
+-- texts and tables does not use them.
 -- Assumes nothing.
 use Prim.Native.Nat.{ℕ, _<_, _≤_}
 use mathlib.Core.Path.{_≡_}
