@@ -43,7 +43,7 @@ pub enum Found {
 // ---- the code
 
 // The unit so many behind a place, and 0 past the end.
-fn unit(code: &[u16], at: usize, k: usize) -> u16
+pub fn unit(code: &[u16], at: usize, k: usize) -> u16
     ensures { λ r. ⌜ r ≡ getD (now (code .entry)) (at + k) 0 ⌝ }
 {
     if code.len() <= at {
@@ -56,7 +56,7 @@ fn unit(code: &[u16], at: usize, k: usize) -> u16
 }
 
 // Where the operands of a statement end: at the next tag, or at the end of the code. Tags are numbered from DECLARE_ATTRIBUTE on.
-fn statement_end(code: &[u16], from: usize) -> usize
+pub fn statement_end(code: &[u16], from: usize) -> usize
     ensures { λ r. ⌜ r ≡ from + length (operandsOf (drop from (now (code .entry)))) ⌝ }
 {
     let mut at = from;
@@ -303,15 +303,15 @@ pub fn final_sets(code: &[u16], family: Family, total: usize, sets: &mut [u8; FA
 // ---- fault 9
 
 // The operands of a role transition: two references, the class and the new role.
-struct Move {
-    roles: u16,
-    types: u16,
-    class: u16,
-    new: u16,
+pub struct Move {
+    pub roles: u16,
+    pub types: u16,
+    pub class: u16,
+    pub new: u16,
 }
 
 // The operands of the transition that stands at a place.
-fn transition(code: &[u16], at: usize) -> Move
+pub fn transition(code: &[u16], at: usize) -> Move
     ensures { λ r. ⌜ (r .roles ≡ getD (now (code .entry)) (at + 2) 0) × (r .types ≡ getD (now (code .entry)) (at + 3) 0)
         × (r .class ≡ getD (now (code .entry)) (at + 4) 0) × (r .new ≡ getD (now (code .entry)) (at + 5) 0) ⌝ }
 {

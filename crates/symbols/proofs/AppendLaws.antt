@@ -20,7 +20,7 @@ put-sets t o s h = sets-eq s t o h ∙ append-assoc (take o t) s (drop (o + leng
 pub length-put : (t : List ℕ) (o : ℕ) (s : List ℕ) → o + length s ≤ length t → length (put t o s) ≡ length t
 length-put t o s h = ap length (sym (put-sets t o s h)) ∙ length-sets t o s
 
-sets-append : (l : List ℕ) (i : ℕ) (vs ws : List ℕ) → sets (sets l i vs) (i + length vs) ws ≡ sets l i (vs ++ ws)
+pub sets-append : (l : List ℕ) (i : ℕ) (vs ws : List ℕ) → sets (sets l i vs) (i + length vs) ws ≡ sets l i (vs ++ ws)
 sets-append l i [] ws = rw add-zero
 sets-append l i (a ∷ vs) ws = rw (add-suc i (length vs), ← suc-add i (length vs)) (sets-append (set l i a) (suc i) vs ws)
 

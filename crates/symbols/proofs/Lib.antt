@@ -11,3 +11,4 @@ pub mod ReferencesFound
 pub mod Declaring
 pub mod Written
 pub mod Walking
+pub mod CountLaws

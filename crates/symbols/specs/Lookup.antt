@@ -34,3 +34,8 @@ nameNumbered s n (e ∷ es) = cond (eqb (e .sort) s && eqb (e .number) n) (some 
 abbrev pub replyOf : NamePlace → Reply Part
 replyOf (NamePlace.At start length) = answered (record { start = start; long = length })
 replyOf NamePlace.Nowhere = refused 12 0
+
+-- "Things are numbered from 0 in text order within their sort": how many entries have a sort
+unfoldable pub countSort : ℕ → List NameEntry → ℕ
+countSort s [] = 0
+countSort s (e ∷ es) = cond (eqb (e .sort) s) (1 + countSort s es) (countSort s es)

@@ -9,7 +9,7 @@ ghost use Rattle.policy.specs.Basics as basics;
 ghost use Rattle.policy.specs.Encode.{nameEntry, entryBytes};
 ghost use Rattle.policy.specs.Questions.{nameFrom};
 ghost use Rattle.symbols.specs.Section.{EntryIs, entriesAt};
-ghost use Rattle.symbols.specs.Lookup.{familyNumber, firstNamed, replyOf};
+ghost use Rattle.symbols.specs.Lookup.{familyNumber, firstNamed, replyOf, countSort};
 ghost use Rattle.symbols.specs.Append.{Room, Appended};
 
 // What stands at a place of a section: an entry, with the place past it; the section's end; or bytes that are no entry.
@@ -156,7 +156,7 @@ pub fn find(
 }
 
 // Copies the len bytes of text from a place on to a place of the table.
-fn copy(table: &mut [u8], at: usize, text: &[u8], from: usize, len: usize)
+pub fn copy(table: &mut [u8], at: usize, text: &[u8], from: usize, len: usize)
     requires { ⌜ (at + len ≤ length (now table)) × (len ≤ length (now text) - from) ⌝ }
     ensures { λ _. ⌜ now (table .exit) ≡ put (now (table .entry)) at (part (now (text .entry)) from len) ⌝ }
 {
@@ -217,6 +217,28 @@ pub fn name_of(table: &[u8], start: usize, end: usize, sort: usize, number: usiz
             }
             Entry::Done => return NamePlace::Nowhere,
             Entry::Broken => return NamePlace::Nowhere,
+        }
+    }
+}
+
+// How many entries of a section have a sort.
+pub fn count(table: &[u8], start: usize, end: usize, sort: usize) -> usize
+    ensures { λ r. ⌜ r ≡ countSort sort (entriesAt (now (table .entry)) start end) ⌝ }
+{
+    let mut count: usize = 0;
+    let mut at = start;
+    loop {
+        let k = look(table, at, end);
+        match k {
+            Entry::Named { sort: s, past, .. } => {
+                at = past;
+                if s != sort {
+                    continue;
+                }
+                count += 1;
+            }
+            Entry::Done => return count,
+            Entry::Broken => return count,
         }
     }
 }

@@ -1,7 +1,7 @@
 -- `lexer_cases::case` is safe and ends: the text lies within the memory. Assumes nothing.
+use lib.Seq.{length-take-le}
 use mathlib.Core.Path.{sym}
 use borrow.Author.Needs.{needs}
-use lib.Seq.{length-take-le}
 use Rattle.lexer_cases.proofs.case.Statement.{statement}
 use Rattle.lexer_cases.proofs.case.Tie as tie
 
@@ -14,8 +14,8 @@ slice-relend-prefix-text c = search needs
 slice-aggregate-text : tie.Need-slice-aggregate-text
 slice-aggregate-text c = sym (length-take-le _ _ (c .before .if1 .left))
 
-read-full-requires : tie.Need-read-full-requires
-read-full-requires c κs = search needs
+fill-requires : tie.Need-fill-requires
+fill-requires c κs = search needs
 
 same-length : tie.Need-same-length
 same-length c = search needs
@@ -39,7 +39,7 @@ case-spec =
     returns
     slice-relend-prefix-text
     slice-aggregate-text
-    read-full-requires
+    fill-requires
     same-length
     returns-2
     show-requires

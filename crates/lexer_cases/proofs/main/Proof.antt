@@ -1,7 +1,7 @@
 -- `lexer_cases::main` is safe and ends: the memory keeps its length, and the number of cases that are left falls. Assumes nothing.
-use mathlib.Core.Path.{_≡_}
 use borrow.Author.Needs.{needs}
 use lib.ListN.{length}
+use mathlib.Core.Path.{_≡_}
 use Rattle.lexer_cases.proofs.main.Statement.{statement}
 use Rattle.lexer_cases.proofs.main.Tie as tie
 
@@ -14,8 +14,8 @@ abbrev μ-loop : tie.MeasureT-loop
 loop-holds : tie.Need-loop-holds Inv-loop μ-loop
 loop-holds c = search needs
 
-next-len-requires : tie.Need-next-len-requires Inv-loop μ-loop
-next-len-requires c κs = search needs
+length-requires : tie.Need-length-requires Inv-loop μ-loop
+length-requires c κs = search needs
 
 enum-known-len : tie.Need-enum-known-len Inv-loop μ-loop
 enum-known-len c = search needs
@@ -54,7 +54,7 @@ main-spec =
     Inv-loop
     μ-loop
     loop-holds
-    next-len-requires
+    length-requires
     enum-known-len
     enum-told
     returns

@@ -1,0 +1,25 @@
+-- `body_writer::write_transition` meets its contract: two sets and two numbers, one behind the other. Assumes nothing.
+use mathlib.Core.Path.{sym, ap, _∙_}
+use lib.ListN.{length}
+use borrow.Author.Needs.{needs}
+use Rattle.bitset.proofs.SetLaws.{length-setOf}
+use Rattle.body_writer.proofs.Moving.{entry-written}
+use Rattle.body_writer.proofs.write_transition.Statement.{statement}
+use Rattle.body_writer.proofs.write_transition.Tie as tie
+
+slice-aggregate-append : tie.Need-slice-aggregate-append
+slice-aggregate-append c = sym (ap length (c .before .before .before .before .reference .ensures) ∙ length-setOf 64 _)
+
+slice-aggregate-append-2 : tie.Need-slice-aggregate-append-2
+slice-aggregate-append-2 c = sym (ap length (c .before .before .before .before .before .before .reference2 .ensures) ∙ length-setOf 64 _)
+
+returns : tie.Need-returns
+returns c = record {
+  entry = λ p t ok codes l m hr ht.
+      entry-written p ok t _ codes _ _ hr ht _ _ (c .before .before .before .before .before .before .before .before .before .before .before .before .before .before .before .before .before .before .before .before .before .reference .ensures) (c .before .before .before .before .before .before .before .before .before .before .before .before .before .before .before .before .before .before .reference2 .ensures) (c .before .before .before .before .before .before .before .before .before .before .before .before .before .before .before .append .ensures) (c .before .before .before .before .before .before .before .before .before .before .append2 .ensures) (c .before .before .before .before .before .before .append-byte .ensures l) (c .before .before .append-byte2 .ensures m);
+}
+
+pub write-transition-spec : {M : Type 1} → statement M
+write-transition-spec =
+    tie.close
+    (tie.spec (λ c κs. search needs) (λ c κs. search needs) slice-aggregate-append (λ c κs. search needs) slice-aggregate-append-2 (λ c κs. search needs) (λ c κs. search needs) (λ c κs. search needs) (λ c. search needs) returns)

@@ -1,0 +1,193 @@
+// The bodies of a table that are made from the code of the statements and the final sets: relations, transitions, attribute sets. Each is written
+// straight into the lent table, from a place on.
+//
+// Every function takes every place and every length. What is promised of the table holds where it has room; past its end nothing is written.
+ghost use mathlib.Core.Path.{_≡_};
+ghost use mathlib.Core.List.{[], _∷_};
+ghost use Prim.Native.Nat.{_<_, _≤_};
+ghost use lib.ListN.{length, take};
+ghost use Rattle.bitset.specs.Sets.{setOf};
+ghost use Rattle.bitset.specs.Parts.{part, put};
+ghost use Rattle.bitset.specs.Relations.{granted};
+ghost use Rattle.statement_code.specs.Code.{relationNumber};
+ghost use Rattle.set_code.specs.Evaluation.{valueOf};
+ghost use Rattle.body_writer.specs.Writing.{Appended, Copies};
+ghost use Rattle.body_writer.specs.Bodies.{relationOf, WritesRelation, WritesTransition, WritesTransitions, WritesSets};
+use policy::Attribute;
+use policy::Role;
+use policy::Type;
+use policy::User;
+use resolver::FAMILY_BYTES;
+use resolver::Move;
+use statement_code::Unit;
+
+// What gives roles to users, types to roles, and to roles the roles that they may become.
+pub enum Relation {
+    UserRole,
+    RoleType,
+    RoleAllow,
+}
+
+// ---- bytes
+
+// The first len bytes of src stand in the table from a place on.
+pub fn copy(src: &[u8], len: usize, table: &mut [u8], at: usize)
+    ensures { λ _. ⌜ Copies (now (src .entry)) len (now (table .entry)) at (now (table .exit)) ⌝ }
+{
+    bitset::copy_at(table, at, len, src);
+}
+
+// The same, and the answer is the place behind them, or the same place where there is no room.
+fn append(src: &[u8], len: usize, table: &mut [u8], at: usize) -> usize
+    ensures { λ r. ⌜ (len ≤ length (now (src .entry)) → Appended (take len (now (src .entry))) (now (table .entry)) at (now (table .exit)) r) ⌝ }
+{
+    copy(src, len, table, at);
+    if table.len() < at {
+        return at;
+    }
+    if table.len() - at < len {
+        return at;
+    }
+    at + len
+}
+
+// Writes a number below 256 as a byte, if the table reaches there, and answers the next place.
+fn append_byte(table: &mut [u8], at: usize, number: u16) -> usize
+    ensures { λ r. ⌜ (number < 256 → Appended (number ∷ []) (now (table .entry)) at (now (table .exit)) r) ⌝ }
+{
+    if at < table.len() {
+        table[at] = (number % 256) as u8;
+        return at + 1;
+    }
+    at
+}
+
+// ---- attribute sets
+
+// One family's part of body 8: the sets of so many attributes, in so many bytes each.
+pub fn write_sets(sets: &[u8; FAMILY_BYTES], many: usize, width: usize, table: &mut [u8], at: usize)
+    ensures { λ _. ⌜ WritesSets (now (sets .entry)) many width (now (table .entry)) at (now (table .exit)) ⌝ }
+{
+    let mut to = at;
+    let mut a = 0;
+    while a < Attribute::MAX {
+        if many <= a {
+            return;
+        }
+        let set = bitset::part(sets, Type::SET_BYTES * a, Type::SET_BYTES);
+        to = append(set, width, table, to);
+        a += 1;
+    }
+}
+
+// ---- relations
+
+// What is added to a tag for its relation.
+fn relation_number(relation: Relation) -> u16
+    ensures { λ r. ⌜ (r ≡ relationNumber (relationOf relation)) × (r ≤ 2) ⌝ }
+{
+    match relation {
+        Relation::UserRole => 0,
+        Relation::RoleType => 1,
+        Relation::RoleAllow => 2,
+    }
+}
+
+// In the body of rows of width bytes that stands in the size bytes at a place, each row of the first reference gains what the second stands for.
+fn grant_line(
+    from: u16,
+    to: u16,
+    from_sets: &[u8; FAMILY_BYTES],
+    to_sets: &[u8; FAMILY_BYTES],
+    table: &mut [u8],
+    at: usize,
+    size: usize,
+    width: usize,
+)
+    ensures { λ _. ⌜ now (table .exit) ≡ put (now (table .entry)) at (granted width (part (now (table .entry)) at size)
+        (setOf 64 (valueOf (now («from_sets» .entry)) from)) (setOf 64 (valueOf (now («to_sets» .entry)) to))) ⌝ }
+{
+    let mut rows = [0u8; Type::SET_BYTES];
+    set_code::reference(from, from_sets, &mut rows);
+    let mut gained = [0u8; Type::SET_BYTES];
+    set_code::reference(to, to_sets, &mut gained);
+    bitset::grant_at(table, at, size, &rows, &gained, width);
+}
+
+// Body 2, 3 or 4: so many sets, in so many bytes each.
+pub fn write_relation(
+    code: &[u16],
+    relation: Relation,
+    from_sets: &[u8; FAMILY_BYTES],
+    to_sets: &[u8; FAMILY_BYTES],
+    table: &mut [u8],
+    at: usize,
+    many: usize,
+    width: usize,
+)
+    ensures { λ _. ⌜ WritesRelation (now (code .entry)) relation (now («from_sets» .entry)) (now («to_sets» .entry)) (now (table .entry)) at many width (now (table .exit)) ⌝ }
+{
+    if User::MAX < many {
+        return;
+    }
+    if Type::SET_BYTES < width {
+        return;
+    }
+    let size = width * many;
+    bitset::clear_at(table, at, size);
+    let tag = Unit::RELATION + relation_number(relation);
+    let mut place = 0;
+    while place < code.len() {
+        let next = resolver::statement_end(code, place + 2);
+        if code[place] == tag {
+            let from = resolver::unit(code, place, 2);
+            let to = resolver::unit(code, place, 3);
+            grant_line(from, to, from_sets, to_sets, table, at, size, width);
+        }
+        place = next;
+    }
+}
+
+// ---- transitions
+
+// One entry of body 5. Answers the place behind it.
+fn write_transition(
+    operands: Move,
+    role_sets: &[u8; FAMILY_BYTES],
+    type_sets: &[u8; FAMILY_BYTES],
+    table: &mut [u8],
+    at: usize,
+) -> usize
+    ensures { λ r. ⌜ WritesTransition operands (now («role_sets» .entry)) (now («type_sets» .entry)) (now (table .entry)) at (now (table .exit)) r ⌝ }
+{
+    let mut roles = [0u8; Type::SET_BYTES];
+    set_code::reference(operands.roles, role_sets, &mut roles);
+    let mut types = [0u8; Type::SET_BYTES];
+    set_code::reference(operands.types, type_sets, &mut types);
+    let second = append(&roles, Role::SET_BYTES, table, at);
+    let third = append(&types, Type::SET_BYTES, table, second);
+    let last = append_byte(table, third, operands.class);
+    append_byte(table, last, operands.new)
+}
+
+// Body 5, from a place on.
+pub fn write_transitions(
+    code: &[u16],
+    role_sets: &[u8; FAMILY_BYTES],
+    type_sets: &[u8; FAMILY_BYTES],
+    table: &mut [u8],
+    at: usize,
+)
+    ensures { λ _. ⌜ WritesTransitions (now (code .entry)) (now («role_sets» .entry)) (now («type_sets» .entry)) (now (table .entry)) at (now (table .exit)) ⌝ }
+{
+    let mut to = at;
+    let mut place = 0;
+    while place < code.len() {
+        let next = resolver::statement_end(code, place + 2);
+        if code[place] == Unit::TRANSITION {
+            let operands = resolver::transition(code, place);
+            to = write_transition(operands, role_sets, type_sets, table, to);
+        }
+        place = next;
+    }
+}

@@ -1,0 +1,256 @@
+-- THE NUMBERS OF THE QUESTIONS' ANSWERS ARE SMALL, for every list of bytes and all numbers: a denial is 4 at most, a refusal 11 or 12, a constraint or a role
+-- below 128, the number consulted 128 at most, and a part lies within the first 179,652 bytes. Assumes nothing.
+use Prim.Native.Nat.{ℕ, zero, suc, _+_, _-_, _*_, _/_, _<_, _≤_}
+use native.Mathlib.Nat.{mul-le-mul-right, suc-mul}
+use native.Mathlib.Omega.{arith}
+use mathlib.Core.Path.{_≡_, refl, sym, ap, subst, _∙_}
+use mathlib.Core.Bool.{Bool, true, false, cond, _&&_}
+use mathlib.Core.List.{List, [], _∷_, _++_}
+use mathlib.Core.Option.{Option, none, some}
+use lib.Dec.{eqb, ltb}
+use lib.ListN.{length, length-append, getD, take}
+use borrow.Author.Tests.{ltb-true}
+use Rattle.bitset.specs.Relations.{joined}
+use Rattle.policy.specs.Basics.{each}
+use Rattle.policy.specs.Statements.{roles, types, thingOf, count, classNames}
+use Rattle.policy.specs.Accepted.{All}
+use Rattle.policy.specs.Answer.{Question, Verdict, granted, denied, fails, refuses, Answer, unconsulted, ruling, firstFailing, decide}
+use Rattle.policy.specs.Image.{Image, TransitionEntry, ConstraintEntry}
+use Rattle.policy.specs.Encode.{NameEntry, entries, entryBytes, transitionBytes, headBytes, headsFrom, bodies, firstBody}
+use Rattle.policy.specs.Sound.{wellFormed, bodiesIn, imageFrom, imageIn, goodTransition}
+use Rattle.policy.specs.Questions.{Reply, answered, refused, change, changed, changeOn, matches, firstTransition, newRole, newRoleOn, asked, Part, nameFrom, nameOf, nameOn, Run, recordFrom, records, entryOf, entryOn}
+use Rattle.policy.proofs.Lists.{both-true, each-length}
+use Rattle.policy.proofs.Counts.{few-of}
+use Rattle.policy.proofs.Gathered.{all-map}
+use Rattle.symbols.proofs.Appending.{entry-length}
+use Rattle.table_laws.proofs.Pieces.{wide-length}
+use Rattle.table_laws.proofs.Records.{head-wide}
+use Rattle.table_laws.proofs.ImageReadBack.{every-wide, transitions-wide}
+use Rattle.table_laws.proofs.Lengths.{bodies-length, heads-length}
+use Rattle.table_laws.proofs.ListLaws.{bound-then, given-some}
+use Rattle.table_laws.proofs.WellFormed.{formed, good-transition}
+use Rattle.table_laws.proofs.WellFormedLaid.{widths, table-short}
+
+-- what a sound table holds is well-formed
+image-formed : (t : List ℕ) (i : Image) → imageIn t ≡ some i → wellFormed i ≡ true
+unfolding imageIn
+image-formed t i h =
+    bound-then (bodiesIn t) _ i h λ bs cut h.
+    bound-then (imageFrom bs) _ i h λ im read h.
+    let g = given-some (wellFormed im) im i h in
+    subst (λ (i : Image). wellFormed i ≡ true) (g .1) (g .0)
+
+-- CHANGE
+
+abbrev pub SmallVerdict : Verdict → Type 0
+SmallVerdict granted = Unit {0}
+SmallVerdict (denied n) = n ≤ 3
+SmallVerdict (fails n) = n < 128
+SmallVerdict (refuses n at) = n ≤ 12
+
+pub record SmallAnswer (a : Answer) : Type 0 where
+  pub verdict : SmallVerdict (a .verdict)
+  pub consulted : a .consulted ≤ 128
+
+-- a failing constraint is one of those from i on, and no more are consulted than there are
+abbrev FailsBelow : ℕ → Verdict → Type 0
+FailsBelow n granted = Unit {0}
+FailsBelow n (denied k) = ⊥
+FailsBelow n (fails k) = k < n
+FailsBelow n (refuses k at) = ⊥
+
+record Within (n k : ℕ) (a : Answer) : Type 0 where
+  fails : FailsBelow n (a .verdict)
+  consulted : a .consulted ≤ k
+
+wider : (n m : ℕ) (v : Verdict) → n ≤ m → FailsBelow n v → FailsBelow m v
+wider n m granted l h = tt
+wider n m (denied k) l h = h
+wider n m (fails k) l h = omega arith
+wider n m (refuses k at) l h = h
+
+module _ {A : Type 0} (names holds : A → Bool) where
+  first-within : (i : ℕ) (xs : List A) → Within (i + length xs) (length xs) (firstFailing names holds i xs)
+  unfolding firstFailing
+  first-within i [] = record { fails = tt; consulted = omega arith }
+  first-within i (x ∷ xs) = by (names x) (holds x) (firstFailing names holds (i + 1) xs) (first-within (i + 1) xs)
+    where
+      by : (n b : Bool) (later : Answer) → Within (i + 1 + length xs) (length xs) later → Within (i + suc (length xs)) (suc (length xs)) (ruling n b i later)
+      by false b later h = record { fails = wider _ _ (later .verdict) (omega arith) (h .fails); consulted = omega (arith, h .consulted) }
+      by true false later h = record { fails = omega arith; consulted = omega arith }
+      by true true later h = record { fails = wider _ _ (later .verdict) (omega arith) (h .fails); consulted = omega (arith, h .consulted) }
+
+small : (n k : ℕ) (a : Answer) → n ≤ 128 → k ≤ 128 → Within n k a → SmallAnswer a
+small n k a l m h = record { verdict = by (a .verdict) (h .fails); consulted = omega (arith, h .consulted) }
+  where
+    by : (v : Verdict) → FailsBelow n v → SmallVerdict v
+    by granted f = tt
+    by (fails j) f = omega arith
+
+decided-small : (d s t r : Bool) (rest : Answer) → SmallAnswer rest → SmallAnswer (decide d s t r rest)
+unfolding decide
+decided-small false s t r rest h = record { verdict = omega arith; consulted = omega arith }
+decided-small true false t r rest h = record { verdict = omega arith; consulted = omega arith }
+decided-small true true false r rest h = record { verdict = omega arith; consulted = omega arith }
+decided-small true true true false rest h = record { verdict = omega arith; consulted = omega arith }
+decided-small true true true true rest h = h
+
+pub change-small : (t : List ℕ) (q : Question) → SmallAnswer (changeOn t q)
+unfolding changeOn change
+change-small t q = by (imageIn t) refl
+  where
+    by : (o : Option Image) → imageIn t ≡ o → SmallAnswer (changed q o)
+    by none e = record { verdict = omega arith; consulted = omega arith }
+    by (some i) e =
+        let few = formed i (image-formed t i e) .few-constraints in
+        decided-small _ _ _ _ _ (small _ _ _ (omega arith) few (first-within _ _ 0 (i .constraints)))
+
+-- NEW ROLE
+
+abbrev pub SmallRole : Reply ℕ → Type 0
+SmallRole (answered r) = r < 128
+SmallRole (refused n at) = n ≤ 12
+
+first-new : (n r t c : ℕ) (ms : List TransitionEntry) → r < n → All (λ (m : TransitionEntry). m .new < n) ms → firstTransition r t c ms < n
+unfolding firstTransition
+first-new n r t c [] l h = l
+first-new n r t c (m ∷ ms) l h = by (matches r t c m) (first-new n r t c ms l (h .1))
+  where
+    by : (b : Bool) → firstTransition r t c ms < n → cond b (m .new) (firstTransition r t c ms) < n
+    by true k = h .0
+    by false k = k
+
+new-below : (i : Image) → wellFormed i ≡ true → All (λ (m : TransitionEntry). m .new < count (thingOf roles) (i .names)) (i .transitions)
+new-below i h = all-map (λ (m : TransitionEntry). goodTransition (i .names) m ≡ true) (λ (m : TransitionEntry). m .new < count (thingOf roles) (i .names))
+    (λ m g. good-transition (i .names) m g .new) (i .transitions) (formed i h .transitions)
+
+pub new-role-small : (t : List ℕ) (r y c : ℕ) → SmallRole (newRoleOn t r y c)
+unfolding newRoleOn newRole
+new-role-small t r y c = by (imageIn t) refl
+  where
+    in-image : (i : Image) → wellFormed i ≡ true → (d : Bool)
+        → (ltb r (count (thingOf roles) (i .names)) && ltb y (count (thingOf types) (i .names)) && ltb c (length (classNames (i .names)))) ≡ d
+        → SmallRole (cond d (answered (firstTransition r y c (i .transitions))) (refused 12 0))
+    in-image i h false e = omega arith
+    in-image i h true e =
+        let a = both-true _ _ (both-true _ _ e .0) .0 in
+        omega (
+          arith,
+          first-new (count (thingOf roles) (i .names)) r y c (i .transitions) (ltb-true r (count (thingOf roles) (i .names)) a) (new-below i h),
+          few-of (thingOf roles) (i .names) (formed i h .names),
+        )
+
+    by : (o : Option Image) → imageIn t ≡ o → SmallRole (asked (λ i. newRole i r y c) o)
+    by none e = omega arith
+    by (some i) e = in-image i (image-formed t i e) _ refl
+
+-- NAME OF, AND ENTRY
+
+abbrev PartIn : ℕ → Reply Part → Type 0
+PartIn k (answered p) = p .start + p .long ≤ k
+PartIn k (refused n at) = n ≤ 12
+
+abbrev pub SmallPart : Reply Part → Type 0
+SmallPart r = PartIn 179652 r
+
+part-wider : (n m : ℕ) (r : Reply Part) → n ≤ m → PartIn n r → PartIn m r
+part-wider n m (answered p) l h = omega arith
+part-wider n m (refused k at) l h = h
+
+name-in : (s n o : ℕ) (es : List NameEntry) → PartIn (o + length (joined (each entryBytes es))) (nameFrom s n o es)
+unfolding nameFrom joined each
+name-in s n o [] = omega arith
+name-in s n o (e ∷ es) = by (eqb (e .sort) s && eqb (e .number) n) (name-in s n (o + length (entryBytes e)) es)
+  where
+    by : (b : Bool) → PartIn (o + length (entryBytes e) + length (joined (each entryBytes es))) (nameFrom s n (o + length (entryBytes e)) es)
+        → PartIn (o + length (entryBytes e ++ joined (each entryBytes es)))
+        (cond b (answered (record { start = o + 4; long = length (e .name) })) (nameFrom s n (o + length (entryBytes e)) es))
+    by true h = omega (arith, length-append (entryBytes e) (joined (each entryBytes es)), entry-length e)
+    by false h = part-wider _ _ (nameFrom s n (o + length (entryBytes e)) es) (omega (arith, length-append (entryBytes e) (joined (each entryBytes es)))) h
+
+-- the bytes of some runs of records
+abbrev total : List Run → ℕ
+total [] = 0
+total (r ∷ rs) = r .many * r .wide + total rs
+
+record-in : (k o : ℕ) (rs : List Run) → PartIn (o + total rs) (recordFrom k o rs)
+unfolding recordFrom
+record-in k o [] = omega arith
+record-in k o (r ∷ rs) = by (ltb k (r .many)) refl (record-in (k - r .many) (o + r .many * r .wide) rs)
+  where
+    by : (b : Bool) → ltb k (r .many) ≡ b → PartIn (o + r .many * r .wide + total rs) (recordFrom (k - r .many) (o + r .many * r .wide) rs)
+        → PartIn (o + (r .many * r .wide + total rs)) (cond b (answered (record { start = o + k * r .wide; long = r .wide })) (recordFrom (k - r .many) (o + r .many * r .wide) rs))
+    by true e h = omega (arith, mul-le-mul-right {m = suc k} {n = r .many} (r .wide) (ltb-true k (r .many) e), suc-mul k (r .wide))
+    by false e h = part-wider _ _ (recordFrom (k - r .many) (o + r .many * r .wide) rs) (omega arith) h
+
+-- body k and those before it are within all bodies
+body-in : (bs : List (List ℕ)) (k : ℕ) → length (joined (take k bs)) + length (getD bs k []) ≤ length (joined bs)
+unfolding joined
+body-in [] zero = omega arith
+body-in [] (suc k) = omega arith
+body-in (b ∷ bs) zero = omega (arith, length-append b (joined bs))
+body-in (b ∷ bs) (suc k) = omega (arith, length-append b (joined bs), length-append b (joined (take k bs)), body-in bs k)
+
+module _ (i : Image) (h : wellFormed i ≡ true) where
+  table-bound : firstBody + length (joined (bodies i)) ≤ 179652
+  table-bound = omega (arith, bodies-length i (widths i h), table-short i h)
+
+  name-small : (s n : ℕ) → SmallPart (nameOf i s n)
+  unfolding nameOf bodies joined
+  name-small s n =
+      part-wider _ _ (nameFrom s n firstBody (entries (i .names)))
+      (omega (arith, table-bound, body-in (bodies i) 0))
+      (name-in s n firstBody (entries (i .names)))
+
+  body-small : (b k : ℕ) (rs : List Run) → total rs ≤ length (getD (bodies i) b []) → SmallPart (recordFrom k (firstBody + length (joined (take b (bodies i)))) rs)
+  body-small b k rs l = part-wider _ _ (recordFrom k (firstBody + length (joined (take b (bodies i)))) rs) (omega (arith, table-bound, body-in (bodies i) b)) (record-in k _ rs)
+
+  entry-small : (b k : ℕ) → SmallPart (entryOf i b k)
+  unfolding entryOf recordFrom bodies
+  entry-small zero k = omega arith
+  entry-small (suc zero) k = omega arith
+  entry-small (suc (suc zero)) k = body-small 1 k (getD (records i) 2 []) (omega (arith, wide-length 16 (i .userRoles) (widths i h .userRoles)))
+  entry-small (suc (suc (suc zero))) k = body-small 2 k (getD (records i) 3 []) (omega (arith, wide-length 64 (i .roleTypes) (widths i h .roleTypes)))
+  entry-small (suc (suc (suc (suc zero)))) k = body-small 3 k (getD (records i) 4 []) (omega (arith, wide-length 16 (i .roleRoles) (widths i h .roleRoles)))
+  entry-small (suc (suc (suc (suc (suc zero))))) k =
+      body-small 4 k (getD (records i) 5 [])
+      (omega (
+        arith,
+        wide-length 82 (each transitionBytes (i .transitions)) (transitions-wide (i .transitions) (widths i h .transitions)),
+        each-length transitionBytes (i .transitions),
+      ))
+  entry-small (suc (suc (suc (suc (suc (suc zero)))))) k =
+      body-small 5 k (getD (records i) 6 [])
+      (omega (
+        arith,
+        wide-length 10 (each headBytes (headsFrom 0 (i .constraints))) (every-wide 10 headBytes head-wide (headsFrom 0 (i .constraints))),
+        each-length headBytes (headsFrom 0 (i .constraints)),
+        heads-length 0 (i .constraints),
+      ))
+  entry-small (suc (suc (suc (suc (suc (suc (suc zero))))))) k = body-small 6 k (getD (records i) 7 []) (omega arith)
+  entry-small (suc (suc (suc (suc (suc (suc (suc (suc zero)))))))) k =
+      body-small 7 k (getD (records i) 8 [])
+      (omega (
+        arith,
+        wide-length 16 (i .userSets) (widths i h .userSets),
+        wide-length 16 (i .roleSets) (widths i h .roleSets),
+        wide-length 64 (i .typeSets) (widths i h .typeSets),
+        length-append (joined (i .userSets)) (joined (i .roleSets) ++ joined (i .typeSets)),
+        length-append (joined (i .roleSets)) (joined (i .typeSets)),
+      ))
+  entry-small (suc (suc (suc (suc (suc (suc (suc (suc (suc b))))))))) k = omega arith
+
+asked-small : (t : List ℕ) (f : Image → Reply Part) → ((i : Image) → wellFormed i ≡ true → SmallPart (f i)) → SmallPart (asked f (imageIn t))
+asked-small t f g = by (imageIn t) refl
+  where
+    by : (o : Option Image) → imageIn t ≡ o → SmallPart (asked f o)
+    by none e = omega arith
+    by (some i) e = g i (image-formed t i e)
+
+pub name-part-small : (t : List ℕ) (s n : ℕ) → SmallPart (nameOn t s n)
+unfolding nameOn
+name-part-small t s n = asked-small t (λ i. nameOf i s n) (λ i h. name-small i h s n)
+
+pub entry-part-small : (t : List ℕ) (b k : ℕ) → SmallPart (entryOn t b k)
+unfolding entryOn
+entry-part-small t b k = asked-small t (λ i. entryOf i b k) (λ i h. entry-small i h b k)

@@ -1,0 +1,225 @@
+-- THE PLACE OF A REFUSAL 1 TO 9 IS AT MOST 65,535: it lies in the text, or at its end. Assumes nothing.
+use Prim.Native.Nat.{ℕ, zero, suc, _+_, _<_, _≤_}
+use native.Mathlib.Omega.{arith}
+use mathlib.Core.Path.{_≡_, refl, sym, ap, _∙_, subst}
+use mathlib.Core.Bool.{Bool, true, false, cond}
+use mathlib.Core.List.{List, [], _∷_, _++_}
+use mathlib.Core.Option.{Option, none, some, Option·some-injective}
+use lib.Dec.{eqb, ltb}
+use lib.ListN.{length, getD}
+use borrow.Author.Tests.{ltb-false}
+use Rattle.lexer.specs.declared.Scanned.{Scanned}
+use Rattle.lexer.specs.declared.ByteClass.{ByteClass}
+use Rattle.lexer.specs.declared.ByteClass.the-variants.{Blank, LineFeed, Comment, Open, Close, Letter, Digit, Wrong}
+use Rattle.lexer.specs.Class.{classOf, goesOn, endsComment, maxName}
+use Rattle.lexer.specs.Scan.{Mode, between, inComment, inName, State, going, stopped, maxText, maxLevel, stepBetween, step, scanFrom, scan}
+use Rattle.lexer.proofs.Clean.{clean-short}
+use Rattle.lexer.specs.Forms.{Forms, closed, ended, word, part, formsOf}
+use Rattle.policy.specs.Basics.{any, gather, given, each}
+use Rattle.policy.specs.Statements.{Family, users, roles, types, attributeOf, Declaration, plain, class, sameSort, declare, attributeset, gives, roletransition, constrain, Statement, Line, Policy, Transition, transition, transitions}
+use Rattle.policy.specs.Accepted.{All}
+use Rattle.policy.specs.Reading.{Read, policy, refused, readFrom, readPolicy, orElse}
+use Rattle.policy.specs.Faults.{declaresA, placeOf, places, onCycle, firstCycle, familyCycle, cycle, clashes, firstClash, clash}
+use Rattle.policy.specs.Outcome.{accept, policyOf}
+use Rattle.policy.proofs.Lists.{all-append}
+use Rattle.policy.proofs.Gathered.{OfValue, all-gather}
+use Rattle.reading_laws.proofs.IfAny.{IfAny, nothing, just, or-else}
+use Rattle.reading_laws.proofs.ReadThen.{partPlaces, linePlaces, read-places}
+use Rattle.reading_laws.proofs.FaultOrder.{RefusedFor, too-long, wrong-byte, at-statement, fault-order, refusal-number, fault-number}
+use Rattle.reading_laws.proofs.OpensAt.{OpensAt, PartsOpen, forms-open, fault-place}
+use Rattle.code_laws.proofs.CodeFits.{read-clean}
+
+-- FAULT 2
+
+-- a state at a place knows of no later place
+abbrev StateIn : State → ℕ → Type 0
+StateIn (going between level) at = Unit {0}
+StateIn (going inComment level) at = Unit {0}
+StateIn (going (inName first len) level) at = first ≤ at
+StateIn (stopped place) at = place ≤ at
+
+either : (b : Bool) (x y : State) (at : ℕ) → StateIn x at → StateIn y at → StateIn (cond b x y) at
+either true x y at h k = h
+either false x y at h k = k
+
+between-in : (level at : ℕ) (k : ByteClass) → StateIn (stepBetween level at k) (at + 1)
+between-in level at Blank = tt
+between-in level at LineFeed = tt
+between-in level at Comment = tt
+between-in level at Open = either (ltb level maxLevel) (going between (level + 1)) (stopped at) (at + 1) tt (omega arith)
+between-in level at Close = either (eqb level 0) (stopped at) (going between _) (at + 1) (omega arith) tt
+between-in level at Letter = either (eqb level 0) (stopped at) (going (inName at 1) level) (at + 1) (omega arith) (omega arith)
+between-in level at Digit = omega arith
+between-in level at Wrong = omega arith
+
+comment-in : (b : Bool) (level at : ℕ) → StateIn (going (cond b between inComment) level) at
+comment-in true level at = tt
+comment-in false level at = tt
+
+step-in : (m : Mode) (level at : ℕ) (k : ByteClass) → StateIn (going m level) at → StateIn (step m level at k) (at + 1)
+step-in between level at k h = between-in level at k
+step-in inComment level at k h = comment-in (endsComment k) level (at + 1)
+step-in (inName first len) level at k h =
+    either (goesOn k) _ (stepBetween level at k) (at + 1)
+    (either (ltb len maxName) (going (inName first (len + 1)) level) (stopped first) (at + 1) (omega arith) (omega arith))
+    (between-in level at k)
+
+abbrev placeIn : Scanned → ℕ
+placeIn Scanned.Clean = 0
+placeIn Scanned.TooLong = 0
+placeIn (Scanned.Wrong place) = place
+
+scan-from-in : (bs : List ℕ) (s : State) (at : ℕ) → StateIn s at → placeIn (scanFrom bs s at) ≤ at + length bs
+unfolding scanFrom
+scan-from-in [] (stopped place) at h = omega arith
+scan-from-in [] (going m level) at h = by (eqb level 0)
+  where
+    by : (b : Bool) → placeIn (cond b Scanned.Clean (Scanned.Wrong at)) ≤ at + 0
+    by true = omega arith
+    by false = omega arith
+scan-from-in (b ∷ bs) (stopped place) at h = omega arith
+scan-from-in (b ∷ bs) (going m level) at h = omega (arith, scan-from-in bs (step m level at (classOf b)) (at + 1) (step-in m level at (classOf b) h))
+
+-- the place of a fault 2 is in the text, or at its end
+wrong-in : (text : List ℕ) (at : ℕ) → scan text ≡ Scanned.Wrong at → at ≤ maxText
+unfolding scan
+wrong-in text at e = by (ltb maxText (length text)) refl e
+  where
+    by : (b : Bool) → ltb maxText (length text) ≡ b → cond b Scanned.TooLong (scanFrom text (going between 0) 0) ≡ Scanned.Wrong at → at ≤ maxText
+    by true l k = let z : _≡_ {A = ℕ} 0 1 = cc in absurd (omega arith)
+    by false l k = omega (arith, ltb-false maxText (length text) l, scan-from-in text (going between 0) 0 tt, ap placeIn k)
+
+-- FAULTS 3 TO 7
+
+-- an opening parenthesis stands in the text
+opens-in : (text : List ℕ) (at : ℕ) → getD text at 0 ≡ 40 → at < length text
+opens-in [] at h = absurd (omega (arith, h))
+opens-in (b ∷ bs) zero h = omega arith
+opens-in (b ∷ bs) (suc at) h = omega (arith, opens-in bs at h)
+
+clean-in : (text : List ℕ) (at : ℕ) → scan text ≡ Scanned.Clean → OpensAt text at → at ≤ maxText
+clean-in text at e o = omega (arith, opens-in text at o, clean-short text e)
+
+pub read-place : (text : List ℕ) (n at : ℕ) → readPolicy text ≡ refused n at → at ≤ maxText
+read-place text n at e = by (fault-order text n at e)
+  where
+    by : {m b : ℕ} → RefusedFor text m b → b ≤ maxText
+    by (too-long e) = omega arith
+    by (wrong-byte b e) = wrong-in text b e
+    by (at-statement m b e s) = clean-in text b e (fault-place text m b (fault-number (s .faulty) .0) (at-statement m b e s))
+
+-- FAULTS 8 AND 9
+
+module _ (P : ℕ → Type 0) where
+  abbrev LineAt : Line → Type 0
+  LineAt l = P (l .place)
+
+  parts-at : (text : List ℕ) → ((at : ℕ) → OpensAt text at → P at) → (f : Forms) → PartsOpen text f → All P (partPlaces f)
+  parts-at text k closed h = tt
+  parts-at text k ended h = tt
+  parts-at text k (word b w r) h = parts-at text k r h
+  parts-at text k (part b i r) h = (k b (h .0), parts-at text k r (h .2))
+
+  lines-at : (p : Policy) → All P (linePlaces p) → All LineAt p
+  unfolding each
+  lines-at [] h = tt
+  lines-at (l ∷ ls) h = (h .0, lines-at ls (h .1))
+
+  declared-at : (f : Family) (at : ℕ) (d : Declaration) → P at → OfValue P (declaresA f at d)
+  declared-at f at (plain s w) h = by (sameSort s (attributeOf f))
+    where
+      by : (b : Bool) → OfValue P (given b at)
+      by true = h
+      by false = tt
+  declared-at f at (class w ps) h = tt
+
+  place-at : (f : Family) (l : Line) → LineAt l → OfValue P (placeOf f l)
+  place-at f l h = by (l .says)
+    where
+      by : (s : Statement) → OfValue P (elim s [
+        | declare d ↦ declaresA f (l .place) d
+        | attributeset g a s ↦ none
+        | gives j a b ↦ none
+        | roletransition r t c n ↦ none
+        | constrain c ps e ↦ none
+      ])
+      by (declare d) = declared-at f (l .place) d h
+      by (attributeset g a s) = tt
+      by (gives j a b) = tt
+      by (roletransition r t c n) = tt
+      by (constrain c ps e) = tt
+
+  moves-at : (l : Line) → LineAt l → OfValue (λ (t : Transition). P (t .place)) (transition l)
+  moves-at l h = by (l .says)
+    where
+      by : (s : Statement) → OfValue (λ (t : Transition). P (t .place)) (elim s [
+        | declare d ↦ none
+        | attributeset g b s ↦ none
+        | gives r x y ↦ none
+        | roletransition r t c n ↦ some (record { place = l .place; role = r; type = t; class = c; new = n })
+        | constrain c ps e ↦ none
+      ])
+      by (declare d) = tt
+      by (attributeset g a s) = tt
+      by (gives j a b) = tt
+      by (roletransition r t c n) = h
+      by (constrain c ps e) = tt
+
+  first-cycle-at : (p : Policy) (f : Family) (a : ℕ) (ats : List ℕ) → All P ats → IfAny P (firstCycle p f a ats)
+  unfolding firstCycle
+  first-cycle-at p f a [] h = nothing
+  first-cycle-at p f a (at ∷ ats) h = by (onCycle p f a) (first-cycle-at p f (a + 1) ats (h .1))
+    where
+      by : (b : Bool) → IfAny P (firstCycle p f (a + 1) ats) → IfAny P (elim b [ true ↦ some at | false ↦ firstCycle p f (a + 1) ats ])
+      by true k = just (h .0)
+      by false k = k
+
+  cycle-at : (p : Policy) → All LineAt p → IfAny P (cycle p)
+  unfolding cycle places
+  cycle-at p h = or-else _ _ (of users) (or-else _ _ (of roles) (of types))
+    where
+      of : (f : Family) → IfAny P (familyCycle p f)
+      of f = first-cycle-at p f 0 (places p f) (all-gather P LineAt (placeOf f) (place-at f) p h)
+
+  first-clash-at : (p : Policy) (earlier ts : List Transition) → All (λ (t : Transition). P (t .place)) ts → IfAny P (firstClash p earlier ts)
+  unfolding firstClash
+  first-clash-at p earlier [] h = nothing
+  first-clash-at p earlier (t ∷ ts) h = by (any (clashes p t) earlier) (first-clash-at p (earlier ++ (t ∷ [])) ts (h .1))
+    where
+      by : (b : Bool) → IfAny P (firstClash p (earlier ++ (t ∷ [])) ts) → IfAny P (elim b [ true ↦ some (t .place) | false ↦ firstClash p (earlier ++ (t ∷ [])) ts ])
+      by true k = just (h .0)
+      by false k = k
+
+  clash-at : (p : Policy) → All LineAt p → IfAny P (clash p)
+  unfolding clash transitions
+  clash-at p h = first-clash-at p [] (transitions p) (all-gather (λ (t : Transition). P (t .place)) LineAt transition moves-at p h)
+
+-- what a refusal's place satisfies
+abbrev RefusedAt : (ℕ → Type 0) → Read → Type 0
+RefusedAt P (policy p) = Unit {0}
+RefusedAt P (refused n at) = P at
+
+accept-at : (P : ℕ → Type 0) (p : Policy) → IfAny P (cycle p) → IfAny P (clash p) → RefusedAt P (accept p)
+unfolding accept
+accept-at P p h k = by (cycle p) (clash p) h k
+  where
+    by : (x y : Option ℕ) → IfAny P x → IfAny P y → RefusedAt P (elim x [ some at ↦ refused 8 at | none ↦ elim y [ some at ↦ refused 9 at | none ↦ policy p ] ])
+    by (some at) y h k = h .has at refl
+    by none (some at) h k = k .has at refl
+    by none none h k = tt
+
+-- EVERY REFUSAL BEFORE 10
+pub refusal-place : (text : List ℕ) (n at : ℕ) → policyOf text ≡ refused n at → at ≤ maxText
+unfolding policyOf each
+refusal-place text n at e = by (readPolicy text) refl e
+  where
+    lines : (p : Policy) → readPolicy text ≡ policy p → All (LineAt (λ at. at ≤ maxText)) p
+    lines p r =
+        let clean = read-clean text p r in
+        lines-at (λ at. at ≤ maxText) p
+        (subst (All (λ at. at ≤ maxText)) (sym (read-places (formsOf text) [] p (clean .1)))
+        (parts-at (λ at. at ≤ maxText) text (λ at o. clean-in text at (clean .0) o) (formsOf text) (forms-open text)))
+
+    by : (r : Read) → readPolicy text ≡ r → elim r [ refused n at ↦ refused n at | policy p ↦ accept p ] ≡ refused n at → at ≤ maxText
+    by (refused m b) h k = let same : b ≡ at = cc in subst (λ at. at ≤ maxText) same (read-place text m b h)
+    by (policy p) h k = subst (RefusedAt (λ at. at ≤ maxText)) k (accept-at (λ at. at ≤ maxText) p (cycle-at (λ at. at ≤ maxText) p (lines p h)) (clash-at (λ at. at ≤ maxText) p (lines p h)))

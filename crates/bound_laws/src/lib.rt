@@ -1,0 +1,1 @@
+// Laws alone: how large the numbers of answers can get. See proofs/.

@@ -1,0 +1,146 @@
+-- Names that are written one after the other: one name, and names behind names. Assumes nothing.
+use mathlib.Core.Path.{_≡_, refl, sym, ap, subst, _∙_}
+use mathlib.Core.List.{List, [], _∷_, _++_}
+use mathlib.Core.Option.{Option, none, some}
+use Prim.Native.Nat.{ℕ}
+use native.Mathlib.Omega.{arith}
+use lib.ListN.{length, take, drop}
+use Rattle.bitset.specs.Parts as parts
+use Rattle.lexer.specs.Forms.{Forms, framesAt, trim}
+use Rattle.policy.specs.Basics.{_>>=_}
+use Rattle.policy.specs.Statements.{Declaration}
+use Rattle.items.specs.declared.Item.{Item}
+use Rattle.items.proofs.Frames.{Looked, by-word}
+use Rattle.set_writer.specs.Writing.{Stored}
+use Rattle.set_writer.specs.declared.Referred.{Referred}
+use Rattle.set_writer.proofs.Putting.{wrote-then, keeps-then, keeps-all}
+use Rattle.statement_writer.specs.Naming.{unitIn, referredBy, Names, firstUnit, behindFirst, namesUnits, behindNames, Past, Moves, AnswersNames, WritesNames}
+use Rattle.statement_writer.specs.declared.Kind.{Kind}
+use Rattle.statement_writer.specs.declared.NamesWritten.{NamesWritten}
+
+-- ---- what an answer says of the names
+
+-- names without units are answered so
+lacking : (before after : List ℕ) (to : ℕ) (o : Option (List ℕ)) → o ≡ none → AnswersNames before to o after NamesWritten.Undeclared
+lacking before after to o e = subst (λ (x : Option (List ℕ)). AnswersNames before to x after NamesWritten.Undeclared) (sym e) tt
+
+pub lacks : (before after : List ℕ) (to : ℕ) (o : Option (List ℕ)) → AnswersNames before to o after NamesWritten.Undeclared → o ≡ none
+lacks before after to none h = refl
+lacks before after to (some us) h = absurd h
+
+is-unit : (o : Option ℕ) (u : ℕ) → Referred.Unit u ≡ referredBy o → o ≡ some u
+is-unit none u e = absurd (let z : _≡_ {A = ℕ} 0 1 = cc in omega arith)
+is-unit (some n) u e = let z : u ≡ n = cc in ap some (sym z)
+
+is-missing : (o : Option ℕ) → Referred.Missing ≡ referredBy o → o ≡ none
+is-missing none e = refl
+is-missing (some n) e = absurd (let z : _≡_ {A = ℕ} 0 1 = cc in omega arith)
+
+-- ---- one name
+
+abbrev pub alone : Option ℕ → Option (List ℕ)
+alone o = o >>= λ u. some (u ∷ [])
+
+module _ {t : List ℕ} {at : ℕ} {k : Kind} {table : List ℕ} {end : ℕ} {before : List ℕ} {to : ℕ} where
+  -- no word stands there
+  pub no-word : ((ds : List Declaration) (levels : ℕ) → firstUnit ds k (trim (framesAt t at .here) levels) ≡ none)
+      → WritesNames t at (k ∷ []) table end before to before NamesWritten.Undeclared
+  no-word h = record {
+    keeps = keeps-all;
+    moves = tt;
+    says = λ ds levels y. lacking before before to (namesUnits ds (k ∷ []) (trim (framesAt t at .here) levels)) (ap alone (h ds levels));
+  }
+
+  module _ {s n i q : ℕ} (l : Looked t at (Item.Word s n i q)) {r : Referred} (m : Names table end k (parts.part t s n) r) where
+    -- a name that is not declared
+    pub no-name : r ≡ Referred.Missing → WritesNames t at (k ∷ []) table end before to before NamesWritten.Undeclared
+    unfolding parts.part
+    no-name e = record {
+      keeps = keeps-all;
+      moves = tt;
+      says = λ ds levels y.
+          let is : firstUnit ds k (trim (framesAt t at .here) levels) ≡ none =
+          by-word (firstUnit ds k) levels l ∙ is-missing (unitIn ds k (take n (drop s t))) (sym e ∙ m .resolves ds y) in
+          lacking before before to (namesUnits ds (k ∷ []) (trim (framesAt t at .here) levels)) (ap alone is);
+    }
+
+    -- one that is
+    pub one-name : {unit u : ℕ} {after : List ℕ} → r ≡ Referred.Unit unit → Stored before to unit after u
+        → WritesNames t at (k ∷ []) table end before to after (NamesWritten.Next q u)
+    unfolding parts.part
+    one-name {unit} {u} {after} e st = record {
+      keeps = st .keeps;
+      moves = record { row = λ levels. sym (by-word behindFirst levels l); ahead = st .ahead };
+      says = λ ds levels y.
+          let is : firstUnit ds k (trim (framesAt t at .here) levels) ≡ some unit =
+          by-word (firstUnit ds k) levels l ∙ is-unit (unitIn ds k (take n (drop s t))) unit (sym e ∙ m .resolves ds y) in
+          subst (λ (o : Option (List ℕ)). AnswersNames before to o after (NamesWritten.Next q u)) (sym (ap alone is)) (st .wrote);
+    }
+
+-- ---- names behind names
+
+abbrev both : Option (List ℕ) → Option (List ℕ) → Option (List ℕ)
+both x y = x >>= λ us. y >>= λ vs. some (us ++ vs)
+
+both-none : (y : Option (List ℕ)) → y ≡ both (some []) y
+both-none none = refl
+both-none (some vs) = refl
+
+both-more : (o : Option ℕ) (x y : Option (List ℕ)) → (o >>= λ u. both x y >>= λ us. some (u ∷ us)) ≡ both (o >>= λ u. x >>= λ us. some (u ∷ us)) y
+both-more none x y = refl
+both-more (some u) none y = refl
+both-more (some u) (some us) none = refl
+both-more (some u) (some us) (some vs) = refl
+
+units-append : (ds : List Declaration) (ks ls : List Kind) (g : Forms) → namesUnits ds (ks ++ ls) g ≡ both (namesUnits ds ks g) (namesUnits ds ls (behindNames ks g))
+units-append ds [] ls g = both-none (namesUnits ds ls g)
+units-append ds (k ∷ ks) ls g =
+    ap (λ (o : Option (List ℕ)). firstUnit ds k g >>= λ u. o >>= λ us. some (u ∷ us)) (units-append ds ks ls (behindFirst g))
+    ∙ both-more (firstUnit ds k g) (namesUnits ds ks (behindFirst g)) (namesUnits ds ls (behindNames ks (behindFirst g)))
+
+behind-append : (ks ls : List Kind) (g : Forms) → behindNames (ks ++ ls) g ≡ behindNames ls (behindNames ks g)
+behind-append [] ls g = refl
+behind-append (k ∷ ks) ls g = behind-append ks ls (behindFirst g)
+
+module _ (a b c : List ℕ) (i u q : ℕ) (long : length b ≡ length a) where
+  answers-then : (x y : Option (List ℕ)) (r : NamesWritten) → AnswersNames a i x b (NamesWritten.Next q u) → AnswersNames b u y c r → AnswersNames a i (both x y) c r
+  answers-then none y r h g = absurd h
+  answers-then (some us) none NamesWritten.Undeclared h g = tt
+  answers-then (some us) none (NamesWritten.Next p v) h g = absurd g
+  answers-then (some us) (some vs) NamesWritten.Undeclared h g = absurd g
+  answers-then (some us) (some vs) (NamesWritten.Next p v) h g = wrote-then long h g
+
+module _ {t : List ℕ} {at : ℕ} {table : List ℕ} {end : ℕ} {a b : List ℕ} {i : ℕ} {r : NamesWritten} (ks ls : List Kind) (m : WritesNames t at ks table end a i b r) where
+  -- the first of them are not all declared
+  pub names-stop : r ≡ NamesWritten.Undeclared → WritesNames t at (ks ++ ls) table end a i b NamesWritten.Undeclared
+  names-stop e =
+      let z = subst (λ (x : NamesWritten). WritesNames t at ks table end a i b x) e m in
+      record {
+        keeps = z .keeps;
+        moves = tt;
+        says = λ ds levels y.
+            let g = trim (framesAt t at .here) levels in
+            let no : namesUnits ds ks g ≡ none = lacks a b i (namesUnits ds ks g) (z .says ds levels y) in
+            lacking a b i (namesUnits ds (ks ++ ls) g) (units-append ds ks ls g ∙ ap (λ (x : Option (List ℕ)). both x (namesUnits ds ls (behindNames ks g))) no);
+      }
+
+  -- they are, and the others are written behind them
+  pub names-then : {q u : ℕ} {c : List ℕ} {p : NamesWritten} → r ≡ NamesWritten.Next q u → WritesNames t q ls table end b u c p → WritesNames t at (ks ++ ls) table end a i c p
+  names-then {q} {u} {c} {p} e n =
+      let z = subst (λ (x : NamesWritten). WritesNames t at ks table end a i b x) e m in
+      record {
+        keeps = keeps-then (z .moves .ahead) (z .keeps) (n .keeps);
+        moves = go (z .moves) p (n .moves);
+        says = λ ds levels y.
+            let g = trim (framesAt t at .here) levels in
+            let h = subst (λ (f : Forms). AnswersNames b u (namesUnits ds ls f) c p) (z .moves .row levels) (n .says ds levels y) in
+            subst (λ (o : Option (List ℕ)). AnswersNames a i o c p) (sym (units-append ds ks ls g))
+            (answers-then a b c i u q (z .keeps .long) (namesUnits ds ks g) (namesUnits ds ls (behindNames ks g)) p (z .says ds levels y) h);
+      }
+    where
+      go : Past t at ks i q u → (p : NamesWritten) → Moves t q ls u p → Moves t at (ks ++ ls) i p
+      go x NamesWritten.Undeclared w = tt
+      go x (NamesWritten.Next j v) w = record {
+        row = λ levels. w .row levels ∙ ap (behindNames ls) (x .row levels) ∙ sym (behind-append ks ls (trim (framesAt t at .here) levels));
+        ahead = omega (arith, x .ahead, w .ahead);
+      }

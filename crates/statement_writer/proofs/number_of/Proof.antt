@@ -1,0 +1,50 @@
+-- `statement_writer::number_of` meets its contract: what the search finds, if it is of the sort. Assumes nothing.
+use borrow.Author.Needs.{needs}
+use Rattle.statement_writer.proofs.Numbering.{numbers, other-sort, too-large, of-the-sort}
+use Rattle.statement_writer.proofs.number_of.Statement.{statement}
+use Rattle.statement_writer.proofs.number_of.Tie as tie
+
+family-of-requires : tie.Need-family-of-requires
+family-of-requires c κs = search needs
+
+find-requires : tie.Need-find-requires
+find-requires c κs = search needs
+
+enum-known-found : tie.Need-enum-known-found
+enum-known-found c = search needs
+
+returns : tie.Need-returns
+returns c = numbers (c .before .before .before .before .before .family-of .ensures) (c .before .before .before .before .find .ensures) (rw (c .before .before .found .given .1) (other-sort _ _ (c .before .before .found .given .0 .1 .0) (c .if1 .taken)))
+
+cast-if2 : tie.Need-cast-if2
+cast-if2 c = search needs
+
+returns-2 : tie.Need-returns-2
+returns-2 c = numbers (c .before .before .before .before .before .before .family-of .ensures) (c .before .before .before .before .before .find .ensures) (rw (c .before .before .before .found .given .1) (too-large _ _ _ (c .before .if1 .left) (c .if2 .taken)))
+
+cast-t14 : tie.Need-cast-t14
+cast-t14 c = search needs
+
+enum-told : tie.Need-enum-told
+enum-told c = search needs
+
+returns-3 : tie.Need-returns-3
+returns-3 c = numbers (c .before .before .before .before .before .before .family-of .ensures) (c .before .before .before .before .before .find .ensures) (rw (c .before .before .before .found .given .1) (of-the-sort _ _ _ (c .before .if1 .left) (c .if2 .left)))
+
+returns-4 : tie.Need-returns-4
+returns-4 c = numbers (c .before .before .before .family-of .ensures) (c .before .before .find .ensures) (rw (c .enum-told .given .1))
+
+pub number-of-spec : {M : Type 1} → statement M
+number-of-spec =
+    tie.close
+    (tie.spec
+    family-of-requires
+    find-requires
+    enum-known-found
+    returns
+    cast-if2
+    returns-2
+    cast-t14
+    enum-told
+    returns-3
+    returns-4)

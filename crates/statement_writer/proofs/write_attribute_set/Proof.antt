@@ -1,0 +1,100 @@
+-- `statement_writer::write_attribute_set` meets its contract: the head, the attribute's number and S. Assumes nothing.
+use borrow.Author.Needs.{needs}
+use mathlib.Core.Path.{refl, _∙_}
+use mathlib.Core.Bool.{false}
+use mathlib.Core.List.{[], _∷_}
+use Rattle.items.proofs.Frames.{sees}
+use Rattle.items.proofs.Items.{alike}
+use Rattle.set_writer.specs.declared.SetWritten.{SetWritten}
+use Rattle.statement_writer.proofs.SetStatements.{startsPart, no-attribute, no-part, set-coded}
+use Rattle.statement_writer.proofs.write_attribute_set.Statement.{statement}
+use Rattle.statement_writer.proofs.write_attribute_set.Tie as tie
+
+family-number-requires : tie.Need-family-number-requires
+family-number-requires c κs = search needs
+
+add-write-head : tie.Need-add-write-head
+add-write-head c = search needs
+
+write-head-requires : tie.Need-write-head-requires
+write-head-requires c κs = search needs
+
+write-name-requires : tie.Need-write-name-requires
+write-name-requires c κs = search needs
+
+enum-known-name : tie.Need-enum-known-name
+enum-known-name c = search needs
+
+enum-told : tie.Need-enum-told
+enum-told c = search needs
+
+same-length : tie.Need-same-length
+same-length c = c .before .before .before .before .write-name .ensures .keeps .long ∙ c .before .before .before .before .before .before .before .before .write-head .ensures .keeps .long
+
+returns : tie.Need-returns
+returns c = no-attribute (c .before .before .before .before .before .before .before .before .before .before .family-number .ensures .0) (c .before .before .before .before .before .before .before .before .write-head .ensures) (c .before .before .before .before .write-name .ensures) (c .enum-told .given .1)
+
+look-requires : tie.Need-look-requires
+look-requires c κs = search needs
+
+enum-known-item : tie.Need-enum-known-item
+enum-known-item c = search needs
+
+same-length-2 : tie.Need-same-length-2
+same-length-2 c = c .before .before .before .before .before .before .before .write-name .ensures .keeps .long ∙ c .before .before .before .before .before .before .before .before .before .before .before .write-head .ensures .keeps .long
+
+returns-2 : tie.Need-returns-2
+returns-2 c = no-part (c .before .before .before .before .before .before .before .before .before .before .before .before .before .family-number .ensures .0) (c .before .before .before .before .before .before .before .before .before .before .before .write-head .ensures) (c .before .before .before .before .before .before .before .write-name .ensures) (c .before .before .before .name .given .1) (alike startsPart (λ f. false) _ _ _ (0 ∷ 2 ∷ 3 ∷ []) _ (λ s w f. refl, tt, refl, refl) (c .before .look .ensures) (c .match2 .keys2))
+
+sub-write-set : tie.Need-sub-write-set
+sub-write-set c = search needs
+
+cast-write-set : tie.Need-cast-write-set
+cast-write-set c = search needs
+
+write-set-requires : tie.Need-write-set-requires
+write-set-requires c κs = search needs
+
+enum-known-set : tie.Need-enum-known-set
+enum-known-set c = search needs
+
+enum-told-2 : tie.Need-enum-told-2
+enum-told-2 c = search needs
+
+same-length-3 : tie.Need-same-length-3
+same-length-3 c = c .before .before .before .before .before .write-set .ensures .keeps .long ∙ c .before .before .before .before .before .before .before .before .before .before .before .before .before .before .before .before .write-name .ensures .keeps .long ∙ c .before .before .before .before .before .before .before .before .before .before .before .before .before .before .before .before .before .before .before .before .write-head .ensures .keeps .long
+
+returns-3 : tie.Need-returns-3
+returns-3 c = set-coded (c .before .before .before .before .before .before .before .before .before .before .before .before .before .before .before .before .before .before .before .before .before .before .family-number .ensures .0) (c .before .before .before .before .before .before .before .before .before .before .before .before .before .before .before .before .before .before .before .before .write-head .ensures) (c .before .before .before .before .before .before .before .before .before .before .before .before .before .before .before .before .write-name .ensures) (c .before .before .before .before .before .before .before .before .before .before .before .before .name .given .1) (SetWritten.Next _ _) (sees (c .before .before .before .before .before .before .before .before .before .before .look .ensures) (c .before .before .before .before .before .before .before .before .item .given .1)) (c .before .before .before .before .before .write-set .ensures) (c .before .set .given .1)
+
+same-length-4 : tie.Need-same-length-4
+same-length-4 c = c .before .before .before .before .write-set .ensures .keeps .long ∙ c .before .before .before .before .before .before .before .before .before .before .before .before .before .before .before .write-name .ensures .keeps .long ∙ c .before .before .before .before .before .before .before .before .before .before .before .before .before .before .before .before .before .before .before .write-head .ensures .keeps .long
+
+returns-4 : tie.Need-returns-4
+returns-4 c = set-coded (c .before .before .before .before .before .before .before .before .before .before .before .before .before .before .before .before .before .before .before .before .before .family-number .ensures .0) (c .before .before .before .before .before .before .before .before .before .before .before .before .before .before .before .before .before .before .before .write-head .ensures) (c .before .before .before .before .before .before .before .before .before .before .before .before .before .before .before .write-name .ensures) (c .before .before .before .before .before .before .before .before .before .before .before .name .given .1) SetWritten.Undeclared (sees (c .before .before .before .before .before .before .before .before .before .look .ensures) (c .before .before .before .before .before .before .before .item .given .1)) (c .before .before .before .before .write-set .ensures) (c .enum-told2 .given .1)
+
+pub write-attribute-set-spec : {M : Type 1} → statement M
+write-attribute-set-spec =
+    tie.close
+    (tie.spec
+    family-number-requires
+    add-write-head
+    write-head-requires
+    write-name-requires
+    enum-known-name
+    enum-told
+    same-length
+    returns
+    look-requires
+    enum-known-item
+    same-length-2
+    returns-2
+    sub-write-set
+    cast-write-set
+    write-set-requires
+    enum-known-set
+    enum-told-2
+    same-length-3
+    returns-3
+    same-length-4
+    returns-4)

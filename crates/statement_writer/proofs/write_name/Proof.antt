@@ -1,0 +1,56 @@
+-- `statement_writer::write_name` meets its contract: a word that names something of the kind, or not. Assumes nothing.
+use borrow.Author.Needs.{needs}
+use mathlib.Core.Path.{refl}
+use mathlib.Core.List.{[], _∷_}
+use mathlib.Core.Option.{none}
+use Rattle.items.proofs.Frames.{sees}
+use Rattle.items.proofs.Items.{alike}
+use Rattle.statement_writer.specs.Naming.{firstUnit}
+use Rattle.statement_writer.proofs.RowNames.{no-word, no-name, one-name}
+use Rattle.statement_writer.proofs.write_name.Statement.{statement}
+use Rattle.statement_writer.proofs.write_name.Tie as tie
+
+look-requires : tie.Need-look-requires
+look-requires c κs = search needs
+
+enum-known-item : tie.Need-enum-known-item
+enum-known-item c = search needs
+
+returns : tie.Need-returns
+returns c = no-word λ ds levels. alike (firstUnit ds _) (λ f. none) _ _ _ (1 ∷ 2 ∷ 3 ∷ []) levels (tt, λ x f g. refl, refl, refl) (c .before .look .ensures) (c .match .keys2)
+
+name-unit-requires : tie.Need-name-unit-requires
+name-unit-requires c κs = search needs
+
+enum-known-name : tie.Need-enum-known-name
+enum-known-name c = search needs
+
+enum-told : tie.Need-enum-told
+enum-told c = search needs
+
+returns-2 : tie.Need-returns-2
+returns-2 c = no-name (sees (c .before .before .before .before .before .before .look .ensures) (c .before .before .before .before .item .given .1)) (c .before .before .name-unit .ensures) (c .enum-told .given .1)
+
+put-unit-requires : tie.Need-put-unit-requires
+put-unit-requires c κs = search needs
+
+same-length : tie.Need-same-length
+same-length c = search needs
+
+returns-3 : tie.Need-returns-3
+returns-3 c = one-name (sees (c .before .before .before .before .before .before .before .before .before .before .before .look .ensures) (c .before .before .before .before .before .before .before .before .before .item .given .1)) (c .before .before .before .before .before .before .before .name-unit .ensures) (c .before .before .before .before .before .name .given .1) (c .before .before .put-unit .ensures)
+
+pub write-name-spec : {M : Type 1} → statement M
+write-name-spec =
+    tie.close
+    (tie.spec
+    look-requires
+    enum-known-item
+    returns
+    name-unit-requires
+    enum-known-name
+    enum-told
+    returns-2
+    put-unit-requires
+    same-length
+    returns-3)

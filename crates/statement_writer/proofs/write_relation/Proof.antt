@@ -1,0 +1,60 @@
+-- `statement_writer::write_relation` meets its contract: the head and two references. Assumes nothing.
+use borrow.Author.Needs.{needs}
+use mathlib.Core.Path.{_∙_}
+use Rattle.statement_writer.specs.declared.NamesWritten.{NamesWritten}
+use Rattle.statement_writer.proofs.Finishing.{relation-coded}
+use Rattle.statement_writer.proofs.write_relation.Statement.{statement}
+use Rattle.statement_writer.proofs.write_relation.Tie as tie
+
+relation-number-requires : tie.Need-relation-number-requires
+relation-number-requires c κs = search needs
+
+add-tag : tie.Need-add-tag
+add-tag c = search needs
+
+write-head-requires : tie.Need-write-head-requires
+write-head-requires c κs = search needs
+
+first-family-requires : tie.Need-first-family-requires
+first-family-requires c κs = search needs
+
+second-family-requires : tie.Need-second-family-requires
+second-family-requires c κs = search needs
+
+write-pair-requires : tie.Need-write-pair-requires
+write-pair-requires c κs = search needs
+
+enum-known-names : tie.Need-enum-known-names
+enum-known-names c = search needs
+
+enum-told : tie.Need-enum-told
+enum-told c = search needs
+
+same-length : tie.Need-same-length
+same-length c = c .before .before .before .before .before .write-pair .ensures .keeps .long ∙ c .before .before .before .before .before .before .before .before .before .before .before .write-head .ensures .keeps .long
+
+returns : tie.Need-returns
+returns c = relation-coded (NamesWritten.Next _ _) (c .before .names .given .1) _ _ (c .before .before .before .before .before .before .before .before .before .before .before .before .before .relation-number .ensures .0) (c .before .before .before .before .before .before .before .before .before .before .before .write-head .ensures) (c .before .before .before .before .before .before .before .before .first-family .ensures) (c .before .before .before .before .before .before .before .second-family .ensures) (c .before .before .before .before .before .write-pair .ensures)
+
+same-length-2 : tie.Need-same-length-2
+same-length-2 c = c .before .before .before .before .write-pair .ensures .keeps .long ∙ c .before .before .before .before .before .before .before .before .before .before .write-head .ensures .keeps .long
+
+returns-2 : tie.Need-returns-2
+returns-2 c = relation-coded NamesWritten.Undeclared (c .enum-told .given .1) _ _ (c .before .before .before .before .before .before .before .before .before .before .before .before .relation-number .ensures .0) (c .before .before .before .before .before .before .before .before .before .before .write-head .ensures) (c .before .before .before .before .before .before .before .first-family .ensures) (c .before .before .before .before .before .before .second-family .ensures) (c .before .before .before .before .write-pair .ensures)
+
+pub write-relation-spec : {M : Type 1} → statement M
+write-relation-spec =
+    tie.close
+    (tie.spec
+    relation-number-requires
+    add-tag
+    write-head-requires
+    first-family-requires
+    second-family-requires
+    write-pair-requires
+    enum-known-names
+    enum-told
+    same-length
+    returns
+    same-length-2
+    returns-2)

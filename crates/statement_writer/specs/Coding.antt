@@ -1,0 +1,43 @@
+-- The units of a statement whose names are resolved. Assumes nothing.
+use mathlib.Core.Path.{_≡_}
+use mathlib.Core.List.{List}
+use mathlib.Core.Option.{Option, none, some}
+use Prim.Native.Nat.{ℕ, _-_, _≤_}
+use Rattle.lexer.specs.Scan.{maxLevel}
+use Rattle.lexer.specs.Forms.{framesAt, trim}
+use Rattle.policy.specs.Words.{Keyword}
+use Rattle.policy.specs.Statements as statements
+use Rattle.policy.specs.Statements.{Declaration, Written, Statement}
+use Rattle.policy.specs.Grammar.{formed}
+use Rattle.policy.specs.Reading.{resolved}
+use Rattle.statement_code.specs.Code.{statementCode}
+use Rattle.symbols.specs.Symbols.{Symbols}
+use Rattle.set_writer.specs.Writing.{Wrote, Keeps}
+use Rattle.statement_writer.specs.declared.Coded.{Coded}
+use Rattle.statement_writer.specs.declared.Relation as theRelation
+
+-- "`(userrole U R)`, `(roletype R T)`, `(roleallow R R)`"
+abbrev pub relationOf : theRelation.Relation → statements.Relation
+relationOf theRelation.Relation.UserRole = statements.userrole
+relationOf theRelation.Relation.RoleType = statements.roletype
+relationOf theRelation.Relation.RoleAllow = statements.roleallow
+
+-- units are written from the place to on, and u is the place behind them
+pub record Stores (before : List ℕ) (to : ℕ) (units after : List ℕ) (u : ℕ) : Type 0 where
+  pub wrote : Wrote before to units after u
+  pub keeps : Keeps before to after
+  pub ahead : to ≤ u
+
+-- "name not declared before, or of the wrong sort": Undeclared exactly if a name of the statement is; else its units are written
+abbrev pub Answers : List ℕ → ℕ → ℕ → Option Statement → List ℕ → Coded → Type 0
+Answers before to place none after Coded.Undeclared = Unit {0}
+Answers before to place none after (Coded.Next u) = ⊥
+Answers before to place (some s) after Coded.Undeclared = ⊥
+Answers before to place (some s) after (Coded.Next u) = Wrote before to (statementCode place s) after u
+
+-- what writing the statement with the keyword k, behind which the place at is, answers and leaves. Nothing is said of a row that is not of the
+-- keyword's form, but that the code before the place to is kept
+pub record WritesStatement (t : List ℕ) (at : ℕ) (k : Keyword) (place : ℕ) (table : List ℕ) (end : ℕ) (before : List ℕ) (to : ℕ) (after : List ℕ) (r : Coded) : Type 0 where
+  pub keeps : Keeps before to after
+  pub says : (ds : List Declaration) (w : Written) → Symbols table end ds → formed k (trim (framesAt t at .here) (maxLevel - 1)) ≡ some w
+      → Answers before to place (resolved ds w) after r

@@ -1,0 +1,309 @@
+// Attribute sets, relations and role transitions with their names resolved, written as statement code: fault 5. The form of a statement is known
+// to be good where these functions are called; what is found out here is whether its names are declared, and its units are written on the way.
+ghost use mathlib.Core.Path.{_≡_};
+ghost use mathlib.Core.List.{[], _∷_};
+ghost use Prim.Native.Nat.{_≤_};
+ghost use Rattle.bitset.specs.Parts.{part};
+ghost use Rattle.policy.specs.Answers.{familyOf};
+ghost use Rattle.policy.specs.Statements.{fromOf, toOf};
+ghost use Rattle.policy.specs.Words.{setK, relationK, transitionK};
+ghost use Rattle.statement_code.specs.Code.{familyNumber, relationNumber, attributeTag};
+ghost use Rattle.statement_writer.specs.Naming.{Numbers, Names, WritesNames};
+ghost use Rattle.statement_writer.specs.Coding.{relationOf, Stores, WritesStatement};
+use items::Item;
+use lexer::Level;
+use policy::Family;
+use set_writer::Referred;
+use set_writer::SetWritten;
+use statement_code::Unit;
+use symbols::Found;
+
+// The place behind the units written, or fault 5: a name is not declared before, or is of the wrong sort.
+pub enum Coded {
+    Next(usize),
+    Undeclared,
+}
+
+// `(userrole U R)`, `(roletype R T)`, `(roleallow R R)`.
+pub enum Relation {
+    UserRole,
+    RoleType,
+    RoleAllow,
+}
+
+// What a name of a statement may stand for: a thing or an attribute of a family; an attribute of it and no thing; a class; a role and no
+// attribute.
+enum Kind {
+    Reference(Family),
+    Attribute(Family),
+    Class,
+    Role,
+}
+
+// The place behind the names that were read and the place behind their units, or that one of them is not declared.
+enum NamesWritten {
+    Next { at: usize, to: usize },
+    Undeclared,
+}
+
+// The sorts of names in the symbol table: roles, the first of the attributes, classes.
+const ROLE: usize = 1;
+
+const FIRST_ATTRIBUTE: usize = 3;
+
+const CLASS: usize = 6;
+
+// ---- names
+
+// The number of a family, in the symbol table and in tags.
+fn family_number(family: Family) -> u16
+    ensures { λ r. ⌜ (r ≡ familyNumber (familyOf family)) × (r ≤ 2) ⌝ }
+{
+    match family {
+        Family::Users => 0,
+        Family::Roles => 1,
+        Family::Types => 2,
+    }
+}
+
+// The number of what the len bytes of the text from a place on name in a sort of the symbol table. What has the name and another sort is missing.
+fn number_of(
+    symbols: &[u8],
+    end: usize,
+    sort: usize,
+    text: &[u8],
+    start: usize,
+    len: usize,
+) -> Referred
+    ensures { λ r. ⌜ Numbers (now (symbols .entry)) end sort (part (now (text .entry)) start len) r ⌝ }
+{
+    let family = symbols::family_of(sort, 0);
+    let found = symbols::find(symbols, 0, end, family, text, start, len);
+    match found {
+        Found::At { sort: s, number } => {
+            if s != sort {
+                return Referred::Missing;
+            }
+            if Unit::ATTRIBUTE as usize <= number {
+                return Referred::Missing;
+            }
+            Referred::Unit(number as u16)
+        }
+        Found::Missing => Referred::Missing,
+    }
+}
+
+// The unit of what the len bytes of the text from a place on name, as a name of a kind.
+fn name_unit(
+    kind: Kind,
+    symbols: &[u8],
+    end: usize,
+    text: &[u8],
+    start: usize,
+    len: usize,
+) -> Referred
+    ensures { λ r. ⌜ Names (now (symbols .entry)) end kind (part (now (text .entry)) start len) r ⌝ }
+{
+    match kind {
+        Kind::Reference(family) => {
+            let number = family_number(family) as usize;
+            set_writer::reference(symbols, end, number, text, start, len)
+        }
+        Kind::Attribute(family) => {
+            let number = family_number(family) as usize;
+            number_of(symbols, end, FIRST_ATTRIBUTE + number, text, start, len)
+        }
+        Kind::Class => number_of(symbols, end, CLASS, text, start, len),
+        Kind::Role => number_of(symbols, end, ROLE, text, start, len),
+    }
+}
+
+// Writes the unit of the name at a place.
+fn write_name(
+    text: &[u8],
+    at: usize,
+    kind: Kind,
+    symbols: &[u8],
+    end: usize,
+    code: &mut [u16],
+    to: usize,
+) -> NamesWritten
+    ensures { λ r. ⌜ WritesNames (now (text .entry)) at (kind ∷ []) (now (symbols .entry)) end (now (code .entry)) to (now (code .exit)) r ⌝ }
+{
+    let item = items::look(text, at);
+    let Item::Word {
+        start,
+        len,
+        next,
+        ..
+    } = item
+    else {
+        return NamesWritten::Undeclared;
+    };
+    let name = name_unit(kind, symbols, end, text, start, len);
+    let Referred::Unit(unit) = name else {
+        return NamesWritten::Undeclared;
+    };
+    let u = set_writer::put_unit(code, to, unit);
+    NamesWritten::Next { at: next, to: u }
+}
+
+// Writes the units of the two names from a place on.
+fn write_pair(
+    text: &[u8],
+    at: usize,
+    first: Kind,
+    second: Kind,
+    symbols: &[u8],
+    end: usize,
+    code: &mut [u16],
+    to: usize,
+) -> NamesWritten
+    ensures { λ r. ⌜ WritesNames (now (text .entry)) at (first ∷ second ∷ []) (now (symbols .entry)) end (now (code .entry)) to (now (code .exit)) r ⌝ }
+{
+    let name = write_name(text, at, first, symbols, end, code, to);
+    let NamesWritten::Next { at: next, to: u } = name else {
+        return NamesWritten::Undeclared;
+    };
+    write_name(text, next, second, symbols, end, code, u)
+}
+
+// ---- statements
+
+// Writes what every statement's code begins with: its tag and its place.
+fn write_head(tag: u16, place: u16, code: &mut [u16], to: usize) -> usize
+    ensures { λ r. ⌜ Stores (now (code .entry)) to (tag ∷ place ∷ []) (now (code .exit)) r ⌝ }
+{
+    let u = set_writer::put_unit(code, to, tag);
+    set_writer::put_unit(code, u, place)
+}
+
+// Writes the declaration of an attribute: its tag and place. The answer is the place behind them.
+pub fn write_attribute(family: Family, place: u16, code: &mut [u16], to: usize) -> usize
+    ensures { λ r. ⌜ Stores (now (code .entry)) to (attributeTag (familyOf family) ∷ place ∷ []) (now (code .exit)) r ⌝ }
+{
+    let tag = Unit::DECLARE_ATTRIBUTE + family_number(family);
+    write_head(tag, place, code, to)
+}
+
+// What is added to the tag for a relation.
+fn relation_number(relation: Relation) -> u16
+    ensures { λ r. ⌜ (r ≡ relationNumber (relationOf relation)) × (r ≤ 2) ⌝ }
+{
+    match relation {
+        Relation::UserRole => 0,
+        Relation::RoleType => 1,
+        Relation::RoleAllow => 2,
+    }
+}
+
+// The family of the first name of a relation.
+fn first_family(relation: Relation) -> Family
+    ensures { λ r. ⌜ familyOf r ≡ fromOf (relationOf relation) ⌝ }
+{
+    match relation {
+        Relation::UserRole => Family::Users,
+        Relation::RoleType | Relation::RoleAllow => Family::Roles,
+    }
+}
+
+// The family of the second name of a relation.
+fn second_family(relation: Relation) -> Family
+    ensures { λ r. ⌜ familyOf r ≡ toOf (relationOf relation) ⌝ }
+{
+    match relation {
+        Relation::UserRole => Family::Roles,
+        Relation::RoleType => Family::Types,
+        Relation::RoleAllow => Family::Roles,
+    }
+}
+
+// Writes `(userrole U R)`, `(roletype R T)` or `(roleallow R R)`, whose names are from a place on.
+pub fn write_relation(
+    text: &[u8],
+    at: usize,
+    place: u16,
+    relation: Relation,
+    symbols: &[u8],
+    end: usize,
+    code: &mut [u16],
+    to: usize,
+) -> Coded
+    ensures { λ r. ⌜ WritesStatement (now (text .entry)) at (relationK (relationOf relation)) place (now (symbols .entry)) end (now (code .entry)) to (now (code .exit)) r ⌝ }
+{
+    let tag = Unit::RELATION + relation_number(relation);
+    let u = write_head(tag, place, code, to);
+    let first = Kind::Reference(first_family(relation));
+    let second = Kind::Reference(second_family(relation));
+    let names = write_pair(text, at, first, second, symbols, end, code, u);
+    match names {
+        NamesWritten::Next { to: v, .. } => Coded::Next(v),
+        NamesWritten::Undeclared => Coded::Undeclared,
+    }
+}
+
+// Writes `(roletransition R T C R)`, whose names are from a place on.
+pub fn write_transition(
+    text: &[u8],
+    at: usize,
+    place: u16,
+    symbols: &[u8],
+    end: usize,
+    code: &mut [u16],
+    to: usize,
+) -> Coded
+    ensures { λ r. ⌜ WritesStatement (now (text .entry)) at transitionK place (now (symbols .entry)) end (now (code .entry)) to (now (code .exit)) r ⌝ }
+{
+    let u = write_head(Unit::TRANSITION, place, code, to);
+    let first = Kind::Reference(Family::Roles);
+    let second = Kind::Reference(Family::Types);
+    let names = write_pair(text, at, first, second, symbols, end, code, u);
+    let NamesWritten::Next { at: next, to: v } = names else {
+        return Coded::Undeclared;
+    };
+    let others = write_pair(text, next, Kind::Class, Kind::Role, symbols, end, code, v);
+    match others {
+        NamesWritten::Next { to: w, .. } => Coded::Next(w),
+        NamesWritten::Undeclared => Coded::Undeclared,
+    }
+}
+
+// Writes `(userattributeset A S)` and the same for roles and types, whose A is the name at a place. The parentheses of the statement are level 1 and
+// those of S level 2, so S may hold parts for all levels but two.
+pub fn write_attribute_set(
+    text: &[u8],
+    at: usize,
+    place: u16,
+    family: Family,
+    symbols: &[u8],
+    end: usize,
+    code: &mut [u16],
+    to: usize,
+) -> Coded
+    ensures { λ r. ⌜ WritesStatement (now (text .entry)) at (setK (familyOf family)) place (now (symbols .entry)) end (now (code .entry)) to (now (code .exit)) r ⌝ }
+{
+    let number = family_number(family);
+    let u = write_head(Unit::ATTRIBUTE_SET + number, place, code, to);
+    let name = write_name(text, at, Kind::Attribute(family), symbols, end, code, u);
+    let NamesWritten::Next { at: next, to: v } = name else {
+        return Coded::Undeclared;
+    };
+    let item = items::look(text, next);
+    let Item::Open { next: inner, .. } = item else {
+        return Coded::Undeclared;
+    };
+    let set = set_writer::write_set(
+        text,
+        inner,
+        Level::MAX - 2,
+        symbols,
+        end,
+        number as usize,
+        code,
+        v,
+    );
+    match set {
+        SetWritten::Next { to: w, .. } => Coded::Next(w),
+        SetWritten::Undeclared => Coded::Undeclared,
+    }
+}
