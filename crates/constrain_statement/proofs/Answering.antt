@@ -1,0 +1,197 @@
+-- What the parts of a constrain of good form say together: the first of 5, 6 and 7, or its record and its rows. Assumes nothing.
+use mathlib.Core.Path.{_≡_, refl, sym, ap, subst, _∙_}
+use mathlib.Core.Bool.{Bool, true}
+use mathlib.Core.List.{List, [], _∷_}
+use mathlib.Core.Option.{Option, none, some, Option·some-injective}
+use Prim.Native.Nat.{ℕ, _+_, _-_, _*_, _≤_, _<_}
+use native.Mathlib.Omega.{arith}
+use borrow.Author.Tests.{leb-true}
+use lib.Dec.{leb, ltb}
+use lib.ListN.{length}
+use types.Run.{OneOf}
+use Rattle.bitset.specs.Parts.{put}
+use Rattle.bitset.specs.Relations.{joined}
+use Rattle.lexer.specs.Scan.{maxLevel}
+use Rattle.lexer.specs.Forms.{Forms, closed, part, framesAt, trim}
+use Rattle.policy.specs.Basics.{Name, _>>=_, each, indexOf}
+use Rattle.policy.specs.Statements.{Declaration, Reference, Constraint, sidesE, nameE, notE, andE, orE, Written, Statement, constrain, classNames, size, need}
+use Rattle.policy.specs.Maxima.{maxConstraints, maxRows, maxStack}
+use Rattle.policy.specs.Grammar.{expressionIn}
+use Rattle.policy.specs.Reading.{refer, referE, resolved}
+use Rattle.policy.specs.Image.{maskOf}
+use Rattle.policy.specs.Encode.{headBytes, rowBytes}
+use Rattle.policy.specs.Rows.{rowsOf}
+use Rattle.policy.proofs.Lists.{both-true}
+use Rattle.table_laws.proofs.ListLaws.{bound-then}
+use Rattle.symbols.specs.Symbols.{Symbols}
+use Rattle.items.specs.Looks.{itemAt, rowEnd}
+use Rattle.items.specs.declared.Item.{Item}
+use Rattle.items.proofs.Items.{Looked, by-part}
+use Rattle.constraint_writer.specs.Writing.{Writes}
+use Rattle.constraint_writer.specs.declared.RowsWritten.{RowsWritten}
+use Rattle.constraint_writer.proofs.Answers.{undeclared, declared}
+use Rattle.constraint_writer.proofs.Resolving.{told}
+use Rattle.constrain_statement.specs.Scopes.{numbersOf, ScopeForm, Scoped, Scopes}
+use Rattle.constrain_statement.specs.Constraining.{headWith, fitsBefore, Answers, WritesConstrain, AdmitsBy, Admits}
+use Rattle.constrain_statement.specs.declared.Constrained.{Constrained}
+use Rattle.constrain_statement.specs.declared.Scope.{Scope}
+use Rattle.constrain_statement.proofs.Masking.{tag}
+use Rattle.constrain_statement.proofs.Shapes.{Shape, shape}
+use Rattle.constrain_statement.proofs.Scoping.{startsPart, not-there, no-part, same-parts}
+
+-- ---- the stack need of an expression does not change where its names are resolved
+
+pub need-kept : (ds : List Declaration) (e : Constraint Name) (x : Constraint Reference) → referE ds e ≡ some x → need x ≡ need e
+unfolding referE need
+need-kept ds (sidesE f o) x h = ap need (sym (Option·some-injective (sidesE f o) x h))
+need-kept ds (nameE f s o w) x h =
+    bound-then (refer ds f w) (λ r. some (nameE f s o r)) x h λ r d g. ap need (sym (Option·some-injective (nameE f s o r) x g))
+need-kept ds (notE a) x h =
+    bound-then (referE ds a) (λ y. some (notE y)) x h λ y d g. ap need (sym (Option·some-injective (notE y) x g)) ∙ need-kept ds a y d
+need-kept ds (andE a b) x h =
+    bound-then (referE ds a) (λ y. referE ds b >>= λ z. some (andE y z)) x h λ y d g.
+    bound-then (referE ds b) (λ z. some (andE y z)) x g λ z d2 g2.
+    let p = need-kept ds a y d in
+    let q = need-kept ds b z d2 in
+    ap need (sym (Option·some-injective (andE y z) x g2)) ∙ rw (p, q)
+need-kept ds (orE a b) x h =
+    bound-then (referE ds a) (λ y. referE ds b >>= λ z. some (orE y z)) x h λ y d g.
+    bound-then (referE ds b) (λ z. some (orE y z)) x g λ z d2 g2.
+    let p = need-kept ds a y d in
+    let q = need-kept ds b z d2 in
+    ap need (sym (Option·some-injective (orE y z) x g2)) ∙ rw (p, q)
+
+-- ---- the statement with its names resolved
+
+module _ (ds : List Declaration) (c : Name) (ps : List Name) (e : Constraint Name) where
+  abbrev then : Option ℕ → Option Statement
+  then o = o >>= λ n. numbersOf ds n ps >>= λ ns. referE ds e >>= λ x. some (constrain n ns x)
+
+  pub scope-none : (indexOf c (classNames ds) >>= λ n. numbersOf ds n ps) ≡ none → resolved ds (constrain c ps e) ≡ none
+  scope-none h = go (indexOf c (classNames ds)) h
+    where
+      go : (o : Option ℕ) → (o >>= λ n. numbersOf ds n ps) ≡ none → then o ≡ none
+      go none g = refl
+      go (some n) g = ap (λ (o : Option (List ℕ)). o >>= λ ns. referE ds e >>= λ x. some (constrain n ns x)) g
+
+  module _ {class mask : ℕ} (s : Scoped ds c ps class mask) where
+    by-scope : resolved ds (constrain c ps e) ≡ (referE ds e >>= λ x. some (constrain class (s .numbers) x))
+    by-scope = ap then (s .class-is) ∙ ap (λ (o : Option (List ℕ)). o >>= λ ns. referE ds e >>= λ x. some (constrain class ns x)) (s .permissions-are)
+
+    pub expression-none : referE ds e ≡ none → resolved ds (constrain c ps e) ≡ none
+    expression-none h = by-scope ∙ ap (λ (o : Option (Constraint Reference)). o >>= λ x. some (constrain class (s .numbers) x)) h
+
+    pub resolves : (x : Constraint Reference) → referE ds e ≡ some x → resolved ds (constrain c ps e) ≡ some (constrain class (s .numbers) x)
+    resolves x h = by-scope ∙ ap (λ (o : Option (Constraint Reference)). o >>= λ x. some (constrain class (s .numbers) x)) h
+
+-- ---- from what was admitted to the answer
+
+as-fits : (count n m : ℕ) {b : Bool} → n ≡ m → fitsBefore count n ≡ b → fitsBefore count m ≡ b
+as-fits count n m q e = ap (fitsBefore count) (sym q) ∙ e
+
+as-shallow : (n m : ℕ) {b : Bool} → n ≡ m → leb m maxStack ≡ b → leb n maxStack ≡ b
+as-shallow n m p e = ap (λ (k : ℕ). leb k maxStack) p ∙ e
+
+-- as many bytes as the rows take are there
+room : (count n : ℕ) → fitsBefore count n ≡ true → 6 * n ≤ 12288
+room count n e = let few = leb-true n maxRows (both-true (ltb count maxConstraints) (leb n maxRows) e .1) in omega arith
+
+-- x is the expression with its names resolved, ns are the numbers of the permissions
+module _ (before after rowsBefore rowsAfter : List ℕ) (count class mask row n deep : ℕ) (x : Constraint Reference) (ns : List ℕ) (p : need x ≡ deep) (q : n ≡ row + size x)
+    (u : mask ≡ maskOf ns) (long : length rowsBefore ≡ 12288)
+    (v : 6 * (row + size x) ≤ length rowsBefore → rowsAfter ≡ put rowsBefore (6 * row) (joined (each rowBytes (rowsOf x)))) where
+  by-answer : (b : Constrained) → AdmitsBy deep before after count class mask row n b → Answers (some (constrain class ns x)) before after count rowsBefore rowsAfter row b
+  by-answer (Constrained.Next o) g =
+      let counted : n - row ≡ size x = omega arith in
+      record {
+        fits = as-fits count n (row + size x) q (g .0);
+        shallow = as-shallow (need x) deep p (g .1);
+        head = g .2
+            ∙ ap (λ (k : ℕ). put before (10 * count) (headBytes (headWith class mask row k))) counted
+            ∙ ap (λ (k : ℕ). put before (10 * count) (headBytes (headWith class k row (size x)))) u;
+        rows = v (omega (arith, room count n (g .0)));
+        next-row = g .3 ∙ q;
+      }
+  by-answer Constrained.Undeclared g = g
+  by-answer Constrained.Full g = as-fits count n (row + size x) q g
+  by-answer Constrained.Deep g = (as-fits count n (row + size x) q (g .0), as-shallow (need x) deep p (g .1))
+
+-- ---- what stands where, by the form
+
+-- the levels that are left in the statement's row
+abbrev levels : ℕ
+levels = maxLevel - 1
+
+-- the row at a place is what follows the keyword of a constrain
+abbrev ShapeAt : List ℕ → ℕ → Written → Type 0
+ShapeAt t at w = Shape (trim (framesAt t at .here) levels) w
+
+module _ {t : List ℕ} {at p j : ℕ} (l : Looked t at (Item.Open p j)) {w : Written} (s : ShapeAt t at w) where
+  in-parts : (trim (framesAt t j .here) (levels - 1) ≡ s .scope) × (trim (framesAt t (rowEnd t j) .here) levels ≡ part (s .expression-place) (s .expression) closed)
+  in-parts = same-parts (sym (by-part (λ f. f) levels (rowEnd t j) l refl (λ z. omega arith)) ∙ s .row)
+
+  scope-there : ScopeForm (trim (framesAt t j .here) (maxLevel - 2)) (s .class) (s .permissions)
+  scope-there = subst (λ (f : Forms). ScopeForm f (s .class) (s .permissions)) (sym (in-parts .0)) (s .scoped)
+
+  part-behind : (q : ℕ) → rowEnd t j ≡ q → trim (framesAt t q .here) levels ≡ part (s .expression-place) (s .expression) closed
+  part-behind q e = subst (λ (o : ℕ). trim (framesAt t o .here) levels ≡ part (s .expression-place) (s .expression) closed) e (in-parts .1)
+
+  expression-there : {q x z : ℕ} → rowEnd t j ≡ q → Looked t q (Item.Open x z) → expressionIn (trim (framesAt t z .here) (maxLevel - 2)) ≡ some (s .body)
+  expression-there {q} {x} {z} e l2 =
+      ap expressionIn (same-parts (sym (by-part (λ f. f) levels (rowEnd t z) l2 refl (λ z. omega arith)) ∙ part-behind q e) .0) ∙ s .expressed
+
+scope-told : {t : List ℕ} {at : ℕ} {table : List ℕ} {end : ℕ} {r k : Scope} → Scopes t at table end r → r ≡ k → Scopes t at table end k
+scope-told {t} {at} {table} {end} u e = subst (Scopes t at table end) e u
+
+-- ---- the answers
+
+module _ {t : List ℕ} {at : ℕ} {table : List ℕ} {end : ℕ} {before : List ℕ} {count : ℕ} {rowsBefore : List ℕ} {row : ℕ} where
+  -- 5, where a name is not declared
+  undeclared-by : {after rowsAfter : List ℕ} → ((ds : List Declaration) (w : Written) → Symbols table end ds → ShapeAt t at w → resolved ds w ≡ none)
+      → WritesConstrain t at table end before after count rowsBefore rowsAfter row Constrained.Undeclared
+  undeclared-by {after} {rowsAfter} h = record {
+    says = λ ds w y a f.
+        subst (λ (o : Option Statement). Answers o before after count rowsBefore rowsAfter row Constrained.Undeclared) (sym (h ds w y (shape (trim (framesAt t at .here) levels) w f))) tt;
+  }
+
+  pub past-rows : {after rowsAfter : List ℕ} {r : Constrained} → 2048 < row → WritesConstrain t at table end before after count rowsBefore rowsAfter row r
+  past-rows h = record { says = λ ds w y a f. absurd (omega (arith, h, a)) }
+
+  pub scope-missing : {k : Item} → k ≡ itemAt t at → OneOf (0 ∷ 2 ∷ 3 ∷ []) (tag k) → WritesConstrain t at table end before before count rowsBefore rowsBefore row Constrained.Undeclared
+  scope-missing e o = undeclared-by (λ ds w y s. not-there startsPart t at levels _ (s .row) refl (0 ∷ 2 ∷ 3 ∷ []) no-part e o)
+
+  module _ {p j : ℕ} (l : Looked t at (Item.Open p j)) {r : Scope} (u : Scopes t j table end r) where
+    pub scope-undeclared : r ≡ Scope.Undeclared → WritesConstrain t at table end before before count rowsBefore rowsBefore row Constrained.Undeclared
+    scope-undeclared e = undeclared-by (λ ds w y s.
+        ap (resolved ds) (s .written)
+        ∙ scope-none ds (s .class) (s .permissions) (s .body) (scope-told u e .says ds (s .class) (s .permissions) y (scope-there l s)))
+
+    module _ {class mask q : ℕ} (e : r ≡ Scope.Of class mask q) where
+      pub expression-missing : {k : Item} → k ≡ itemAt t q → OneOf (0 ∷ 2 ∷ 3 ∷ []) (tag k)
+          → WritesConstrain t at table end before before count rowsBefore rowsBefore row Constrained.Undeclared
+      expression-missing d o = undeclared-by (λ ds w y s.
+          not-there startsPart t q levels _ (part-behind l s q (scope-told u e .place)) refl (0 ∷ 2 ∷ 3 ∷ []) no-part d o)
+
+      module _ {x z : ℕ} (l2 : Looked t q (Item.Open x z)) {rowsAfter : List ℕ} {k : RowsWritten}
+          (v : Writes t z (expressionIn (trim (framesAt t z .here) (maxLevel - 2))) table end rowsBefore rowsAfter row k) where
+        pub name-undeclared : k ≡ RowsWritten.Undeclared → WritesConstrain t at table end before before count rowsBefore rowsAfter row Constrained.Undeclared
+        name-undeclared d = undeclared-by (λ ds w y s.
+            let o = scope-told u e in
+            ap (resolved ds) (s .written)
+            ∙ expression-none ds (s .class) (s .permissions) (s .body) (o .says ds (s .class) (s .permissions) y (scope-there l s))
+            (undeclared y (expression-there l s (o .place) l2) (told v d)))
+
+        -- 6 and 7, and what is written, by what the maxima and the stack need allow
+        pub answered : {a n : ℕ} → k ≡ RowsWritten.Next a n → length rowsBefore ≡ 12288 → {after : List ℕ} {b : Constrained} → Admits t z before after count class mask row n b
+            → WritesConstrain t at table end before after count rowsBefore rowsAfter row b
+        answered {a} {n} d long {after} {b} m = record {
+          says = λ ds w y g f.
+              let s = shape (trim (framesAt t at .here) levels) w f in
+              let o = scope-told u e in
+              let c = o .says ds (s .class) (s .permissions) y (scope-there l s) in
+              let there = expression-there l s (o .place) l2 in
+              let i = declared y there (told v d) in
+              subst (λ (o : Option Statement). Answers o before after count rowsBefore rowsAfter row b)
+              (sym (ap (resolved ds) (s .written) ∙ resolves ds (s .class) (s .permissions) (s .body) c (i .expression) (i .refers)))
+              (by-answer before after rowsBefore rowsAfter count class mask row n (need (s .body)) (i .expression) (c .numbers) (need-kept ds (s .body) (i .expression) (i .refers)) (i .count) (c .mask-is) long (i .bytes) b (m .says (s .body) there));
+        }

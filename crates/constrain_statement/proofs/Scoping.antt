@@ -1,0 +1,189 @@
+-- The class and the permissions of a constrain of good form, item by item. Assumes nothing.
+use mathlib.Core.Path.{_≡_, refl, sym, ap, subst, _∙_}
+use mathlib.Core.Bool.{Bool, true, false}
+use mathlib.Core.List.{List, [], _∷_}
+use mathlib.Core.Option.{Option, none, some, Option·some-injective}
+use Prim.Native.Nat.{ℕ, _+_, _-_, _≤_, _<_}
+use native.Mathlib.Nat.{zero-add}
+use native.Mathlib.Omega.{arith}
+use lib.ListN.{take, drop}
+use types.Run.{OneOf}
+use Rattle.bitset.specs.Parts as parts
+use Rattle.lexer.specs.Scan.{maxLevel}
+use Rattle.lexer.specs.Forms.{Forms, closed, ended, word, part, framesAt, trim}
+use Rattle.policy.specs.Basics.{Name, _>>=_, indexOf}
+use Rattle.policy.specs.Statements.{Declaration, classNames}
+use Rattle.policy.specs.Grammar.{namesIn}
+use Rattle.policy.specs.Image.{maskOf}
+use Rattle.policy.proofs.Counts.{few-classes}
+use Rattle.table_laws.proofs.ListLaws.{bound-then}
+use Rattle.reading_laws.proofs.Resolving.{index-below}
+use Rattle.symbols.specs.Section.{entriesAt}
+use Rattle.symbols.specs.Lookup.{firstNamed}
+use Rattle.symbols.specs.Resolving.{foundClass}
+use Rattle.symbols.specs.Symbols.{Symbols}
+use Rattle.symbols.specs.declared.Found.{Found}
+use Rattle.symbols.proofs.ClassesFound.{find-class}
+use Rattle.items.specs.Looks.{itemAt, rowEnd}
+use Rattle.items.specs.Reads.{isClosed}
+use Rattle.items.specs.declared.Item.{Item}
+use Rattle.items.proofs.Items.{Looked, Alike, alike, by-word, by-part}
+use Rattle.items.proofs.Counts.{trim-names}
+use Rattle.constrain_statement.specs.Scopes.{numbersOf, maskIn, Masks, ScopeForm, Scopes}
+use Rattle.constrain_statement.specs.declared.Masked.{Masked}
+use Rattle.constrain_statement.specs.declared.Scope.{Scope}
+use Rattle.constrain_statement.proofs.Masking.{tag}
+
+-- ---- what a row starts with
+
+abbrev pub startsWord : Forms → Bool
+startsWord closed = false
+startsWord ended = false
+startsWord (word s w f) = true
+startsWord (part p f g) = false
+
+abbrev pub startsPart : Forms → Bool
+startsPart closed = false
+startsPart ended = false
+startsPart (word s w f) = false
+startsPart (part p f g) = true
+
+-- a row of which q is true does not start with an item of which q is false
+pub not-there : {X : Type 0} (q : Forms → Bool) (t : List ℕ) (i levels : ℕ) (f : Forms) → trim (framesAt t i .here) levels ≡ f → q f ≡ true
+    → (ks : List ℕ) → Alike q (λ f. false) ks → {k : Item} → k ≡ itemAt t i → OneOf ks (tag k) → X
+not-there q t i levels f e h ks a {k} d o =
+    let z = sym (alike q (λ f. false) t i k ks levels a d o) ∙ ap q e ∙ h in
+    absurd (let z : _≡_ {A = ℕ} 0 1 = cc in omega arith)
+
+no-word : Alike startsWord (λ f. false) (1 ∷ 2 ∷ 3 ∷ [])
+no-word = (tt, λ x f g. refl, refl, refl)
+
+pub no-part : Alike startsPart (λ f. false) (0 ∷ 2 ∷ 3 ∷ [])
+no-part = (λ s b f. refl, tt, refl, refl)
+
+no-close : Alike isClosed (λ f. false) (0 ∷ 1 ∷ 3 ∷ [])
+no-close = (λ s b f. refl, λ x f g. refl, tt, refl)
+
+-- ---- what stands where, by the form
+
+-- the levels that are left in the part that holds them
+abbrev levels : ℕ
+levels = maxLevel - 2
+
+-- the parts of two rows that are the same
+pub same-words : {s r : ℕ} {v w : Name} {f g : Forms} → word s v f ≡ word r w g → (v ≡ w) × (f ≡ g)
+same-words e = (cc, cc)
+
+pub same-parts : {p q : ℕ} {f g h k : Forms} → part p f g ≡ part q h k → (f ≡ h) × (g ≡ k)
+same-parts e = (cc, cc)
+
+module _ {t : List ℕ} {at s n k q : ℕ} (l : Looked t at (Item.Word s n k q)) {c : Name} {ps : List Name} (h : ScopeForm (trim (framesAt t at .here) levels) c ps) where
+  behind-word : (take n (drop s t) ≡ c) × (trim (framesAt t q .here) levels ≡ part (h .place) (h .inner) closed)
+  behind-word = same-words (sym (by-word (λ f. f) levels l) ∙ h .row)
+
+  module _ {p j : ℕ} (l2 : Looked t q (Item.Open p j)) where
+    behind-open : (trim (framesAt t j .here) (levels - 1) ≡ h .inner) × (trim (framesAt t (rowEnd t j) .here) levels ≡ closed)
+    behind-open = same-parts (sym (by-part (λ f. f) levels (rowEnd t j) l2 refl (λ z. omega arith)) ∙ behind-word .1)
+
+    names-there : namesIn (framesAt t j .here) ≡ some ps
+    names-there = sym (trim-names (framesAt t j .here) (levels - 1)) ∙ ap namesIn (behind-open .0) ∙ h .names
+
+    close-there : (o : ℕ) → rowEnd t j ≡ o → trim (framesAt t o .here) levels ≡ closed
+    close-there o e = subst (λ (x : ℕ). trim (framesAt t x .here) levels ≡ closed) e (behind-open .1)
+
+-- ---- the class
+
+module _ {table : List ℕ} {end : ℕ} {ds : List Declaration} (y : Symbols table end ds) (w : Name) {r : Found} (h : r ≡ firstNamed 3 w (entriesAt table 0 end)) where
+  class-as : r ≡ foundClass (indexOf w (classNames ds))
+  class-as = h ∙ ap (firstNamed 3 w) (y .holds) ∙ find-class ds w
+
+  class-missing : r ≡ Found.Missing → indexOf w (classNames ds) ≡ none
+  class-missing d = go (indexOf w (classNames ds)) refl (sym d ∙ class-as)
+    where
+      go : (o : Option ℕ) → indexOf w (classNames ds) ≡ o → Found.Missing ≡ foundClass o → indexOf w (classNames ds) ≡ none
+      go none p g = p
+      go (some k) p g = absurd (let z : _≡_ {A = ℕ} 0 1 = cc in omega arith)
+
+  class-number : {sort number : ℕ} → r ≡ Found.At sort number → indexOf w (classNames ds) ≡ some number
+  class-number {sort} {number} d = go (indexOf w (classNames ds)) refl (sym d ∙ class-as)
+    where
+      go : (o : Option ℕ) → indexOf w (classNames ds) ≡ o → Found.At sort number ≡ foundClass o → indexOf w (classNames ds) ≡ some number
+      go none p g = absurd (let z : _≡_ {A = ℕ} 0 1 = cc in omega arith)
+      go (some k) p g = let z : number ≡ 0 + k = cc in p ∙ ap some (sym (z ∙ zero-add k))
+
+  class-below : (number : ℕ) → indexOf w (classNames ds) ≡ some number → number < 32
+  class-below number e = omega (arith, index-below w (classNames ds) .has number e, few-classes ds (y .good))
+
+-- ---- the answers
+
+no-mask : (o : Option (List ℕ)) → none ≡ (o >>= λ ns. some (maskOf ns)) → o ≡ none
+no-mask none e = refl
+no-mask (some ns) e = absurd (let z : _≡_ {A = ℕ} 0 1 = cc in omega arith)
+
+module _ {t : List ℕ} {at : ℕ} {table : List ℕ} {end : ℕ} where
+  pub word-missing : {k : Item} → k ≡ itemAt t at → OneOf (1 ∷ 2 ∷ 3 ∷ []) (tag k) → Scopes t at table end Scope.Undeclared
+  word-missing e o = record {
+    place = tt;
+    says = λ ds c ps y h. not-there startsWord t at levels _ (h .row) refl (1 ∷ 2 ∷ 3 ∷ []) no-word e o;
+  }
+
+  module _ {s n k q : ℕ} (l : Looked t at (Item.Word s n k q)) {r : Found} (f : r ≡ firstNamed 3 (parts.part t s n) (entriesAt table 0 end)) where
+    pub class-undeclared : r ≡ Found.Missing → Scopes t at table end Scope.Undeclared
+    unfolding parts.part
+    class-undeclared d = record {
+      place = tt;
+      says = λ ds c ps y h.
+          let none-such = class-missing y (take n (drop s t)) f d in
+          ap (λ (w : Name). indexOf w (classNames ds) >>= λ n. numbersOf ds n ps) (sym (behind-word l h .0))
+          ∙ ap (λ (o : Option ℕ). o >>= λ n. numbersOf ds n ps) none-such;
+    }
+
+    module _ {sort number : ℕ} (d : r ≡ Found.At sort number) where
+      class-is : {ds : List Declaration} {c : Name} {ps : List Name} → Symbols table end ds → ScopeForm (trim (framesAt t at .here) levels) c ps → indexOf c (classNames ds) ≡ some number
+      unfolding parts.part
+      class-is {ds} y h = ap (λ (w : Name). indexOf w (classNames ds)) (sym (behind-word l h .0)) ∙ class-number y (take n (drop s t)) f d
+
+      pub class-too-far : 32 ≤ number → Scopes t at table end Scope.Undeclared
+      unfolding parts.part
+      class-too-far g = record {
+        place = tt;
+        says = λ ds c ps y h.
+            absurd (omega (arith, g, class-below y (take n (drop s t)) f number (class-number y (take n (drop s t)) f d)));
+      }
+
+      pub part-missing : {k : Item} → k ≡ itemAt t q → OneOf (0 ∷ 2 ∷ 3 ∷ []) (tag k) → Scopes t at table end Scope.Undeclared
+      part-missing e o = record {
+        place = tt;
+        says = λ ds c ps y h. not-there startsPart t q levels _ (behind-word l h .1) refl (0 ∷ 2 ∷ 3 ∷ []) no-part e o;
+      }
+
+      module _ {p j : ℕ} (l2 : Looked t q (Item.Open p j)) where
+        numbers-there : {m : Masked} → Masks t j table end (4 + number) m → {ds : List Declaration} {c : Name} {ps : List Name} → Symbols table end ds
+            → ScopeForm (trim (framesAt t at .here) levels) c ps → maskIn m ≡ (numbersOf ds number ps >>= λ ns. some (maskOf ns))
+        numbers-there m {ds} {c} {ps} y h = m .says ds number ps y refl (names-there l h l2)
+
+        pub permission-undeclared : {x : Masked} → Masks t j table end (4 + number) x → x ≡ Masked.Undeclared → Scopes t at table end Scope.Undeclared
+        permission-undeclared m e = record {
+          place = tt;
+          says = λ ds c ps y h.
+              ap (λ (o : Option ℕ). o >>= λ n. numbersOf ds n ps) (class-is y h)
+              ∙ no-mask (numbersOf ds number ps) (sym (ap maskIn e) ∙ numbers-there m y h);
+        }
+
+        module _ {x : Masked} {mask o : ℕ} (m : Masks t j table end (4 + number) x) (e : x ≡ Masked.Mask mask o) where
+          told : Masks t j table end (4 + number) (Masked.Mask mask o)
+          told = subst (Masks t j table end (4 + number)) e m
+
+          pub close-missing : {k : Item} → k ≡ itemAt t o → OneOf (0 ∷ 1 ∷ 3 ∷ []) (tag k) → Scopes t at table end Scope.Undeclared
+          close-missing d i = record {
+            place = tt;
+            says = λ ds c ps y h. not-there isClosed t o levels _ (close-there l h l2 o (told .place)) refl (0 ∷ 1 ∷ 3 ∷ []) no-close d i;
+          }
+
+          pub scoped : {z : ℕ} → Looked t o (Item.Close z) → Scopes t at table end (Scope.Of number mask z)
+          scoped l3 = record {
+            place = l .end ∙ l2 .end ∙ ap (rowEnd t) (told .place) ∙ l3 .end;
+            says = λ ds c ps y h.
+                bound-then (numbersOf ds number ps) (λ ns. some (maskOf ns)) mask (sym (numbers-there told y h)) λ ns a b.
+                record { numbers = ns; class-is = class-is y h; permissions-are = a; mask-is = sym (Option·some-injective (maskOf ns) mask b) };
+          }

@@ -1,0 +1,38 @@
+-- `constrain_statement::admit` meets its contract: 6 before 7, by the maxima and the stack need. Assumes nothing.
+use Rattle.constrain_statement.proofs.Admitting.{many-constraints, many-rows, deep, admitted}
+use borrow.Author.Needs.{needs}
+use Rattle.constrain_statement.proofs.admit.Statement.{statement}
+use Rattle.constrain_statement.proofs.admit.Tie as tie
+
+returns : tie.Need-returns
+returns c = many-constraints (c .if1 .taken)
+
+returns-2 : tie.Need-returns-2
+returns-2 c = many-rows (c .if2 .taken)
+
+stack-need-requires : tie.Need-stack-need-requires
+stack-need-requires c κs = search needs
+
+returns-3 : tie.Need-returns-3
+returns-3 c = deep (c .before .before .before .if1 .left) (c .before .before .if2 .left) (c .before .stack-need .ensures) (c .if3 .taken)
+
+sub-put-head : tie.Need-sub-put-head
+sub-put-head c = search needs
+
+put-head-requires : tie.Need-put-head-requires
+put-head-requires c κs = search needs
+
+returns-4 : tie.Need-returns-4
+returns-4 c = admitted (c .before .before .before .before .before .if1 .left) (c .before .before .before .before .if2 .left) (c .before .before .before .stack-need .ensures) (c .before .before .if3 .left) (c .put-head .ensures)
+
+pub admit-spec : {M : Type 1} → statement M
+admit-spec =
+    tie.close
+    (tie.spec
+    returns
+    returns-2
+    stack-need-requires
+    returns-3
+    sub-put-head
+    put-head-requires
+    returns-4)

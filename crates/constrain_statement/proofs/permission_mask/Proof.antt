@@ -1,0 +1,74 @@
+-- `constrain_statement::permission_mask` meets its contract: what is left of the row adds to the mask so far. Assumes nothing.
+use Prim.Native.Nat.{_-_}
+use Rattle.items.proofs.Items.{sees}
+use Rattle.constrain_statement.proofs.Masking.{Going, begun, one-more, not-of-class, finished, no-names}
+use borrow.Author.Needs.{needs}
+use native.Mathlib.Omega.{arith}
+use lib.ListN.{length}
+use Rattle.constrain_statement.proofs.permission_mask.Statement.{statement}
+use Rattle.constrain_statement.proofs.permission_mask.Tie as tie
+
+abbrev Inv-loop : tie.InvT-loop
+Inv-loop text at symbols end family i₀ mask₀ i mask = Going text at symbols end family i mask
+
+abbrev μ-loop : tie.MeasureT-loop
+μ-loop text at symbols end family i₀ mask₀ i mask = length text - i
+
+loop-holds : tie.Need-loop-holds Inv-loop μ-loop
+loop-holds c = begun
+
+look-requires : tie.Need-look-requires Inv-loop μ-loop
+look-requires c κs = search needs
+
+enum-known-item : tie.Need-enum-known-item Inv-loop μ-loop
+enum-known-item c = search needs
+
+find-requires : tie.Need-find-requires Inv-loop μ-loop
+find-requires c κs = search needs
+
+enum-known-found : tie.Need-enum-known-found Inv-loop μ-loop
+enum-known-found c = search needs
+
+enum-told : tie.Need-enum-told Inv-loop μ-loop
+enum-told c = search needs
+
+returns : tie.Need-returns Inv-loop μ-loop
+returns c = not-of-class (c .before .before .before .before .before .before .before .loop .inv) (sees (c .before .before .before .before .before .before .look .ensures) (c .before .before .before .before .item .given .1)) (c .before .before .find .ensures) (c .enum-told .given .1)
+
+with-permission-requires : tie.Need-with-permission-requires Inv-loop μ-loop
+with-permission-requires c κs = search needs
+
+loop-less : tie.Need-loop-less Inv-loop μ-loop
+loop-less c = let l = (sees (c .before .before .before .before .before .before .before .before .look .ensures) (c .before .before .before .before .before .before .item .given .1)) in omega (arith, l .ahead .0, l .ahead .1)
+
+loop-again : tie.Need-loop-again Inv-loop μ-loop
+loop-again c = one-more (c .before .before .before .before .before .before .before .before .before .loop .inv) (sees (c .before .before .before .before .before .before .before .before .look .ensures) (c .before .before .before .before .before .before .item .given .1)) (c .before .before .before .before .find .ensures) (c .before .before .found .given .1) (c .with-permission .ensures)
+
+enum-known-item-2 : tie.Need-enum-known-item-2 Inv-loop μ-loop
+enum-known-item-2 c = search needs
+
+returns-2 : tie.Need-returns-2 Inv-loop μ-loop
+returns-2 c = finished (c .before .before .before .before .loop .inv) (sees (c .before .before .before .look .ensures) (c .before .item2 .given .1))
+
+returns-3 : tie.Need-returns-3 Inv-loop μ-loop
+returns-3 c = no-names (c .before .before .loop .inv) (c .before .look .ensures) (c .match .keys3)
+
+pub permission-mask-spec : {M : Type 1} → statement M
+permission-mask-spec =
+    tie.close
+    (tie.spec
+    Inv-loop
+    μ-loop
+    loop-holds
+    look-requires
+    enum-known-item
+    find-requires
+    enum-known-found
+    enum-told
+    returns
+    with-permission-requires
+    loop-less
+    loop-again
+    enum-known-item-2
+    returns-2
+    returns-3)

@@ -1,0 +1,232 @@
+// `(constrain (C (P ...)) E)` with its names resolved: the record of body 6 and the rows of body 7 as they will stand in the table; faults 5, 6
+// and 7. Its form is known to be good where this is called.
+ghost use mathlib.Core.Path.{_≡_};
+ghost use mathlib.Core.Bool.{_||_};
+ghost use Prim.Native.Nat.{_+_, _*_, _%_, _≤_};
+ghost use lib.Dec.{eqb};
+ghost use lib.ListN.{length};
+ghost use Rattle.bitset.specs.Sets.{bit, fromBits};
+ghost use Rattle.bitset.specs.Parts.{put};
+ghost use Rattle.policy.specs.Encode.{headBytes};
+ghost use Rattle.constrain_statement.specs.Scopes.{Masks, Scopes};
+ghost use Rattle.constrain_statement.specs.Constraining.{headWith, Needs, Admits, WritesConstrain};
+use constraint_grammar::Measured;
+use constraint_writer::RowsWritten;
+use items::Item;
+use lexer::Level;
+use policy::Class;
+use policy::Constraint;
+use policy::Permission;
+use policy::Row;
+use symbols::Found;
+
+// The bytes of all records that body 6 may have, and of all rows of body 7.
+pub const CONSTRAINT_BYTES: usize = Constraint::MAX * 10;
+
+pub const ROW_BYTES: usize = Row::MAX * 6;
+
+// The number of the row behind the statement's rows; or the fault: a name is not declared, 5; a maximum is passed, 6; the stack need is, 7.
+pub enum Constrained {
+    Next(usize),
+    Undeclared,
+    Full,
+    Deep,
+}
+
+// A bit for each permission of a row of them, and the place behind the row's close; or one of them is not a permission of the class.
+enum Masked {
+    Mask { mask: u32, next: usize },
+    Undeclared,
+}
+
+// What a constraint is asked of: a class and a bit for each of its permissions; and the place behind both. Or a name is not declared.
+enum Scope {
+    Of {
+        class: usize,
+        mask: u32,
+        next: usize,
+    },
+    Undeclared,
+}
+
+// The families of names: that of the classes, and that of the permissions of class 0.
+const CLASSES: usize = 3;
+
+const PERMISSIONS: usize = 4;
+
+// The levels that may lie inside a constraint expression: it is itself in a part of its statement.
+const LEVELS: usize = Level::MAX - 2;
+
+// The mask with the bit of a permission, by the number that the symbol table has for it: its class x 32 + its place.
+fn with_permission(mask: u32, number: usize) -> u32
+    ensures { λ r. ⌜ r ≡ fromBits 32 (λ k. bit mask k || eqb k (number % 32)) ⌝ }
+{
+    mask | (1u32 << (number % Permission::MAX))
+}
+
+// The permissions of a row of names, of one family, as a mask. A name that stands there again changes nothing.
+fn permission_mask(text: &[u8], at: usize, symbols: &[u8], end: usize, family: usize) -> Masked
+    ensures { λ r. ⌜ Masks (now (text .entry)) at (now (symbols .entry)) end family r ⌝ }
+{
+    let mut i = at;
+    let mut mask: u32 = 0;
+    loop {
+        let item = items::look(text, i);
+        match item {
+            Item::Word {
+                start,
+                len,
+                next,
+                ..
+            } => {
+                let found = symbols::find(symbols, 0, end, family, text, start, len);
+                let Found::At { number, .. } = found else {
+                    return Masked::Undeclared;
+                };
+                mask = with_permission(mask, number);
+                i = next;
+            }
+            Item::Close { next } => return Masked::Mask { mask, next },
+            Item::Open { .. } | Item::End => return Masked::Undeclared,
+        }
+    }
+}
+
+// The class and the permissions, behind the open parenthesis before them: C (P ...), and the close.
+fn scope_of(text: &[u8], at: usize, symbols: &[u8], end: usize) -> Scope
+    ensures { λ r. ⌜ Scopes (now (text .entry)) at (now (symbols .entry)) end r ⌝ }
+{
+    let first = items::look(text, at);
+    let Item::Word {
+        start,
+        len,
+        next,
+        ..
+    } = first
+    else {
+        return Scope::Undeclared;
+    };
+    let found = symbols::find(symbols, 0, end, CLASSES, text, start, len);
+    let Found::At { number, .. } = found else {
+        return Scope::Undeclared;
+    };
+    if Class::MAX <= number {
+        return Scope::Undeclared;
+    }
+    let second = items::look(text, next);
+    let Item::Open { next, .. } = second else {
+        return Scope::Undeclared;
+    };
+    let masked = permission_mask(text, next, symbols, end, PERMISSIONS + number);
+    let Masked::Mask { mask, next } = masked else {
+        return Scope::Undeclared;
+    };
+    let last = items::look(text, next);
+    let Item::Close { next } = last else {
+        return Scope::Undeclared;
+    };
+    Scope::Of {
+        class: number,
+        mask,
+        next,
+    }
+}
+
+// The stack need of a constraint expression, behind its open parenthesis.
+fn stack_need(text: &[u8], at: usize) -> usize
+    ensures { λ r. ⌜ Needs (now (text .entry)) at r ⌝ }
+{
+    let measured = constraint_grammar::constraint_form(text, at, LEVELS);
+    match measured {
+        Measured::Good(measure, _) => measure.need,
+        Measured::Bad => 0,
+    }
+}
+
+// Writes the record of a constraint: class 2, permission mask 4, first row 2, row count 2.
+fn put_head(
+    constraints: &mut [u8],
+    count: usize,
+    class: usize,
+    mask: u32,
+    first: usize,
+    rows: usize,
+)
+    requires { ⌜ 10 * count + 10 ≤ length (now constraints) ⌝ }
+    ensures { λ _. ⌜ now (constraints .exit) ≡ put (now (constraints .entry)) (10 * count) (headBytes (headWith class mask first rows)) ⌝ }
+{
+    let at = 10 * count;
+    constraints[at] = (class % 256) as u8;
+    constraints[at + 1] = (class / 256 % 256) as u8;
+    constraints[at + 2] = (mask % 256) as u8;
+    constraints[at + 3] = (mask / 256 % 256) as u8;
+    constraints[at + 4] = (mask / 256 / 256 % 256) as u8;
+    constraints[at + 5] = (mask / 256 / 256 / 256 % 256) as u8;
+    constraints[at + 6] = (first % 256) as u8;
+    constraints[at + 7] = (first / 256 % 256) as u8;
+    constraints[at + 8] = (rows % 256) as u8;
+    constraints[at + 9] = (rows / 256 % 256) as u8;
+}
+
+// The record of a constraint whose names are declared and whose rows go from a row to before the next, if the maxima allow both and the stack
+// need of its expression, at a place.
+fn admit(
+    text: &[u8],
+    at: usize,
+    constraints: &mut [u8; CONSTRAINT_BYTES],
+    count: usize,
+    class: usize,
+    mask: u32,
+    row: usize,
+    next: usize,
+) -> Constrained
+    requires { ⌜ row ≤ next ⌝ }
+    ensures { λ r. ⌜ Admits (now (text .entry)) at (now (constraints .entry)) (now (constraints .exit)) count class mask row next r ⌝ }
+{
+    if Constraint::MAX <= count {
+        return Constrained::Full;
+    }
+    if Row::MAX < next {
+        return Constrained::Full;
+    }
+    if Constraint::MAX_STACK < stack_need(text, at) {
+        return Constrained::Deep;
+    }
+    put_head(constraints, count, class, mask, row, next - row);
+    Constrained::Next(next)
+}
+
+// Resolves what follows the keyword, writes the rows of the expression from a row on, and the record of that number.
+pub fn write_constrain(
+    text: &[u8],
+    at: usize,
+    symbols: &[u8],
+    end: usize,
+    constraints: &mut [u8; CONSTRAINT_BYTES],
+    count: usize,
+    rows: &mut [u8; ROW_BYTES],
+    row: usize,
+) -> Constrained
+    ensures { λ r. ⌜ WritesConstrain (now (text .entry)) at (now (symbols .entry)) end (now (constraints .entry)) (now (constraints .exit)) count (now (rows .entry)) (now (rows .exit)) row r ⌝ }
+{
+    if Row::MAX < row {
+        return Constrained::Full;
+    }
+    let first = items::look(text, at);
+    let Item::Open { next, .. } = first else {
+        return Constrained::Undeclared;
+    };
+    let scope = scope_of(text, next, symbols, end);
+    let Scope::Of { class, mask, next } = scope else {
+        return Constrained::Undeclared;
+    };
+    let second = items::look(text, next);
+    let Item::Open { next, .. } = second else {
+        return Constrained::Undeclared;
+    };
+    let written = constraint_writer::write_constraint(text, next, LEVELS, symbols, end, rows, row);
+    let RowsWritten::Next { row: past, .. } = written else {
+        return Constrained::Undeclared;
+    };
+    admit(text, next, constraints, count, class, mask, row, past)
+}

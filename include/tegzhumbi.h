@@ -1,0 +1,68 @@
+/* Tegzhumbi: access policies compiled to tables, and questions answered from a table alone.
+ *
+ * Every function is proved to give the numbers that the library's definitions give, for every text, every table and all numbers. What C
+ * adds is the caller's to keep: a pointer must be valid for the length that goes with it (a length of 0 too: pass the address of some byte), and the
+ * table lent to tegzhumbi_compile must not overlap the text. No function keeps a pointer, allocates memory or writes to a const one.
+ * tegzhumbi_compile works in some 300 KB of stack; the questions in less than 4 KB.
+ */
+#ifndef TEGZHUMBI_H
+#define TEGZHUMBI_H
+
+#include <stddef.h>
+#include <stdint.h>
+
+#ifdef __cplusplus
+extern "C" {
+#endif
+
+/* number 0: accepted, and place is the length of the table; else the refusal's number, 1 to 10, and its place */
+typedef struct {
+    uint32_t number;
+    uint32_t place;
+} tegzhumbi_compiled;
+
+/* outcome 0: granted, or valid; 1: denied, or not valid; 2: refused. number: that of the denial or the refusal, or the new role; else 0.
+ * constraint: that of denial 4; else 0. consulted: how many constraints were asked; 0 for denials 1 to 3 and refusals */
+typedef struct {
+    uint32_t outcome;
+    uint32_t number;
+    uint32_t constraint;
+    uint32_t consulted;
+} tegzhumbi_answer;
+
+/* number 0: the part is table[start .. start + length]; else the refusal's number, 11 or 12, and start and length are 0 */
+typedef struct {
+    uint32_t number;
+    uint32_t start;
+    uint32_t length;
+} tegzhumbi_part;
+
+/* Compiles a text into the lent table. On a refusal the table holds what it held before; else the bytes past its length do. No table is
+ * longer than 179,652 bytes. */
+tegzhumbi_compiled tegzhumbi_compile(const uint8_t *text, size_t text_len, uint8_t *table, size_t table_len);
+
+/* 1: the bytes are a sound table, with anything behind it; 0: they are not */
+uint32_t tegzhumbi_sound(const uint8_t *table, size_t table_len);
+
+/* Is the context valid? */
+tegzhumbi_answer tegzhumbi_valid(const uint8_t *table, size_t table_len, uint64_t user, uint64_t role, uint64_t type);
+
+/* May the source become the target, or do to it what the permission, by its place in the class, names? */
+tegzhumbi_answer tegzhumbi_change(const uint8_t *table, size_t table_len, uint64_t source_user, uint64_t source_role, uint64_t source_type,
+                                  uint64_t target_user, uint64_t target_role, uint64_t target_type, uint64_t class_number,
+                                  uint64_t permission);
+
+/* The role of a new process: that of the first matching transition, else the role given. number is the role where outcome is 0. */
+tegzhumbi_answer tegzhumbi_new_role(const uint8_t *table, size_t table_len, uint64_t role, uint64_t type, uint64_t class_number);
+
+/* The name of a number: sort 0 user, 1 role, 2 type, 3 to 5 their attributes, 6 class, 7 permission (number: class x 32 + its place) */
+tegzhumbi_part tegzhumbi_name(const uint8_t *table, size_t table_len, uint64_t sort, uint64_t number);
+
+/* The entry of a body 2 to 8, by its place there, from 0 */
+tegzhumbi_part tegzhumbi_entry(const uint8_t *table, size_t table_len, uint64_t body, uint64_t place);
+
+#ifdef __cplusplus
+}
+#endif
+
+#endif
