@@ -76,9 +76,12 @@ code-below (attributeOf users) = omega arith
 code-below (attributeOf roles) = omega arith
 code-below (attributeOf types) = omega arith
 
-sort-self : (s : Sort) → sameSort s s ≡ true
+pub sort-self : (s : Sort) → sameSort s s ≡ true
 sort-self (thingOf f) = family-self f
 sort-self (attributeOf f) = family-self f
+
+pub code-sort : (s t : Sort) → sortCode s ≡ sortCode t → s ≡ t
+code-sort s t e = Option·some-injective s t (sym (sort-back s) ∙ ap sortOf e ∙ sort-back t)
 
 same-code : (s t : Sort) → eqb (sortCode t) (sortCode s) ≡ sameSort s t
 same-code s t = by (sameSort s t) refl
@@ -88,9 +91,7 @@ same-code s t = by (sameSort s t) refl
     by false q = ne-eqb (sortCode t) (sortCode s) other ∙ sym q
       where
         other : sortCode t ≡ sortCode s → ⊥
-        other e =
-            let z : t ≡ s = Option·some-injective t s (sym (sort-back t) ∙ ap sortOf e ∙ sort-back s) in
-            false≢true (sym q ∙ ap (sameSort s) z ∙ sort-self s)
+        other e = false≢true (sym q ∙ ap (sameSort s) (code-sort t s e) ∙ sort-self s)
 
 things-from : (s : Sort) (e ds : List Declaration) → countSort (sortCode s) (entriesFrom e ds) ≡ length (gather (ofSort s) ds)
 unfolding countSort entriesFrom gather

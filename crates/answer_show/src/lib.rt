@@ -1,0 +1,91 @@
+// The lines that a program writes for answers: of compile, of the questions.
+use libc::STDOUT_FILENO;
+use policy::Change;
+use policy::Compiling;
+use policy::NewRole;
+use policy::Place;
+use policy::Validity;
+
+// A word with a blank behind it, and a number.
+fn numbered(word: &[u8], number: usize) {
+    io::write_all(STDOUT_FILENO, word);
+    io::print_decimal(STDOUT_FILENO, number as u64);
+}
+
+fn line_end() {
+    io::write_all(STDOUT_FILENO, b"\n");
+}
+
+fn refused(number: usize) {
+    numbered(b"refused ", number);
+    line_end();
+}
+
+// `accepted 264` or `refused 5 at 8`, and the number behind it.
+pub fn show_compiling(answer: Compiling, also: usize) {
+    match answer {
+        Compiling::Accepted { length } => numbered(b"accepted ", length),
+        Compiling::Refused { number, place } => {
+            numbered(b"refused ", number);
+            numbered(b" at ", place);
+        }
+    }
+    numbered(b" ", also);
+    line_end();
+}
+
+pub fn show_validity(answer: Validity) {
+    match answer {
+        Validity::Valid => {
+            io::write_all(STDOUT_FILENO, b"valid\n");
+        }
+        Validity::NotValid => {
+            io::write_all(STDOUT_FILENO, b"not valid\n");
+        }
+        Validity::Refused { number } => refused(number),
+    }
+}
+
+// The number of a denial, of its constraint, and of those consulted.
+fn denied(number: usize, constraint: usize, consulted: usize) {
+    numbered(b"denied ", number);
+    numbered(b" constraint ", constraint);
+    numbered(b" consulted ", consulted);
+    line_end();
+}
+
+pub fn show_change(answer: Change) {
+    match answer {
+        Change::Granted { consulted } => {
+            numbered(b"granted consulted ", consulted);
+            line_end();
+        }
+        Change::Denied { number } => denied(number, 0, 0),
+        Change::Failed {
+            constraint,
+            consulted,
+        } => denied(4, constraint, consulted),
+        Change::Refused { number } => refused(number),
+    }
+}
+
+pub fn show_new_role(answer: NewRole) {
+    match answer {
+        NewRole::Role { number } => {
+            numbered(b"role ", number);
+            line_end();
+        }
+        NewRole::Refused { number } => refused(number),
+    }
+}
+
+pub fn show_place(answer: Place) {
+    match answer {
+        Place::Part { start, length } => {
+            numbered(b"part ", start);
+            numbered(b" ", length);
+            line_end();
+        }
+        Place::Refused { number } => refused(number),
+    }
+}

@@ -1,0 +1,102 @@
+-- **Change** on a sound table, by what the bytes say. Assumes nothing.
+use Prim.Native.Nat.{ℕ, _<_, _≤_}
+use native.Mathlib.Omega.{arith}
+use mathlib.Core.Path.{_≡_, refl, sym, ap, _∙_}
+use mathlib.Core.Bool.{Bool, true, false, not, _&&_, _||_}
+use mathlib.Core.List.{List}
+use lib.Dec.{eqb, ltb}
+use lib.ListN.{length}
+use borrow.Author.Tests.{eq-eqb, ne-eqb, ltb-true}
+use Rattle.policy.specs.Statements.{Family, attributeOf, classNames, permissions}
+use Rattle.policy.specs.Encode.{sortCode}
+use Rattle.policy.specs.Maxima.{maxOf}
+use Rattle.policy.specs.Image.{Image}
+use Rattle.policy.specs.Answer.{Question, Answer, decide, firstFailing, declaredContext, declaredQuestion, roleMay}
+use Rattle.policy.specs.Questions.{entryNames, entryHolds, change, changed, changeOn}
+use Rattle.policy.proofs.Lists.{both-true}
+use Rattle.policy.proofs.Counts.{few-of}
+use Rattle.table_laws.specs.SoundTable.{Sound}
+use Rattle.table_laws.proofs.WellFormed.{formed}
+use Rattle.table_laws.proofs.SoundLaws.{sound-read}
+use Rattle.decisions.specs.TableAnswers.{countIn, countsIn, declaresQuestion, isValidIn, asksRoleIn, setHas}
+use Rattle.decisions.proofs.SoundLaws.{things-of, declared-numbers, is-valid-of, role-role}
+use Rattle.decisions.proofs.NameLaws.{declares-question, asks-role-of}
+
+-- THE ROLE, in the order in which the code asks
+
+pub role-stays : (asks : Bool) (a b : ℕ) (may : Bool) → a ≡ b → true ≡ roleMay asks a b may
+role-stays true a b may h = rw (eq-eqb a b h)
+role-stays false a b may h = refl
+
+pub role-allowed : (asks : Bool) (a b : ℕ) (may : Bool) → may ≡ true → true ≡ roleMay asks a b may
+role-allowed asks a b may h = rw h (by (not asks || eqb a b))
+  where
+    by : (x : Bool) → true ≡ (x || true)
+    by true = refl
+    by false = refl
+
+pub role-asked : (asks : Bool) (a b : ℕ) (may : Bool) → (a ≡ b → ⊥) → may ≡ false → not asks ≡ roleMay asks a b may
+role-asked true a b may d h = rw (ne-eqb a b d, h)
+role-asked false a b may d h = refl
+
+-- THE ATTRIBUTES
+
+pub few-attributes : (t : List ℕ) (s : Sound t) (f : Family) → countIn t (sortCode (attributeOf f)) ≤ 64
+few-attributes t s f = omega (arith, things-of t s (attributeOf f), few-of (attributeOf f) (s .image .names) (formed (s .image) (s .formed) .names), most f)
+  where
+    most : (f : Family) → maxOf (attributeOf f) ≤ 64
+    most f = omega arith
+
+-- ALL OF IT
+
+-- what the constraints of the image answer
+abbrev pub constraintsSay : Image → Question → Answer
+constraintsSay i q = firstFailing (entryNames (q .class) (q .perm)) (entryHolds i (q .source) (q .target)) 0 (i .constraints)
+
+module _ (t : List ℕ) (s : Sound t) (q : Question) where
+  -- the numbers of a declared question
+  record Numbers : Type 0 where
+    source : declaredContext (s .image .names) (q .source) ≡ true
+    target : declaredContext (s .image .names) (q .target) ≡ true
+    class : q .class < length (classNames (s .image .names))
+    perm : q .perm < length (permissions (s .image .names) (q .class))
+
+  numbers : declaredQuestion (s .image .names) q ≡ true → Numbers
+  unfolding declaredQuestion
+  numbers h =
+      let ds = s .image .names in
+      let x = declaredContext ds (q .source) in
+      let y = declaredContext ds (q .target) in
+      let c = ltb (q .class) (length (classNames ds)) in
+      let k = ltb (q .perm) (length (permissions ds (q .class))) in
+      let p₁ = both-true (x && y && c) k h in
+      let p₂ = both-true (x && y) c (p₁ .0) in
+      let p₃ = both-true x y (p₂ .0) in
+      record {
+        source = p₃ .0;
+        target = p₃ .1;
+        class = ltb-true (q .class) (length (classNames ds)) (p₂ .1);
+        perm = ltb-true (q .perm) (length (permissions ds (q .class))) (p₁ .1);
+      }
+
+  -- may the role change
+  abbrev pub roleMayIn : Bool
+  roleMayIn = roleMay (asksRoleIn t (q .class) (q .perm)) (q .source .role) (q .target .role) (setHas t 3 16 (q .source .role) (q .target .role))
+
+  pub change-of : changeOn t q ≡ decide (declaresQuestion t (countsIn t) q) (isValidIn t (q .source)) (isValidIn t (q .target)) roleMayIn (constraintsSay (s .image) q)
+  unfolding changeOn change decide
+  change-of = ap (changed q) (sound-read t s) ∙ by (declaredQuestion (s .image .names) q) refl
+    where
+      by : (b : Bool) → declaredQuestion (s .image .names) q ≡ b
+          → change (s .image) q ≡ decide (declaresQuestion t (countsIn t) q) (isValidIn t (q .source)) (isValidIn t (q .target)) roleMayIn (constraintsSay (s .image) q)
+      by true e =
+          let n = numbers e in
+          let source = declared-numbers (s .image .names) (q .source) (n .source) in
+          sym (rw (
+            declares-question t s q,
+            is-valid-of t s (q .source) (n .source),
+            is-valid-of t s (q .target) (n .target),
+            asks-role-of t s (q .class) (q .perm) (n .class) (n .perm),
+            role-role t s (q .target .role) (q .source .role) (source .role),
+          ))
+      by false e = rw (declares-question t s q, e)

@@ -1,0 +1,6 @@
+-- Laws for the proofs of this crate.
+pub mod TallyLaws
+pub mod SoundLaws
+pub mod TransitionLaws
+pub mod NameLaws
+pub mod ChangeLaws

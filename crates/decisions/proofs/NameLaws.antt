@@ -1,0 +1,162 @@
+-- The names of classes and permissions: compared with a word in the bytes of a table, and on a sound table. Assumes nothing.
+use Prim.Native.Nat.{ℕ, zero, suc, _+_, _*_, _/_, _%_, _<_, _≤_}
+use native.Mathlib.Omega.{arith}
+use mathlib.Core.Path.{_≡_, refl, sym, ap, ap₂, _∙_}
+use mathlib.Core.Bool.{Bool, true, false, _&&_, _||_, cond, false≢true}
+use mathlib.Core.List.{List, [], _∷_}
+use mathlib.Core.Option.{Option, none, some}
+use lib.Dec.{ltb}
+use lib.ListN.{length, getD, getElem?, take, drop}
+use lib.Seq.{take-all}
+use borrow.Author.Tests.{lt-ltb, le-ltb, ltb-true, ltb-false}
+use Rattle.bitset.specs.Parts.{part}
+use Rattle.policy.specs.Basics.{Name, same, any, isIn}
+use Rattle.policy.specs.Statements.{classNames, permissions}
+use Rattle.policy.specs.Words.{process, transitionWords}
+use Rattle.policy.specs.Encode.{NameEntry, firstBody}
+use Rattle.policy.specs.Answer.{Question, declaredContext, declaredQuestion, asksRole}
+use Rattle.policy.specs.Questions.{Reply, answered, refused, Part, nameFrom, nameOf}
+use Rattle.policy.proofs.Lists.{both-true}
+use Rattle.policy.proofs.Counts.{few-permissions-of, few-classes}
+use Rattle.symbols.proofs.PartLaws.{length-part, same-length}
+use Rattle.image_rows.specs.SoundRows.{isSome}
+use Rattle.table_laws.specs.SoundTable.{Sound}
+use Rattle.table_laws.specs.Shown.{shown, orTwelve, nameIn}
+use Rattle.table_laws.proofs.NameShown.{name-shown}
+use Rattle.table_laws.proofs.WellFormed.{formed}
+use Rattle.decisions.specs.TableAnswers.{namesIn, countsIn, classIn, permissionIn, isFoundName, bears, declaresQuestion, asksRoleIn}
+use Rattle.decisions.proofs.SoundLaws.{names-of, classes-of, declares-context}
+
+-- THE COMPARISON
+
+-- a part that is shorter than the word; the whole word
+pub shorter : (t : List ℕ) (o n : ℕ) (w : Name) → n < length w → same (part t o n) w ≡ false
+shorter t o n w h = same-length (part t o n) w (λ e. omega (arith, length-part t o n, e))
+
+pub whole-word : (w : Name) (n : ℕ) → length w ≤ n → part w 0 n ≡ w
+unfolding part
+whole-word w n h = take-all n w h
+
+-- the second of two words
+pub or-second : (a b : Bool) → a ≡ false → (a || (b || false)) ≡ b
+or-second true b h = absurd (false≢true (sym h))
+or-second false true h = refl
+or-second false false h = refl
+
+-- WHAT IS SHOWN
+
+-- there is a name, and it is the word
+abbrev isNamed : Option Name → Name → Bool
+isNamed none w = false
+isNamed (some v) w = same v w
+
+module _ (t : List ℕ) where
+  found-by : (r : Reply Part) (o : Option Name) → shown t r ≡ orTwelve o → isFoundName r ≡ isSome o
+  found-by (answered p) none h = let z : _≡_ {A = ℕ} 0 1 = cc in absurd (omega arith)
+  found-by (answered p) (some v) h = refl
+  found-by (refused n k) none h = refl
+  found-by (refused n k) (some v) h = let z : _≡_ {A = ℕ} 0 1 = cc in absurd (omega arith)
+
+  bears-by : (r : Reply Part) (o : Option Name) → shown t r ≡ orTwelve o → (w : Name) → bears t r w ≡ isNamed o w
+  unfolding part
+  bears-by (answered p) none h w = let z : _≡_ {A = ℕ} 0 1 = cc in absurd (omega arith)
+  bears-by (answered p) (some v) h w = ap (λ (x : List ℕ). same x w) (answered-injective (take (p .long) (drop (p .start) t)) v h)
+    where
+      answered-injective : (x y : List ℕ) → answered x ≡ answered y → x ≡ y
+      answered-injective x y h = cc
+  bears-by (refused n k) none h w = refl
+  bears-by (refused n k) (some v) h w = let z : _≡_ {A = ℕ} 0 1 = cc in absurd (omega arith)
+
+module _ {A : Type 0} where
+  some-at : (xs : List A) (k : ℕ) → isSome (getElem? xs k) ≡ ltb k (length xs)
+  some-at [] k = sym (le-ltb k 0 (omega arith))
+  some-at (x ∷ xs) zero = sym (lt-ltb 0 (length (x ∷ xs)) (omega arith))
+  some-at (x ∷ xs) (suc k) = some-at xs k ∙ by (ltb k (length xs)) refl
+    where
+      by : (b : Bool) → ltb k (length xs) ≡ b → ltb k (length xs) ≡ ltb (suc k) (length (x ∷ xs))
+      by true q = q ∙ sym (lt-ltb (suc k) (length (x ∷ xs)) (omega (arith, ltb-true k (length xs) q)))
+      by false q = q ∙ sym (le-ltb (suc k) (length (x ∷ xs)) (omega (arith, ltb-false k (length xs) q)))
+
+  at-place : (xs : List A) (k : ℕ) (d : A) → k < length xs → getElem? xs k ≡ some (getD xs k d)
+  at-place [] k d h = absurd (omega arith)
+  at-place (x ∷ xs) zero d h = refl
+  at-place (x ∷ xs) (suc k) d h = at-place xs k d (omega arith)
+
+  any-same : (f g : A → Bool) → ((x : A) → f x ≡ g x) → (xs : List A) → any f xs ≡ any g xs
+  unfolding any
+  any-same f g e [] = refl
+  any-same f g e (x ∷ xs) = ap₂ _||_ (e x) (any-same f g e xs)
+
+-- the last of two tests, where the first passes
+and-last : (a b c : Bool) → (a ≡ true → b ≡ c) → (a && b) ≡ (a && c)
+and-last true b c h = h refl
+and-last false b c h = refl
+
+-- ON A SOUND TABLE
+
+module _ (t : List ℕ) (s : Sound t) where
+  name-at : (x n : ℕ) → shown t (nameFrom x n firstBody (namesIn t)) ≡ orTwelve (nameIn (s .image .names) x n)
+  unfolding nameOf
+  name-at x n =
+      ap (λ (es : List NameEntry). shown t (nameFrom x n firstBody es)) (names-of t s)
+      ∙ ap (λ (l : List ℕ). shown l (nameOf (s .image) x n)) (s .laid)
+      ∙ name-shown (s .image) (s .formed) (s .rest) x n
+
+  class-at : (c : ℕ) → shown t (classIn t c) ≡ orTwelve (getElem? (classNames (s .image .names)) c)
+  unfolding nameIn
+  class-at c = name-at 6 c
+
+  permission-at : (c k : ℕ) → c < 32 → k < 32 → shown t (permissionIn t c k) ≡ orTwelve (getElem? (permissions (s .image .names) c) k)
+  unfolding nameIn permissionIn
+  permission-at c k h l =
+      let class : (c * 32 + k) / 32 ≡ c = omega arith in
+      let place : (c * 32 + k) % 32 ≡ k = omega arith in
+      rw (lt-ltb c 32 h, lt-ltb k 32 l) (name-at 7 (c * 32 + k)
+      ∙ ap₂ (λ (x y : ℕ). orTwelve (getElem? (permissions (s .image .names) x) y)) class place)
+
+  few-in-class : (c : ℕ) → length (permissions (s .image .names) c) ≤ 32
+  few-in-class c = few-permissions-of (s .image .names) (formed (s .image) (s .formed) .names) c
+
+  class-below : (c : ℕ) → c < length (classNames (s .image .names)) → c < 32
+  class-below c h = omega (arith, few-classes (s .image .names) (formed (s .image) (s .formed) .names))
+
+  too-far : (c k : ℕ) → ltb k 32 ≡ false → permissionIn t c k ≡ refused 12 0
+  unfolding permissionIn
+  too-far c k q = rw q (by (ltb c 32))
+    where
+      by : (b : Bool) → cond (b && false) (nameFrom 7 (c * 32 + k) firstBody (namesIn t)) (refused 12 0) ≡ refused 12 0
+      by true = refl
+      by false = refl
+
+  -- a permission is declared
+  permission-found : (c k : ℕ) → c < length (classNames (s .image .names)) → isFoundName (permissionIn t c k) ≡ ltb k (length (permissions (s .image .names) c))
+  permission-found c k h = by (ltb k 32) refl
+    where
+      by : (b : Bool) → ltb k 32 ≡ b → isFoundName (permissionIn t c k) ≡ ltb k (length (permissions (s .image .names) c))
+      by true q =
+          found-by t (permissionIn t c k) (getElem? (permissions (s .image .names) c) k) (permission-at c k (class-below c h) (ltb-true k 32 q))
+          ∙ some-at (permissions (s .image .names) c) k
+      by false q =
+          ap isFoundName (too-far c k q)
+          ∙ sym (le-ltb k (length (permissions (s .image .names) c)) (omega (arith, ltb-false k 32 q, few-in-class c)))
+
+  pub declares-question : (q : Question) → declaresQuestion t (countsIn t) q ≡ declaredQuestion (s .image .names) q
+  unfolding declaresQuestion declaredQuestion
+  declares-question q =
+      let ds = s .image .names in
+      let contexts = declaredContext ds (q .source) && declaredContext ds (q .target) in
+      let class = ltb (q .class) (length (classNames ds)) in
+      rw (declares-context t s (q .source), declares-context t s (q .target), classes-of t s)
+      (and-last (contexts && class) (isFoundName (permissionIn t (q .class) (q .perm))) (ltb (q .perm) (length (permissions ds (q .class))))
+      (λ h. permission-found (q .class) (q .perm) (ltb-true (q .class) (length (classNames ds)) (both-true contexts class h .1))))
+
+  -- "class `process`, permission `transition` or `dyntransition`"
+  pub asks-role-of : (c k : ℕ) → c < length (classNames (s .image .names)) → k < length (permissions (s .image .names) c) → asksRoleIn t c k ≡ asksRole (s .image .names) c k
+  unfolding asksRoleIn asksRole isIn
+  asks-role-of c k h l =
+      let ds = s .image .names in
+      ap₂ _&&_
+      (bears-by t (classIn t c) (getElem? (classNames ds) c) (class-at c) process ∙ ap (λ (o : Option Name). isNamed o process) (at-place (classNames ds) c [] h))
+      (any-same (bears t (permissionIn t c k)) (same (getD (permissions ds c) k []))
+      (λ w. bears-by t (permissionIn t c k) (getElem? (permissions ds c) k) (permission-at c k (class-below c h) (omega (arith, few-in-class c))) w
+      ∙ ap (λ (o : Option Name). isNamed o w) (at-place (permissions ds c) k [] l)) transitionWords)

@@ -1,0 +1,171 @@
+-- On a sound table the bytes say of contexts what the image says. Assumes nothing.
+use Prim.Native.Nat.{ℕ, _-_, _<_, _≤_}
+use native.Mathlib.Omega.{arith}
+use mathlib.Core.Path.{_≡_, refl, sym, ap, ap₂, _∙_, subst}
+use mathlib.Core.Bool.{Bool, true, false, _&&_, cond, false≢true}
+use mathlib.Core.List.{List, []}
+use mathlib.Core.Option.{Option, none, some}
+use lib.Dec.{ltb}
+use lib.ListN.{length, getD, take}
+use lib.Seq.{take-at}
+use borrow.Author.Tests.{ltb-true, lt-ltb}
+use Rattle.bitset.specs.Relations.{joined}
+use Rattle.bitset.specs.Sets.{member}
+use Rattle.bitset.specs.Parts.{part}
+use Rattle.policy.specs.Basics.{each}
+use Rattle.policy.specs.Statements.{users, roles, types, Sort, thingOf, Declaration, count, classNames}
+use Rattle.policy.specs.Meaning.{Context}
+use Rattle.policy.specs.Image.{Image}
+use Rattle.policy.specs.Encode.{sortCode, entryBytes, entries, bodies, firstBody}
+use Rattle.policy.specs.Sound.{imageIn}
+use Rattle.policy.specs.Answer.{declaredContext}
+use Rattle.policy.specs.Questions.{Reply, answered, refused, inSet, validOf, valid, asked, validOn}
+use Rattle.policy.proofs.Lists.{both-true}
+use Rattle.policy.proofs.Counts.{few-of}
+use Rattle.symbols.specs.Section.{between}
+use Rattle.symbols.proofs.Written.{entries-written}
+use Rattle.image_rows.specs.SoundRows.{isSome}
+use Rattle.table_laws.specs.SoundTable.{Bytes, Sound}
+use Rattle.table_laws.proofs.Pieces.{Wide}
+use Rattle.table_laws.proofs.ImageReadBack.{Laid}
+use Rattle.table_laws.proofs.NamesFit.{most}
+use Rattle.table_laws.proofs.WellFormed.{formed}
+use Rattle.table_laws.proofs.WellFormedLaid.{well-formed-laid}
+use Rattle.table_laws.proofs.SoundLaws.{sound-read, read-sound}
+use Rattle.table_reader.specs.Records.{bodyPlace, startIn, lengthIn}
+use Rattle.table_reader.proofs.RecordLaws.{Stands, set-part}
+use Rattle.table_reader.proofs.BodyPlaces.{body-stands, start-part, length-part}
+use Rattle.soundness.specs.IsSound.{isSound}
+use Rattle.decisions.specs.TableAnswers.{namesEnd, namesIn, countIn, countsIn, declaresContext, setHas, isValidIn}
+use Rattle.symbols.specs.Lookup.{countSort}
+use Rattle.symbols.proofs.CountLaws.{count-things, count-classes}
+
+-- a table that holds an image is sound
+pub sound-table : (t : List ℕ) → Bytes t → isSound t ≡ true → Sound t
+unfolding isSound
+sound-table t b h = by (imageIn t) refl h
+  where
+    by : (o : Option Image) → imageIn t ≡ o → isSome o ≡ true → Sound t
+    by none e h = absurd (false≢true h)
+    by (some i) e h = read-sound t b i e .0
+
+-- a question on a sound table is one on its image
+pub asked-image : {A : Type 0} (t : List ℕ) (s : Sound t) (f : Image → Reply A) → asked f (imageIn t) ≡ f (s .image)
+asked-image t s f = ap (asked f) (sound-read t s)
+
+module _ (t : List ℕ) (s : Sound t) where
+  -- THE BODIES
+
+  -- the header says where each body starts and how long it is, and there it stands
+  start-of : (k : ℕ) → k < 8 → startIn t k ≡ bodyPlace (s .image) k
+  start-of k h = ap (λ (l : List ℕ). startIn l k) (s .laid) ∙ start-part (s .image) (s .formed) (s .rest) k h
+
+  pub length-of : (k : ℕ) → k < 8 → lengthIn t k ≡ length (getD (bodies (s .image)) k [])
+  length-of k h = ap (λ (l : List ℕ). lengthIn l k) (s .laid) ∙ length-part (s .image) (s .formed) (s .rest) k h
+
+  pub stands-of : (k : ℕ) → k < 8 → Stands t (startIn t k) (getD (bodies (s .image)) k [])
+  stands-of k h =
+      subst (λ (n : ℕ). Stands t n (getD (bodies (s .image)) k [])) (sym (start-of k h))
+      (subst (λ (l : List ℕ). Stands l (bodyPlace (s .image) k) (getD (bodies (s .image)) k [])) (sym (s .laid)) (body-stands (s .image) (s .rest) k h))
+
+  laid-of : Laid (s .image)
+  laid-of = well-formed-laid (s .image) (s .formed)
+
+  -- THE NAMES
+
+  first-place : startIn t 0 ≡ firstBody
+  unfolding bodyPlace joined
+  first-place = start-of 0 (omega arith)
+
+  names-stand : between t firstBody (namesEnd t) ≡ joined (each entryBytes (entries (s .image .names)))
+  unfolding bodies part
+  names-stand =
+      let body = joined (each entryBytes (entries (s .image .names))) in
+      let stands : Stands t firstBody body = subst (λ (n : ℕ). Stands t n body) first-place (stands-of 0 (omega arith)) in
+      let long : namesEnd t - firstBody ≡ length body = omega (arith, length-of 0 (omega arith)) in
+      ap (λ (n : ℕ). part t firstBody n) long
+      ∙ ap (take (length body)) (stands .here) ∙ take-at body (stands .rest) (length body) refl
+
+  -- the entries are those of the image's declarations
+  pub names-of : namesIn t ≡ entries (s .image .names)
+  names-of = entries-written t firstBody (namesEnd t) (entries (s .image .names)) (laid-of .numbers) names-stand
+
+  pub things-of : (x : Sort) → countIn t (sortCode x) ≡ count x (s .image .names)
+  things-of x = ap (countSort (sortCode x)) names-of ∙ count-things x (s .image .names)
+
+  pub classes-of : countIn t 6 ≡ length (classNames (s .image .names))
+  classes-of = ap (countSort 6) names-of ∙ count-classes (s .image .names)
+
+  pub few : (x : Sort) → count x (s .image .names) ≤ 512
+  few x = omega (arith, few-of x (s .image .names) (formed (s .image) (s .formed) .names), most x)
+
+  -- CONTEXTS
+
+  pub declares-context : (c : Context) → declaresContext (countsIn t) c ≡ declaredContext (s .image .names) c
+  unfolding declaresContext declaredContext
+  declares-context c = rw (things-of (thingOf users), things-of (thingOf roles), things-of (thingOf types))
+
+  -- a set of a body
+  set-of : (b w : ℕ) (ss : List (List ℕ)) → b < 8 → getD (bodies (s .image)) b [] ≡ joined ss → Wide w ss → length ss ≤ 512 → (k n : ℕ) → k < length ss
+      → setHas t b w k n ≡ inSet ss k n
+  unfolding setHas
+  set-of b w ss l e wide many k n h =
+      rw (lt-ltb k 65536 (omega arith))
+      (ap (λ (x : List ℕ). member x n) (set-part w ss wide k h (subst (Stands t (startIn t b)) e (stands-of b l))))
+
+  module _ (n : ℕ) where
+    pub user-role : (u : ℕ) → u < count (thingOf users) (s .image .names) → setHas t 1 16 u n ≡ inSet (s .image .userRoles) u n
+    unfolding bodies
+    user-role u h =
+        let sets = laid-of .userRoles in
+        set-of 1 16 (s .image .userRoles) (omega arith) refl (sets .wide) (omega (arith, sets .many, few (thingOf users))) u n (omega (arith, sets .many))
+
+    pub role-type : (r : ℕ) → r < count (thingOf roles) (s .image .names) → setHas t 2 64 r n ≡ inSet (s .image .roleTypes) r n
+    unfolding bodies
+    role-type r h =
+        let sets = laid-of .roleTypes in
+        set-of 2 64 (s .image .roleTypes) (omega arith) refl (sets .wide) (omega (arith, sets .many, few (thingOf roles))) r n (omega (arith, sets .many))
+
+    pub role-role : (r : ℕ) → r < count (thingOf roles) (s .image .names) → setHas t 3 16 r n ≡ inSet (s .image .roleRoles) r n
+    unfolding bodies
+    role-role r h =
+        let sets = laid-of .roleRoles in
+        set-of 3 16 (s .image .roleRoles) (omega arith) refl (sets .wide) (omega (arith, sets .many, few (thingOf roles))) r n (omega (arith, sets .many))
+
+-- a context's numbers by themselves
+pub record Declared (ds : List Declaration) (c : Context) : Type 0 where
+  pub user : c .user < count (thingOf users) ds
+  pub role : c .role < count (thingOf roles) ds
+  pub type : c .type < count (thingOf types) ds
+
+pub declared-numbers : (ds : List Declaration) (c : Context) → declaredContext ds c ≡ true → Declared ds c
+unfolding declaredContext
+declared-numbers ds c h =
+    let u = ltb (c .user) (count (thingOf users) ds) in
+    let r = ltb (c .role) (count (thingOf roles) ds) in
+    let y = ltb (c .type) (count (thingOf types) ds) in
+    let p = both-true (u && r) y h in
+    let q = both-true u r (p .0) in
+    record {
+      user = ltb-true (c .user) (count (thingOf users) ds) (q .0);
+      role = ltb-true (c .role) (count (thingOf roles) ds) (q .1);
+      type = ltb-true (c .type) (count (thingOf types) ds) (p .1);
+    }
+
+module _ (t : List ℕ) (s : Sound t) where
+  pub is-valid-of : (c : Context) → declaredContext (s .image .names) c ≡ true → isValidIn t c ≡ validOf (s .image) c
+  unfolding isValidIn validOf
+  is-valid-of c h =
+      let d = declared-numbers (s .image .names) c h in
+      ap₂ _&&_ (user-role t s (c .role) (c .user) (d .user)) (role-type t s (c .type) (c .role) (d .role))
+
+  -- **Valid context**, by what the bytes say
+  pub valid-of : (c : Context) → validOn t c ≡ cond (declaresContext (countsIn t) c) (answered (isValidIn t c)) (refused 12 0)
+  unfolding validOn valid
+  valid-of c =
+      asked-image t s (λ i. valid i c) ∙ by (declaredContext (s .image .names) c) refl
+      ∙ ap (λ (b : Bool). cond b (answered (isValidIn t c)) (refused 12 0)) (sym (declares-context t s c))
+    where
+      by : (b : Bool) → declaredContext (s .image .names) c ≡ b → cond b (answered (validOf (s .image) c)) (refused 12 0) ≡ cond b (answered (isValidIn t c)) (refused 12 0)
+      by true q = ap answered (sym (is-valid-of c q))
+      by false q = refl

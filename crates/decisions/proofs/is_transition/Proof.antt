@@ -1,0 +1,30 @@
+-- `decisions::is_transition` meets its contract: the constants are the words, by computing. Assumes nothing.
+use mathlib.Core.Path.{sym, ap, _∙_}
+use Rattle.policy.specs.Basics.{any}
+use Rattle.policy.specs.Words.{transitionWords}
+use Rattle.policy.specs.Questions.{Reply, Part}
+use Rattle.decisions.specs.TableAnswers.{bearsOne}
+use Rattle.decisions.proofs.NameLaws.{or-second}
+use borrow.Author.Needs.{needs}
+use Rattle.decisions.proofs.is_transition.Statement.{statement}
+use Rattle.decisions.proofs.is_transition.Tie as tie
+
+returns : tie.Need-returns
+unfolding any
+returns c = sym (ap (λ (p : Reply Part). bearsOne (c .before .before .before .before .before .args .table .now) p transitionWords) (sym (c .before .before .before .permission-name .ensures)) ∙ rw (sym (c .before .is-word .ensures) ∙ c .if1 .taken))
+
+returns-2 : tie.Need-returns-2
+unfolding any
+returns-2 c = sym (ap (λ (p : Reply Part). bearsOne (c .before .before .before .before .before .before .before .args .table .now) p transitionWords) (sym (c .before .before .before .before .before .permission-name .ensures)) ∙ or-second _ _ (sym (c .before .before .before .is-word .ensures) ∙ c .before .before .if1 .left) ∙ sym (c .is-word2 .ensures))
+
+pub is-transition-spec : {M : Type 1} → statement M
+is-transition-spec =
+    tie.close
+    (tie.spec
+    (λ c κs. search needs)
+    (λ c. search needs)
+    (λ c κs. search needs)
+    returns
+    (λ c. search needs)
+    (λ c κs. search needs)
+    returns-2)

@@ -1,0 +1,41 @@
+-- `decisions::valid_in_sound` meets its contract: 12 first, then the two sets. Assumes nothing.
+use Prim.Native.Nat.{_<_}
+use Rattle.table_laws.proofs.ListLaws.{all-places}
+use mathlib.Core.Path.{sym, _∙_}
+use borrow.Author.Tests.{not-true, not-false}
+use Rattle.decisions.proofs.SoundLaws.{sound-table, valid-of}
+use borrow.Author.Needs.{needs}
+use Rattle.decisions.proofs.valid_in_sound.Statement.{statement}
+use Rattle.decisions.proofs.valid_in_sound.Tie as tie
+
+returns : tie.Need-returns
+returns c =
+    let start = c .before .before .before .before in
+    let t = start .args .table .now in
+    let s = sound-table t (all-places (λ k. k < 256) t 0 (λ i l. c .before .before .before .shared-slice-known .given i .fits)) (start .pre) in
+    sym (valid-of t s _ ∙ rw (← c .before .before .count-names .ensures, sym (c .before .declares-context .ensures) ∙ not-true _ (c .if1 .taken)))
+
+returns-2 : tie.Need-returns-2
+returns-2 c =
+    let start = c .before .before .before .before .before .before in
+    let t = start .args .table .now in
+    let s = sound-table t (all-places (λ k. k < 256) t 0 (λ i l. c .before .before .before .before .before .shared-slice-known .given i .fits)) (start .pre) in
+    sym (valid-of t s _ ∙ rw (← c .before .before .before .before .count-names .ensures, sym (c .before .before .before .declares-context .ensures) ∙ not-false _ (c .before .before .if1 .left), sym (c .before .is-valid .ensures) ∙ c .if2 .taken))
+
+returns-3 : tie.Need-returns-3
+returns-3 c =
+    let start = c .before .before .before .before .before .before in
+    let t = start .args .table .now in
+    let s = sound-table t (all-places (λ k. k < 256) t 0 (λ i l. c .before .before .before .before .before .shared-slice-known .given i .fits)) (start .pre) in
+    sym (valid-of t s _ ∙ rw (← c .before .before .before .before .count-names .ensures, sym (c .before .before .before .declares-context .ensures) ∙ not-false _ (c .before .before .if1 .left), sym (c .before .is-valid .ensures) ∙ c .if2 .left))
+
+pub valid-in-sound-spec : {M : Type 1} → statement M
+valid-in-sound-spec =
+    tie.close
+    (tie.spec
+    (λ c κs. search needs)
+    (λ c κs. search needs)
+    returns
+    (λ c κs. search needs)
+    returns-2
+    returns-3)

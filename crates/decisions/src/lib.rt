@@ -1,0 +1,438 @@
+// Three questions on a sound table: valid context, new role, change. All numbers are answered: 12 where one is not declared, tried before
+// anything else. The inner functions say what the bytes of any table say, but for the constraints, which speak of sound tables; that on a sound
+// table all this is what its image says, the three questions promise.
+use policy::Attribute;
+use policy::Change;
+use policy::Class;
+use policy::NewRole;
+use policy::Permission;
+use policy::Role;
+use policy::Type;
+use policy::Validity;
+use symbols::Entry;
+use symbols::NamePlace;
+ghost use mathlib.Core.Path.{_≡_};
+ghost use mathlib.Core.Bool.{true};
+ghost use Prim.Native.Nat.{_≤_};
+ghost use lib.ListN.{drop, replicate};
+ghost use Rattle.policy.specs.Sound.{transitionAt};
+ghost use Rattle.policy.specs.Answer.{firstFailing, roleMay};
+ghost use Rattle.policy.specs.Answers.{validityOf, changeOf, newRoleOf};
+ghost use Rattle.policy.specs.Questions.{matches, firstTransition, entryNames, entryHolds, validOn, newRoleOn, changeOn};
+ghost use Rattle.policy.specs.Words.{process, transitionWords};
+ghost use Rattle.symbols.specs.Lookup.{replyOf};
+ghost use Rattle.table_laws.specs.SoundTable.{Sound};
+ghost use Rattle.soundness.specs.IsSound.{isSound};
+ghost use Rattle.decisions.specs.Asked.{context, contextOf, question};
+ghost use Rattle.decisions.specs.TableAnswers.{namesEnd, countsIn, Tallied, setHas, declaresContext, isValidIn, transitionsIn, isFoundName, classIn, permissionIn, bears, bearsOne, declaresQuestion, asksRoleIn};
+
+// A context by its numbers. `kind` is the type: the language has another use for that word.
+pub struct Context {
+    pub user: usize,
+    pub role: usize,
+    pub kind: usize,
+}
+
+// The refusal of a number that is not declared.
+const UNDECLARED: usize = 12;
+
+// The bodies, counted from 0: names; the roles of each user, the types of each role, the roles that each role may become; transitions.
+const NAMES: u8 = 0;
+
+const USER_ROLES: u8 = 1;
+
+const ROLE_TYPES: u8 = 2;
+
+const ROLE_ROLES: u8 = 3;
+
+const TRANSITIONS: u8 = 4;
+
+// The numbers of sorts in body 1: 0 user, 1 role, 2 type, 3 to 5 their attributes, 6 class, 7 permission.
+const CLASS: usize = 6;
+
+const PERMISSION: usize = 7;
+
+const SORTS: usize = 8;
+
+// ---- what body 1 declares
+
+// Where the names start.
+const FIRST_BODY: usize = 68;
+
+// Where the names end, as the header says.
+fn names_end(table: &[u8]) -> usize
+    ensures { λ r. ⌜ r ≡ namesEnd (now (table .entry)) ⌝ }
+{
+    FIRST_BODY + table_reader::body_length(table, NAMES) as usize
+}
+
+// How many names of some sorts there are.
+struct Counts {
+    users: usize,
+    roles: usize,
+    types: usize,
+    userattributes: usize,
+    roleattributes: usize,
+    classes: usize,
+}
+
+// Counts the names of each sort in one walk, with counts that are 0 at first.
+fn tally(table: &[u8], counts: &mut [usize])
+    requires { ⌜ now counts ≡ replicate 8 0 ⌝ }
+    ensures { λ _. ⌜ Tallied (now (table .entry)) (now (counts .exit)) ⌝ }
+{
+    let end = names_end(table);
+    let mut at = FIRST_BODY;
+    loop {
+        let k = symbols::look(table, at, end);
+        match k {
+            Entry::Named {
+                sort,
+                number: _n,
+                past,
+            } => {
+                at = past;
+                if SORTS <= sort {
+                    continue;
+                }
+                counts[sort] += 1;
+            }
+            Entry::Done => return,
+            Entry::Broken => return,
+        }
+    }
+}
+
+// How many names of each sort that a question asks for there are.
+fn count_names(table: &[u8]) -> Counts
+    ensures { λ r. ⌜ r ≡ countsIn (now (table .entry)) ⌝ }
+{
+    let mut counts = [0usize; SORTS];
+    tally(table, &mut counts);
+    Counts {
+        users: counts[0],
+        roles: counts[1],
+        types: counts[2],
+        userattributes: counts[3],
+        roleattributes: counts[4],
+        classes: counts[CLASS],
+    }
+}
+
+// Whether a context's numbers are declared.
+fn declares_context(counts: Counts, asked: Context) -> bool
+    ensures { λ r. ⌜ r ≡ declaresContext counts (contextOf asked) ⌝ }
+{
+    if counts.users <= asked.user {
+        return false;
+    }
+    if counts.roles <= asked.role {
+        return false;
+    }
+    asked.kind < counts.types
+}
+
+// ---- valid context
+
+// No sound table has so many sets in a body; below it no place overflows.
+const TOO_MANY: usize = 65_536;
+
+// Whether the set of this number, among the sets of `width` bytes of a body, has a number.
+fn set_has(table: &[u8], body: u8, width: u16, set: usize, number: usize) -> bool
+    ensures { λ r. ⌜ r ≡ setHas (now (table .entry)) body width set number ⌝ }
+{
+    if TOO_MANY <= set {
+        return false;
+    }
+    let start = table_reader::body_start(table, body) as usize;
+    bitset::contains_at(table, start + width as usize * set, width as usize, number)
+}
+
+// Whether the role is among the user's, and the type among the role's.
+fn is_valid(table: &[u8], asked: Context) -> bool
+    ensures { λ r. ⌜ r ≡ isValidIn (now (table .entry)) (contextOf asked) ⌝ }
+{
+    if !set_has(
+        table,
+        USER_ROLES,
+        Role::SET_BYTES as u16,
+        asked.user,
+        asked.role,
+    ) {
+        return false;
+    }
+    set_has(
+        table,
+        ROLE_TYPES,
+        Type::SET_BYTES as u16,
+        asked.role,
+        asked.kind,
+    )
+}
+
+// **Valid context**: whether the role is among the user's, and the type, `kind`, among the role's. The table is one that `isSound` finds sound.
+pub fn valid_in_sound(table: &[u8], user: usize, role: usize, kind: usize) -> Validity
+    requires { ⌜ isSound (now table) ≡ true ⌝ }
+    ensures { λ r. ⌜ validityOf r ≡ validOn (now (table .entry)) (context user role kind) ⌝ }
+{
+    let asked = Context { user, role, kind };
+    let counts = count_names(table);
+    if !declares_context(counts, asked) {
+        return Validity::Refused { number: UNDECLARED };
+    }
+    if is_valid(table, asked) {
+        return Validity::Valid;
+    }
+    Validity::NotValid
+}
+
+// ---- new role
+
+// The bytes of a transition: a set of roles, a set of types from byte 16 on, a class in byte 80, a role in byte 81.
+const TRANSITION_BYTES: usize = 82;
+
+// Whether the transition at a place is for the role, the type and the class. The place is so low that none behind it overflows.
+fn matches_at(table: &[u8], at: usize, role: usize, kind: usize, class: usize) -> bool
+    requires { ⌜ at ≤ 1099511627776 ⌝ }
+    ensures { λ r. ⌜ r ≡ matches role kind class (transitionAt (drop at (now (table .entry)))) ⌝ }
+{
+    if !bitset::contains_at(table, at, Role::SET_BYTES, role) {
+        return false;
+    }
+    if !bitset::contains_at(table, at + Role::SET_BYTES, Type::SET_BYTES, kind) {
+        return false;
+    }
+    table_reader::byte_at(table, at + 80) as usize == class
+}
+
+// The new role of the first transition that matches; else the role given.
+fn first_transition(table: &[u8], role: usize, kind: usize, class: usize) -> usize
+    ensures { λ r. ⌜ r ≡ firstTransition role kind class (transitionsIn (now (table .entry))) ⌝ }
+{
+    let start = table_reader::body_start(table, TRANSITIONS) as usize;
+    let count = table_reader::body_length(table, TRANSITIONS) / TRANSITION_BYTES as u32;
+    let mut left = count;
+    while 0 < left {
+        let at = start + TRANSITION_BYTES * ((count - left) as usize);
+        if matches_at(table, at, role, kind, class) {
+            return table_reader::byte_at(table, at + 81) as usize;
+        }
+        left -= 1;
+    }
+    role
+}
+
+// **New role**: that of the first transition for the role, the type and the class, else the role given. It is a proposal; the change is still
+// asked.
+pub fn new_role_in_sound(table: &[u8], role: usize, kind: usize, class: usize) -> NewRole
+    requires { ⌜ isSound (now table) ≡ true ⌝ }
+    ensures { λ r. ⌜ newRoleOf r ≡ newRoleOn (now (table .entry)) role kind class ⌝ }
+{
+    let counts = count_names(table);
+    if counts.roles <= role {
+        return NewRole::Refused { number: UNDECLARED };
+    }
+    if counts.types <= kind {
+        return NewRole::Refused { number: UNDECLARED };
+    }
+    if counts.classes <= class {
+        return NewRole::Refused { number: UNDECLARED };
+    }
+    NewRole::Role {
+        number: first_transition(table, role, kind, class),
+    }
+}
+
+// ---- change: the numbers of a question
+
+// Where the name of a class stands.
+fn class_name(table: &[u8], class: usize) -> NamePlace
+    ensures { λ r. ⌜ replyOf r ≡ classIn (now (table .entry)) class ⌝ }
+{
+    symbols::name_of(table, FIRST_BODY, names_end(table), CLASS, class)
+}
+
+// Where the name of a permission stands, by its place in its class.
+fn permission_name(table: &[u8], class: usize, permission: usize) -> NamePlace
+    ensures { λ r. ⌜ replyOf r ≡ permissionIn (now (table .entry)) class permission ⌝ }
+{
+    if Class::MAX <= class {
+        return NamePlace::Nowhere;
+    }
+    if Permission::MAX <= permission {
+        return NamePlace::Nowhere;
+    }
+    let number = class * Permission::MAX + permission;
+    symbols::name_of(table, FIRST_BODY, names_end(table), PERMISSION, number)
+}
+
+// Whether a class has a permission.
+fn declares_permission(table: &[u8], class: usize, permission: usize) -> bool
+    ensures { λ r. ⌜ r ≡ isFoundName (permissionIn (now (table .entry)) class permission) ⌝ }
+{
+    let k = permission_name(table, class, permission);
+    match k {
+        NamePlace::At {
+            start: _s,
+            length: _n,
+        } => true,
+        NamePlace::Nowhere => false,
+    }
+}
+
+// Whether all numbers of a question are declared.
+fn declares_question(
+    table: &[u8],
+    counts: Counts,
+    source: Context,
+    target: Context,
+    class: usize,
+    permission: usize,
+) -> bool
+    ensures { λ r. ⌜ r ≡ declaresQuestion (now (table .entry)) counts (question source target class permission) ⌝ }
+{
+    if !declares_context(counts, source) {
+        return false;
+    }
+    if !declares_context(counts, target) {
+        return false;
+    }
+    if counts.classes <= class {
+        return false;
+    }
+    declares_permission(table, class, permission)
+}
+
+// ---- change: the role
+
+// The words of denial 3.
+const PROCESS: [u8; 7] = *b"process";
+
+const TRANSITION: [u8; 10] = *b"transition";
+
+const DYNTRANSITION: [u8; 13] = *b"dyntransition";
+
+// Whether a name is a word. Where a table ends within a part, the part is cut there, so that a longer part is compared too.
+fn is_word(table: &[u8], place: NamePlace, word: &[u8]) -> bool
+    ensures { λ r. ⌜ r ≡ bears (now (table .entry)) (replyOf place) (now (word .entry)) ⌝ }
+{
+    match place {
+        NamePlace::At { start, length } => {
+            if length < word.len() {
+                return false;
+            }
+            symbols::same(table, start, word, 0, length)
+        }
+        NamePlace::Nowhere => false,
+    }
+}
+
+// Whether a class is `process`.
+fn is_process(table: &[u8], class: usize) -> bool
+    ensures { λ r. ⌜ r ≡ bears (now (table .entry)) (classIn (now (table .entry)) class) process ⌝ }
+{
+    let word = PROCESS;
+    let place = class_name(table, class);
+    is_word(table, place, &word)
+}
+
+// Whether a permission is `transition` or `dyntransition`.
+fn is_transition(table: &[u8], class: usize, permission: usize) -> bool
+    ensures { λ r. ⌜ r ≡ bearsOne (now (table .entry)) (permissionIn (now (table .entry)) class permission) transitionWords ⌝ }
+{
+    let transition = TRANSITION;
+    let dyntransition = DYNTRANSITION;
+    let place = permission_name(table, class, permission);
+    if is_word(table, place, &transition) {
+        return true;
+    }
+    is_word(table, place, &dyntransition)
+}
+
+// Whether the class and the permission are those at which a change of role must be allowed.
+fn asks_role(table: &[u8], class: usize, permission: usize) -> bool
+    ensures { λ r. ⌜ r ≡ asksRoleIn (now (table .entry)) class permission ⌝ }
+{
+    if !is_process(table, class) {
+        return false;
+    }
+    is_transition(table, class, permission)
+}
+
+// Whether the role stays, or may become the other, or nothing asks for it. The names come last, since they are found by a walk.
+fn role_may(table: &[u8], source: usize, target: usize, class: usize, permission: usize) -> bool
+    ensures { λ r. ⌜ r ≡ roleMay (asksRoleIn (now (table .entry)) class permission) source target (setHas (now (table .entry)) 3 16 source target) ⌝ }
+{
+    if source == target {
+        return true;
+    }
+    if set_has(table, ROLE_ROLES, Role::SET_BYTES as u16, source, target) {
+        return true;
+    }
+    !asks_role(table, class, permission)
+}
+
+// ---- change: the constraints
+
+// A number of attributes. A sound table has no more than may be declared, so that it fits.
+fn few(attributes: usize) -> u16
+    ensures { λ r. ⌜ (attributes ≤ 64 → r ≡ attributes) ⌝ }
+{
+    if Attribute::MAX < attributes {
+        return 0;
+    }
+    attributes as u16
+}
+
+// What the constraints answer, where the table is sound. The sides are u1 u2 r1 r2 t1 t2.
+fn ask_constraints(
+    table: &[u8],
+    counts: Counts,
+    source: Context,
+    target: Context,
+    class: usize,
+    permission: usize,
+) -> Change
+    ensures { λ r. ⌜ ((s : Sound (now (table .entry))) → counts ≡ countsIn (now (table .entry))
+        → changeOf r ≡ firstFailing (entryNames class permission) (entryHolds (s .image) (contextOf source) (contextOf target)) 0 (s .image .constraints)) ⌝ }
+{
+    let sides = [
+        source.user,
+        target.user,
+        source.role,
+        target.role,
+        source.kind,
+        target.kind,
+    ];
+    let users = few(counts.userattributes);
+    let roles = few(counts.roleattributes);
+    let bodies = constraints::locate(table, users, roles);
+    constraints::first_failing(table, bodies, class, permission, &sides)
+}
+
+// **Change**: denials 1 to 3 in their order, then the constraints, with the number consulted.
+pub fn change_in_sound(
+    table: &[u8],
+    source: Context,
+    target: Context,
+    class: usize,
+    permission: usize,
+) -> Change
+    requires { ⌜ isSound (now table) ≡ true ⌝ }
+    ensures { λ r. ⌜ changeOf r ≡ changeOn (now (table .entry)) (question source target class permission) ⌝ }
+{
+    let counts = count_names(table);
+    if !declares_question(table, counts, source, target, class, permission) {
+        return Change::Refused { number: UNDECLARED };
+    }
+    if !is_valid(table, source) {
+        return Change::Denied { number: 1 };
+    }
+    if !is_valid(table, target) {
+        return Change::Denied { number: 2 };
+    }
+    if !role_may(table, source.role, target.role, class, permission) {
+        return Change::Denied { number: 3 };
+    }
+    ask_constraints(table, counts, source, target, class, permission)
+}

@@ -1,0 +1,189 @@
+-- Entries written at the end of the symbols, one after the other. Assumes nothing.
+use mathlib.Core.Path.{_≡_, refl, sym, ap, ap₂, subst, _∙_}
+use mathlib.Core.List.{List, [], _∷_, _++_, append-nil, append-assoc}
+use Prim.Native.Nat.{ℕ, suc, _+_, _-_, _<_, _≤_}
+use native.Mathlib.Nat.{add-zero, add-suc, suc-add}
+use native.Mathlib.Omega.{arith}
+use lib.ListN.{length, set, length-append}
+use lib.Seq.{sets}
+use Rattle.bitset.specs.Parts.{part, put}
+use Rattle.bitset.specs.Relations.{joined}
+use Rattle.bitset.proofs.PartLaws.{length-part, put-none}
+use Rattle.policy.specs.Basics.{Name, each}
+use Rattle.policy.specs.Accepted.{All}
+use Rattle.policy.specs.Encode.{NameEntry, nameEntry, entryBytes, permissionEntries}
+use Rattle.policy.proofs.Lists.{each-append, joined-append, all-right}
+use Rattle.symbols.specs.Append.{Appended}
+use Rattle.symbols.proofs.AppendLaws.{put-sets, length-put}
+use Rattle.symbols.proofs.Appending.{entry-length}
+use Rattle.symbols.proofs.Declaring.{permission-more}
+use Rattle.declarations.specs.Entering.{Entered, Fitting, Enters, EntersRow}
+use Rattle.declarations.specs.declared.Added.{Added}
+
+-- the bytes of entries
+abbrev bytesOf : List NameEntry → List ℕ
+bytesOf es = joined (each entryBytes es)
+
+pub bytes-append : (es fs : List NameEntry) → joined (each entryBytes (es ++ fs)) ≡ joined (each entryBytes es) ++ joined (each entryBytes fs)
+bytes-append es fs = ap joined (each-append entryBytes es fs) ∙ joined-append (each entryBytes es) (each entryBytes fs)
+
+bytes-one : (e : NameEntry) → bytesOf (e ∷ []) ≡ entryBytes e
+unfolding each joined
+bytes-one e = append-nil (entryBytes e)
+
+long-one : (e : NameEntry) → length (bytesOf (e ∷ [])) ≡ 4 + length (e .name)
+long-one e = ap length (bytes-one e) ∙ entry-length e
+
+-- what is put behind what was put is put with it
+sets-append : (l : List ℕ) (i : ℕ) (vs ws : List ℕ) → sets (sets l i vs) (i + length vs) ws ≡ sets l i (vs ++ ws)
+sets-append l i [] ws = rw add-zero
+sets-append l i (a ∷ vs) ws = rw (add-suc i (length vs), ← suc-add i (length vs)) (sets-append (set l i a) (suc i) vs ws)
+
+put-put : (t : List ℕ) (o : ℕ) (us vs : List ℕ) → o + length us + length vs ≤ length t → put (put t o us) (o + length us) vs ≡ put t o (us ++ vs)
+put-put t o us vs h =
+    let first : put t o us ≡ sets t o us = sym (put-sets t o us (omega arith)) in
+    let long : length (put t o us) ≡ length t = length-put t o us (omega arith) in
+    let all = length-append us vs in
+    sym (put-sets (put t o us) (o + length us) vs (omega arith))
+    ∙ ap (λ (l : List ℕ). sets l (o + length us) vs) first
+    ∙ sets-append t o us vs ∙ put-sets t o (us ++ vs) (omega arith)
+
+-- ---- some entries
+
+pub entered-long : {a b : List ℕ} {end past : ℕ} {es : List NameEntry} → Entered a b end es past → length b ≡ length a
+entered-long {a} {b} {end} {past} {es} h =
+    ap length (h .written) ∙ length-put a end (bytesOf es) (omega (arith, h .moved, h .fits))
+
+pub entered-then : {a b c : List ℕ} {end past next : ℕ} {es fs : List NameEntry} → Entered a b end es past → Entered b c past fs next → Entered a c end (es ++ fs) next
+entered-then {a} {b} {c} {end} {past} {next} {es} {fs} h g =
+    let long = entered-long h in
+    let all : length (bytesOf (es ++ fs)) ≡ length (bytesOf es) + length (bytesOf fs) = ap length (bytes-append es fs) ∙ length-append (bytesOf es) (bytesOf fs) in
+    record {
+      written =
+          g .written ∙ ap₂ (λ (t : List ℕ) (o : ℕ). put t o (bytesOf fs)) (h .written) (h .moved)
+          ∙ put-put a end (bytesOf es) (bytesOf fs) (omega (arith, h .moved, g .moved, g .fits, long))
+          ∙ ap (put a end) (sym (bytes-append es fs));
+      moved = omega (arith, h .moved, g .moved, all);
+      fits = omega (arith, g .fits, long);
+    }
+
+pub entered-none : (a : List ℕ) (end : ℕ) → end ≤ length a → Entered a a end [] end
+unfolding each joined
+entered-none a end h = record { written = sym (put-none a end); moved = omega arith; fits = h }
+
+-- ---- one entry: the answers of `add`
+
+module _ (t x : List ℕ) (end s n from len : ℕ) (present : from + len ≤ length x) where
+  abbrev one : List NameEntry
+  one = nameEntry s n (part x from len) ∷ []
+
+  long : length (bytesOf one) ≡ 4 + len
+  long = long-one (nameEntry s n (part x from len)) ∙ ap (λ (k : ℕ). 4 + k) (length-part x from len present)
+
+  pub too-long : 64 < len → Enters t t end one Added.NoRoom
+  too-long h = record { is = λ f. omega (arith, f .short .0, length-part x from len present) }
+
+  pub past-end : length t < end → Enters t t end one Added.NoRoom
+  past-end h = record { is = λ f. omega (arith, f .room) }
+
+  pub no-room : end ≤ length t → length t - end < 4 + len → Enters t t end one Added.NoRoom
+  no-room g h = record { is = λ f. omega (arith, f .room, long) }
+
+  pub appended : (u : List ℕ) (r : ℕ) → Appended t u end (nameEntry s n (part x from len)) r → Enters t u end one (Added.Past r)
+  appended u r a =
+      let e = bytes-one (nameEntry s n (part x from len)) in
+      record {
+        is = record {
+          written = a .written ∙ ap (put t end) (sym e);
+          moved = a .past ∙ ap (λ (l : List ℕ). end + length l) (sym e);
+          fits = a .inside;
+        };
+      }
+
+-- what a caller of `add` knows of the answer k
+pub enters-told : {a b : List ℕ} {end : ℕ} {es : List NameEntry} {r k : Added} → Enters a b end es r → r ≡ k → Enters a b end es k
+enters-told {a} {b} {end} {es} h e = subst (Enters a b end es) e h
+
+-- ---- the permissions of a class
+
+permission-append : (n : ℕ) (ps qs : List Name) → permissionEntries n (ps ++ qs) ≡ permissionEntries n ps ++ permissionEntries (n + length ps) qs
+unfolding permissionEntries
+permission-append n [] qs = ap (λ (k : ℕ). permissionEntries k qs) (sym (add-zero n))
+permission-append n (p ∷ ps) qs =
+    ap (λ (r : List NameEntry). nameEntry 7 n p ∷ r)
+    (permission-append (n + 1) ps qs ∙ ap (λ (k : ℕ). permissionEntries (n + 1) ps ++ permissionEntries k qs) (omega arith))
+
+-- the first of the names ws are written; the others are left
+pub record SoFar (before now : List ℕ) (end first : ℕ) (ws left : List Name) (past place : ℕ) : Type 0 where
+  pub done : List Name
+  pub whole : ws ≡ done ++ left
+  pub many : length done ≡ place
+  pub few : place ≤ 32
+  pub entered : Entered before now end (permissionEntries first done) past
+
+pub so-far-none : (a : List ℕ) (end first : ℕ) (ws : List Name) → end ≤ length a → SoFar a a end first ws ws end 0
+unfolding permissionEntries
+so-far-none a end first ws h = record { done = []; whole = refl; many = refl; few = omega arith; entered = entered-none a end h }
+
+module _ {a b : List ℕ} {end first : ℕ} {ws left : List Name} {past place : ℕ} (h : SoFar a b end first ws left past place) where
+  pub so-far-long : length b ≡ length a
+  so-far-long = entered-long (h .entered)
+
+  -- none is left
+  pub all-written : left ≡ [] → EntersRow a b end first ws (Added.Past past)
+  all-written e =
+      let all : ws ≡ h .done = h .whole ∙ ap (λ (l : List Name). h .done ++ l) e ∙ append-nil (h .done) in
+      record {
+        is = (
+          subst (λ (l : List Name). Entered a b end (permissionEntries first l) past) (sym all) (h .entered),
+          (let n : length ws ≡ length (h .done) = ap length all in omega (arith, h .many, h .few)),
+        );
+      }
+
+  module _ (w : Name) (rest : List Name) (next : left ≡ w ∷ rest) where
+    split : ws ≡ h .done ++ (w ∷ rest)
+    split = h .whole ∙ ap (λ (l : List Name). h .done ++ l) next
+
+    -- "permissions 32 per class"
+    pub too-many : (c : List ℕ) → 32 ≤ place → EntersRow a c end first ws Added.NoRoom
+    too-many c l = record {
+      is = λ f k.
+          let n : length ws ≡ length (h .done) + suc (length rest) = ap length split ∙ length-append (h .done) (w ∷ rest) in
+          omega (arith, h .many);
+    }
+
+    -- the entries of all of them: those that are written, the next one, and the others
+    parted : permissionEntries first ws ≡ permissionEntries first (h .done) ++ ((nameEntry 7 (first + place) w ∷ []) ++ permissionEntries (first + place + 1) rest)
+    unfolding permissionEntries
+    parted = ap (permissionEntries first) split ∙ permission-append first (h .done) (w ∷ rest) ∙ rw (h .many)
+
+    next-fits : Fitting a end (permissionEntries first ws) → Fitting b past (nameEntry 7 (first + place) w ∷ [])
+    next-fits f =
+        let one = nameEntry 7 (first + place) w ∷ [] in
+        let others = permissionEntries (first + place + 1) rest in
+        let n : length (bytesOf (permissionEntries first ws)) ≡ length (bytesOf (permissionEntries first (h .done))) + (length (bytesOf one) + length (bytesOf others)) =
+        ap (λ (es : List NameEntry). length (bytesOf es)) parted ∙ ap length (bytes-append (permissionEntries first (h .done)) (one ++ others))
+        ∙ length-append (bytesOf (permissionEntries first (h .done))) (bytesOf (one ++ others))
+        ∙ ap (λ (k : ℕ). length (bytesOf (permissionEntries first (h .done))) + k) (ap length (bytes-append one others) ∙ length-append (bytesOf one) (bytesOf others)) in
+        let each = all-right (λ (e : NameEntry). length (e .name) ≤ 64) (permissionEntries first (h .done)) (one ++ others)
+        (subst (All (λ (e : NameEntry). length (e .name) ≤ 64)) parted (f .short)) in
+        record {
+          room = omega (arith, f .room, n, h .entered .moved, so-far-long);
+          short = (each .0, tt);
+        }
+
+    pub next-no-room : (c : List ℕ) → Enters b c past (nameEntry 7 (first + place) w ∷ []) Added.NoRoom → EntersRow a c end first ws Added.NoRoom
+    next-no-room c g = record { is = λ f k. g .is (next-fits f) }
+
+    pub next-written : (c : List ℕ) (q : ℕ) → place < 32 → Enters b c past (nameEntry 7 (first + place) w ∷ []) (Added.Past q)
+        → SoFar a c end first ws rest q (place + 1)
+    next-written c q l g = record {
+      done = h .done ++ (w ∷ []);
+      whole = split ∙ sym (append-assoc (h .done) (w ∷ []) rest);
+      many = length-append (h .done) (w ∷ []) ∙ omega (arith, h .many);
+      few = omega arith;
+      entered =
+          subst (λ (es : List NameEntry). Entered a c end es q)
+          (sym (permission-more first (h .done) w ∙ ap (λ (k : ℕ). permissionEntries first (h .done) ++ (nameEntry 7 (first + k) w ∷ [])) (h .many)))
+          (entered-then (h .entered) (g .is));
+    }

@@ -1,0 +1,180 @@
+-- What the form of a declaration says of its row: the names that are declared are its words, and they are good. Assumes nothing.
+use mathlib.Core.Path.{_≡_, refl, sym, ap, ap₂, subst, _∙_}
+use mathlib.Core.Bool.{true, not, _&&_}
+use mathlib.Core.List.{List, [], _∷_}
+use mathlib.Core.Option.{Option, none, some, Option·none-ne-some, Option·some-injective}
+use Prim.Native.Nat.{ℕ, _+_}
+use native.Mathlib.Omega.{arith}
+use Rattle.bitset.specs.Parts as parts
+use Rattle.lexer.specs.Class.{isName}
+use Rattle.lexer.specs.Forms.{Forms, closed, ended, word, part, framesAt, namesGood}
+use Rattle.policy.specs.Basics.{Name, every, _>>=_, ofOne}
+use Rattle.policy.specs.Words.{isReserved, asName, declareK, classK}
+use Rattle.policy.specs.Statements.{Sort, Declaration, plain, class, declare, Written}
+use Rattle.policy.specs.Grammar.{namesIn, oneOrMore, formed}
+use Rattle.policy.specs.Sound.{isGood, someGood, goodNames}
+use Rattle.policy.proofs.Lists.{both-true, true-both}
+use Rattle.table_laws.proofs.ListLaws.{bound-then, given-some, more-some}
+use Rattle.declarations.specs.WordRows.{wordsIn, WordHere, WordIs, Inside}
+use Rattle.declarations.specs.declared.NextWord.{NextWord}
+use Rattle.declarations.proofs.Rows.{words-here}
+
+-- ---- rows of names
+
+names-words : (f : Forms) (ps : List Name) → namesIn f ≡ some ps → wordsIn f ≡ ps
+unfolding namesIn wordsIn
+names-words closed ps h = Option·some-injective [] ps h
+names-words ended ps h = absurd (Option·none-ne-some ps h)
+names-words (part p i r) ps h = absurd (Option·none-ne-some ps h)
+names-words (word at w r) ps h =
+    let m = more-some (asName w) (namesIn r) ps h in
+    ap₂ (λ (x : Name) (xs : List Name). x ∷ xs) (given-some (not (isReserved w)) w (m .0) (m .2) .1) (names-words r (m .1) (m .3)) ∙ sym (m .4)
+
+name-good : (w v : Name) → isName w ≡ true → asName w ≡ some v → isGood v ≡ true
+name-good w v h e =
+    let g = given-some (not (isReserved w)) w v e in
+    subst (λ (x : Name). isGood x ≡ true) (g .1) (true-both (isName w) (not (isReserved w)) h (g .0))
+
+names-good : (f : Forms) (ps : List Name) → namesGood f ≡ true → namesIn f ≡ some ps → every isGood ps ≡ true
+unfolding namesIn namesGood every
+names-good closed ps g h = subst (λ (qs : List Name). every isGood qs ≡ true) (Option·some-injective [] ps h) refl
+names-good ended ps g h = absurd (Option·none-ne-some ps h)
+names-good (part p i r) ps g h = absurd (Option·none-ne-some ps h)
+names-good (word at w r) ps g h =
+    let m = more-some (asName w) (namesIn r) ps h in
+    let b = both-true (isName w) (namesGood r) g in
+    subst (λ (qs : List Name). every isGood qs ≡ true) (sym (m .4))
+    (true-both (isGood (m .0)) (every isGood (m .1)) (name-good w (m .0) (b .0) (m .2)) (names-good r (m .1) (b .1) (m .3)))
+
+first-of : (x y : Name) (xs ys : List Name) → x ∷ xs ≡ y ∷ ys → x ≡ y
+first-of x y xs ys h = cc
+
+declared-same : (a b : Declaration) → _≡_ {A = Written} (declare a) (declare b) → a ≡ b
+declared-same a b h = cc
+
+-- ---- `(user U)` and the like
+
+record PlainRow (s : Sort) (f : Forms) (d : Declaration) : Type 0 where
+  pub name : Name
+  pub row : namesIn f ≡ some (name ∷ [])
+  pub is : d ≡ plain s name
+
+plain-row : (s : Sort) (f : Forms) (d : Declaration) → formed (declareK s) f ≡ some (declare d) → PlainRow s f d
+plain-row s f d h = by (namesIn f) refl h
+  where
+    by : (o : Option (List Name)) → namesIn f ≡ o → _≡_ {A = Option Written} (o >>= ofOne (λ w. declare (plain s w))) (some (declare d)) → PlainRow s f d
+    by none e q = absurd (Option·none-ne-some (declare d) q)
+    by (some []) e q = absurd (Option·none-ne-some (declare d) q)
+    by (some (w ∷ [])) e q =
+        record { name = w; row = e; is = sym (declared-same (plain s w) d (Option·some-injective (declare (plain s w)) (declare d) q)) }
+    by (some (w ∷ v ∷ ws)) e q = absurd (Option·none-ne-some (declare d) q)
+
+pub plain-has-word : {t : List ℕ} {at : ℕ} (s : Sort) (d : Declaration) → WordIs t at NextWord.Missing → formed (declareK s) (framesAt t at .here) ≡ some (declare d) → ⊥
+plain-has-word {t} {at} s d h f =
+    let p = plain-row s (framesAt t at .here) d f in
+    no-first (p .name) (sym (h .is) ∙ names-words (framesAt t at .here) (p .name ∷ []) (p .row))
+  where
+    no-first : (w : Name) → [] ≡ w ∷ [] → ⊥
+    no-first w e = let z : _≡_ {A = ℕ} 0 1 = cc in omega arith
+
+pub plain-here : {t : List ℕ} {at start len : ℕ} → WordHere t at start len → (s : Sort) (d : Declaration) → namesGood (framesAt t at .here) ≡ true
+    → formed (declareK s) (framesAt t at .here) ≡ some (declare d) → (d ≡ plain s (parts.part t start len)) × (isGood (parts.part t start len) ≡ true)
+unfolding every
+plain-here {t} {at} {start} {len} h s d g f =
+    let p = plain-row s (framesAt t at .here) d f in
+    let same : p .name ≡ parts.part t start len =
+    first-of (p .name) (parts.part t start len) [] (wordsIn (framesAt t (start + len) .here))
+    (sym (names-words (framesAt t at .here) (p .name ∷ []) (p .row)) ∙ words-here h) in
+    let good = both-true (isGood (p .name)) true (names-good (framesAt t at .here) (p .name ∷ []) g (p .row)) in
+    (p .is ∙ ap (plain s) same, subst (λ (w : Name). isGood w ≡ true) same (good .0))
+
+-- ---- `(class C (P ...))`
+
+record ClassRow (f : Forms) (d : Declaration) : Type 0 where
+  pub place : ℕ
+  pub name : Name
+  pub opening : ℕ
+  pub row : Forms
+  pub form : f ≡ word place name (part opening row closed)
+  pub perms : List Name
+  pub names : namesIn row ≡ some perms
+  pub is : d ≡ class name perms
+  pub good : namesGood f ≡ true → goodNames (class name perms) ≡ true
+
+one-or-more : (ps qs : List Name) → oneOrMore ps ≡ some qs → (ps ≡ qs) × (every isGood ps ≡ true → someGood ps ≡ true)
+one-or-more [] qs h = absurd (Option·none-ne-some qs h)
+one-or-more (p ∷ ps) qs h = (Option·some-injective (p ∷ ps) qs h, λ g. g)
+
+class-row : (f : Forms) (d : Declaration) → formed classK f ≡ some (declare d) → ClassRow f d
+unfolding namesGood
+class-row closed d h = absurd (Option·none-ne-some (declare d) h)
+class-row ended d h = absurd (Option·none-ne-some (declare d) h)
+class-row (part p i r) d h = absurd (Option·none-ne-some (declare d) h)
+class-row (word at w closed) d h = absurd (Option·none-ne-some (declare d) h)
+class-row (word at w ended) d h = absurd (Option·none-ne-some (declare d) h)
+class-row (word at w (word p v r)) d h = absurd (Option·none-ne-some (declare d) h)
+class-row (word at w (part p i ended)) d h = absurd (Option·none-ne-some (declare d) h)
+class-row (word at w (part p i (word q v r))) d h = absurd (Option·none-ne-some (declare d) h)
+class-row (word at w (part p i (part q j r))) d h = absurd (Option·none-ne-some (declare d) h)
+class-row (word at w (part p i closed)) d h =
+    bound-then (asName w) _ (declare d) h λ c named h.
+    bound-then (namesIn i) _ (declare d) h λ ps names h.
+    bound-then (oneOrMore ps) _ (declare d) h λ qs more h.
+    let free = given-some (not (isReserved w)) w c named in
+    let many = one-or-more ps qs more in
+    record {
+      place = at;
+      name = w;
+      opening = p;
+      row = i;
+      form = refl;
+      perms = ps;
+      names = names;
+      is = sym (declared-same (class c qs) d (Option·some-injective (declare (class c qs)) (declare d) h)) ∙ sym (ap₂ class (free .1) (many .0));
+      good = λ g.
+          let b = both-true (isName w) (namesGood i && true) g in
+          true-both (isGood w) (someGood ps) (true-both (isName w) (not (isReserved w)) (b .0) (free .0))
+          (many .1 (names-good i ps (both-true (namesGood i) true (b .1) .0) names));
+    }
+
+pub class-has-word : {t : List ℕ} {at : ℕ} (d : Declaration) → WordIs t at NextWord.Missing → formed classK (framesAt t at .here) ≡ some (declare d) → ⊥
+unfolding wordsIn
+class-has-word {t} {at} d h f =
+    let c = class-row (framesAt t at .here) d f in
+    no-first (c .name) (wordsIn (part (c .opening) (c .row) closed)) (sym (h .is) ∙ ap wordsIn (c .form))
+  where
+    no-first : (w : Name) (ws : List Name) → [] ≡ w ∷ ws → ⊥
+    no-first w ws e = let z : _≡_ {A = ℕ} 0 1 = cc in omega arith
+
+word-parts : (p q : ℕ) (v w : Name) (f g : Forms) → word p v f ≡ word q w g → (v ≡ w) × (f ≡ g)
+word-parts p q v w f g h = (cc, cc)
+
+pub class-here : {t : List ℕ} {at start len row : ℕ} → WordHere t at start len → Inside t (start + len) row → (d : Declaration) → namesGood (framesAt t at .here) ≡ true
+    → formed classK (framesAt t at .here) ≡ some (declare d)
+    → (d ≡ class (parts.part t start len) (wordsIn (framesAt t row .here))) × (goodNames (class (parts.part t start len) (wordsIn (framesAt t row .here))) ≡ true)
+class-here {t} {at} {start} {len} {row} h i d g f =
+    let c = class-row (framesAt t at .here) d f in
+    let same = word-parts (c .place) start (c .name) (parts.part t start len) (part (c .opening) (c .row) closed) (framesAt t (start + len) .here) (sym (c .form) ∙ h .here) in
+    let inner : framesAt t row .here ≡ c .row = i .row (c .opening) (c .row) closed (sym (same .1)) in
+    let perms : c .perms ≡ wordsIn (framesAt t row .here) = sym (ap wordsIn inner ∙ names-words (c .row) (c .perms) (c .names)) in
+    let is : class (c .name) (c .perms) ≡ class (parts.part t start len) (wordsIn (framesAt t row .here)) = ap₂ class (same .0) perms in
+    (c .is ∙ is, subst (λ (x : Declaration). goodNames x ≡ true) is (c .good g))
+
+-- ---- what is declared has good names
+
+pub plain-good : (s : Sort) (f : Forms) (d : Declaration) → namesGood f ≡ true → formed (declareK s) f ≡ some (declare d) → goodNames d ≡ true
+unfolding every
+plain-good s f d g h =
+    let p = plain-row s f d h in
+    subst (λ (x : Declaration). goodNames x ≡ true) (sym (p .is)) (both-true (isGood (p .name)) true (names-good f (p .name ∷ []) g (p .row)) .0)
+
+pub class-good : (f : Forms) (d : Declaration) → namesGood f ≡ true → formed classK f ≡ some (declare d) → goodNames d ≡ true
+class-good f d g h = let c = class-row f d h in subst (λ (x : Declaration). goodNames x ≡ true) (sym (c .is)) (c .good g)
+
+-- the name of a class alone, before its permissions are looked at
+pub class-named : {t : List ℕ} {at start len : ℕ} → WordHere t at start len → (d : Declaration) → formed classK (framesAt t at .here) ≡ some (declare d)
+    → (ps : List Name) × (d ≡ class (parts.part t start len) ps)
+class-named {t} {at} {start} {len} h d f =
+    let c = class-row (framesAt t at .here) d f in
+    let same = word-parts (c .place) start (c .name) (parts.part t start len) (part (c .opening) (c .row) closed) (framesAt t (start + len) .here) (sym (c .form) ∙ h .here) in
+    (c .perms, c .is ∙ ap (λ (w : Name). class w (c .perms)) (same .0))

@@ -1,0 +1,98 @@
+-- The memory holds the symbols of declarations: they are the symbol table, one more declaration's entries behind them are the symbols with it, and
+-- for a declaration that the maxima allow there is room. Assumes nothing.
+use mathlib.Core.Path.{_≡_, refl, sym, ap, subst, _∙_}
+use mathlib.Core.Bool.{true}
+use mathlib.Core.List.{List, [], _∷_, _++_, append-assoc, append-nil}
+use Prim.Native.Nat.{ℕ, _+_, _-_, _<_, _≤_}
+use native.Mathlib.Nat.{sub-zero}
+use native.Mathlib.Omega.{arith}
+use lib.ListN.{length, take, drop, length-append}
+use lib.Seq.{length-take-le, take-at}
+use Rattle.bitset.specs.Parts.{part, put}
+use Rattle.bitset.specs.Relations.{joined}
+use Rattle.policy.specs.Basics.{each}
+use Rattle.policy.specs.Statements.{Declaration}
+use Rattle.policy.specs.Reading.{isNew, hasRoom}
+use Rattle.policy.specs.Encode.{NameEntry, entryBytes, entriesOf, entriesFrom, entries}
+use Rattle.policy.specs.Sound.{goodNames, goodFrom}
+use Rattle.policy.proofs.Gathered.{all-map}
+use Rattle.policy.proofs.Good.{GoodFirst, good-first, good-rest}
+use Rattle.symbols.specs.Symbols.{Symbols}
+use Rattle.symbols.proofs.AppendLaws.{length-put}
+use Rattle.symbols.proofs.Declaring.{entries-more}
+use Rattle.symbols.proofs.ReadBack.{Small}
+use Rattle.symbols.proofs.Written.{entries-written}
+use Rattle.table_laws.proofs.NamesFit.{GoodEntry, entries-fit}
+use Rattle.table_laws.proofs.NamesRoom.{names-length, names-room}
+use Rattle.declarations.specs.Declaring.{sectionOf, Holds, Adds}
+use Rattle.declarations.proofs.EnteringLaws.{bytes-append}
+
+small : (ds : List Declaration) → goodFrom [] ds ≡ true → Small (entries ds)
+unfolding entries
+small ds h = all-map GoodEntry (λ (e : NameEntry). e .number < 65536) (λ e g. g .number) (entriesFrom [] ds) (entries-fit [] ds h)
+
+pub holds-symbols : {table : List ℕ} {end : ℕ} {ds : List Declaration} → Holds table end ds → Symbols table end ds
+unfolding sectionOf part
+holds-symbols {table} {end} {ds} h = record {
+  inside = h .inside;
+  holds = entries-written table 0 end (entries ds) (small ds (h .good)) (ap (λ (n : ℕ). take n table) (sub-zero end) ∙ h .front);
+  good = h .good;
+}
+
+-- no declaration has no symbols
+pub holds-none : (table : List ℕ) → Holds table 0 []
+unfolding sectionOf entries entriesFrom each joined goodFrom
+holds-none table = record { front = refl; inside = omega arith; good = refl }
+
+-- ---- one more declaration
+
+good-from-more : (e ds : List Declaration) (d : Declaration) → goodFrom e ds ≡ true → GoodFirst (e ++ ds) d → goodFrom e (ds ++ (d ∷ [])) ≡ true
+unfolding goodFrom
+good-from-more e [] d h g =
+    let f : GoodFirst e d = subst (λ (x : List Declaration). GoodFirst x d) (append-nil e) g in
+    rw (f .names, f .new, f .room)
+good-from-more e (x ∷ ds) d h g =
+    let f = good-first e x ds h in
+    rw (f .names, f .new, f .room)
+    (good-from-more (e ++ (x ∷ [])) ds d (good-rest e x ds h) (subst (λ (y : List Declaration). GoodFirst y d) (sym (append-assoc e (x ∷ []) ds)) g))
+
+good-more : (ds : List Declaration) (d : Declaration) → goodFrom [] ds ≡ true → GoodFirst ds d → goodFrom [] (ds ++ (d ∷ [])) ≡ true
+good-more ds d h g = good-from-more [] ds d h g
+
+section-more : (ds : List Declaration) (d : Declaration) → sectionOf (ds ++ (d ∷ [])) ≡ sectionOf ds ++ joined (each entryBytes (entriesOf ds d))
+unfolding sectionOf
+section-more ds d = ap (λ (es : List NameEntry). joined (each entryBytes es)) (entries-more ds d) ∙ bytes-append (entries ds) (entriesOf ds d)
+
+-- "2,016 entries of at most 68 bytes"
+section-short : (ds : List Declaration) → goodFrom [] ds ≡ true → length (sectionOf ds) ≤ 137088
+unfolding sectionOf
+section-short ds h = omega (arith, names-length (entries ds), names-room ds h)
+
+module _ {table : List ℕ} {end : ℕ} {ds : List Declaration} (h : Holds table end ds) where
+  section-long : length (sectionOf ds) ≡ end
+  section-long = ap length (sym (h .front)) ∙ length-take-le end table (h .inside)
+
+  -- there is room for a declaration that is new and passes no maximum
+  pub room-for : (d : Declaration) → length table ≡ 137088 → goodNames d ≡ true → isNew ds d ≡ true → hasRoom ds d ≡ true
+      → end + length (joined (each entryBytes (entriesOf ds d))) ≤ length table
+  room-for d l g n r =
+      let more = length-append (sectionOf ds) (joined (each entryBytes (entriesOf ds d))) in
+      let whole : length (sectionOf (ds ++ (d ∷ []))) ≡ length (sectionOf ds ++ joined (each entryBytes (entriesOf ds d))) = ap length (section-more ds d) in
+      omega (arith, section-short (ds ++ (d ∷ [])) (good-more ds d (h .good) (record { names = g; new = n; room = r })), section-long)
+
+pub adds-holds : {before after : List ℕ} {end past : ℕ} {ds : List Declaration} {d : Declaration}
+    → Holds before end ds → goodNames d ≡ true → Adds before after end past ds d → Holds after past (ds ++ (d ∷ []))
+unfolding put
+adds-holds {before} {after} {end} {past} {ds} {d} h g a =
+    let new = joined (each entryBytes (entriesOf ds d)) in
+    let fits : end + length new ≤ length before = omega (arith, a .moved, a .fits) in
+    let front : length (take end before ++ new) ≡ past =
+    length-append (take end before) new ∙ omega (arith, length-take-le end before (h .inside), a .moved) in
+    let is : after ≡ (take end before ++ new) ++ drop (end + length new) before = a .written ∙ sym (append-assoc (take end before) new (drop (end + length new) before)) in
+    record {
+      front =
+          ap (take past) is ∙ take-at (take end before ++ new) (drop (end + length new) before) past front
+          ∙ ap (λ (l : List ℕ). l ++ new) (h .front) ∙ sym (section-more ds d);
+      inside = omega (arith, a .fits, ap length (a .written), length-put before end new fits);
+      good = good-more ds d (h .good) (record { names = g; new = a .new; room = a .room });
+    }

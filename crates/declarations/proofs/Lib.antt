@@ -1,0 +1,9 @@
+pub mod SortCounts
+pub mod Walks
+pub mod Rows
+pub mod EnteringLaws
+pub mod Holding
+pub mod Maxima
+pub mod Formed
+pub mod NameAnswers
+pub mod ClassAnswers

@@ -1,0 +1,155 @@
+-- What declaring a name comes to: what the walk over the symbols said of it decides fault 4, the count of its sort fault 6, and otherwise its entry
+-- has room and is written. Assumes nothing.
+use mathlib.Core.Path.{_≡_, refl, sym, ap, ap₂, subst, _∙_}
+use mathlib.Core.Bool.{Bool, true, false, not}
+use mathlib.Core.List.{List, [], _∷_}
+use Prim.Native.Nat.{ℕ, _≤_, _<_}
+use native.Mathlib.Omega.{arith}
+use borrow.Author.Tests.{lt-ltb, le-ltb}
+use lib.ListN.{length}
+use Rattle.bitset.specs.Parts.{part}
+use Rattle.lexer.specs.Class.{isName}
+use Rattle.policy.specs.Basics.{Name, isIn}
+use Rattle.policy.specs.Statements.{users, roles, types, Sort, thingOf, attributeOf, Declaration, plain, familyOf, familyNames, count}
+use Rattle.policy.specs.Maxima.{maxOf}
+use Rattle.policy.specs.Words.{isReserved}
+use Rattle.policy.specs.Reading.{isNew, hasRoom}
+use Rattle.policy.specs.Encode.{NameEntry, nameEntry, sortCode, entriesOf}
+use Rattle.policy.specs.Sound.{isGood}
+use Rattle.policy.proofs.Lists.{both-true}
+use Rattle.symbols.specs.Section.{entriesAt}
+use Rattle.symbols.specs.Lookup.{familyNumber, firstNamed}
+use Rattle.symbols.specs.Resolving.{familyCode, isFound}
+use Rattle.symbols.specs.Symbols.{Symbols}
+use Rattle.symbols.specs.declared.Found.{Found}
+use Rattle.symbols.proofs.ReferencesFound.{reference-found}
+use Rattle.table_laws.proofs.NamesFit.{code-below}
+use Rattle.table_laws.proofs.NamesRoom.{name-short}
+use Rattle.declarations.specs.Counting.{countSort, standing, MostIs}
+use Rattle.declarations.specs.WordRows.{WordHere, WordIs}
+use Rattle.declarations.specs.Entering.{Entered, Enters, answerOf}
+use Rattle.declarations.specs.Declaring.{Holds, Declares, DeclaresName}
+use Rattle.declarations.specs.declared.Declared.{Declared}
+use Rattle.declarations.specs.declared.Added.{Added}
+use Rattle.declarations.specs.declared.Standing.{Standing}
+use Rattle.declarations.specs.declared.NextWord.{NextWord}
+use Rattle.declarations.proofs.SortCounts.{things-counted}
+use Rattle.declarations.proofs.Holding.{holds-symbols, room-for}
+use Rattle.declarations.proofs.Formed.{plain-has-word, plain-here}
+
+-- ---- what the walk said
+
+pub taken-found : (f : Found) (c : ℕ) → Standing.Taken ≡ standing f c → isFound f ≡ true
+taken-found (Found.At s n) c h = refl
+taken-found Found.Missing c h = absurd (let z : _≡_ {A = ℕ} 0 1 = cc in omega arith)
+
+pub free-missing : (f : Found) (c n : ℕ) → Standing.Free n ≡ standing f c → (isFound f ≡ false) × (c ≡ n)
+free-missing (Found.At s k) c n h = absurd (let z : _≡_ {A = ℕ} 0 1 = cc in omega arith)
+free-missing Found.Missing c n h = (refl, let z : c ≡ n = cc in z)
+
+-- fault 6, where a declaration is new and not allowed
+pub full : (ds : List Declaration) (d : Declaration) → isNew ds d ≡ true → (hasRoom ds d ≡ true → ⊥) → (isNew ds d ≡ true) × (hasRoom ds d ≡ false)
+full ds d n r = (n, by (hasRoom ds d) refl)
+  where
+    by : (q : Bool) → hasRoom ds d ≡ q → q ≡ false
+    by true e = absurd (r e)
+    by false e = refl
+
+-- ---- names
+
+code-of : (s : Sort) → familyNumber (sortCode s) 0 ≡ familyCode (familyOf s)
+code-of (thingOf users) = refl
+code-of (thingOf roles) = refl
+code-of (thingOf types) = refl
+code-of (attributeOf users) = refl
+code-of (attributeOf roles) = refl
+code-of (attributeOf types) = refl
+
+module _ (t : List ℕ) (at sort : ℕ) (before : List ℕ) (end : ℕ) where
+  -- no sort of things or attributes has such a number; no name stands there
+  pub no-sort : (after : List ℕ) (r : Declared) → 6 ≤ sort → DeclaresName t at sort before after end r
+  no-sort after r h = record { of = λ s e. absurd (omega (arith, code-below s)) }
+
+  pub no-name : (after : List ℕ) (r : Declared) → WordIs t at NextWord.Missing → DeclaresName t at sort before after end r
+  no-name after r h = record { of = λ s e. record { says = λ ds d y g f. absurd (plain-has-word s d h f) } }
+
+  module _ (start len : ℕ) (h : WordHere t at start len) where
+    abbrev w : Name
+    w = part t start len
+
+    abbrev found : Found
+    found = firstNamed (familyNumber sort 0) w (entriesAt before 0 end)
+
+    abbrev total : ℕ
+    total = countSort sort (entriesAt before 0 end)
+
+    module _ (s : Sort) (e : sort ≡ sortCode s) {ds : List Declaration} (y : Symbols before end ds) where
+      is-in : isFound found ≡ isIn w (familyNames (familyOf s) ds)
+      is-in =
+          ap isFound (ap₂ (λ (n : ℕ) (es : List NameEntry). firstNamed n w es) (ap (λ (x : ℕ). familyNumber x 0) e ∙ code-of s) (y .holds))
+          ∙ reference-found ds (familyOf s) w
+
+      total-is : total ≡ count s ds
+      total-is = ap₂ countSort e (y .holds) ∙ things-counted s ds
+
+    -- "name declared again in its family"
+    pub name-taken : (after : List ℕ) → Standing.Taken ≡ standing found total → DeclaresName t at sort before after end Declared.Again
+    name-taken after q = record {
+      of = λ s e. record {
+        says = λ ds d y g f.
+            subst (λ (x : Declaration). isNew ds x ≡ false) (sym (plain-here h s d g f .0))
+            (ap not (sym (is-in s e (holds-symbols y)) ∙ taken-found found total q));
+      };
+    }
+
+    module _ {number most : ℕ} (q : Standing.Free number ≡ standing found total) (m : MostIs sort most) where
+      is-new : (s : Sort) → sort ≡ sortCode s → {ds : List Declaration} → Symbols before end ds → isNew ds (plain s w) ≡ true
+      is-new s e y = ap not (sym (is-in s e y) ∙ free-missing found total number q .0)
+
+      count-is : (s : Sort) → sort ≡ sortCode s → {ds : List Declaration} → Symbols before end ds → count s ds ≡ number
+      count-is s e y = sym (total-is s e y) ∙ free-missing found total number q .1
+
+      -- "one of the other maxima passed"
+      pub name-full : (after : List ℕ) → most ≤ number → DeclaresName t at sort before after end Declared.Full
+      name-full after l = record {
+        of = λ s e. record {
+          says = λ ds d y g f.
+              subst (λ (x : Declaration). (isNew ds x ≡ true) × (hasRoom ds x ≡ false)) (sym (plain-here h s d g f .0))
+              (is-new s e (holds-symbols y), le-ltb (count s ds) (maxOf s) (omega (arith, count-is s e (holds-symbols y), m .is s e)));
+        };
+      }
+
+      module _ (after : List ℕ) (l : number < most) (long : length before ≡ 137088) where
+        has-room : (s : Sort) → sort ≡ sortCode s → {ds : List Declaration} → Symbols before end ds → hasRoom ds (plain s w) ≡ true
+        has-room s e {ds} y = lt-ltb (count s ds) (maxOf s) (omega (arith, count-is s e y, m .is s e))
+
+        entries-are : (s : Sort) → sort ≡ sortCode s → {ds : List Declaration} → Symbols before end ds → nameEntry sort number w ∷ [] ≡ entriesOf ds (plain s w)
+        entries-are s e y = ap₂ (λ (k n : ℕ). nameEntry k n w ∷ []) e (sym (count-is s e y))
+
+        added : (a : Added) → Enters before after end (nameEntry sort number w ∷ []) a → (s : Sort) → sort ≡ sortCode s → (ds : List Declaration) → Holds before end ds
+            → isGood w ≡ true → Declares before after end ds (plain s w) (answerOf a)
+        added (Added.Past past) n s e ds y good =
+            let x = subst (λ (es : List NameEntry). Entered before after end es past) (entries-are s e (holds-symbols y)) (n .is) in
+            record {
+              new = is-new s e (holds-symbols y);
+              room = has-room s e (holds-symbols y);
+              written = x .written;
+              moved = x .moved;
+              fits = x .fits;
+            }
+        added Added.NoRoom n s e ds y good =
+            let room = room-for y (plain s w) long good (is-new s e (holds-symbols y)) (has-room s e (holds-symbols y)) in
+            absurd (n .is (record {
+              room = rw (entries-are s e (holds-symbols y)) room;
+              short = (name-short w (both-true (isName w) (not (isReserved w)) good .0), tt);
+            }))
+
+        pub name-added : (a : Added) (r : Declared) → Enters before after end (nameEntry sort number w ∷ []) a → r ≡ answerOf a → DeclaresName t at sort before after end r
+        name-added a r n z = record {
+          of = λ s e. record {
+            says = λ ds d y g f.
+                let p = plain-here h s d g f in
+                subst (λ (x : Declaration). Declares before after end ds x r) (sym (p .0))
+                (subst (Declares before after end ds (plain s w)) (sym z) (added a n s e ds y (p .1)));
+          };
+        }

@@ -1,0 +1,52 @@
+-- What declaring a name or a class promises: faults 4 and 6, or the entries of the declaration at the end of the symbols. Assumes nothing.
+use Prim.Native.Nat.{ℕ, _+_, _≤_}
+use mathlib.Core.Path.{_≡_}
+use mathlib.Core.Bool.{true, false}
+use mathlib.Core.List.{List, []}
+use mathlib.Core.Option.{some}
+use lib.ListN.{length, take}
+use Rattle.bitset.specs.Parts.{put}
+use Rattle.bitset.specs.Relations.{joined}
+use Rattle.lexer.specs.Forms.{namesGood, framesAt}
+use Rattle.policy.specs.Basics.{each}
+use Rattle.policy.specs.Statements.{Sort, Declaration, declare}
+use Rattle.policy.specs.Words.{Keyword, declareK}
+use Rattle.policy.specs.Grammar.{formed}
+use Rattle.policy.specs.Reading.{isNew, hasRoom}
+use Rattle.policy.specs.Encode.{sortCode, entryBytes, entriesOf, entries}
+use Rattle.policy.specs.Sound.{goodFrom}
+use Rattle.declarations.specs.declared.Declared.{Declared}
+
+-- body 1 of the declarations: "Names in text order, permissions directly after their class"
+unfoldable pub sectionOf : List Declaration → List ℕ
+sectionOf ds = joined (each entryBytes (entries ds))
+
+-- the memory begins with the symbols of ds, which end at a place
+pub record Holds (table : List ℕ) (end : ℕ) (ds : List Declaration) : Type 0 where
+  pub front : take end table ≡ sectionOf ds
+  pub inside : end ≤ length table
+  pub good : goodFrom [] ds ≡ true
+
+-- the entries of d are written behind those of ds, and nothing else is changed: neither fault 4 nor fault 6
+pub record Adds (before after : List ℕ) (end past : ℕ) (ds : List Declaration) (d : Declaration) : Type 0 where
+  pub new : isNew ds d ≡ true
+  pub room : hasRoom ds d ≡ true
+  pub written : after ≡ put before end (joined (each entryBytes (entriesOf ds d)))
+  pub moved : past ≡ end + length (joined (each entryBytes (entriesOf ds d)))
+  pub fits : past ≤ length before
+
+-- "name declared again in its family, or permission twice in a class" before "one of the other maxima passed". After a fault nothing is promised of
+-- the memory
+abbrev pub Declares : List ℕ → List ℕ → ℕ → List Declaration → Declaration → Declared → Type 0
+Declares before after end ds d (Declared.Next past) = Adds before after end past ds d
+Declares before after end ds d Declared.Again = isNew ds d ≡ false
+Declares before after end ds d Declared.Full = (isNew ds d ≡ true) × (hasRoom ds d ≡ false)
+
+-- the declaration behind the keyword k at a place of the text
+pub record DeclaresAt (t : List ℕ) (at : ℕ) (k : Keyword) (before after : List ℕ) (end : ℕ) (r : Declared) : Type 0 where
+  pub says : (ds : List Declaration) (d : Declaration) → Holds before end ds → namesGood (framesAt t at .here) ≡ true
+      → formed k (framesAt t at .here) ≡ some (declare d) → Declares before after end ds d r
+
+-- the same where the keyword is that of a sort, by the number of the sort: "0 user, 1 role, 2 type, 3 to 5 their attributes"
+pub record DeclaresName (t : List ℕ) (at sort : ℕ) (before after : List ℕ) (end : ℕ) (r : Declared) : Type 0 where
+  pub of : (s : Sort) → sort ≡ sortCode s → DeclaresAt t at (declareK s) before after end r

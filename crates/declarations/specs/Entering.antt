@@ -1,0 +1,44 @@
+-- Entries written at the end of the symbols. Assumes nothing.
+use Prim.Native.Nat.{ℕ, _+_, _≤_}
+use mathlib.Core.Path.{_≡_}
+use mathlib.Core.List.{List}
+use lib.ListN.{length}
+use Rattle.bitset.specs.Parts.{put}
+use Rattle.bitset.specs.Relations.{joined}
+use Rattle.policy.specs.Basics.{Name, each}
+use Rattle.policy.specs.Accepted.{All}
+use Rattle.policy.specs.Encode.{NameEntry, entryBytes, permissionEntries}
+use Rattle.declarations.specs.declared.Declared.{Declared}
+use Rattle.declarations.specs.declared.Added.{Added}
+
+-- the bytes of some entries stand at the end, nothing else is changed, and past is the place behind them
+pub record Entered (before after : List ℕ) (end : ℕ) (es : List NameEntry) (past : ℕ) : Type 0 where
+  pub written : after ≡ put before end (joined (each entryBytes es))
+  pub moved : past ≡ end + length (joined (each entryBytes es))
+  pub fits : past ≤ length before
+
+-- there is room for them, and each name is short enough: "1 to 64 bytes"
+pub record Fitting (before : List ℕ) (end : ℕ) (es : List NameEntry) : Type 0 where
+  pub room : end + length (joined (each entryBytes es)) ≤ length before
+  pub short : All (λ (e : NameEntry). length (e .name) ≤ 64) es
+
+-- they are written, unless they do not fit
+abbrev pub EntersBy : List ℕ → List ℕ → ℕ → List NameEntry → Added → Type 0
+EntersBy before after end es (Added.Past past) = Entered before after end es past
+EntersBy before after end es Added.NoRoom = Fitting before end es → ⊥
+
+pub record Enters (before after : List ℕ) (end : ℕ) (es : List NameEntry) (r : Added) : Type 0 where
+  pub is : EntersBy before after end es r
+
+-- the permissions ws of a class, "permissions 32 per class", the first of them with the number n
+abbrev pub RowBy : List ℕ → List ℕ → ℕ → ℕ → List Name → Added → Type 0
+RowBy before after end n ws (Added.Past past) = Entered before after end (permissionEntries n ws) past × (length ws ≤ 32)
+RowBy before after end n ws Added.NoRoom = Fitting before end (permissionEntries n ws) → length ws ≤ 32 → ⊥
+
+pub record EntersRow (before after : List ℕ) (end n : ℕ) (ws : List Name) (r : Added) : Type 0 where
+  pub is : RowBy before after end n ws r
+
+-- where there is no room for a declaration's entries, a maximum is passed
+abbrev pub answerOf : Added → Declared
+answerOf (Added.Past past) = Declared.Next past
+answerOf Added.NoRoom = Declared.Full

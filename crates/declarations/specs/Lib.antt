@@ -1,0 +1,4 @@
+pub mod Declaring
+pub mod Counting
+pub mod WordRows
+pub mod Entering

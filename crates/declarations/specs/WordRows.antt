@@ -1,0 +1,33 @@
+-- The words of a row, as far as it is of words alone, and how a row goes on at a place of a text. Assumes nothing.
+use Prim.Native.Nat.{ℕ, _+_, _<_, _≤_}
+use mathlib.Core.Path.{_≡_}
+use mathlib.Core.List.{List, [], _∷_}
+use lib.ListN.{length}
+use Rattle.bitset.specs.Parts as parts
+use Rattle.lexer.specs.Forms.{Forms, closed, ended, word, part, framesAt}
+use Rattle.policy.specs.Basics.{Name}
+use Rattle.declarations.specs.declared.NextWord.{NextWord}
+
+-- the words before anything else
+unfoldable pub wordsIn : Forms → List Name
+wordsIn closed = []
+wordsIn ended = []
+wordsIn (word at w after) = w ∷ wordsIn after
+wordsIn (part p i after) = []
+
+-- the row at a place starts with the word of n bytes at s
+pub record WordHere (t : List ℕ) (at s n : ℕ) : Type 0 where
+  pub here : framesAt t at .here ≡ word s (parts.part t s n) (framesAt t (s + n) .here)
+  pub ahead : at < s + n
+  pub within : s + n ≤ length t
+
+abbrev pub WordBy : List ℕ → ℕ → NextWord → Type 0
+WordBy t at (NextWord.At s n) = WordHere t at s n
+WordBy t at NextWord.Missing = wordsIn (framesAt t at .here) ≡ []
+
+pub record WordIs (t : List ℕ) (at : ℕ) (r : NextWord) : Type 0 where
+  pub is : WordBy t at r
+
+-- where a part stands next, its own row stands at r
+pub record Inside (t : List ℕ) (at r : ℕ) : Type 0 where
+  pub row : (p : ℕ) (i after : Forms) → framesAt t at .here ≡ part p i after → framesAt t r .here ≡ i

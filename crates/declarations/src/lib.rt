@@ -1,0 +1,331 @@
+// Declarations of names and classes, put into the symbol table: faults 4 and 6. The form of a statement is known to be good where it is
+// declared here, so that a row that should be of names is one.
+ghost use mathlib.Core.Path.{_≡_};
+ghost use mathlib.Core.Bool.{not};
+ghost use mathlib.Core.List.{[], _∷_};
+ghost use Prim.Native.Nat.{_+_, _≤_, _<_};
+ghost use lib.ListN.{length};
+ghost use Rattle.bitset.specs.Parts.{part};
+ghost use Rattle.lexer.specs.Forms.{framesAt};
+ghost use Rattle.policy.specs.Basics as basics;
+ghost use Rattle.policy.specs.Basics.{isIn, differ};
+ghost use Rattle.policy.specs.Encode.{nameEntry};
+ghost use Rattle.policy.specs.Words.{classK};
+ghost use Rattle.symbols.specs.Section.{entriesAt};
+ghost use Rattle.symbols.specs.Lookup.{familyNumber, firstNamed};
+ghost use Rattle.declarations.specs.Counting.{countSort, standing, Counts, MostIs};
+ghost use Rattle.declarations.specs.WordRows.{wordsIn, WordIs, Inside};
+ghost use Rattle.declarations.specs.Entering.{Enters, EntersRow, answerOf};
+ghost use Rattle.declarations.specs.Declaring.{DeclaresAt, DeclaresName};
+use lexer::Token;
+use symbols::Entry;
+
+// All names that the maxima allow: 2,016 entries of at most 68 bytes.
+pub const SYMBOL_BYTES: usize = 137_088;
+
+// What declaring a name comes to: the new end of the symbols, fault 4, or fault 6.
+pub enum Declared {
+    Next(usize),
+    Again,
+    Full,
+}
+
+// What the symbols say of a name: its family has it, or else how many its sort has.
+enum Standing {
+    Taken,
+    Free(usize),
+}
+
+// The place past the entries that were written, or that there is no room for them.
+enum Added {
+    Past(usize),
+    NoRoom,
+}
+
+// The word that stands next in a row, or that none does.
+enum NextWord {
+    At { start: usize, len: usize },
+    Missing,
+}
+
+// The sorts by their numbers; between them stand those of attributes.
+const USER: usize = 0;
+
+const ROLE: usize = 1;
+
+const TYPE: usize = 2;
+
+const CLASS: usize = 6;
+
+const PERMISSION: usize = 7;
+
+// How many entries of a sort there are.
+pub fn count(symbols: &[u8], end: usize, sort: usize) -> usize
+    ensures { λ r. ⌜ Counts (now (symbols .entry)) end sort r ⌝ }
+{
+    let mut at: usize = 0;
+    let mut total: usize = 0;
+    loop {
+        let k = symbols::look(symbols, at, end);
+        match k {
+            Entry::Named {
+                sort: kind,
+                past,
+                ..
+            } => {
+                if kind != sort {
+                    at = past;
+                    continue;
+                }
+                total += 1;
+                at = past;
+            }
+            Entry::Done => return total,
+            Entry::Broken => return total,
+        }
+    }
+}
+
+// How many names of a sort of things or attributes there may be.
+fn most(sort: usize) -> usize
+    ensures { λ r. ⌜ MostIs sort r ⌝ }
+{
+    if sort == USER {
+        return policy::User::MAX;
+    }
+    if sort == ROLE {
+        return policy::Role::MAX;
+    }
+    if sort == TYPE {
+        return policy::Type::MAX;
+    }
+    policy::Attribute::MAX
+}
+
+// Whether the m bytes of a at i are the n bytes of b at j. Lengths are compared first.
+fn same_name(a: &[u8], i: usize, m: usize, b: &[u8], j: usize, n: usize) -> bool
+    requires { ⌜ (i + m ≤ length (now a)) × (j + n ≤ length (now b)) ⌝ }
+    ensures { λ r. ⌜ r ≡ basics.same (part (now (a .entry)) i m) (part (now (b .entry)) j n) ⌝ }
+{
+    if m != n {
+        return false;
+    }
+    symbols::same(a, i, b, j, m)
+}
+
+// One walk over the symbols: whether the family of a sort has the name of len bytes of the text from a place on, and how many the sort has.
+// An entry of another family is of another sort.
+fn stands(symbols: &[u8], end: usize, sort: usize, text: &[u8], from: usize, len: usize) -> Standing
+    requires { ⌜ (sort < 7) × (from + len ≤ length (now text)) ⌝ }
+    ensures { λ r. ⌜ r ≡ standing (firstNamed (familyNumber sort 0) (part (now (text .entry)) from len) (entriesAt (now (symbols .entry)) 0 end)) (countSort sort (entriesAt (now (symbols .entry)) 0 end)) ⌝ }
+{
+    let family = symbols::family_of(sort, 0);
+    let mut at: usize = 0;
+    let mut number: usize = 0;
+    loop {
+        let k = symbols::look(symbols, at, end);
+        match k {
+            Entry::Named {
+                sort: kind,
+                number: own,
+                past,
+            } => {
+                if symbols::family_of(kind, own) != family {
+                    at = past;
+                    continue;
+                }
+                if same_name(text, from, len, symbols, at + 4, past - at - 4) {
+                    return Standing::Taken;
+                }
+                if kind != sort {
+                    at = past;
+                    continue;
+                }
+                number += 1;
+                at = past;
+            }
+            Entry::Done => return Standing::Free(number),
+            Entry::Broken => return Standing::Free(number),
+        }
+    }
+}
+
+// Writes an entry at the end of the symbols, if there is room for it.
+fn add(
+    symbols: &mut [u8],
+    end: usize,
+    sort: usize,
+    number: usize,
+    text: &[u8],
+    from: usize,
+    len: usize,
+) -> Added
+    requires { ⌜ (sort < 8) × (from + len ≤ length (now text)) ⌝ }
+    ensures { λ r. ⌜ Enters (now (symbols .entry)) (now (symbols .exit)) end (nameEntry sort number (part (now (text .entry)) from len) ∷ []) r ⌝ }
+{
+    if lexer::Name::MAX < len {
+        return Added::NoRoom;
+    }
+    if symbols.len() < end {
+        return Added::NoRoom;
+    }
+    if symbols.len() - end < 4 + len {
+        return Added::NoRoom;
+    }
+    Added::Past(symbols::append(symbols, end, sort, number, text, from, len))
+}
+
+// What the writing of a declaration's last entries comes to.
+fn answer(added: Added) -> Declared
+    ensures { λ r. ⌜ r ≡ answerOf added ⌝ }
+{
+    match added {
+        Added::Past(past) => Declared::Next(past),
+        Added::NoRoom => Declared::Full,
+    }
+}
+
+// The word that stands next in the row at a place.
+fn word_at(text: &[u8], at: usize) -> NextWord
+    ensures { λ r. ⌜ WordIs (now (text .entry)) at r ⌝ }
+{
+    let token = lexer::next(text, at);
+    match token {
+        Token::Word { start, len } => NextWord::At { start, len },
+        Token::Open(_p) => NextWord::Missing,
+        Token::Close(_p) => NextWord::Missing,
+        Token::End => NextWord::Missing,
+    }
+}
+
+// The place behind the open parenthesis that stands next, or the same place where none does.
+fn inside(text: &[u8], at: usize) -> usize
+    ensures { λ r. ⌜ Inside (now (text .entry)) at r ⌝ }
+{
+    let token = lexer::next(text, at);
+    match token {
+        Token::Open(place) => place + 1,
+        Token::Word { start: _s, len: _n } => at,
+        Token::Close(_p) => at,
+        Token::End => at,
+    }
+}
+
+// `(user U)` and the like, behind the keyword, by the number of the sort.
+pub fn declare(
+    text: &[u8],
+    at: usize,
+    sort: usize,
+    symbols: &mut [u8; SYMBOL_BYTES],
+    end: usize,
+) -> Declared
+    ensures { λ r. ⌜ DeclaresName (now (text .entry)) at sort (now (symbols .entry)) (now (symbols .exit)) end r ⌝ }
+{
+    if CLASS <= sort {
+        return Declared::Full;
+    }
+    let name = word_at(text, at);
+    let NextWord::At { start, len } = name else {
+        return Declared::Full;
+    };
+    let known = stands(symbols, end, sort, text, start, len);
+    let Standing::Free(number) = known else {
+        return Declared::Again;
+    };
+    if most(sort) <= number {
+        return Declared::Full;
+    }
+    answer(add(symbols, end, sort, number, text, start, len))
+}
+
+// Whether the name of len bytes of the text at a start stands in the row at a place.
+fn is_in_row(text: &[u8], at: usize, start: usize, len: usize) -> bool
+    requires { ⌜ start + len ≤ length (now text) ⌝ }
+    ensures { λ r. ⌜ r ≡ isIn (part (now (text .entry)) start len) (wordsIn (framesAt (now (text .entry)) at .here)) ⌝ }
+{
+    let mut i = at;
+    loop {
+        let other = word_at(text, i);
+        let NextWord::At { start: s, len: n } = other else {
+            return false;
+        };
+        if same_name(text, start, len, text, s, n) {
+            return true;
+        }
+        i = s + n;
+    }
+}
+
+// Whether a name stands twice in the row at a place: each is looked for behind itself.
+fn repeats(text: &[u8], at: usize) -> bool
+    ensures { λ r. ⌜ r ≡ not (differ (wordsIn (framesAt (now (text .entry)) at .here))) ⌝ }
+{
+    let mut i = at;
+    loop {
+        let name = word_at(text, i);
+        let NextWord::At { start, len } = name else {
+            return false;
+        };
+        if is_in_row(text, start + len, start, len) {
+            return true;
+        }
+        i = start + len;
+    }
+}
+
+// Writes the entries of a class's permissions, the names in the row at a place, numbered from a first number on.
+fn add_permissions(symbols: &mut [u8], end: usize, first: usize, text: &[u8], at: usize) -> Added
+    requires { ⌜ (first ≤ 1024) × (end ≤ length (now symbols)) ⌝ }
+    ensures { λ r. ⌜ EntersRow (now (symbols .entry)) (now (symbols .exit)) end first (wordsIn (framesAt (now (text .entry)) at .here)) r ⌝ }
+{
+    let mut i = at;
+    let mut past = end;
+    let mut place: usize = 0;
+    loop {
+        let name = word_at(text, i);
+        let NextWord::At { start, len } = name else {
+            return Added::Past(past);
+        };
+        if policy::Permission::MAX <= place {
+            return Added::NoRoom;
+        }
+        let added = add(symbols, past, PERMISSION, first + place, text, start, len);
+        let Added::Past(next) = added else {
+            return Added::NoRoom;
+        };
+        past = next;
+        place += 1;
+        i = start + len;
+    }
+}
+
+// `(class C (P ...))`, behind the keyword.
+pub fn declare_class(
+    text: &[u8],
+    at: usize,
+    symbols: &mut [u8; SYMBOL_BYTES],
+    end: usize,
+) -> Declared
+    ensures { λ r. ⌜ DeclaresAt (now (text .entry)) at classK (now (symbols .entry)) (now (symbols .exit)) end r ⌝ }
+{
+    let name = word_at(text, at);
+    let NextWord::At { start, len } = name else {
+        return Declared::Full;
+    };
+    let known = stands(symbols, end, CLASS, text, start, len);
+    let Standing::Free(number) = known else {
+        return Declared::Again;
+    };
+    let row = inside(text, start + len);
+    if repeats(text, row) {
+        return Declared::Again;
+    }
+    if policy::Class::MAX <= number {
+        return Declared::Full;
+    }
+    let added = add(symbols, end, CLASS, number, text, start, len);
+    let Added::Past(past) = added else {
+        return Declared::Full;
+    };
+    answer(add_permissions(symbols, past, number * policy::Permission::MAX, text, row))
+}

@@ -1,0 +1,51 @@
+// Valid context, change and new role, asked of any bytes and in any numbers: 11 where the bytes are no sound table, else what the table answers, 12
+// where a number is not declared. No lent memory is written to.
+//
+// Each asks first whether the table is sound, which goes over all of it. A caller that knows a table to be sound asks `decisions` instead.
+use decisions::Context;
+use policy::Change;
+use policy::NewRole;
+use policy::Validity;
+ghost use mathlib.Core.Path.{_≡_};
+ghost use Rattle.policy.specs.Questions.{validOn, newRoleOn, changeOn};
+ghost use Rattle.policy.specs.Answers.{validityOf, newRoleOf, changeOf};
+ghost use Rattle.decisions.specs.Asked.{context, question};
+
+// The refusal of bytes that are no sound table.
+const NOT_SOUND: usize = 11;
+
+// **Valid context**: whether the role is among the user's, and the type, `kind`, among the role's.
+pub fn valid(table: &[u8], user: usize, role: usize, kind: usize) -> Validity
+    ensures { λ r. ⌜ validityOf r ≡ validOn (now (table .entry)) (context user role kind) ⌝ }
+{
+    if !soundness::sound(table) {
+        return Validity::Refused { number: NOT_SOUND };
+    }
+    decisions::valid_in_sound(table, user, role, kind)
+}
+
+// **Change**: granted or denied, with the number consulted.
+pub fn change(
+    table: &[u8],
+    source: Context,
+    target: Context,
+    class: usize,
+    permission: usize,
+) -> Change
+    ensures { λ r. ⌜ changeOf r ≡ changeOn (now (table .entry)) (question source target class permission) ⌝ }
+{
+    if !soundness::sound(table) {
+        return Change::Refused { number: NOT_SOUND };
+    }
+    decisions::change_in_sound(table, source, target, class, permission)
+}
+
+// **New role**: that of the first matching transition, else the role given.
+pub fn new_role(table: &[u8], role: usize, kind: usize, class: usize) -> NewRole
+    ensures { λ r. ⌜ newRoleOf r ≡ newRoleOn (now (table .entry)) role kind class ⌝ }
+{
+    if !soundness::sound(table) {
+        return NewRole::Refused { number: NOT_SOUND };
+    }
+    decisions::new_role_in_sound(table, role, kind, class)
+}

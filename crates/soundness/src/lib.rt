@@ -1,0 +1,68 @@
+// Whether bytes are a sound table. The answer is given for every sequence of bytes.
+use image_rows::Counts;
+use name_section::Counted;
+ghost use mathlib.Core.Path.{_≡_};
+ghost use Rattle.soundness.specs.IsSound.{isSound};
+ghost use Rattle.soundness.specs.SmallCounts.{Small, Holds};
+
+// Where body 1 starts.
+const FIRST_BODY: usize = 68;
+
+// The counts of the names in the form that the tests of the other bodies take.
+fn counts(
+    users: usize,
+    roles: usize,
+    types: usize,
+    userattributes: usize,
+    roleattributes: usize,
+    typeattributes: usize,
+    classes: usize,
+) -> Counts
+    requires { ⌜ Small users roles types userattributes roleattributes typeattributes classes ⌝ }
+    ensures { λ r. ⌜ Holds users roles types userattributes roleattributes typeattributes classes r ⌝ }
+{
+    Counts {
+        users: users as u16,
+        roles: roles as u16,
+        types: types as u16,
+        userattributes: userattributes as u16,
+        roleattributes: roleattributes as u16,
+        typeattributes: typeattributes as u16,
+        classes: classes as u16,
+    }
+}
+
+// Whether the bytes are a sound table: fault 11 where they are not.
+pub fn sound(table: &[u8]) -> bool
+    ensures { λ r. ⌜ r ≡ isSound (now (table .entry)) ⌝ }
+{
+    if !image::is_laid_out(table) {
+        return false;
+    }
+    let mut permissions = [0usize; policy::Class::MAX];
+    let end = FIRST_BODY + table_reader::body_length(table, 0) as usize;
+    let counted = name_section::check_names(table, FIRST_BODY, end, &mut permissions);
+    match counted {
+        Counted::Sound {
+            users,
+            roles,
+            types,
+            user_attributes,
+            role_attributes,
+            type_attributes,
+            classes,
+        } => {
+            let declared = counts(
+                users,
+                roles,
+                types,
+                user_attributes,
+                role_attributes,
+                type_attributes,
+                classes,
+            );
+            image::bodies_sound(table, declared, &permissions)
+        }
+        Counted::Unsound => false,
+    }
+}

@@ -1,0 +1,9 @@
+-- Laws for the proofs of this crate.
+pub mod HeldImage
+pub mod Runs
+pub mod EntriesOn
+pub mod ShownLaws
+pub mod GivesBack
+pub mod DistinctNames
+pub mod Determined
+pub mod Worked

@@ -1,0 +1,2 @@
+pub mod ShownPart
+pub mod GivenBack

@@ -1,0 +1,189 @@
+// The questions name of and entry: where a name or an entry stands in a table, and the part of the lent table itself. The functions whose
+// names end in `in_sound` are for a caller that knows the table to be sound; the others answer for every table, 11 before 12.
+use policy::Place;
+use policy::Role;
+use policy::Type;
+use policy::User;
+use symbols::NamePlace;
+use table_reader::ConstraintRecord;
+use table_reader::RowRecord;
+ghost use mathlib.Core.Path.{_≡_};
+ghost use mathlib.Core.Bool.{true};
+ghost use mathlib.Core.List.{[], _∷_};
+ghost use Prim.Native.Nat.{_+_, _/_, _<_};
+ghost use Rattle.policy.specs.Answers.{placeOf};
+ghost use Rattle.policy.specs.Questions.{runOf, recordFrom, nameOn, entryOn};
+ghost use Rattle.table_reader.specs.Records.{startIn, lengthIn};
+ghost use Rattle.soundness.specs.IsSound.{isSound};
+ghost use Rattle.table_parts.specs.ShownPart.{shownPart};
+
+// The refusals of a question.
+const NOT_SOUND: usize = 11;
+
+const NOT_DECLARED: usize = 12;
+
+// ---- names
+
+const FIRST_BODY: usize = 68;
+
+// Where body 1, the names, ends.
+fn names_end(table: &[u8]) -> usize
+    ensures { λ r. ⌜ r ≡ 68 + lengthIn (now (table .entry)) 0 ⌝ }
+{
+    FIRST_BODY + table_reader::body_length(table, 0) as usize
+}
+
+// Where the name of a sort and number stands in a sound table.
+pub fn name_place_in_sound(table: &[u8], sort: usize, number: usize) -> Place
+    requires { ⌜ isSound (now table) ≡ true ⌝ }
+    ensures { λ r. ⌜ placeOf r ≡ nameOn (now (table .entry)) sort number ⌝ }
+{
+    let found = symbols::name_of(table, FIRST_BODY, names_end(table), sort, number);
+    match found {
+        NamePlace::At { start, length } => Place::Part { start, length },
+        NamePlace::Nowhere => Place::Refused {
+            number: NOT_DECLARED,
+        },
+    }
+}
+
+// ---- entries of the bodies 2 to 7
+
+// The bytes of a transition.
+const TRANSITION_BYTES: usize = 82;
+
+// The record at a place among so many of one width, the first of which starts at `start`.
+fn record_place(start: usize, count: usize, width: usize, place: usize) -> Place
+    requires { ⌜ (start < 8589934592) × (count < 4294967296) × (width < 256) ⌝ }
+    ensures { λ r. ⌜ placeOf r ≡ recordFrom place start (runOf count width ∷ []) ⌝ }
+{
+    if count <= place {
+        return Place::Refused {
+            number: NOT_DECLARED,
+        };
+    }
+    Place::Part {
+        start: start + place * width,
+        length: width,
+    }
+}
+
+// The record at a place of a body, counted from 0, that is records of one width.
+fn run_place(table: &[u8], body: u8, width: usize, place: usize) -> Place
+    requires { ⌜ (0 < width) × (width < 256) ⌝ }
+    ensures { λ r. ⌜ placeOf r ≡ recordFrom place (startIn (now (table .entry)) body) (runOf (lengthIn (now (table .entry)) body / width) width ∷ []) ⌝ }
+{
+    let start = table_reader::body_start(table, body) as usize;
+    let bytes = table_reader::body_length(table, body) as usize;
+    record_place(start, bytes / width, width, place)
+}
+
+// ---- entries of body 8
+
+// The sorts of attributes.
+const USER_ATTRIBUTE: usize = 3;
+
+const ROLE_ATTRIBUTE: usize = 4;
+
+const TYPE_ATTRIBUTE: usize = 5;
+
+// The set at a place among those of userattributes, then roleattributes, then typeattributes, the first of which starts at `start`.
+fn set_place(start: usize, users: usize, roles: usize, types: usize, place: usize) -> Place
+    requires { ⌜ (start < 4294967296) × (users < 65536) × (roles < 65536) × (types < 65536) ⌝ }
+    ensures { λ r. ⌜ placeOf r ≡ recordFrom place start (runOf users 16 ∷ runOf roles 16 ∷ runOf types 64 ∷ []) ⌝ }
+{
+    if place < users {
+        return record_place(start, users, User::SET_BYTES, place);
+    }
+    let second = start + users * User::SET_BYTES;
+    let later = place - users;
+    if later < roles {
+        return record_place(second, roles, Role::SET_BYTES, later);
+    }
+    record_place(
+        second + roles * Role::SET_BYTES,
+        types,
+        Type::SET_BYTES,
+        later - roles,
+    )
+}
+
+// The set of an attribute at a place of body 8 of a sound table.
+fn attribute_place(table: &[u8], place: usize) -> Place
+    requires { ⌜ isSound (now table) ≡ true ⌝ }
+    ensures { λ r. ⌜ placeOf r ≡ entryOn (now (table .entry)) 8 place ⌝ }
+{
+    let end = names_end(table);
+    let users = symbols::count(table, FIRST_BODY, end, USER_ATTRIBUTE);
+    let roles = symbols::count(table, FIRST_BODY, end, ROLE_ATTRIBUTE);
+    let types = symbols::count(table, FIRST_BODY, end, TYPE_ATTRIBUTE);
+    let start = table_reader::body_start(table, 7) as usize;
+    set_place(start, users, roles, types, place)
+}
+
+// ---- entries
+
+// Where the entry of a body 2 to 8 and its place there stands in a sound table.
+pub fn entry_place_in_sound(table: &[u8], body: usize, place: usize) -> Place
+    requires { ⌜ isSound (now table) ≡ true ⌝ }
+    ensures { λ r. ⌜ placeOf r ≡ entryOn (now (table .entry)) body place ⌝ }
+{
+    match body {
+        2 => run_place(table, 1, Role::SET_BYTES, place),
+        3 => run_place(table, 2, Type::SET_BYTES, place),
+        4 => run_place(table, 3, Role::SET_BYTES, place),
+        5 => run_place(table, 4, TRANSITION_BYTES, place),
+        6 => run_place(table, 5, ConstraintRecord::BYTES, place),
+        7 => run_place(table, 6, RowRecord::BYTES, place),
+        8 => attribute_place(table, place),
+        _ => Place::Refused {
+            number: NOT_DECLARED,
+        },
+    }
+}
+
+// ---- every table
+
+// Where the name of a sort and number stands.
+pub fn name_place(table: &[u8], sort: usize, number: usize) -> Place
+    ensures { λ r. ⌜ placeOf r ≡ nameOn (now (table .entry)) sort number ⌝ }
+{
+    if !soundness::sound(table) {
+        return Place::Refused { number: NOT_SOUND };
+    }
+    name_place_in_sound(table, sort, number)
+}
+
+// Where the entry of a body 2 to 8 and its place there stands.
+pub fn entry_place(table: &[u8], body: usize, place: usize) -> Place
+    ensures { λ r. ⌜ placeOf r ≡ entryOn (now (table .entry)) body place ⌝ }
+{
+    if !soundness::sound(table) {
+        return Place::Refused { number: NOT_SOUND };
+    }
+    entry_place_in_sound(table, body, place)
+}
+
+// The part of the table at a place; on refusal an empty one. Where an empty part points is free: here it is the front of the table.
+fn part_at(table: &[u8], place: Place) -> &[u8]
+    ensures { λ r. ⌜ now r ≡ shownPart (placeOf place) (now (table .entry)) ⌝ }
+{
+    match place {
+        Place::Part { start, length } => bitset::part(table, start, length),
+        Place::Refused { number: _ } => bitset::part(table, 0, 0),
+    }
+}
+
+// The name of a sort and number; an empty part on refusal.
+pub fn name(table: &[u8], sort: usize, number: usize) -> &[u8]
+    ensures { λ r. ⌜ now r ≡ shownPart (nameOn (now (table .entry)) sort number) (now (table .entry)) ⌝ }
+{
+    part_at(table, name_place(table, sort, number))
+}
+
+// The entry of a body 2 to 8 and its place there; an empty part on refusal.
+pub fn entry(table: &[u8], body: usize, place: usize) -> &[u8]
+    ensures { λ r. ⌜ now r ≡ shownPart (entryOn (now (table .entry)) body place) (now (table .entry)) ⌝ }
+{
+    part_at(table, entry_place(table, body, place))
+}
