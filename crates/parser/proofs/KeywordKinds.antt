@@ -1,0 +1,94 @@
+-- What the keyword of a statement says of the statement, as it is written and as it is resolved. Assumes nothing.
+use Prim.Native.Nat.{ℕ}
+use mathlib.Core.Path.{_≡_, refl}
+use mathlib.Core.List.{List, [], _∷_}
+use mathlib.Core.Option.{Option}
+use Rattle.lexer.specs.Forms.{Forms, closed, ended, word, part}
+use Rattle.policy.specs.Basics.{Name, eachOf, indexOf, ofOne, ofTwo}
+use Rattle.policy.specs.Words.{asName, Keyword, declareK, classK, setK, relationK, transitionK, constrainK}
+use Rattle.policy.specs.Statements.{roles, types, thingOf, attributeOf, Declaration, plain, class, Reference, SetExpr, Constraint, StatementOf, declare, attributeset, gives, roletransition, constrain, Written, fromOf, toOf, namesOf, classNames, permissions}
+use Rattle.policy.specs.Grammar.{wordAndPart, twoParts, setIn, expressionIn, namesIn, oneOrMore, classIn, ofFour, formed}
+use Rattle.policy.specs.Reading.{refer, referS, referE, resolved}
+use Rattle.reading_laws.proofs.IfAny.{IfAny, nothing, just, whatever}
+
+-- the statement is of the kind that the keyword names
+module _ {R N : Type 0} where
+  abbrev pub IsOf : Keyword → StatementOf R N → Type 0
+  IsOf (declareK s) w = (n : Name) × (w ≡ declare (plain s n))
+  IsOf classK w = (c : Name) × (ps : List Name) × (w ≡ declare (class c ps))
+  IsOf (setK f) w = (a : N) × (s : SetExpr R) × (w ≡ attributeset f a s)
+  IsOf (relationK r) w = (x : R) × (y : R) × (w ≡ gives r x y)
+  IsOf transitionK w = (r : R) × (t : R) × (c : N) × (n : N) × (w ≡ roletransition r t c n)
+  IsOf constrainK w = (c : N) × (ps : List N) × (e : Constraint R) × (w ≡ constrain c ps e)
+
+module _ {A : Type 0} {P : A → Type 0} where
+  word-and-part : (f : Forms) (g : Name → Forms → Option A) → ((w : Name) (i : Forms) → IfAny P (g w i)) → IfAny P (wordAndPart f g)
+  word-and-part closed g k = nothing
+  word-and-part ended g k = nothing
+  word-and-part (part p i r) g k = nothing
+  word-and-part (word s w closed) g k = nothing
+  word-and-part (word s w ended) g k = nothing
+  word-and-part (word s w (word q v r)) g k = nothing
+  word-and-part (word s w (part p i closed)) g k = k w i
+  word-and-part (word s w (part p i ended)) g k = nothing
+  word-and-part (word s w (part p i (word q v r))) g k = nothing
+  word-and-part (word s w (part p i (part q j r))) g k = nothing
+
+  two-parts : (f : Forms) (g : Forms → Forms → Option A) → ((i j : Forms) → IfAny P (g i j)) → IfAny P (twoParts f g)
+  two-parts closed g k = nothing
+  two-parts ended g k = nothing
+  two-parts (word s w r) g k = nothing
+  two-parts (part p i closed) g k = nothing
+  two-parts (part p i ended) g k = nothing
+  two-parts (part p i (word s w r)) g k = nothing
+  two-parts (part p i (part q j closed)) g k = k i j
+  two-parts (part p i (part q j ended)) g k = nothing
+  two-parts (part p i (part q j (word s w r))) g k = nothing
+  two-parts (part p i (part q j (part s h r))) g k = nothing
+
+  class-in : (f : Forms) (g : Name → List Name → Option A) → ((c : Name) (ps : List Name) → IfAny P (g c ps)) → IfAny P (classIn f g)
+  class-in f g k = word-and-part f _ λ c i. whatever (asName c) _ λ c. whatever (namesIn i) _ λ ps. whatever (oneOrMore ps) _ λ ps. k c ps
+
+-- as it is written
+pub formed-of : (k : Keyword) (f : Forms) → IfAny (IsOf {R = Name} {N = Name} k) (formed k f)
+formed-of (declareK s) f = whatever (namesIn f) _ one
+  where
+    one : (ws : List Name) → IfAny (IsOf {R = Name} {N = Name} (declareK s)) (ofOne (λ w. declare (plain s w)) ws)
+    one [] = nothing
+    one (w ∷ []) = just (w, refl)
+    one (v ∷ w ∷ ws) = nothing
+formed-of classK f = class-in f _ λ c ps. just (c, ps, refl)
+formed-of (setK a) f = word-and-part f _ λ w i. whatever (asName w) _ λ w. whatever (setIn i) _ λ s. just (w, s, refl)
+formed-of (relationK r) f = whatever (namesIn f) _ two
+  where
+    two : (ws : List Name) → IfAny (IsOf {R = Name} {N = Name} (relationK r)) (ofTwo (gives r) ws)
+    two [] = nothing
+    two (w ∷ []) = nothing
+    two (v ∷ w ∷ []) = just (v, w, refl)
+    two (u ∷ v ∷ w ∷ ws) = nothing
+formed-of transitionK f = whatever (namesIn f) _ four
+  where
+    four : (ws : List Name) → IfAny (IsOf {R = Name} {N = Name} transitionK) (ofFour ws)
+    four [] = nothing
+    four (r ∷ []) = nothing
+    four (r ∷ t ∷ []) = nothing
+    four (r ∷ t ∷ c ∷ []) = nothing
+    four (r ∷ t ∷ c ∷ n ∷ []) = just (r, t, c, n, refl)
+    four (r ∷ t ∷ c ∷ n ∷ x ∷ xs) = nothing
+formed-of constrainK f = two-parts f _ λ i j. class-in i _ λ c ps. whatever (expressionIn j) _ λ e. just (c, ps, e, refl)
+
+-- as it is resolved
+pub resolved-of : (ds : List Declaration) (k : Keyword) (w : Written) → IsOf k w → IfAny (IsOf {R = Reference} {N = ℕ} k) (resolved ds w)
+resolved-of ds (declareK s) w h = rw (h .1) (just (h .0, refl))
+resolved-of ds classK w h = rw (h .2) (just (h .0, h .1, refl))
+resolved-of ds (setK f) w h =
+    rw (h .2) (whatever (indexOf (h .0) (namesOf (attributeOf f) ds)) _ λ a. whatever (referS ds f (h .1)) _ λ s. just (a, s, refl))
+resolved-of ds (relationK r) w h = rw (h .2) (whatever (refer ds (fromOf r) (h .0)) _ λ x. whatever (refer ds (toOf r) (h .1)) _ λ y. just (x, y, refl))
+resolved-of ds transitionK w h =
+    rw (h .4)
+    (whatever (refer ds roles (h .0)) _ λ r. whatever (refer ds types (h .1)) _ λ t. whatever (indexOf (h .2) (classNames ds)) _ λ c.
+    whatever (indexOf (h .3) (namesOf (thingOf roles) ds)) _ λ n. just (r, t, c, n, refl))
+resolved-of ds constrainK w h =
+    rw (h .3)
+    (whatever (indexOf (h .0) (classNames ds)) _ λ c. whatever (eachOf (λ p. indexOf p (permissions ds c)) (h .1)) _ λ ps.
+    whatever (referE ds (h .2)) _ λ e. just (c, ps, e, refl))

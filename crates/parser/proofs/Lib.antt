@@ -1,0 +1,6 @@
+pub mod Filling
+pub mod Sections
+pub mod KeywordKinds
+pub mod Stepping
+pub mod ByKeyword
+pub mod Turning

@@ -1,0 +1,70 @@
+-- What the parser leaves in the memory that is lent to it: the symbols, the statement code, the constraints and their rows of the statements as read,
+-- or the first fault 3 to 7 and its place. Assumes nothing.
+use Prim.Native.Nat.{ℕ, _+_, _*_, _≤_}
+use mathlib.Core.Path.{_≡_}
+use mathlib.Core.List.{List, [], _++_}
+use lib.ListN.{length, drop}
+use Rattle.bitset.specs.Relations.{joined}
+use Rattle.lexer.specs.declared.Scanned.{Scanned}
+use Rattle.lexer.specs.Scan.{scan}
+use Rattle.lexer.specs.Forms.{formsOf}
+use Rattle.policy.specs.Basics.{each}
+use Rattle.policy.specs.Statements.{Policy, declarations, transitions, constrains}
+use Rattle.policy.specs.Reading.{Read, policy, refused, readFrom, rowCount}
+use Rattle.policy.specs.Accepted.{Accepted}
+use Rattle.policy.specs.Image.{ConstraintEntry, constraintEntry}
+use Rattle.policy.specs.Encode.{headBytes, headsFrom, rowBytes}
+use Rattle.statement_code.specs.Code.{codeOf}
+use Rattle.declarations.specs.Declaring.{sectionOf}
+use Rattle.parser.specs.declared.Progress.{Progress}
+use Rattle.parser.specs.declared.Parsed.{Parsed}
+
+-- the four lent memories
+pub record Memory : Type 0 where
+  pub symbols : List ℕ
+  pub code : List ℕ
+  pub constraints : List ℕ
+  pub rows : List ℕ
+
+abbrev pub memory : List ℕ → List ℕ → List ℕ → List ℕ → Memory
+memory s c k r = record { symbols = s; code = c; constraints = k; rows = r }
+
+-- body 1: "Names in text order, permissions directly after their class"
+unfoldable pub symbolsOf : Policy → List ℕ
+symbolsOf p = sectionOf (declarations p)
+
+-- body 6: "Constraints in text order: class 2, permission mask 4, first row 2, row count 2"
+unfoldable pub constraintsOf : Policy → List ℕ
+constraintsOf p = joined (each headBytes (headsFrom 0 (each constraintEntry (constrains p))))
+
+-- body 7: "Rows of 6 bytes, operands before operators, left first"
+unfoldable pub rowsOf : Policy → List ℕ
+rowsOf p = joined (each rowBytes (joined (each (λ (c : ConstraintEntry). c .rows) (each constraintEntry (constrains p)))))
+
+-- memory with some content in front, which ends at a place, and as it was lent behind it
+pub record Starts (lent content now : List ℕ) (end : ℕ) : Type 0 where
+  pub is : now ≡ content ++ drop (length content) lent
+  pub ends : end ≡ length content
+  pub fits : length content ≤ length lent
+
+-- the lent memory holds the statements of p, which keep every rule that faults 3 to 7 stand for
+pub record Holds (p : Policy) (lent now : Memory) (s : Progress) : Type 0 where
+  pub accepted : Accepted p
+  pub symbols : Starts (lent .symbols) (symbolsOf p) (now .symbols) (s .symbols)
+  pub code : Starts (lent .code) (codeOf p) (now .code) (s .code)
+  pub constraints : Starts (lent .constraints) (constraintsOf p) (now .constraints) (10 * s .constraints)
+  pub rows : Starts (lent .rows) (rowsOf p) (now .rows) (6 * s .rows)
+  pub transition-count : s .transitions ≡ length (transitions p)
+  pub constraint-count : s .constraints ≡ length (constrains p)
+  pub row-count : s .rows ≡ rowCount (constrains p)
+
+-- "then statements in text order, each tried for 3, 4, 5, 6, 7". After a refusal what the lent memory holds is free
+abbrev pub Reads : Read → Memory → Memory → Parsed → Type 0
+Reads (policy p) lent now (Parsed.Accepted s) = Holds p lent now s
+Reads (policy p) lent now (Parsed.Refused m q) = ⊥
+Reads (refused n at) lent now (Parsed.Accepted s) = ⊥
+Reads (refused n at) lent now (Parsed.Refused m q) = (m ≡ n) × (q ≡ at)
+
+-- for every text that the scan leaves clean, whatever the lent memory held
+pub record Parses (t : List ℕ) (lent now : Memory) (r : Parsed) : Type 0 where
+  pub reads : scan t ≡ Scanned.Clean → Reads (readFrom (formsOf t) []) lent now r

@@ -1,0 +1,425 @@
+// From a clean text to its statements: symbols, statement code, constraints and rows in lent memory, or the first fault 3 to 7 with its place.
+ghost use mathlib.Core.Path.{_≡_};
+ghost use mathlib.Core.Bool.{_&&_};
+ghost use mathlib.Core.List.{List};
+ghost use lib.Dec.{leb};
+ghost use lib.ListN.{length};
+ghost use Prim.Native.Nat.{ℕ, _+_, _<_};
+ghost use Rattle.policy.specs.Words.{keywordOf, declareK, classK, constrainK};
+ghost use Rattle.policy.specs.Statements.{thingOf, attributeOf};
+ghost use Rattle.policy.specs.Encode.{sortCode};
+ghost use Rattle.policy.specs.Answers.{familyOf};
+ghost use Rattle.words.specs.Numbers.{wordOf};
+ghost use Rattle.statement_writer.specs.Coding.{WritesStatement};
+ghost use Rattle.parser.specs.Memory.{memory, Parses};
+ghost use Rattle.parser.specs.Steps.{codedKeyword, keywordIn, Steps, StepsAt, declaredStep, withCode, codedStep, constrainedStep, nothingRead};
+use constrain_statement::CONSTRAINT_BYTES;
+use constrain_statement::Constrained;
+use constrain_statement::ROW_BYTES;
+use declarations::Declared;
+use declarations::SYMBOL_BYTES;
+use items::Item;
+use policy::Constraint;
+use policy::Family;
+use policy::Transition;
+use statement_writer::Coded;
+use statement_writer::Relation;
+use words::Word;
+
+// Room for the code: a clean text has at most 65,535 bytes, and no statement has more units than bytes.
+pub const CODE_UNITS: usize = 65_536;
+
+// How far the lent memory is filled, and how many transitions and constraints there are.
+pub struct Progress {
+    pub symbols: usize,
+    pub code: usize,
+    pub transitions: usize,
+    pub constraints: usize,
+    pub rows: usize,
+}
+
+// The statements are read, or the number of the first fault and its place.
+pub enum Parsed {
+    Accepted(Progress),
+    Refused { number: usize, place: usize },
+}
+
+// One statement is read, or the number of its fault.
+enum Step {
+    Read(Progress),
+    Fault(usize),
+}
+
+// The statements that have their names in the statement code.
+enum CodedKind {
+    Set(Family),
+    Relation(Relation),
+    Transition,
+}
+
+// What a statement is by its first word: a declaration of a thing, of an attribute or of a class, a statement with code, a constraint.
+enum Keyword {
+    Thing(Family),
+    Attribute(Family),
+    Class,
+    Coded(CodedKind),
+    Constrain,
+    Unknown,
+}
+
+// The keyword of a number.
+fn keyword_of(number: usize) -> Keyword
+    ensures { λ r. ⌜ keywordOf (wordOf number) ≡ keywordIn r ⌝ }
+{
+    if number <= Word::LAST_RESERVED {
+        return Keyword::Unknown;
+    }
+    match number {
+        Word::USER => Keyword::Thing(Family::Users),
+        Word::ROLE => Keyword::Thing(Family::Roles),
+        Word::TYPE => Keyword::Thing(Family::Types),
+        Word::USERATTRIBUTE => Keyword::Attribute(Family::Users),
+        Word::ROLEATTRIBUTE => Keyword::Attribute(Family::Roles),
+        Word::TYPEATTRIBUTE => Keyword::Attribute(Family::Types),
+        Word::CLASS => Keyword::Class,
+        Word::USERATTRIBUTESET => Keyword::Coded(CodedKind::Set(Family::Users)),
+        Word::ROLEATTRIBUTESET => Keyword::Coded(CodedKind::Set(Family::Roles)),
+        Word::TYPEATTRIBUTESET => Keyword::Coded(CodedKind::Set(Family::Types)),
+        Word::USERROLE => Keyword::Coded(CodedKind::Relation(Relation::UserRole)),
+        Word::ROLETYPE => Keyword::Coded(CodedKind::Relation(Relation::RoleType)),
+        Word::ROLEALLOW => Keyword::Coded(CodedKind::Relation(Relation::RoleAllow)),
+        Word::ROLETRANSITION => Keyword::Coded(CodedKind::Transition),
+        Word::CONSTRAIN => Keyword::Constrain,
+        _ => Keyword::Unknown,
+    }
+}
+
+// The number of the sort of a family's things.
+fn thing_sort(family: Family) -> usize
+    ensures { λ r. ⌜ r ≡ sortCode (thingOf (familyOf family)) ⌝ }
+{
+    match family {
+        Family::Users => 0,
+        Family::Roles => 1,
+        Family::Types => 2,
+    }
+}
+
+// The number of the sort of a family's attributes.
+fn attribute_sort(family: Family) -> usize
+    ensures { λ r. ⌜ r ≡ sortCode (attributeOf (familyOf family)) ⌝ }
+{
+    match family {
+        Family::Users => 3,
+        Family::Roles => 4,
+        Family::Types => 5,
+    }
+}
+
+// A declaration whose names are in the symbols, or are not.
+fn declared_step(declared: Declared, progress: Progress) -> Step
+    ensures { λ r. ⌜ r ≡ declaredStep declared progress ⌝ }
+{
+    match declared {
+        Declared::Next(past) => Step::Read(Progress {
+            symbols: past,
+            code: progress.code,
+            transitions: progress.transitions,
+            constraints: progress.constraints,
+            rows: progress.rows,
+        }),
+        Declared::Again => Step::Fault(4),
+        Declared::Full => Step::Fault(6),
+    }
+}
+
+// `(user U)` and the like.
+fn declare_thing(
+    text: &[u8],
+    at: usize,
+    family: Family,
+    symbols: &mut [u8; SYMBOL_BYTES],
+    progress: Progress,
+) -> Step
+    ensures { λ r. ⌜ ((place : ℕ) (co cs rs : List ℕ) → Steps (now (text .entry)) at place (declareK (thingOf (familyOf family)))
+        (memory (now (symbols .entry)) co cs rs) (memory (now (symbols .exit)) co cs rs) progress r) ⌝ }
+{
+    let declared = declarations::declare(text, at, thing_sort(family), symbols, progress.symbols);
+    declared_step(declared, progress)
+}
+
+// `(class C (P ...))`
+fn declare_class(
+    text: &[u8],
+    at: usize,
+    symbols: &mut [u8; SYMBOL_BYTES],
+    progress: Progress,
+) -> Step
+    ensures { λ r. ⌜ ((place : ℕ) (co cs rs : List ℕ) → Steps (now (text .entry)) at place classK
+        (memory (now (symbols .entry)) co cs rs) (memory (now (symbols .exit)) co cs rs) progress r) ⌝ }
+{
+    let declared = declarations::declare_class(text, at, symbols, progress.symbols);
+    declared_step(declared, progress)
+}
+
+// `(userattribute A)` and the like: the resolver names the place where an attribute is declared, so it stands in the code.
+fn declare_attribute(
+    text: &[u8],
+    at: usize,
+    place: u16,
+    family: Family,
+    symbols: &mut [u8; SYMBOL_BYTES],
+    code: &mut [u16; CODE_UNITS],
+    progress: Progress,
+) -> Step
+    ensures { λ r. ⌜ ((cs rs : List ℕ) → Steps (now (text .entry)) at place (declareK (attributeOf (familyOf family)))
+        (memory (now (symbols .entry)) (now (code .entry)) cs rs) (memory (now (symbols .exit)) (now (code .exit)) cs rs) progress r) ⌝ }
+{
+    let declared = declarations::declare(
+        text,
+        at,
+        attribute_sort(family),
+        symbols,
+        progress.symbols,
+    );
+    let to = statement_writer::write_attribute(family, place, code, progress.code);
+    declared_step(declared, past_code(progress, to, progress.transitions))
+}
+
+// The units of a statement with code.
+fn write_coded(
+    text: &[u8],
+    at: usize,
+    place: u16,
+    kind: CodedKind,
+    symbols: &[u8; SYMBOL_BYTES],
+    end: usize,
+    code: &mut [u16; CODE_UNITS],
+    to: usize,
+) -> Coded
+    ensures { λ r. ⌜ WritesStatement (now (text .entry)) at (codedKeyword kind) place (now (symbols .entry)) end (now (code .entry)) to (now (code .exit)) r ⌝ }
+{
+    match kind {
+        CodedKind::Set(family) => {
+            statement_writer::write_attribute_set(text, at, place, family, symbols, end, code, to)
+        }
+        CodedKind::Relation(relation) => {
+            statement_writer::write_relation(text, at, place, relation, symbols, end, code, to)
+        }
+        CodedKind::Transition => {
+            statement_writer::write_transition(text, at, place, symbols, end, code, to)
+        }
+    }
+}
+
+// The progress past the units of a statement.
+fn past_code(progress: Progress, to: usize, transitions: usize) -> Progress
+    ensures { λ r. ⌜ r ≡ withCode progress to transitions ⌝ }
+{
+    Progress {
+        symbols: progress.symbols,
+        code: to,
+        transitions,
+        constraints: progress.constraints,
+        rows: progress.rows,
+    }
+}
+
+// A statement with code whose names are declared, or are not. A transition is one of as many as there may be.
+fn coded_step(kind: CodedKind, written: Coded, progress: Progress) -> Step
+    ensures { λ r. ⌜ r ≡ codedStep kind written progress ⌝ }
+{
+    let Coded::Next(to) = written else {
+        return Step::Fault(5);
+    };
+    let count = progress.transitions;
+    match kind {
+        CodedKind::Set(_) => Step::Read(past_code(progress, to, count)),
+        CodedKind::Relation(_) => Step::Read(past_code(progress, to, count)),
+        CodedKind::Transition => {
+            if Transition::MAX <= count {
+                return Step::Fault(6);
+            }
+            Step::Read(past_code(progress, to, count + 1))
+        }
+    }
+}
+
+// `(userattributeset A S)`, `(userrole U R)`, `(roletransition R T C R)` and the like.
+fn coded(
+    text: &[u8],
+    at: usize,
+    place: u16,
+    kind: CodedKind,
+    symbols: &[u8; SYMBOL_BYTES],
+    code: &mut [u16; CODE_UNITS],
+    progress: Progress,
+) -> Step
+    ensures { λ r. ⌜ ((cs rs : List ℕ) → Steps (now (text .entry)) at place (codedKeyword kind)
+        (memory (now (symbols .entry)) (now (code .entry)) cs rs) (memory (now (symbols .entry)) (now (code .exit)) cs rs) progress r) ⌝ }
+{
+    let end = progress.symbols;
+    let written = write_coded(text, at, place, kind, symbols, end, code, progress.code);
+    coded_step(kind, written, progress)
+}
+
+// A constraint whose record and rows are written, or its fault. Where they are written there was room for one more, which the test repeats so that
+// the count cannot overflow.
+fn constrained_step(written: Constrained, progress: Progress) -> Step
+    ensures { λ r. ⌜ r ≡ constrainedStep written progress ⌝ }
+{
+    let count = progress.constraints;
+    match written {
+        Constrained::Next(row) => {
+            if Constraint::MAX <= count {
+                return Step::Fault(6);
+            }
+            Step::Read(Progress {
+                symbols: progress.symbols,
+                code: progress.code,
+                transitions: progress.transitions,
+                constraints: count + 1,
+                rows: row,
+            })
+        }
+        Constrained::Undeclared => Step::Fault(5),
+        Constrained::Full => Step::Fault(6),
+        Constrained::Deep => Step::Fault(7),
+    }
+}
+
+// `(constrain (C (P ...)) E)`
+fn constrain(
+    text: &[u8],
+    at: usize,
+    symbols: &[u8; SYMBOL_BYTES],
+    constraints: &mut [u8; CONSTRAINT_BYTES],
+    rows: &mut [u8; ROW_BYTES],
+    progress: Progress,
+) -> Step
+    ensures { λ r. ⌜ ((place : ℕ) (co : List ℕ) → Steps (now (text .entry)) at place constrainK
+        (memory (now (symbols .entry)) co (now (constraints .entry)) (now (rows .entry)))
+        (memory (now (symbols .entry)) co (now (constraints .exit)) (now (rows .exit))) progress r) ⌝ }
+{
+    let written = constrain_statement::write_constrain(
+        text,
+        at,
+        symbols,
+        progress.symbols,
+        constraints,
+        progress.constraints,
+        rows,
+        progress.rows,
+    );
+    constrained_step(written, progress)
+}
+
+// A statement, by what its parentheses hold from a place on. Its form is known to be good where this is called, so it starts with a keyword.
+fn statement(
+    text: &[u8],
+    at: usize,
+    place: u16,
+    symbols: &mut [u8; SYMBOL_BYTES],
+    code: &mut [u16; CODE_UNITS],
+    constraints: &mut [u8; CONSTRAINT_BYTES],
+    rows: &mut [u8; ROW_BYTES],
+    progress: Progress,
+) -> Step
+    ensures { λ r. ⌜ StepsAt (now (text .entry)) at place
+        (memory (now (symbols .entry)) (now (code .entry)) (now (constraints .entry)) (now (rows .entry)))
+        (memory (now (symbols .exit)) (now (code .exit)) (now (constraints .exit)) (now (rows .exit))) progress r ⌝ }
+{
+    let item = items::look(text, at);
+    let Item::Word { number, next, .. } = item else {
+        return Step::Fault(3);
+    };
+    let keyword = keyword_of(number);
+    match keyword {
+        Keyword::Thing(family) => declare_thing(text, next, family, symbols, progress),
+        Keyword::Attribute(family) => {
+            declare_attribute(text, next, place, family, symbols, code, progress)
+        }
+        Keyword::Class => declare_class(text, next, symbols, progress),
+        Keyword::Coded(kind) => coded(text, next, place, kind, symbols, code, progress),
+        Keyword::Constrain => constrain(text, next, symbols, constraints, rows, progress),
+        Keyword::Unknown => Step::Fault(3),
+    }
+}
+
+// The unit of a place: no place of a clean text is too great for one.
+fn place_unit(place: usize) -> u16
+    ensures { λ r. ⌜ (place < 65536 → r ≡ place) ⌝ }
+{
+    if 65_535 < place {
+        return 0;
+    }
+    place as u16
+}
+
+// Whether the lent memory is as long as the text's maximum and the maxima of constraints and rows ask. It always is, by its types; the proof of
+// `parse` learns the lengths where the arrays are lent as slices here.
+fn has_room(code: &[u16], constraints: &[u8], rows: &[u8]) -> bool
+    ensures { λ r. ⌜ r ≡ (leb 65536 (length (now (code .entry))) && leb 1280 (length (now (constraints .entry))) && leb 12288 (length (now (rows .entry)))) ⌝ }
+{
+    if code.len() < CODE_UNITS {
+        return false;
+    }
+    if constraints.len() < CONSTRAINT_BYTES {
+        return false;
+    }
+    ROW_BYTES <= rows.len()
+}
+
+// The progress before the first statement.
+fn nothing_read() -> Progress
+    ensures { λ r. ⌜ r ≡ nothingRead ⌝ }
+{
+    Progress {
+        symbols: 0,
+        code: 0,
+        transitions: 0,
+        constraints: 0,
+        rows: 0,
+    }
+}
+
+// The statements of a text that the scan leaves clean. In such a text only a statement or the end can come next.
+pub fn parse(
+    text: &[u8],
+    symbols: &mut [u8; SYMBOL_BYTES],
+    code: &mut [u16; CODE_UNITS],
+    constraints: &mut [u8; CONSTRAINT_BYTES],
+    rows: &mut [u8; ROW_BYTES],
+) -> Parsed
+    ensures { λ r. ⌜ Parses (now (text .entry))
+        (memory (now (symbols .entry)) (now (code .entry)) (now (constraints .entry)) (now (rows .entry)))
+        (memory (now (symbols .exit)) (now (code .exit)) (now (constraints .exit)) (now (rows .exit))) r ⌝ }
+{
+    if !has_room(code, constraints, rows) {
+        return Parsed::Refused {
+            number: 6,
+            place: 0,
+        };
+    }
+    let mut progress = nothing_read();
+    let mut at: usize = 0;
+    loop {
+        let item = items::look(text, at);
+        let Item::Open { place, next } = item else {
+            return Parsed::Accepted(progress);
+        };
+        let form = grammar::statement_form(text, next);
+        let items::Parsed::Next(past) = form else {
+            return Parsed::Refused { number: 3, place };
+        };
+        let unit = place_unit(place);
+        let step = statement(text, next, unit, symbols, code, constraints, rows, progress);
+        match step {
+            Step::Read(further) => {
+                progress = further;
+                at = past;
+            }
+            Step::Fault(number) => return Parsed::Refused { number, place },
+        }
+    }
+}

@@ -1,0 +1,3 @@
+pub mod BodyLengths
+pub mod Laying
+pub mod Assembly

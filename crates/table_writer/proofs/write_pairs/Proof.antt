@@ -1,0 +1,37 @@
+-- `table_writer::write_pairs` meets its contract: pair by pair, each body starts where the one before it ends. Assumes nothing.
+use native.Mathlib.Omega.{arith}
+use borrow.Author.Needs.{needs}
+use mathlib.Core.List.{[], _∷_}
+use Rattle.policy.specs.Encode.{bodies}
+use Rattle.table_writer.specs.Sizing.{body}
+use Rattle.table_writer.proofs.Laying.{puts-pair, no-pair}
+use Rattle.table_writer.proofs.write_pairs.Statement.{statement}
+use Rattle.table_writer.proofs.write_pairs.Tie as tie
+
+returns : tie.Need-returns
+unfolding bodies
+returns c = record {
+  says = λ p at.
+      let e1 = c .before .before .before .before .before .before .before .before .before .before .before .before .before .before .before .before .before .before .before .before .before .before .before .before .before .before .before .before .before .before .before .before .before .args .places .«user_roles» in
+      let e2 = c .before .before .before .before .before .before .before .before .before .before .before .before .before .before .before .before .before .before .before .before .before .before .before .before .before .before .before .before .before .before .before .before .before .args .places .«role_types» in
+      let e3 = c .before .before .before .before .before .before .before .before .before .before .before .before .before .before .before .before .before .before .before .before .before .before .before .before .before .before .before .before .before .before .before .before .before .args .places .«role_roles» in
+      let e4 = c .before .before .before .before .before .before .before .before .before .before .before .before .before .before .before .before .before .before .before .before .before .before .before .before .before .before .before .before .before .before .before .before .before .args .places .transitions in
+      let e5 = c .before .before .before .before .before .before .before .before .before .before .before .before .before .before .before .before .before .before .before .before .before .before .before .before .before .before .before .before .before .before .before .before .before .args .places .constraints in
+      let e6 = c .before .before .before .before .before .before .before .before .before .before .before .before .before .before .before .before .before .before .before .before .before .before .before .before .before .before .before .before .before .before .before .before .before .args .places .rows in
+      let e7 = c .before .before .before .before .before .before .before .before .before .before .before .before .before .before .before .before .before .before .before .before .before .before .before .before .before .before .before .before .before .before .before .before .before .args .places .«user_sets» in
+      let e8 = c .before .before .before .before .before .before .before .before .before .before .before .before .before .before .before .before .before .before .before .before .before .before .before .before .before .before .before .before .before .before .before .before .before .args .places .end in
+      puts-pair 4 68 e1 (body 0 p) (body 1 p ∷ body 2 p ∷ body 3 p ∷ body 4 p ∷ body 5 p ∷ body 6 p ∷ body 7 p ∷ []) (at .user-roles) (c .before .before .before .before .before .before .before .before .before .before .before .before .before .before .before .before .before .before .before .before .before .before .before .before .before .before .before .before .before .before .put-pair .ensures (omega (arith, at .user-roles)))
+      (puts-pair 12 e1 e2 (body 1 p) (body 2 p ∷ body 3 p ∷ body 4 p ∷ body 5 p ∷ body 6 p ∷ body 7 p ∷ []) (at .role-types) (c .before .before .before .before .before .before .before .before .before .before .before .before .before .before .before .before .before .before .before .before .before .before .before .before .before .before .put-pair2 .ensures (omega (arith, at .role-types)))
+      (puts-pair 20 e2 e3 (body 2 p) (body 3 p ∷ body 4 p ∷ body 5 p ∷ body 6 p ∷ body 7 p ∷ []) (at .role-roles) (c .before .before .before .before .before .before .before .before .before .before .before .before .before .before .before .before .before .before .before .before .before .before .put-pair3 .ensures (omega (arith, at .role-roles)))
+      (puts-pair 28 e3 e4 (body 3 p) (body 4 p ∷ body 5 p ∷ body 6 p ∷ body 7 p ∷ []) (at .transitions) (c .before .before .before .before .before .before .before .before .before .before .before .before .before .before .before .before .before .before .put-pair4 .ensures (omega (arith, at .transitions)))
+      (puts-pair 36 e4 e5 (body 4 p) (body 5 p ∷ body 6 p ∷ body 7 p ∷ []) (at .constraints) (c .before .before .before .before .before .before .before .before .before .before .before .before .before .before .put-pair5 .ensures (omega (arith, at .constraints)))
+      (puts-pair 44 e5 e6 (body 5 p) (body 6 p ∷ body 7 p ∷ []) (at .rows) (c .before .before .before .before .before .before .before .before .before .before .put-pair6 .ensures (omega (arith, at .rows)))
+      (puts-pair 52 e6 e7 (body 6 p) (body 7 p ∷ []) (at .user-sets) (c .before .before .before .before .before .before .put-pair7 .ensures (omega (arith, at .user-sets)))
+      (puts-pair 60 e7 e8 (body 7 p) ([]) (at .end) (c .before .before .put-pair8 .ensures (omega (arith, at .end)))
+      (no-pair e8))))))));
+}
+
+pub write-pairs-spec : {M : Type 1} → statement M
+write-pairs-spec =
+    tie.close
+    (tie.spec (λ c κs. search needs) (λ c κs. search needs) (λ c κs. search needs) (λ c κs. search needs) (λ c κs. search needs) (λ c κs. search needs) (λ c κs. search needs) (λ c κs. search needs) (λ c. search needs) returns)

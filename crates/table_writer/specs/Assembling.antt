@@ -1,0 +1,51 @@
+-- The bodies of a table, made from what the parser and the resolver leave, and the whole table. Assumes nothing.
+use mathlib.Core.Path.{_≡_}
+use mathlib.Core.List.{List, _++_}
+use Prim.Native.Nat.{ℕ, _*_, _≤_}
+use lib.ListN.{length, take, drop}
+use Rattle.policy.specs.Statements.{users, roles, types, Policy}
+use Rattle.policy.specs.Accepted.{Accepted}
+use Rattle.policy.specs.Image.{imageOf}
+use Rattle.policy.specs.Encode.{encode}
+use Rattle.statement_code.specs.Code.{codeOf}
+use Rattle.resolver.specs.Resolving.{finalSets}
+use Rattle.table_writer.specs.declared.Sizes.{Sizes}
+use Rattle.table_writer.specs.declared.Starts.{Starts}
+use Rattle.table_writer.specs.Putting.{Puts}
+use Rattle.table_writer.specs.Sizing.{body, SizesOf, StartsOf}
+
+-- the code of the statements of p, and the final sets of its attributes
+pub record Sources (p : Policy) (units userSets roleSets typeSets : List ℕ) : Type 0 where
+  pub accepted : Accepted p
+  pub code : units ≡ codeOf p
+  pub user-sets : userSets ≡ finalSets p users
+  pub role-sets : roleSets ≡ finalSets p roles
+  pub type-sets : typeSets ≡ finalSets p types
+
+-- bodies 3 and 4: "Types of each role, 64 each", "Roles each role may become, 16 each"
+pub record WritesRoleRelations (r : Starts) (s : Sizes) (code roleSets typeSets before after : List ℕ) : Type 0 where
+  pub says : (p : Policy) (userSets : List ℕ) → Sources p code userSets roleSets typeSets → SizesOf p s → StartsOf p r
+      → Puts (body 2 p ++ body 3 p) before (r .«role_types») after
+
+-- bodies 1 to 4, with "Names in text order" and "Roles of each user, 16 bytes each" before those
+pub record WritesRelations (r : Starts) (s : Sizes) (symbols code userSets roleSets typeSets before after : List ℕ) : Type 0 where
+  pub says : (p : Policy) → Sources p code userSets roleSets typeSets → SizesOf p s → StartsOf p r → take (s .names) symbols ≡ body 0 p
+      → Puts (body 0 p ++ (body 1 p ++ (body 2 p ++ body 3 p))) before 68 after
+
+-- bodies 5 to 7: "Transitions in text order", "Constraints in text order", "Rows of 6 bytes"
+pub record WritesRules (r : Starts) (s : Sizes) (code constraints rows roleSets typeSets before after : List ℕ) : Type 0 where
+  pub says : (p : Policy) (userSets : List ℕ) → Sources p code userSets roleSets typeSets → SizesOf p s → StartsOf p r
+      → take (10 * s .constraints) constraints ≡ body 5 p → take (6 * s .rows) rows ≡ body 6 p
+      → Puts (body 4 p ++ (body 5 p ++ body 6 p)) before (r .transitions) after
+
+-- body 8: "Sets of userattributes, roleattributes, typeattributes"
+pub record WritesAttributes (r : Starts) (s : Sizes) (userSets roleSets typeSets before after : List ℕ) : Type 0 where
+  pub says : (p : Policy) (code : List ℕ) → Sources p code userSets roleSets typeSets → SizesOf p s → StartsOf p r
+      → Puts (body 7 p) before (r .«user_sets») after
+
+-- the table of p, and behind it the bytes that were there: "On success bytes past the table are unchanged". Where the sizes or the rest are not those
+-- of an accepted policy, or the memory is too short for its table, what is written is free
+pub record WritesTable (s : Sizes) (symbols code constraints rows userSets roleSets typeSets before after : List ℕ) : Type 0 where
+  pub says : (p : Policy) → Sources p code userSets roleSets typeSets → SizesOf p s
+      → take (s .names) symbols ≡ body 0 p → take (10 * s .constraints) constraints ≡ body 5 p → take (6 * s .rows) rows ≡ body 6 p
+      → length (encode (imageOf p)) ≤ length before → after ≡ encode (imageOf p) ++ drop (length (encode (imageOf p))) before

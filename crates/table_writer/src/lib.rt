@@ -1,0 +1,325 @@
+// Puts a table together: its length, its header, and its eight bodies one after the other.
+ghost use mathlib.Core.Path.{_≡_};
+ghost use Prim.Native.Nat.{_+_, _*_, _≤_};
+ghost use Rattle.policy.specs.Basics.{le};
+ghost use Rattle.table_writer.specs.Putting.{Puts, pair};
+ghost use Rattle.table_writer.specs.Sizing.{Few, Spaced, Needs, WritesPairs, WritesHeader};
+ghost use Rattle.table_writer.specs.Assembling.{WritesRoleRelations, WritesRelations, WritesRules, WritesAttributes, WritesTable};
+use body_writer::Relation;
+use policy::Role;
+use policy::Type;
+use policy::User;
+use resolver::FAMILY_BYTES;
+
+// How many of each a table has, and how many bytes its names take.
+pub struct Sizes {
+    pub names: usize,
+    pub users: usize,
+    pub roles: usize,
+    pub transitions: usize,
+    pub constraints: usize,
+    pub rows: usize,
+    pub user_attributes: usize,
+    pub role_attributes: usize,
+    pub type_attributes: usize,
+}
+
+// Where the bodies behind the first start, and where the last ends. The last body has three parts.
+struct Starts {
+    user_roles: usize,
+    role_types: usize,
+    role_roles: usize,
+    transitions: usize,
+    constraints: usize,
+    rows: usize,
+    user_sets: usize,
+    role_sets: usize,
+    type_sets: usize,
+    end: usize,
+}
+
+// The first two numbers of a table, of two bytes each.
+const EDITION: usize = 1;
+
+const BODIES: usize = 8;
+
+// Where the first body starts.
+const FIRST_BODY: usize = 68;
+
+// The bytes of an entry of body 5: a set of roles, a set of types, the class and the new role.
+const TRANSITION_BYTES: usize = Role::SET_BYTES + Type::SET_BYTES + 2;
+
+// The bytes of an entry of body 6, and of body 7.
+const CONSTRAINT_BYTES: usize = 10;
+
+const ROW_BYTES: usize = 6;
+
+// No place of a table and no number of its entries comes near this.
+const FAR: usize = 100_000_000;
+
+// ---- places
+
+// The place behind so many entries of a width that start at a place.
+fn past(start: usize, many: usize, width: usize) -> usize
+    ensures { λ r. ⌜ (start ≤ 100000000 → many ≤ 100000000 → width ≤ 100000000 → r ≡ start + many * width) ⌝ }
+{
+    if FAR < start {
+        return start;
+    }
+    if FAR < many {
+        return start;
+    }
+    if FAR < width {
+        return start;
+    }
+    start + many * width
+}
+
+// Where the bodies of a table of these sizes start.
+fn body_starts(sizes: Sizes) -> Starts
+    ensures { λ r. ⌜ (Few sizes → Spaced sizes r) ⌝ }
+{
+    let user_roles = past(FIRST_BODY, sizes.names, 1);
+    let role_types = past(user_roles, sizes.users, Role::SET_BYTES);
+    let role_roles = past(role_types, sizes.roles, Type::SET_BYTES);
+    let transitions = past(role_roles, sizes.roles, Role::SET_BYTES);
+    let constraints = past(transitions, sizes.transitions, TRANSITION_BYTES);
+    let rows = past(constraints, sizes.constraints, CONSTRAINT_BYTES);
+    let user_sets = past(rows, sizes.rows, ROW_BYTES);
+    let role_sets = past(user_sets, sizes.user_attributes, User::SET_BYTES);
+    let type_sets = past(role_sets, sizes.role_attributes, Role::SET_BYTES);
+    let end = past(type_sets, sizes.type_attributes, Type::SET_BYTES);
+    Starts {
+        user_roles,
+        role_types,
+        role_roles,
+        transitions,
+        constraints,
+        rows,
+        user_sets,
+        role_sets,
+        type_sets,
+        end,
+    }
+}
+
+// The length of a table of these sizes.
+pub fn needed(sizes: Sizes) -> usize
+    ensures { λ r. ⌜ Needs sizes r ⌝ }
+{
+    let places = body_starts(sizes);
+    places.end
+}
+
+// ---- the header
+
+// Writes a number in four bytes, lowest first.
+fn put_u32(table: &mut [u8], at: usize, n: usize)
+    ensures { λ _. ⌜ Puts (le 4 n) (now (table .entry)) at (now (table .exit)) ⌝ }
+{
+    if table.len() < 4 {
+        return;
+    }
+    if table.len() - 4 < at {
+        return;
+    }
+    table[at] = (n % 256) as u8;
+    table[at + 1] = (n / 256 % 256) as u8;
+    table[at + 2] = (n / 256 / 256 % 256) as u8;
+    table[at + 3] = (n / 256 / 256 / 256 % 256) as u8;
+}
+
+// Writes the offset and the length of a body.
+fn put_pair(table: &mut [u8], at: usize, start: usize, end: usize)
+    ensures { λ _. ⌜ (start ≤ end → Puts (pair start end) (now (table .entry)) at (now (table .exit))) ⌝ }
+{
+    if table.len() <= at {
+        return;
+    }
+    if end < start {
+        return;
+    }
+    put_u32(table, at, start);
+    put_u32(table, at + 4, end - start);
+}
+
+// Writes the pairs of the eight bodies.
+fn write_pairs(places: Starts, table: &mut [u8])
+    ensures { λ _. ⌜ WritesPairs places (now (table .entry)) (now (table .exit)) ⌝ }
+{
+    put_pair(table, 4, FIRST_BODY, places.user_roles);
+    put_pair(table, 12, places.user_roles, places.role_types);
+    put_pair(table, 20, places.role_types, places.role_roles);
+    put_pair(table, 28, places.role_roles, places.transitions);
+    put_pair(table, 36, places.transitions, places.constraints);
+    put_pair(table, 44, places.constraints, places.rows);
+    put_pair(table, 52, places.rows, places.user_sets);
+    put_pair(table, 60, places.user_sets, places.end);
+}
+
+// Writes all that stands before the first body. The edition and the number of bodies are written as one number.
+fn write_header(places: Starts, table: &mut [u8])
+    ensures { λ _. ⌜ WritesHeader places (now (table .entry)) (now (table .exit)) ⌝ }
+{
+    put_u32(table, 0, EDITION + 65_536 * BODIES);
+    write_pairs(places, table);
+}
+
+// ---- the bodies
+
+// Bodies 3 and 4: the types of each role, and the roles that each role may become.
+fn write_role_relations(
+    places: Starts,
+    sizes: Sizes,
+    code: &[u16],
+    role_sets: &[u8; FAMILY_BYTES],
+    type_sets: &[u8; FAMILY_BYTES],
+    table: &mut [u8],
+)
+    ensures { λ _. ⌜ WritesRoleRelations places sizes (now (code .entry)) (now («role_sets» .entry)) (now («type_sets» .entry)) (now (table .entry)) (now (table .exit)) ⌝ }
+{
+    body_writer::write_relation(
+        code,
+        Relation::RoleType,
+        role_sets,
+        type_sets,
+        table,
+        places.role_types,
+        sizes.roles,
+        Type::SET_BYTES,
+    );
+    body_writer::write_relation(
+        code,
+        Relation::RoleAllow,
+        role_sets,
+        role_sets,
+        table,
+        places.role_roles,
+        sizes.roles,
+        Role::SET_BYTES,
+    );
+}
+
+// Bodies 1 to 4: the names, and the three relations.
+fn write_relations(
+    places: Starts,
+    sizes: Sizes,
+    symbols: &[u8],
+    code: &[u16],
+    user_sets: &[u8; FAMILY_BYTES],
+    role_sets: &[u8; FAMILY_BYTES],
+    type_sets: &[u8; FAMILY_BYTES],
+    table: &mut [u8],
+)
+    ensures { λ _. ⌜ WritesRelations places sizes (now (symbols .entry)) (now (code .entry)) (now («user_sets» .entry)) (now («role_sets» .entry)) (now («type_sets» .entry))
+        (now (table .entry)) (now (table .exit)) ⌝ }
+{
+    body_writer::copy(symbols, sizes.names, table, FIRST_BODY);
+    body_writer::write_relation(
+        code,
+        Relation::UserRole,
+        user_sets,
+        role_sets,
+        table,
+        places.user_roles,
+        sizes.users,
+        Role::SET_BYTES,
+    );
+    write_role_relations(places, sizes, code, role_sets, type_sets, table);
+}
+
+// Bodies 5 to 7: transitions, constraints and their rows.
+fn write_rules(
+    places: Starts,
+    sizes: Sizes,
+    code: &[u16],
+    constraints: &[u8],
+    rows: &[u8],
+    role_sets: &[u8; FAMILY_BYTES],
+    type_sets: &[u8; FAMILY_BYTES],
+    table: &mut [u8],
+)
+    ensures { λ _. ⌜ WritesRules places sizes (now (code .entry)) (now (constraints .entry)) (now (rows .entry)) (now («role_sets» .entry)) (now («type_sets» .entry))
+        (now (table .entry)) (now (table .exit)) ⌝ }
+{
+    body_writer::write_transitions(code, role_sets, type_sets, table, places.transitions);
+    let heads = past(0, sizes.constraints, CONSTRAINT_BYTES);
+    body_writer::copy(constraints, heads, table, places.constraints);
+    let tails = past(0, sizes.rows, ROW_BYTES);
+    body_writer::copy(rows, tails, table, places.rows);
+}
+
+// Body 8: the sets of the attributes of each family.
+fn write_attributes(
+    places: Starts,
+    sizes: Sizes,
+    user_sets: &[u8; FAMILY_BYTES],
+    role_sets: &[u8; FAMILY_BYTES],
+    type_sets: &[u8; FAMILY_BYTES],
+    table: &mut [u8],
+)
+    ensures { λ _. ⌜ WritesAttributes places sizes (now («user_sets» .entry)) (now («role_sets» .entry)) (now («type_sets» .entry))
+        (now (table .entry)) (now (table .exit)) ⌝ }
+{
+    body_writer::write_sets(
+        user_sets,
+        sizes.user_attributes,
+        User::SET_BYTES,
+        table,
+        places.user_sets,
+    );
+    body_writer::write_sets(
+        role_sets,
+        sizes.role_attributes,
+        Role::SET_BYTES,
+        table,
+        places.role_sets,
+    );
+    body_writer::write_sets(
+        type_sets,
+        sizes.type_attributes,
+        Type::SET_BYTES,
+        table,
+        places.type_sets,
+    );
+}
+
+// Writes the table of these sizes. Names, constraints and rows are copied; the rest is made from the code and the final sets.
+pub fn write_table(
+    sizes: Sizes,
+    symbols: &[u8],
+    code: &[u16],
+    constraints: &[u8],
+    rows: &[u8],
+    user_sets: &[u8; FAMILY_BYTES],
+    role_sets: &[u8; FAMILY_BYTES],
+    type_sets: &[u8; FAMILY_BYTES],
+    table: &mut [u8],
+)
+    ensures { λ _. ⌜ WritesTable sizes (now (symbols .entry)) (now (code .entry)) (now (constraints .entry)) (now (rows .entry))
+        (now («user_sets» .entry)) (now («role_sets» .entry)) (now («type_sets» .entry)) (now (table .entry)) (now (table .exit)) ⌝ }
+{
+    let places = body_starts(sizes);
+    write_header(places, table);
+    write_relations(
+        places,
+        sizes,
+        symbols,
+        code,
+        user_sets,
+        role_sets,
+        type_sets,
+        table,
+    );
+    write_rules(
+        places,
+        sizes,
+        code,
+        constraints,
+        rows,
+        role_sets,
+        type_sets,
+        table,
+    );
+    write_attributes(places, sizes, user_sets, role_sets, type_sets, table);
+}
