@@ -128,22 +128,31 @@ fitting i lent n h = by (leb (length (encode i)) (length lent)) h
     by true g = (sym (ap lengthIn g), refl)
     by false g = absurd (false≢true (ap isAccepted g))
 
--- DEMAND 3 in terms of the text and the lent memory alone
-pub demand-3 : (text lent : List ℕ) (n : ℕ) → outcome text (length lent) ≡ accepted n → TableAnswers text lent n
+-- an accepted text has statements, and the first n bytes of the memory are their table
+pub record Accepts (text lent : List ℕ) (n : ℕ) : Type 0 where
+  pub statements : Policy
+  pub read : policyOf text ≡ policy statements
+  pub table : take n (after text lent) ≡ encode (imageOf statements)
+
+pub accepted-table : (text lent : List ℕ) (n : ℕ) → outcome text (length lent) ≡ accepted n → Accepts text lent n
 unfolding outcome after compiledBy
-demand-3 text lent n h = by (policyOf text) refl
+accepted-table text lent n h = by (policyOf text) refl
   where
-    by : (r : Read) → policyOf text ≡ r → TableAnswers text lent n
+    by : (r : Read) → policyOf text ≡ r → Accepts text lent n
     by (refused k at) e = absurd (false≢true (ap isAccepted (ap outcomeOf (sym (compiled-by text (length lent) (refused k at) e)) ∙ h)))
     by (policy p) e =
         let fits = fitting (imageOf p) lent n (ap outcomeOf (sym (compiled-by text (length lent) (policy p) e)) ∙ h) in
         let memory : after text lent ≡ encode (imageOf p) ++ drop (length (encode (imageOf p))) lent =
         ap (λ (c : Compiled). afterOf c lent) (compiled-by text (length lent) (policy p) e) ∙ fits .1 in
-        let table : take n (after text lent) ≡ encode (imageOf p) =
-        rw (memory, fits .0) (front (encode (imageOf p)) (drop (length (encode (imageOf p))) lent)) in
-        record {
-          statements = p;
-          read = e;
-          answers = λ behind q. ap (λ (t : List ℕ). changeOn (t ++ behind) q) table ∙ table-answers text p e behind q;
-          never-refused = declared-unrefused p;
-        }
+        record { statements = p; read = e; table = rw (memory, fits .0) (front (encode (imageOf p)) (drop (length (encode (imageOf p))) lent)) }
+
+-- DEMAND 3 in terms of the text and the lent memory alone
+pub demand-3 : (text lent : List ℕ) (n : ℕ) → outcome text (length lent) ≡ accepted n → TableAnswers text lent n
+demand-3 text lent n h =
+    let a = accepted-table text lent n h in
+    record {
+      statements = a .statements;
+      read = a .read;
+      answers = λ behind q. ap (λ (t : List ℕ). changeOn (t ++ behind) q) (a .table) ∙ table-answers text (a .statements) (a .read) behind q;
+      never-refused = declared-unrefused (a .statements);
+    }

@@ -1,0 +1,20 @@
+-- `compiler::compile_statements` meets its contract, by what the parser left. Assumes nothing.
+use mathlib.Core.Path.{refl, _∙_}
+use borrow.Author.Needs.{needs}
+use Rattle.policy.specs.Statements.{types}
+use Rattle.compiler.proofs.Held.{symbols-held, things-counted, names-taken, code-taken, constraints-taken, rows-taken}
+use Rattle.compiler.proofs.compile_statements.Statement.{statement}
+use Rattle.compiler.proofs.compile_statements.Tie as tie
+
+returns : tie.Need-returns
+returns c = record {
+  says = λ p lent h.
+      let sizes = c .before .before .before .before .before .before .before .before .before .before .before .sizes-of .ensures .says p lent _ refl h in
+      c .before .before .resolve-and-write .ensures .says p (h .accepted) (c .before .before .before .before .before .before .before .units .ensures ∙ code-taken h) sizes
+      (things-counted p types (symbols-held h) (c .before .before .before .before .before .before .before .before .before .count .ensures) refl) (names-taken h sizes) (constraints-taken h sizes) (rows-taken h sizes);
+}
+
+pub compile-statements-spec : {M : Type 1} → statement M
+compile-statements-spec =
+    tie.close
+    (tie.spec (λ c κs. search needs) (λ c κs. search needs) (λ c κs. search needs) (λ c κs. search needs) (λ c. search needs) returns)

@@ -1,0 +1,28 @@
+-- `compiler::resolve_and_write` meets its contract: 8, 9, or what is fitted. Assumes nothing.
+use borrow.Author.Needs.{needs}
+use Rattle.compiler.proofs.Giving.{refused-8, refused-9, passes}
+use Rattle.compiler.proofs.resolve_and_write.Statement.{statement}
+use Rattle.compiler.proofs.resolve_and_write.Tie as tie
+
+returns : tie.Need-returns
+returns c = record {
+  says = λ p ok code sizes ts names cs rs. refused-8 (c .before .before .before .before .resolve .ensures p ok code (sizes .users) (sizes .roles) ts) _ (c .before .before .resolved .given .1) (c .refusal .ensures);
+}
+
+returns-2 : tie.Need-returns-2
+returns-2 c = record {
+  says = λ p ok code sizes ts names cs rs. refused-9 (c .before .before .before .before .resolve .ensures p ok code (sizes .users) (sizes .roles) ts) _ (c .before .before .resolved2 .given .1) (c .refusal2 .ensures);
+}
+
+returns-3 : tie.Need-returns-3
+returns-3 c = record {
+  says = λ p ok code sizes ts names cs rs.
+      let resolves = c .before .before .before .before .before .before .before .before .before .resolve .ensures p ok code (sizes .users) (sizes .roles) ts in
+      passes resolves (c .before .before .before .before .before .before .before .enum-told .given .1)
+      (c .before .before .write-fitting .ensures .says p (record { accepted = ok; code = code; user-sets = resolves .user-sets; role-sets = resolves .role-sets; type-sets = resolves .type-sets }) sizes names cs rs);
+}
+
+pub resolve-and-write-spec : {M : Type 1} → statement M
+resolve-and-write-spec =
+    tie.close
+    (tie.spec (λ c κs. search needs) (λ c. search needs) (λ c κs. search needs) (λ c. search needs) (λ c κs. search needs) (λ c. search needs) (λ c κs. search needs) returns returns-2 (λ c. search needs) returns-3)

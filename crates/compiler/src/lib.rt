@@ -1,0 +1,206 @@
+// The passes in their order: text and lent memory in, the answer out. What one pass leaves for the next stands in local arrays, and the lent memory is
+// written to only when all refusals are past.
+ghost use mathlib.Core.Path.{_≡_};
+ghost use lib.ListN.{take};
+ghost use Rattle.compiler.specs.Passes.{Measures, Fits, ResolvesAndWrites, CompilesStatements, CompilesClean};
+ghost use Rattle.compiler.specs.Promise.{Compiles};
+use constrain_statement::CONSTRAINT_BYTES;
+use constrain_statement::ROW_BYTES;
+use declarations::SYMBOL_BYTES;
+use lexer::Scanned;
+use lexer::Text;
+use parser::CODE_UNITS;
+use parser::Parsed;
+use parser::Progress;
+use policy::Compiling;
+use resolver::FAMILY_BYTES;
+use resolver::Resolved;
+use table_writer::Sizes;
+
+// The numbers of the sorts of names in the symbols.
+struct SortNumber;
+
+impl SortNumber {
+    const USER: usize = 0;
+
+    const ROLE: usize = 1;
+
+    const TYPE: usize = 2;
+
+    const USER_ATTRIBUTE: usize = 3;
+
+    const ROLE_ATTRIBUTE: usize = 4;
+
+    const TYPE_ATTRIBUTE: usize = 5;
+}
+
+// The numbers of the faults that are found here.
+struct Fault;
+
+impl Fault {
+    const TEXT_TOO_LONG: usize = 1;
+
+    const WRONG_BYTE: usize = 2;
+
+    const CYCLE: usize = 8;
+
+    const CLASH: usize = 9;
+
+    const TABLE_TOO_SHORT: usize = 10;
+}
+
+// The sizes of the table of the statements that were read.
+fn sizes_of(progress: Progress, symbols: &[u8]) -> Sizes
+    ensures { λ r. ⌜ Measures progress (now (symbols .entry)) r ⌝ }
+{
+    let end = progress.symbols;
+    Sizes {
+        names: end,
+        users: declarations::count(symbols, end, SortNumber::USER),
+        roles: declarations::count(symbols, end, SortNumber::ROLE),
+        transitions: progress.transitions,
+        constraints: progress.constraints,
+        rows: progress.rows,
+        user_attributes: declarations::count(symbols, end, SortNumber::USER_ATTRIBUTE),
+        role_attributes: declarations::count(symbols, end, SortNumber::ROLE_ATTRIBUTE),
+        type_attributes: declarations::count(symbols, end, SortNumber::TYPE_ATTRIBUTE),
+    }
+}
+
+// The first units of the code.
+fn units(code: &[u16], end: usize) -> &[u16]
+    ensures { λ r. ⌜ now r ≡ take end (now (code .entry)) ⌝ }
+{
+    if code.len() < end {
+        return code;
+    }
+    &code[..end]
+}
+
+// Every refusal is made here.
+fn refusal(number: usize, place: usize) -> Compiling
+    ensures { λ r. ⌜ r ≡ Compiling.Refused number place ⌝ }
+{
+    Compiling::Refused { number, place }
+}
+
+// Fault 10, or the table is written.
+fn write_fitting(
+    sizes: Sizes,
+    symbols: &[u8],
+    code: &[u16],
+    constraints: &[u8],
+    rows: &[u8],
+    user_sets: &[u8; FAMILY_BYTES],
+    role_sets: &[u8; FAMILY_BYTES],
+    type_sets: &[u8; FAMILY_BYTES],
+    table: &mut [u8],
+) -> Compiling
+    ensures { λ r. ⌜ Fits sizes (now (symbols .entry)) (now (code .entry)) (now (constraints .entry)) (now (rows .entry))
+        (now («user_sets» .entry)) (now («role_sets» .entry)) (now («type_sets» .entry)) (now (table .entry)) (now (table .exit)) r ⌝ }
+{
+    let length = table_writer::needed(sizes);
+    if table.len() < length {
+        return refusal(Fault::TABLE_TOO_SHORT, length);
+    }
+    table_writer::write_table(
+        sizes,
+        symbols,
+        code,
+        constraints,
+        rows,
+        user_sets,
+        role_sets,
+        type_sets,
+        table,
+    );
+    Compiling::Accepted { length }
+}
+
+// Faults 8 and 9, then the table with the final sets.
+fn resolve_and_write(
+    sizes: Sizes,
+    types: usize,
+    symbols: &[u8],
+    code: &[u16],
+    constraints: &[u8],
+    rows: &[u8],
+    table: &mut [u8],
+) -> Compiling
+    ensures { λ r. ⌜ ResolvesAndWrites sizes types (now (symbols .entry)) (now (code .entry)) (now (constraints .entry)) (now (rows .entry)) (now (table .entry)) (now (table .exit)) r ⌝ }
+{
+    let mut user_sets = [0u8; FAMILY_BYTES];
+    let mut role_sets = [0u8; FAMILY_BYTES];
+    let mut type_sets = [0u8; FAMILY_BYTES];
+    let resolved = resolver::resolve(
+        code,
+        sizes.users,
+        sizes.roles,
+        types,
+        &mut user_sets,
+        &mut role_sets,
+        &mut type_sets,
+    );
+    match resolved {
+        Resolved::Cycle(place) => refusal(Fault::CYCLE, place),
+        Resolved::Clash(place) => refusal(Fault::CLASH, place),
+        Resolved::Sound => write_fitting(
+            sizes,
+            symbols,
+            code,
+            constraints,
+            rows,
+            &user_sets,
+            &role_sets,
+            &type_sets,
+            table,
+        ),
+    }
+}
+
+// Statements without fault 3 to 7.
+fn compile_statements(
+    progress: Progress,
+    symbols: &[u8; SYMBOL_BYTES],
+    code: &[u16; CODE_UNITS],
+    constraints: &[u8; CONSTRAINT_BYTES],
+    rows: &[u8; ROW_BYTES],
+    table: &mut [u8],
+) -> Compiling
+    ensures { λ r. ⌜ CompilesStatements progress (now (symbols .entry)) (now (code .entry)) (now (constraints .entry)) (now (rows .entry))
+        (now (table .entry)) (now (table .exit)) r ⌝ }
+{
+    let sizes = sizes_of(progress, symbols);
+    let types = declarations::count(symbols, progress.symbols, SortNumber::TYPE);
+    let used = units(code, progress.code);
+    resolve_and_write(sizes, types, symbols, used, constraints, rows, table)
+}
+
+// A text without fault 1 or 2: its statements are read, with faults 3 to 7.
+fn compile_clean(text: &[u8], table: &mut [u8]) -> Compiling
+    ensures { λ r. ⌜ CompilesClean (now (text .entry)) (now (table .entry)) (now (table .exit)) r ⌝ }
+{
+    let mut symbols = [0u8; SYMBOL_BYTES];
+    let mut code = [0u16; CODE_UNITS];
+    let mut constraints = [0u8; CONSTRAINT_BYTES];
+    let mut rows = [0u8; ROW_BYTES];
+    let parsed = parser::parse(text, &mut symbols, &mut code, &mut constraints, &mut rows);
+    match parsed {
+        Parsed::Accepted(progress) => {
+            compile_statements(progress, &symbols, &code, &constraints, &rows, table)
+        }
+        Parsed::Refused { number, place } => refusal(number, place),
+    }
+}
+
+// Compiles a text: its table stands at the start of the lent memory, or a refusal 1 to 10 is answered and the lent memory is as it was.
+pub fn compile(text: &[u8], table: &mut [u8]) -> Compiling
+    ensures { λ r. ⌜ Compiles (now (text .entry)) (now (table .entry)) (now (table .exit)) r ⌝ }
+{
+    let scanned = lexer::scan(text);
+    match scanned {
+        Scanned::TooLong => refusal(Fault::TEXT_TOO_LONG, Text::MAX),
+        Scanned::Wrong(place) => refusal(Fault::WRONG_BYTE, place),
+        Scanned::Clean => compile_clean(text, table),
+    }
+}
