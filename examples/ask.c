@@ -17,19 +17,13 @@ static void print_name(const char *what, uint64_t sort, uint64_t number) {
     printf("%s%.*s", what, (int)name.length, (const char *)table + name.start);
 }
 
-/* The first number below n of which the question holds, else n. */
-static uint64_t first_role_of(uint64_t user) {
-    tegzhumbi_part roles = tegzhumbi_entry(table, sizeof table, 2, user);
-    for (uint64_t role = 0; role < 8 * (uint64_t)roles.length; role++)
-        if (table[roles.start + role / 8] >> (role % 8) & 1) return role;
-    return 8 * (uint64_t)roles.length;
-}
-
-static uint64_t first_type_of(uint64_t role) {
-    tegzhumbi_part types = tegzhumbi_entry(table, sizeof table, 3, role);
-    for (uint64_t type = 0; type < 8 * (uint64_t)types.length; type++)
-        if (table[types.start + type / 8] >> (type % 8) & 1) return type;
-    return 8 * (uint64_t)types.length;
+/* The first number of the set at a place of a body; a number past all of its bits where it has none. */
+static uint64_t first_of(uint64_t body, uint64_t place) {
+    tegzhumbi_part set = tegzhumbi_entry(table, sizeof table, body, place);
+    uint64_t bits = 8 * (uint64_t)set.length;
+    for (uint64_t number = 0; number < bits; number++)
+        if (table[set.start + number / 8] >> (number % 8) & 1) return number;
+    return bits;
 }
 
 int main(void) {
@@ -43,7 +37,8 @@ int main(void) {
     /* what stands behind the table does not matter */
     memset(table + compiled.place, 0xa5, sizeof table - compiled.place);
 
-    uint64_t role = first_role_of(0), type = first_type_of(role);
+    /* body 2: the roles of each user; body 3: the types of each role */
+    uint64_t role = first_of(2, 0), type = first_of(3, role);
     print_name("context ", 0, 0);
     print_name(" ", 1, role);
     print_name(" ", 2, type);

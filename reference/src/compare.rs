@@ -69,6 +69,8 @@ pub enum Case {
     Sound(Vec<u8>),
     /// The text of the table, shrunk, and the question.
     Question(Vec<u8>, Question),
+    /// A damaged table, and the question.
+    Damaged(Vec<u8>, Question),
 }
 
 impl fmt::Display for Difference {
@@ -78,6 +80,7 @@ impl fmt::Display for Difference {
             Case::Compile(text) => write!(f, "compiling differs on {}", shown(text))?,
             Case::Sound(table) => write!(f, "soundness differs on the table {table:?}")?,
             Case::Question(text, question) => write!(f, "the answer to {question:?} differs on {}", shown(text))?,
+            Case::Damaged(table, question) => write!(f, "the answer to {question:?} differs on the table {table:?}")?,
         }
         write!(f, "\n this program: {}\n the library:  {}", self.here, self.there)
     }
@@ -139,13 +142,14 @@ fn compare_scans(library: &Library, text: &[u8], random: &mut Random, tally: &mu
     None
 }
 
-/// The layers behind the scan: the policy, damaged or not, compiled; its table, damaged, judged; its table asked.
+/// The layers behind the scan: the policy, damaged or not, compiled; its table, damaged, judged and asked; its table asked.
 fn compare_policy(library: &Library, mut text: Vec<u8>, random: &mut Random, tally: &mut Tally) -> Option<Difference> {
     for _ in 0..random.below(3) {
         text = damage(random, &text);
     }
     compare_compile(library, &text, random, tally)
         .or_else(|| compare_sound(library, &text, random, tally))
+        .or_else(|| compare_damaged(library, &text, random, tally))
         .or_else(|| compare_answers(library, &text, random, tally))
 }
 
@@ -181,6 +185,18 @@ fn compare_sound(library: &Library, text: &[u8], random: &mut Random, tally: &mu
     let there = if theirs(&table) { "sound" } else { "unsound" }.to_string();
     let here = decode(&table).err().map_or("sound".to_string(), |reason| format!("unsound: {reason}"));
     Some(Difference { case: Case::Sound(table), here, there })
+}
+
+/// A question in numbers of the table before the damage: 11, unless what came of it is still sound.
+fn compare_damaged(library: &Library, text: &[u8], random: &mut Random, tally: &mut Tally) -> Option<Difference> {
+    let theirs = library.answer?;
+    let whole = table_of(text).ok()?;
+    let table = flip(random, &whole);
+    let question = ask(random, &decode(&whole).expect("a written table is sound"));
+    tally.questions += 1;
+    let here = question_line(&table, &question).expect("a known kind");
+    let there = theirs(&table, &question);
+    (here != there).then(|| Difference { case: Case::Damaged(table, question), here, there })
 }
 
 fn compare_answers(library: &Library, text: &[u8], random: &mut Random, tally: &mut Tally) -> Option<Difference> {
@@ -362,6 +378,17 @@ mod tests {
         let (_, difference) = compare(&Library { is_sound: Some(|_| true), ..itself() }, 60, 7);
         let difference = difference.expect("a table is not sound");
         assert!(matches!(difference.case, Case::Sound(_)) && difference.here.starts_with("unsound: "), "{difference}");
+    }
+
+    #[test]
+    fn finds_a_damaged_table_that_is_answered() {
+        // Says of a number that it is not declared where the table is not sound.
+        fn slipped(table: &[u8], question: &Question) -> String {
+            question_line(table, question).unwrap().replace("refused 11", "refused 12")
+        }
+        let (_, difference) = compare(&Library { answer: Some(slipped), ..itself() }, 60, 7);
+        let difference = difference.expect("a table is not sound");
+        assert!(matches!(difference.case, Case::Damaged(..)) && difference.here == "refused 11", "{difference}");
     }
 
     #[test]

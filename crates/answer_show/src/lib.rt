@@ -21,8 +21,8 @@ fn refused(number: usize) {
     line_end();
 }
 
-// `accepted 264` or `refused 5 at 8`, and the number behind it.
-pub fn show_compiling(answer: Compiling, also: usize) {
+// `accepted 264` or `refused 5 at 8`, without the line's end.
+fn compiled(answer: Compiling) {
     match answer {
         Compiling::Accepted { length } => numbered(b"accepted ", length),
         Compiling::Refused { number, place } => {
@@ -30,7 +30,17 @@ pub fn show_compiling(answer: Compiling, also: usize) {
             numbered(b" at ", place);
         }
     }
-    numbered(b" ", also);
+}
+
+pub fn show_compiling(answer: Compiling) {
+    compiled(answer);
+    line_end();
+}
+
+// The same, and a checksum behind it.
+pub fn show_compiling_and(answer: Compiling, checksum: usize) {
+    compiled(answer);
+    numbered(b" ", checksum);
     line_end();
 }
 
@@ -88,4 +98,10 @@ pub fn show_place(answer: Place) {
         }
         Place::Refused { number } => refused(number),
     }
+}
+
+pub fn show_name(name: &[u8]) {
+    io::write_all(STDOUT_FILENO, b"name ");
+    io::write_all(STDOUT_FILENO, name);
+    line_end();
 }

@@ -57,7 +57,7 @@ fn show(text: &[u8], memory: &mut [u8], lent: usize)
     let table = &mut memory[..lent];
     prepare(table);
     let answer = compiler::compile(text, table);
-    answer_show::show_compiling(answer, checksum(table));
+    answer_show::show_compiling_and(answer, checksum(table));
 }
 
 // Reads a text of that length and compiles it in so much memory; answers whether there was one.

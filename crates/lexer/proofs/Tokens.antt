@@ -1,6 +1,7 @@
 -- How the tokens of a text go on by a byte, over a comment and over a word: what the loop of `next` does, stated once.
 -- Assumes nothing.
-use mathlib.Core.Path.{_≡_, refl, sym, ap, _∙_}
+use mathlib.Core.Path.{_≡_, refl, sym, ap, subst⁻¹, _∙_}
+use mathlib.Core.Logic.{⊎-elim}
 use mathlib.Core.Bool.{Bool, true, false}
 use mathlib.Core.List.{List, [], _∷_, _++_}
 use Prim.Native.Nat.{ℕ, _+_, _-_, _≤_, _<_}
@@ -11,7 +12,7 @@ use lib.Seq.{drop-cons}
 use types.Run.{OneOf}
 use Rattle.lexer.specs.Class.{classOf, goesOn, endsComment}
 use Rattle.lexer.specs.Scan.{Mode, between, inComment, inName}
-use Rattle.lexer.specs.Token.{betweenThen, ownToken, modeThen, ending, tokensFrom, firstOf}
+use Rattle.lexer.specs.Token.{betweenThen, ownToken, modeThen, ending, tokensFrom, tokensAt, firstOf, tokenAt}
 use Rattle.lexer.specs.Answers.{firstFrom, endsWord, commentEnd, wordEnd}
 use Rattle.lexer.specs.declared.ByteClass.{ByteClass}
 use Rattle.lexer.specs.declared.ByteClass.the-variants.{Blank, LineFeed, Comment, Open, Close, Letter, Digit, Wrong}
@@ -92,3 +93,25 @@ word-first (b ∷ bs) first len at e = go (goesOn (classOf b)) refl (word-first 
 
 pub word-here : (t : List ℕ) (at : ℕ) → firstOf (tokensFrom (drop (at + 1) t) (inName at 1) (at + 1)) ≡ Token.Word at (wordEnd t (at + 1) - at)
 word-here t at = word-first (drop (at + 1) t) at 1 (at + 1) refl
+
+-- ---- a token by the byte at its place alone
+
+space-like : (at b : ℕ) → OneOf (10 ∷ 32 ∷ []) b → Leads at (classOf b) between
+unfolding classOf
+space-like at b h =
+    ⊎-elim (λ e. subst⁻¹ (λ (x : ℕ). Leads at (classOf x) between) e (record { no-token = refl; to = refl }))
+    (λ e. subst⁻¹ (λ (x : ℕ). Leads at (classOf x) between) e (record { no-token = refl; to = refl }))
+    h
+
+module _ (t : List ℕ) (at : ℕ) where
+  pub over-space : at < length t → OneOf (10 ∷ 32 ∷ []) (getD t at 0) → tokenAt t (at + 1) ≡ tokenAt t at
+  unfolding tokenAt tokensAt
+  over-space h e = sym (ap firstOf (turn t at (classOf (getD t at 0)) between h refl (space-like at (getD t at 0) e)))
+
+  pub by-itself : (b : ℕ) (r : Token) → at < length t → getD t at 0 ≡ b → ownToken at (classOf b) ≡ r ∷ [] → r ≡ tokenAt t at
+  unfolding tokenAt tokensAt
+  by-itself b r h e f = sym (stop t at (classOf b) r h (ap classOf (sym e)) f)
+
+  pub no-token-left : length t ≤ at → Token.End ≡ tokenAt t at
+  unfolding tokenAt tokensAt
+  no-token-left h = sym (ap firstOf (last t at h))

@@ -1,9 +1,10 @@
 -- What the answers of the lexer's own functions say of a text. Assumes nothing.
-use Prim.Native.Nat.{ℕ, _+_}
+use Prim.Native.Nat.{ℕ, _+_, _<_}
+use mathlib.Core.Path.{_≡_}
 use Prim.Native.Char.{code}
 use mathlib.Core.Bool.{Bool, true, false, not}
 use mathlib.Core.List.{List, [], _∷_}
-use lib.ListN.{drop}
+use lib.ListN.{getD, drop}
 use Rattle.lexer.specs.Class.{classOf, goesOn, endsComment}
 use Rattle.lexer.specs.Scan.{between, inComment, inName, State, going, stopped}
 use Rattle.lexer.specs.declared.ByteClass.{ByteClass}
@@ -20,6 +21,10 @@ markOf Close = code ")"
 markOf Letter = code "a"
 markOf Digit = code "d"
 markOf Wrong = code "."
+
+-- "One table of 256 entries says what each byte is": a table that has the mark of each byte's class
+pub record Classes (table : List ℕ) : Type 0 where
+  pub mark : (b : ℕ) → b < 256 → getD table b 0 ≡ markOf (classOf b)
 
 -- a name goes on with the first of the bytes, if there is one
 abbrev pub goesOnWith : List ℕ → Bool

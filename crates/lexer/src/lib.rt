@@ -6,7 +6,7 @@ ghost use Rattle.lexer.specs.Class.{classOf, goesOn, endsComment};
 ghost use Rattle.lexer.specs.Scan as spec;
 ghost use Rattle.lexer.specs.Scan.{stepBetween};
 ghost use Rattle.lexer.specs.Token.{tokenAt};
-ghost use Rattle.lexer.specs.Answers.{markOf, goesOnWith, commentEnd, wordEnd, stateOf};
+ghost use Rattle.lexer.specs.Answers.{markOf, Classes, goesOnWith, commentEnd, wordEnd, stateOf};
 
 // A text: how many bytes it may have.
 pub struct Text;
@@ -75,18 +75,27 @@ const CLASSES: [u8; 256] = *b"\
     ................................\
     ................................";
 
-// The mark of a byte's class, by the table.
-fn mark_of(b: u8) -> u8
-    ensures { λ r. ⌜ r ≡ markOf (classOf b) ⌝ }
+// The table, to be lent: each use of the constant itself would write all its bytes anew.
+fn class_table() -> [u8; 256]
+    ensures { λ r. ⌜ Classes r ⌝ }
 {
-    CLASSES[b as usize]
+    CLASSES
 }
 
-// What a byte is.
-pub fn class_of(b: u8) -> ByteClass
+// The mark of a byte's class, by the table that is lent.
+fn mark_in(classes: &[u8; 256], b: u8) -> u8
+    requires { ⌜ Classes (now classes) ⌝ }
+    ensures { λ r. ⌜ r ≡ markOf (classOf b) ⌝ }
+{
+    classes[b as usize]
+}
+
+// What a byte is, by the table that is lent.
+fn class_in(classes: &[u8; 256], b: u8) -> ByteClass
+    requires { ⌜ Classes (now classes) ⌝ }
     ensures { λ r. ⌜ r ≡ classOf b ⌝ }
 {
-    let mark = mark_of(b);
+    let mark = mark_in(classes, b);
     match mark {
         b'b' => ByteClass::Blank,
         b'n' => ByteClass::LineFeed,
@@ -97,6 +106,14 @@ pub fn class_of(b: u8) -> ByteClass
         b'd' => ByteClass::Digit,
         _ => ByteClass::Wrong,
     }
+}
+
+// What a byte is.
+pub fn class_of(b: u8) -> ByteClass
+    ensures { λ r. ⌜ r ≡ classOf b ⌝ }
+{
+    let classes = class_table();
+    class_in(&classes, b)
 }
 
 // Whether a name goes on with a byte of the class.
@@ -120,12 +137,13 @@ fn ends_comment(class: ByteClass) -> bool
 }
 
 // Where the comment ends that is under way at a place: at its line feed, or with the text.
-fn comment_end(text: &[u8], at: usize) -> usize
+fn comment_end(classes: &[u8; 256], text: &[u8], at: usize) -> usize
+    requires { ⌜ Classes (now classes) ⌝ }
     ensures { λ r. ⌜ r ≡ commentEnd (now (text .entry)) at ⌝ }
 {
     let mut i = at;
     while i < text.len() {
-        if ends_comment(class_of(text[i])) {
+        if ends_comment(class_in(classes, text[i])) {
             return i;
         }
         i += 1;
@@ -134,21 +152,23 @@ fn comment_end(text: &[u8], at: usize) -> usize
 }
 
 // Whether there is a byte at a place with which a name goes on.
-fn name_goes_on(text: &[u8], at: usize) -> bool
+fn name_goes_on(classes: &[u8; 256], text: &[u8], at: usize) -> bool
+    requires { ⌜ Classes (now classes) ⌝ }
     ensures { λ r. ⌜ r ≡ goesOnWith (drop at (now (text .entry))) ⌝ }
 {
     if text.len() <= at {
         return false;
     }
-    goes_on(class_of(text[at]))
+    goes_on(class_in(classes, text[at]))
 }
 
 // Where the word ends that is under way at a place: at the first byte that does not go on a name, or with the text.
-fn word_end(text: &[u8], at: usize) -> usize
+fn word_end(classes: &[u8; 256], text: &[u8], at: usize) -> usize
+    requires { ⌜ Classes (now classes) ⌝ }
     ensures { λ r. ⌜ r ≡ wordEnd (now (text .entry)) at ⌝ }
 {
     let mut i = at;
-    while name_goes_on(text, i) {
+    while name_goes_on(classes, text, i) {
         i += 1;
     }
     i
@@ -185,8 +205,9 @@ fn step_between(level: usize, class: ByteClass) -> Step
     }
 }
 
-// Faults 1 and 2 of a text: none, or the first.
-pub fn scan(text: &[u8]) -> Scanned
+// Faults 1 and 2 of a text, by the table that is lent.
+fn scan_in(classes: &[u8; 256], text: &[u8]) -> Scanned
+    requires { ⌜ Classes (now classes) ⌝ }
     ensures { λ r. ⌜ r ≡ spec.scan (now (text .entry)) ⌝ }
 {
     if Text::MAX < text.len() {
@@ -201,17 +222,17 @@ pub fn scan(text: &[u8]) -> Scanned
             }
             break 'text at;
         }
-        let step = step_between(level, class_of(text[at]));
+        let step = step_between(level, class_in(classes, text[at]));
         match step {
             Step::Level(next) => {
                 level = next;
                 at += 1;
             }
-            Step::Comment => at = comment_end(text, at + 1),
+            Step::Comment => at = comment_end(classes, text, at + 1),
             Step::Name => {
                 let start = at;
                 at += 1;
-                while name_goes_on(text, at) {
+                while name_goes_on(classes, text, at) {
                     if Name::MAX <= at - start {
                         break 'text start;
                     }
@@ -224,24 +245,53 @@ pub fn scan(text: &[u8]) -> Scanned
     Scanned::Wrong(place)
 }
 
-// The first token at or after a place.
+// Faults 1 and 2 of a text: none, or the first.
+pub fn scan(text: &[u8]) -> Scanned
+    ensures { λ r. ⌜ r ≡ spec.scan (now (text .entry)) ⌝ }
+{
+    let classes = class_table();
+    scan_in(&classes, text)
+}
+
+// The first token at or after a place, by the table that is lent.
+fn next_in(classes: &[u8; 256], text: &[u8], at: usize) -> Token
+    requires { ⌜ Classes (now classes) ⌝ }
+    ensures { λ r. ⌜ r ≡ tokenAt (now (text .entry)) at ⌝ }
+{
+    let mut i = at;
+    while i < text.len() {
+        let class = class_in(classes, text[i]);
+        match class {
+            ByteClass::Blank | ByteClass::LineFeed | ByteClass::Wrong => i += 1,
+            ByteClass::Comment => i = comment_end(classes, text, i + 1),
+            ByteClass::Open => return Token::Open(i),
+            ByteClass::Close => return Token::Close(i),
+            ByteClass::Letter | ByteClass::Digit => {
+                let end = word_end(classes, text, i + 1);
+                return Token::Word {
+                    start: i,
+                    len: end - i,
+                };
+            }
+        }
+    }
+    Token::End
+}
+
+// The first token at or after a place. Behind spaces and line feeds a parenthesis is met without the table.
 pub fn next(text: &[u8], at: usize) -> Token
     ensures { λ r. ⌜ r ≡ tokenAt (now (text .entry)) at ⌝ }
 {
     let mut i = at;
     while i < text.len() {
-        let class = class_of(text[i]);
-        match class {
-            ByteClass::Blank | ByteClass::LineFeed | ByteClass::Wrong => i += 1,
-            ByteClass::Comment => i = comment_end(text, i + 1),
-            ByteClass::Open => return Token::Open(i),
-            ByteClass::Close => return Token::Close(i),
-            ByteClass::Letter | ByteClass::Digit => {
-                let end = word_end(text, i + 1);
-                return Token::Word {
-                    start: i,
-                    len: end - i,
-                };
+        let b = text[i];
+        match b {
+            b' ' | b'\n' => i += 1,
+            b'(' => return Token::Open(i),
+            b')' => return Token::Close(i),
+            _ => {
+                let classes = class_table();
+                return next_in(&classes, text, i);
             }
         }
     }

@@ -4,8 +4,8 @@ use mathlib.Core.Bool.{Bool, true, false, _&&_}
 use mathlib.Core.List.{List, [], _∷_}
 use Prim.Native.Nat.{ℕ, min, _+_, _-_}
 use native.Mathlib.Omega.{arith}
-use borrow.Author.Tests.{eq-eqb, ne-eqb}
-use lib.Dec.{eqb}
+use borrow.Author.Tests.{eq-eqb, ne-eqb, leb-true, leb-false}
+use lib.Dec.{eqb, leb}
 use lib.ListN.{length}
 use Rattle.bitset.specs.Parts.{part}
 use Rattle.policy.specs.Basics.{Name, same, le}
@@ -17,6 +17,7 @@ use Rattle.symbols.specs.declared.Entry.{Entry}
 use Rattle.symbols.specs.declared.Found.{Found}
 use Rattle.symbols.specs.declared.NamePlace.{NamePlace}
 use Rattle.symbols.proofs.PartLaws.{length-part, part-present, same-length}
+use Rattle.symbols.proofs.LookLaws.{none-past, begins}
 
 -- where no entry stands, none is left
 pub none-done : {t : List ℕ} {at end : ℕ} → EntryIs t at end Entry.Done → entriesAt t at end ≡ []
@@ -34,6 +35,22 @@ none-named f w es h = rw h
 pub none-numbered : (s n o : ℕ) (es : List NameEntry) → es ≡ [] → refused 12 0 ≡ nameFrom s n o es
 unfolding nameFrom
 none-numbered s n o es h = rw h
+
+-- the question of a name may begin where the walk starts, or at the end of the section where that comes first
+pub name-begins : (s n : ℕ) (t : List ℕ) (end last : ℕ) → last ≡ min end (length t) → (start first : ℕ) → first ≡ min start last
+    → nameFrom s n first (entriesAt t first last) ≡ nameFrom s n start (entriesAt t start end)
+name-begins s n t end last e start first f = go (leb start last) refl
+  where
+    read : entriesAt t first last ≡ entriesAt t start end
+    read = ap entriesRead (begins t end last e start first f)
+
+    go : (q : Bool) → leb start last ≡ q → nameFrom s n first (entriesAt t first last) ≡ nameFrom s n start (entriesAt t start end)
+    go true d =
+        let same : first ≡ start = omega (arith, f, leb-true start last d) in
+        ap (nameFrom s n first) read ∙ ap (λ (o : ℕ). nameFrom s n o (entriesAt t start end)) same
+    go false d =
+        let none = none-done (none-past t end last e start (leb-false start last d)) in
+        sym (none-numbered s n first (entriesAt t first last) (read ∙ none)) ∙ none-numbered s n start (entriesAt t start end) none
 
 -- where an entry stands, it is the first of those that are left
 module _ {t : List ℕ} {at end s n past : ℕ} (h : EntryIs t at end (Entry.Named s n past)) where

@@ -1,11 +1,17 @@
 -- What `look` says of the place that it looks at. Assumes nothing.
-use mathlib.Core.Path.{_≡_, sym, subst}
+use mathlib.Core.Path.{_≡_, refl, sym, ap, subst, _∙_}
+use mathlib.Core.Bool.{Bool, true, false}
 use mathlib.Core.List.{List}
 use Prim.Native.Nat.{ℕ, min, _+_, _-_, _*_, _≤_, _<_}
 use native.Mathlib.Omega.{arith}
+use borrow.Author.Tests.{leb-true, leb-false}
+use lib.Dec.{leb}
 use lib.ListN.{length, getD}
-use Rattle.symbols.specs.Section.{EntryIs}
+use Rattle.bitset.specs.Parts.{part}
+use Rattle.policy.specs.Encode.{nameEntry}
+use Rattle.symbols.specs.Section.{entry, sectionIn, between, sectionAt, EntryIs}
 use Rattle.symbols.specs.declared.Entry.{Entry}
+use Rattle.symbols.proofs.PartLaws.{part-present}
 use Rattle.symbols.proofs.SectionLaws.{at-entry, at-cut, at-end, at-short}
 
 -- what a caller of `look` knows of the answer k
@@ -39,3 +45,43 @@ module _ (t : List ℕ) (at end left : ℕ) (l : left ≡ min (end - at) (length
       number-two-bytes = omega arith;
     };
   }
+
+-- ---- a section that is cut at the end of its table reads as the whole
+
+module _ (t : List ℕ) (end last : ℕ) (e : last ≡ min end (length t)) where
+  pub cut-off : (at : ℕ) → sectionAt t at last ≡ sectionAt t at end
+  unfolding sectionAt
+  cut-off at =
+      let d : min (last - at) (length t - at) ≡ min (end - at) (length t - at) = omega (arith, e) in
+      ap sectionIn (sym (part-present t at (last - at)) ∙ ap (part t at) d ∙ part-present t at (end - at))
+
+  pub stands : (at : ℕ) (r : Entry) → EntryIs t at last r → EntryIs t at end r
+  stands at (Entry.Named s n past) h = record {
+    reads = sym (cut-off at) ∙ h .reads ∙ ap (entry (nameEntry s n (between t (at + 4) past))) (cut-off past);
+    within = record {
+      ahead = h .within .ahead;
+      near = h .within .near;
+      inside = omega (arith, e, h .within .inside);
+      stored = h .within .stored;
+      sort-byte = h .within .sort-byte;
+      number-two-bytes = h .within .number-two-bytes;
+    };
+  }
+  stands at Entry.Done h = record { reads = sym (cut-off at) ∙ h .reads; within = tt }
+  stands at Entry.Broken h = record { reads = sym (cut-off at) ∙ h .reads; within = tt }
+
+  -- none stands at a place past its end
+  pub none-past : (at : ℕ) → last < at → EntryIs t at end Entry.Done
+  none-past at h = is-end t at end 0 (omega (arith, e)) refl
+
+  -- so a walk may begin where it starts, or at the end where that comes first
+  pub begins : (start first : ℕ) → first ≡ min start last → sectionAt t first last ≡ sectionAt t start end
+  begins start first f = go (leb start last) refl
+    where
+      go : (q : Bool) → leb start last ≡ q → sectionAt t first last ≡ sectionAt t start end
+      go true d =
+          let same : first ≡ start = omega (arith, f, leb-true start last d) in
+          ap (λ (p : ℕ). sectionAt t p last) same ∙ cut-off start
+      go false d =
+          at-end t first last 0 (omega (arith, f, leb-false start last d)) refl
+          ∙ sym (at-end t start end 0 (omega (arith, e, leb-false start last d)) refl)

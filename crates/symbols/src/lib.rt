@@ -1,6 +1,6 @@
 // The symbol table, kept in the byte layout of body 1 of a table: an entry is its sort in 1 byte, its number in 2, its name's
 // length in 1, and the name's bytes. The memory is the caller's; the same functions serve the compiler and finished tables.
-// Parts that reach past the end of a slice are cut there, so that of these functions only `append` asks anything of its caller: room.
+// Parts that reach past the end of a slice are cut there, so that of the public functions only `append` and `copy` ask anything of their callers.
 ghost use mathlib.Core.Path.{_≡_};
 ghost use Prim.Native.Nat.{ℕ, min, _+_, _-_, _<_, _≤_};
 ghost use lib.ListN.{length};
@@ -55,32 +55,51 @@ fn present(total: usize, from: usize, len: usize) -> usize
     len
 }
 
-// The entry at a place of the section that ends at end.
-pub fn look(table: &[u8], at: usize, end: usize) -> Entry
+// The lesser of two places.
+fn lesser(a: usize, b: usize) -> usize
+    ensures { λ r. ⌜ r ≡ min a b ⌝ }
+{
+    if a < b {
+        return a;
+    }
+    b
+}
+
+// The entry at a place of the section that ends at end. Neither lies past the end of the table.
+fn entry_at(table: &[u8], at: usize, end: usize) -> Entry
+    requires { ⌜ (at ≤ end) × (end ≤ length (now table)) ⌝ }
     ensures { λ r. ⌜ EntryIs (now (table .entry)) at end r ⌝ }
 {
-    if end <= at {
-        return Entry::Done;
+    let name = at + 4;
+    if end < name {
+        if at == end {
+            return Entry::Done;
+        }
+        return Entry::Broken;
     }
-    let left = present(table.len(), at, end - at);
-    if left == 0 {
-        return Entry::Done;
-    }
-    if left < 4 {
+    let past = name + wide(table[at + 3]);
+    if end < past {
         return Entry::Broken;
     }
     let sort = wide(table[at]);
     let low = wide(table[at + 1]);
     let high = wide(table[at + 2]);
-    let len = wide(table[at + 3]);
-    if left - 4 < len {
-        return Entry::Broken;
-    }
     Entry::Named {
         sort,
         number: low + 256 * high,
-        past: at + 4 + len,
+        past,
     }
+}
+
+// The entry at a place of the section that ends at end.
+pub fn look(table: &[u8], at: usize, end: usize) -> Entry
+    ensures { λ r. ⌜ EntryIs (now (table .entry)) at end r ⌝ }
+{
+    let last = lesser(end, table.len());
+    if last < at {
+        return Entry::Done;
+    }
+    entry_at(table, at, last)
 }
 
 // Whether the len bytes of a at i and of b at j are the same.
@@ -130,17 +149,18 @@ pub fn find(
     ensures { λ r. ⌜ r ≡ firstNamed family (part (now (text .entry)) from len) (entriesAt (now (table .entry)) start end) ⌝ }
 {
     let long = present(text.len(), from, len);
-    let mut at = start;
+    let last = lesser(end, table.len());
+    let mut at = lesser(start, last);
     loop {
-        let k = look(table, at, end);
+        let k = entry_at(table, at, last);
         match k {
             Entry::Named { sort, number, past } => {
-                if family_of(sort, number) != family {
+                let size = past - at - 4;
+                if size != long {
                     at = past;
                     continue;
                 }
-                let size = past - at - 4;
-                if size != long {
+                if family_of(sort, number) != family {
                     at = past;
                     continue;
                 }
@@ -193,9 +213,10 @@ pub fn append(
 pub fn name_of(table: &[u8], start: usize, end: usize, sort: usize, number: usize) -> NamePlace
     ensures { λ r. ⌜ replyOf r ≡ nameFrom sort number start (entriesAt (now (table .entry)) start end) ⌝ }
 {
-    let mut at = start;
+    let last = lesser(end, table.len());
+    let mut at = lesser(start, last);
     loop {
-        let k = look(table, at, end);
+        let k = entry_at(table, at, last);
         match k {
             Entry::Named {
                 sort: s,
@@ -226,9 +247,10 @@ pub fn count(table: &[u8], start: usize, end: usize, sort: usize) -> usize
     ensures { λ r. ⌜ r ≡ countSort sort (entriesAt (now (table .entry)) start end) ⌝ }
 {
     let mut count: usize = 0;
-    let mut at = start;
+    let last = lesser(end, table.len());
+    let mut at = lesser(start, last);
     loop {
-        let k = look(table, at, end);
+        let k = entry_at(table, at, last);
         match k {
             Entry::Named { sort: s, past, .. } => {
                 at = past;

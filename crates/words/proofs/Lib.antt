@@ -1,3 +1,3 @@
+pub mod ByLength
 pub mod Meaning
-pub mod Search
 pub mod Table

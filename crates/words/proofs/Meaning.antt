@@ -32,22 +32,23 @@ same-is (x ∷ v) (y ∷ w) e =
     cc
 
 -- what holds at 0 if w is none of them, and at the number of each of them that is w, holds at the number of w
-by-cases : (P : ℕ → Type 0) (xs : List Name) (w : Name) (n : ℕ) → (isIn w xs ≡ false → P 0) → ((j : ℕ) → w ≡ getD xs j [] → P (n + j)) → P (numberIn xs w n)
+pub by-cases : (P : ℕ → Type 0) (xs : List Name) (w : Name) (n : ℕ) → (isIn w xs ≡ false → P 0)
+    → ((j : ℕ) → j < length xs → w ≡ getD xs j [] → P (n + j)) → P (numberIn xs w n)
 unfolding numberIn isIn any
 by-cases P [] w n a b = a refl
 by-cases P (x ∷ xs) w n a b = go (same w x) refl (λ h k. by-cases P xs w (n + 1) h k)
   where
-    go : (q : Bool) → same w x ≡ q → ((isIn w xs ≡ false → P 0) → ((j : ℕ) → w ≡ getD xs j [] → P (n + 1 + j)) → P (numberIn xs w (n + 1)))
+    go : (q : Bool) → same w x ≡ q → ((isIn w xs ≡ false → P 0) → ((j : ℕ) → j < length xs → w ≡ getD xs j [] → P (n + 1 + j)) → P (numberIn xs w (n + 1)))
         → P (elim (same w x) [ true ↦ n | false ↦ numberIn xs w (n + 1) ])
-    go true e i = rw e (rw (add-zero n) at (b 0 (same-is w x e)))
-    go false e i = rw e (i (λ h. a (rw e h)) (λ j h. subst P (omega arith) (b (suc j) h)))
+    go true e i = rw e (rw (add-zero n) at (b 0 (omega arith) (same-is w x e)))
+    go false e i = rw e (i (λ h. a (rw e h)) (λ j l h. subst P (omega arith) (b (suc j) (omega arith) h)))
 
 pub by-number : {B : Type 0} (meaning : Name → B) → ((v : Name) → isIn v words ≡ false → meaning v ≡ meaning []) → (w : Name)
     → meaning w ≡ meaning (wordOf (numberOf w))
 unfolding numberOf wordOf
 by-number meaning other w =
     by-cases (λ n. meaning w ≡ meaning (getD ([] ∷ words) n [])) words w 1 (other w)
-    (λ j h. let d : suc j ≡ 1 + j = omega arith in ap meaning h ∙ ap (λ (n : ℕ). meaning (getD ([] ∷ words) n [])) d)
+    (λ j l h. let d : suc j ≡ 1 + j = omega arith in ap meaning h ∙ ap (λ (n : ℕ). meaning (getD ([] ∷ words) n [])) d)
 
 -- ---- the meanings that policy names
 

@@ -23,8 +23,8 @@ compile-requires c κs = search needs
 checksum-requires : tie.Need-checksum-requires
 checksum-requires c κs = search needs
 
-show-compiling-requires : tie.Need-show-compiling-requires
-show-compiling-requires c κs = search needs
+show-compiling-and-requires : tie.Need-show-compiling-and-requires
+show-compiling-and-requires c κs = search needs
 
 same-length : tie.Need-same-length
 same-length c = search needs
@@ -42,6 +42,6 @@ show-spec =
     prepare-requires
     compile-requires
     checksum-requires
-    show-compiling-requires
+    show-compiling-and-requires
     same-length
     returns-2)

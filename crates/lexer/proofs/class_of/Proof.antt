@@ -1,39 +1,16 @@
--- `lexer::class_of` meets its contract: the mark of the byte's class names the class. Assumes nothing.
+-- `lexer::class_of` meets its contract: it lends the table. Assumes nothing.
 use borrow.Author.Needs.{needs}
-use Rattle.lexer.proofs.Marks.{marked, unmarked}
 use Rattle.lexer.proofs.class_of.Statement.{statement}
 use Rattle.lexer.proofs.class_of.Tie as tie
 
-mark-of-requires : tie.Need-mark-of-requires
-mark-of-requires c κs = search needs
+class-table-requires : tie.Need-class-table-requires
+class-table-requires c κs = search needs
+
+class-in-requires : tie.Need-class-in-requires
+class-in-requires c κs = c .before .class-table .ensures
 
 returns : tie.Need-returns
-returns c = marked _ _ _ (c .before .mark-of .ensures) (c .match .keys1)
-
-returns-2 : tie.Need-returns-2
-returns-2 c = marked _ _ _ (c .before .mark-of .ensures) (c .match .keys2)
-
-returns-3 : tie.Need-returns-3
-returns-3 c = marked _ _ _ (c .before .mark-of .ensures) (c .match .keys3)
-
-returns-4 : tie.Need-returns-4
-returns-4 c = marked _ _ _ (c .before .mark-of .ensures) (c .match .keys4)
-
-returns-5 : tie.Need-returns-5
-returns-5 c = marked _ _ _ (c .before .mark-of .ensures) (c .match .keys5)
-
-returns-6 : tie.Need-returns-6
-returns-6 c = marked _ _ _ (c .before .mark-of .ensures) (c .match .keys6)
-
-returns-7 : tie.Need-returns-7
-returns-7 c = marked _ _ _ (c .before .mark-of .ensures) (c .match .keys7)
-
-returns-8 : tie.Need-returns-8
-returns-8 c =
-    let r = c .match .rest in
-    unmarked _ _ (c .before .mark-of .ensures) (r .0 .0 .0 .0 .0 .0 .1) (r .0 .0 .0 .0 .0 .1) (r .0 .0 .0 .0 .1) (r .0 .0 .0 .1) (r .0 .0 .1) (r .0 .1) (r .1)
+returns c = c .class-in .ensures
 
 pub class-of-spec : {M : Type 1} → statement M
-class-of-spec =
-    tie.close
-    (tie.spec mark-of-requires returns returns-2 returns-3 returns-4 returns-5 returns-6 returns-7 returns-8)
+class-of-spec = tie.close (tie.spec class-table-requires class-in-requires returns)

@@ -11,19 +11,19 @@ use Rattle.lexer.proofs.comment_end.Statement.{statement}
 use Rattle.lexer.proofs.comment_end.Tie as tie
 
 abbrev Inv-loop : tie.InvT-loop
-Inv-loop text at i₀ i = firstFrom (drop i text) endsComment i ≡ firstFrom (drop at text) endsComment at
+Inv-loop classes text at i₀ i = firstFrom (drop i text) endsComment i ≡ firstFrom (drop at text) endsComment at
 
 abbrev μ-loop : tie.MeasureT-loop
-μ-loop text at i₀ i = length text - i
+μ-loop classes text at i₀ i = length text - i
 
 loop-holds : tie.Need-loop-holds Inv-loop μ-loop
 loop-holds c = refl
 
-shared-slice-read-class-of : tie.Need-shared-slice-read-class-of Inv-loop μ-loop
-shared-slice-read-class-of c = search needs
+shared-slice-read-class-in : tie.Need-shared-slice-read-class-in Inv-loop μ-loop
+shared-slice-read-class-in c = search needs
 
-class-of-requires : tie.Need-class-of-requires Inv-loop μ-loop
-class-of-requires c κs = search needs
+class-in-requires : tie.Need-class-in-requires Inv-loop μ-loop
+class-in-requires c κs = search needs
 
 ends-comment-requires : tie.Need-ends-comment-requires Inv-loop μ-loop
 ends-comment-requires c κs = search needs
@@ -31,7 +31,7 @@ ends-comment-requires c κs = search needs
 returns : tie.Need-returns Inv-loop μ-loop
 returns c =
     let l = c .before .before .before .before .before in
-    sym (found _ endsComment _ (told endsComment (c .before .before .class-of .ensures) (c .before .ends-comment .ensures) (c .if1 .taken)) (c .before .before .before .before .loop-test .taken)) ∙ l .loop .inv
+    sym (found _ endsComment _ (told endsComment (c .before .before .class-in .ensures) (c .before .ends-comment .ensures) (c .if1 .taken)) (c .before .before .before .before .loop-test .taken)) ∙ l .loop .inv
 
 add-i : tie.Need-add-i Inv-loop μ-loop
 add-i c = search needs
@@ -42,7 +42,7 @@ loop-less c = search needs
 loop-again : tie.Need-loop-again Inv-loop μ-loop
 loop-again c =
     let l = c .before .before .before .before .before in
-    sym (further _ endsComment _ (told endsComment (c .before .before .class-of .ensures) (c .before .ends-comment .ensures) (c .if1 .left)) (c .before .before .before .before .loop-test .taken)) ∙ l .loop .inv
+    sym (further _ endsComment _ (told endsComment (c .before .before .class-in .ensures) (c .before .ends-comment .ensures) (c .if1 .left)) (c .before .before .before .before .loop-test .taken)) ∙ l .loop .inv
 
 returns-2 : tie.Need-returns-2 Inv-loop μ-loop
 returns-2 c = sym (none-left _ endsComment _ (c .loop-test .left)) ∙ c .before .loop .inv
@@ -54,8 +54,8 @@ comment-end-spec =
     Inv-loop
     μ-loop
     loop-holds
-    shared-slice-read-class-of
-    class-of-requires
+    shared-slice-read-class-in
+    class-in-requires
     ends-comment-requires
     returns
     add-i

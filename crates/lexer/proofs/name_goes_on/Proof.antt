@@ -9,11 +9,11 @@ use Rattle.lexer.proofs.name_goes_on.Tie as tie
 returns : tie.Need-returns
 returns c = sym (at-end _ _ (c .if1 .taken))
 
-shared-slice-read-class-of : tie.Need-shared-slice-read-class-of
-shared-slice-read-class-of c = search needs
+shared-slice-read-class-in : tie.Need-shared-slice-read-class-in
+shared-slice-read-class-in c = search needs
 
-class-of-requires : tie.Need-class-of-requires
-class-of-requires c κs = search needs
+class-in-requires : tie.Need-class-in-requires
+class-in-requires c κs = search needs
 
 goes-on-requires : tie.Need-goes-on-requires
 goes-on-requires c κs = search needs
@@ -21,10 +21,10 @@ goes-on-requires c κs = search needs
 returns-2 : tie.Need-returns-2
 returns-2 c =
     c .goes-on .ensures
-    ∙ ap goesOn (c .before .class-of .ensures)
+    ∙ ap goesOn (c .before .class-in .ensures)
     ∙ sym (at-byte _ _ (c .before .before .before .if1 .left))
 
 pub name-goes-on-spec : {M : Type 1} → statement M
 name-goes-on-spec =
     tie.close
-    (tie.spec returns shared-slice-read-class-of class-of-requires goes-on-requires returns-2)
+    (tie.spec returns shared-slice-read-class-in class-in-requires goes-on-requires returns-2)

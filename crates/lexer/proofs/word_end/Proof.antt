@@ -12,10 +12,10 @@ use Rattle.lexer.proofs.word_end.Statement.{statement}
 use Rattle.lexer.proofs.word_end.Tie as tie
 
 abbrev Inv-loop : tie.InvT-loop
-Inv-loop text at i₀ i = firstFrom (drop i text) endsWord i ≡ firstFrom (drop at text) endsWord at
+Inv-loop classes text at i₀ i = firstFrom (drop i text) endsWord i ≡ firstFrom (drop at text) endsWord at
 
 abbrev μ-loop : tie.MeasureT-loop
-μ-loop text at i₀ i = length text - i
+μ-loop classes text at i₀ i = length text - i
 
 loop-holds : tie.Need-loop-holds Inv-loop μ-loop
 loop-holds c = refl

@@ -1,10 +1,10 @@
 -- `symbols::name_of` meets its contract. The loop's invariant: the question among the entries from `at` on, the first of them at `at`, is
 -- answered as among all. The measure is what is left of the section. Assumes nothing.
-use Prim.Native.Nat.{_-_}
+use Prim.Native.Nat.{_-_, _≤_}
 use Rattle.policy.specs.Questions.{nameFrom}
 use Rattle.symbols.specs.Section.{entriesAt}
 use Rattle.symbols.proofs.LookLaws.{met, less-left}
-use Rattle.symbols.proofs.FindLaws.{none-done, none-broken, none-numbered, other-sort, other-number, this-numbered}
+use Rattle.symbols.proofs.FindLaws.{none-done, none-broken, none-numbered, name-begins, other-sort, other-number, this-numbered}
 use borrow.Author.Needs.{needs}
 use native.Mathlib.Omega.{arith}
 use mathlib.Core.Path.{_≡_, _∙_}
@@ -12,73 +12,83 @@ use Rattle.symbols.proofs.name_of.Statement.{statement}
 use Rattle.symbols.proofs.name_of.Tie as tie
 
 abbrev Inv-loop : tie.InvT-loop
-Inv-loop table start end sort number at₀ at =
-    nameFrom sort number at (entriesAt table at end) ≡ nameFrom sort number start (entriesAt table start end)
+Inv-loop table start end sort number last at₀ at =
+    (at ≤ last) × (nameFrom sort number at (entriesAt table at last) ≡ nameFrom sort number start (entriesAt table start end))
 
 abbrev μ-loop : tie.MeasureT-loop
-μ-loop table start end sort number at₀ at = end - at
+μ-loop table start end sort number last at₀ at = last - at
+
+lesser-requires : tie.Need-lesser-requires Inv-loop μ-loop
+lesser-requires c κs = search needs
+
+lesser-requires-2 : tie.Need-lesser-requires-2 Inv-loop μ-loop
+lesser-requires-2 c κs = search needs
 
 loop-holds : tie.Need-loop-holds Inv-loop μ-loop
-loop-holds c = search needs
+loop-holds c =
+    let s = c .before .before .before in (
+      omega (arith, c .lesser2 .ensures),
+      name-begins (s .args .sort) (s .args .number) (s .args .table .now) (s .args .end) _ (c .before .lesser .ensures) (s .args .start) _ (c .lesser2 .ensures),
+    )
 
-look-requires : tie.Need-look-requires Inv-loop μ-loop
-look-requires c κs = search needs
+entry-at-requires : tie.Need-entry-at-requires Inv-loop μ-loop
+entry-at-requires c κs = (c .loop .inv .0, omega (arith, c .before .before .lesser .ensures))
 
 enum-known-k : tie.Need-enum-known-k Inv-loop μ-loop
 enum-known-k c = search needs
 
 loop-less : tie.Need-loop-less Inv-loop μ-loop
 loop-less c =
-    less-left (met (c .before .before .before .before .look .ensures) (c .before .before .k .given .1))
+    less-left (met (c .before .before .before .before .entry-at .ensures) (c .before .before .k .given .1))
 
 loop-again : tie.Need-loop-again Inv-loop μ-loop
 loop-again c =
     let l = c .before .before .before .before .before .loop in
-    let m = met (c .before .before .before .before .look .ensures) (c .before .before .k .given .1) in
-    other-sort m _ _ (c .if1 .taken) ∙ l .inv
+    let m = met (c .before .before .before .before .entry-at .ensures) (c .before .before .k .given .1) in
+    (m .within .inside, other-sort m _ _ (c .if1 .taken) ∙ l .inv .1)
 
 loop-less-2 : tie.Need-loop-less-2 Inv-loop μ-loop
 loop-less-2 c =
-    less-left (met (c .before .before .before .before .before .look .ensures) (c .before .before .before .k .given .1))
+    less-left (met (c .before .before .before .before .before .entry-at .ensures) (c .before .before .before .k .given .1))
 
 loop-again-2 : tie.Need-loop-again-2 Inv-loop μ-loop
 loop-again-2 c =
     let l = c .before .before .before .before .before .before .loop in
-    let m = met (c .before .before .before .before .before .look .ensures) (c .before .before .before .k .given .1) in
-    other-number m _ _ (c .before .if1 .left) (c .if2 .taken) ∙ l .inv
+    let m = met (c .before .before .before .before .before .entry-at .ensures) (c .before .before .before .k .given .1) in
+    (m .within .inside, other-number m _ _ (c .before .if1 .left) (c .if2 .taken) ∙ l .inv .1)
 
-add-t12 : tie.Need-add-t12 Inv-loop μ-loop
-add-t12 c =
-    let m = met (c .before .before .before .before .before .look .ensures) (c .before .before .before .k .given .1) in
+add-t14 : tie.Need-add-t14 Inv-loop μ-loop
+add-t14 c =
+    let m = met (c .before .before .before .before .before .entry-at .ensures) (c .before .before .before .k .given .1) in
     omega arith
 
-sub-t13 : tie.Need-sub-t13 Inv-loop μ-loop
-sub-t13 c =
-    let m = met (c .before .before .before .before .before .look .ensures) (c .before .before .before .k .given .1) in
+sub-t15 : tie.Need-sub-t15 Inv-loop μ-loop
+sub-t15 c =
+    let m = met (c .before .before .before .before .before .entry-at .ensures) (c .before .before .before .k .given .1) in
     omega arith
 
-sub-t14 : tie.Need-sub-t14 Inv-loop μ-loop
-sub-t14 c =
-    let m = met (c .before .before .before .before .before .look .ensures) (c .before .before .before .k .given .1) in
+sub-t16 : tie.Need-sub-t16 Inv-loop μ-loop
+sub-t16 c =
+    let m = met (c .before .before .before .before .before .entry-at .ensures) (c .before .before .before .k .given .1) in
     omega arith
 
 returns : tie.Need-returns Inv-loop μ-loop
 returns c =
     let l = c .before .before .before .before .before .before .loop in
-    let m = met (c .before .before .before .before .before .look .ensures) (c .before .before .before .k .given .1) in
-    this-numbered m _ _ (c .before .if1 .left) (c .if2 .left) ∙ l .inv
+    let m = met (c .before .before .before .before .before .entry-at .ensures) (c .before .before .before .k .given .1) in
+    this-numbered m _ _ (c .before .if1 .left) (c .if2 .left) ∙ l .inv .1
 
 enum-told : tie.Need-enum-told Inv-loop μ-loop
 enum-told c = search needs
 
 returns-2 : tie.Need-returns-2 Inv-loop μ-loop
-returns-2 c = none-numbered _ _ _ _ (none-done (met (c .before .before .look .ensures) (c .enum-told .given .1))) ∙ c .before .before .before .loop .inv
+returns-2 c = none-numbered _ _ _ _ (none-done (met (c .before .before .entry-at .ensures) (c .enum-told .given .1))) ∙ c .before .before .before .loop .inv .1
 
 enum-told-2 : tie.Need-enum-told-2 Inv-loop μ-loop
 enum-told-2 c = search needs
 
 returns-3 : tie.Need-returns-3 Inv-loop μ-loop
-returns-3 c = none-numbered _ _ _ _ (none-broken (met (c .before .before .look .ensures) (c .enum-told2 .given .1))) ∙ c .before .before .before .loop .inv
+returns-3 c = none-numbered _ _ _ _ (none-broken (met (c .before .before .entry-at .ensures) (c .enum-told2 .given .1))) ∙ c .before .before .before .loop .inv .1
 
 pub name-of-spec : {M : Type 1} → statement M
 name-of-spec =
@@ -86,16 +96,18 @@ name-of-spec =
     (tie.spec
     Inv-loop
     μ-loop
+    lesser-requires
+    lesser-requires-2
     loop-holds
-    look-requires
+    entry-at-requires
     enum-known-k
     loop-less
     loop-again
     loop-less-2
     loop-again-2
-    add-t12
-    sub-t13
-    sub-t14
+    add-t14
+    sub-t15
+    sub-t16
     returns
     enum-told
     returns-2

@@ -1,0 +1,4 @@
+pub mod Appending
+pub mod Things
+pub mod Lines
+pub mod Rolls

@@ -1,0 +1,95 @@
+-- What is printed for a text, by what compiling it answers and leaves in the lent memory. Assumes nothing.
+use Prim.Native.Nat.{ℕ}
+use mathlib.Core.Path.{_≡_, refl, sym, ap, ap₂, _∙_}
+use mathlib.Core.Bool.{Bool, true, false, cond, false≢true}
+use mathlib.Core.List.{List}
+use mathlib.Core.Option.{some}
+use lib.Dec.{leb}
+use lib.ListN.{length, drop}
+use Rattle.policy.specs.Statements.{Policy}
+use Rattle.policy.specs.Reading.{Read, policy, refused}
+use Rattle.policy.specs.Image.{Image, imageOf}
+use Rattle.policy.specs.Encode.{encode}
+use Rattle.policy.specs.Sound.{imageIn}
+use Rattle.policy.specs.Outcome.{policyOf, Compiled, compiles, refuses, fitted, compiled, Outcome, accepted, rejected, outcomeOf, afterOf, outcome, after}
+use Rattle.policy.specs.Roll.{refusal, roll, printed}
+use Rattle.demand_laws.proofs.Demand3.{table-read}
+
+-- the memory holds a table of n bytes, and what is printed is the roll of its image
+pub record Holds (text memory : List ℕ) (n : ℕ) : Type 0 where
+  pub image : Image
+  pub read : imageIn memory ≡ some image
+  pub long : n ≡ length (encode image)
+  pub prints : printed text ≡ roll image
+
+-- the parts of an answer
+abbrev isAccepted : Outcome → Bool
+isAccepted (accepted n) = true
+isAccepted (rejected n at) = false
+
+abbrev numberOf : Outcome → ℕ
+numberOf (accepted n) = n
+numberOf (rejected n at) = n
+
+abbrev placeOf : Outcome → ℕ
+placeOf (accepted n) = 0
+placeOf (rejected n at) = at
+
+-- what is printed, by what compiling gives
+abbrev print : Compiled → List ℕ
+print c = elim c [ refuses n at ↦ refusal n at | compiles i ↦ roll i ]
+
+-- what compiling gives, by what reading gives
+abbrev compiledBy : Read → ℕ → Compiled
+compiledBy r lent = elim r [ refused n at ↦ refuses n at | policy p ↦ fitted lent (imageOf p) ]
+
+module _ (text : List ℕ) where
+  -- A REFUSAL
+
+  printed-by : (c : Compiled) → compiled text 65536 ≡ c → printed text ≡ print c
+  unfolding printed
+  printed-by c e = ap print e
+
+  answered-by : (c : Compiled) → compiled text 65536 ≡ c → outcome text 65536 ≡ outcomeOf c
+  unfolding outcome
+  answered-by c e = ap outcomeOf e
+
+  pub refusal-printed : (n at : ℕ) → rejected n at ≡ outcome text 65536 → printed text ≡ refusal n at
+  refusal-printed n at h = by (compiled text 65536) refl
+    where
+      by : (c : Compiled) → compiled text 65536 ≡ c → printed text ≡ refusal n at
+      by (compiles i) e = absurd (false≢true (ap isAccepted (h ∙ answered-by (compiles i) e)))
+      by (refuses m k) e =
+          let same = h ∙ answered-by (refuses m k) e in
+          printed-by (refuses m k) e ∙ sym (ap₂ refusal (ap numberOf same) (ap placeOf same))
+
+  -- A ROLL
+
+  compiled-by : (r : Read) → policyOf text ≡ r → compiled text 65536 ≡ compiledBy r 65536
+  unfolding compiled
+  compiled-by r e = ap (λ (s : Read). compiledBy s 65536) e
+
+  module _ (n : ℕ) (before : List ℕ) (long : length before ≡ 65536) (h : accepted n ≡ outcome text 65536) where
+    memory-by : (c : Compiled) → compiled text 65536 ≡ c → after text before ≡ afterOf c before
+    unfolding after
+    memory-by c e = ap (λ (c : Compiled). afterOf c before) (ap (compiled text) long ∙ e)
+
+    of-policy : (p : Policy) → policyOf text ≡ policy p → (b : Bool) → leb (length (encode (imageOf p))) 65536 ≡ b → Holds text (after text before) n
+    of-policy p e false f =
+        let c = compiled-by (policy p) e ∙ ap (λ (b : Bool). cond b (compiles (imageOf p)) (refuses 10 (length (encode (imageOf p))))) f in
+        absurd (false≢true (sym (ap isAccepted (h ∙ answered-by (refuses 10 (length (encode (imageOf p)))) c))))
+    of-policy p e true f =
+        let c = compiled-by (policy p) e ∙ ap (λ (b : Bool). cond b (compiles (imageOf p)) (refuses 10 (length (encode (imageOf p))))) f in
+        record {
+          image = imageOf p;
+          read = ap imageIn (memory-by (compiles (imageOf p)) c) ∙ table-read text p e (drop (length (encode (imageOf p))) before);
+          long = ap numberOf (h ∙ answered-by (compiles (imageOf p)) c);
+          prints = printed-by (compiles (imageOf p)) c;
+        }
+
+    pub roll-printed : Holds text (after text before) n
+    roll-printed = by (policyOf text) refl
+      where
+        by : (r : Read) → policyOf text ≡ r → Holds text (after text before) n
+        by (refused m k) e = absurd (false≢true (sym (ap isAccepted (h ∙ answered-by (refuses m k) (compiled-by (refused m k) e)))))
+        by (policy p) e = of-policy p e (leb (length (encode (imageOf p))) 65536) refl

@@ -1,0 +1,48 @@
+-- What is written after a text is compiled is what is printed for it. Assumes nothing.
+use Prim.Native.Nat.{ℕ}
+use native.Mathlib.Omega.{arith}
+use mathlib.Core.Path.{_≡_, sym, ap, subst, _∙_}
+use mathlib.Core.Bool.{true}
+use mathlib.Core.List.{List, [], _∷_}
+use lib.ListN.{length}
+use Rattle.bitset.specs.Parts.{put}
+use Rattle.bitset.specs.Relations.{joined}
+use Rattle.policy.specs.declared.Compiling.{Compiling}
+use Rattle.policy.specs.Answers.{compilingOf}
+use Rattle.policy.specs.Outcome.{outcome}
+use Rattle.policy.specs.Roll.{rollOf, refusal, printed}
+use Rattle.image_rows.specs.SoundRows.{isSome}
+use Rattle.soundness.specs.IsSound.{isSound}
+use Rattle.compiler.specs.Promise.{Compiles}
+use Rattle.text_writer.specs.Writing.{Appends}
+use Rattle.roll_lines.specs.LineWriting.{acceptance, PutsRoll}
+use Rattle.roll_lines.proofs.Rolls.{roll-parts}
+use Rattle.roll_text.specs.Printing.{Prints}
+use Rattle.roll_text.proofs.Outcomes.{Holds, refusal-printed, roll-printed}
+
+pub bytes-printed : {text before after bytes : List ℕ} {past : ℕ} → Appends before 0 bytes after past → bytes ≡ printed text → Prints text before after past
+bytes-printed {text} {before} {after} {bytes} {past} a e = record {
+  written = a .written ∙ ap (put before 0) e;
+  long = omega (arith, a .ends, ap length e);
+}
+
+module _ {text before after : List ℕ} {r : Compiling} (long : length before ≡ 65536) (c : Compiles text before after r) where
+  answer : (o : Compiling) → r ≡ o → compilingOf o ≡ outcome text 65536
+  answer o e = ap compilingOf (sym e) ∙ c .answer ∙ ap (outcome text) long
+
+  module _ {n : ℕ} (e : r ≡ Compiling.Accepted n) where
+    holds : Holds text after n
+    holds = subst (λ (m : List ℕ). Holds text m n) (sym (c .memory)) (roll-printed text n before long (answer (Compiling.Accepted n) e))
+
+    -- an accepted text leaves a sound table
+    pub table-sound : isSound after ≡ true
+    unfolding isSound
+    table-sound = ap isSome (holds .read)
+
+    pub prints-roll : {out out′ : List ℕ} {past : ℕ} → PutsRoll after n out out′ past → Prints text out out′ past
+    prints-roll puts =
+        bytes-printed (puts .says (holds .image) (holds .read))
+        (ap (λ (m : ℕ). joined (acceptance m ∷ rollOf (holds .image) ∷ [])) (holds .long) ∙ roll-parts (holds .image) ∙ sym (holds .prints))
+
+  pub prints-refusal : {n at : ℕ} → r ≡ Compiling.Refused n at → {out out′ : List ℕ} {past : ℕ} → Appends out 0 (refusal n at) out′ past → Prints text out out′ past
+  prints-refusal {n} {at} e puts = bytes-printed puts (sym (refusal-printed text n at (answer (Compiling.Refused n at) e)))

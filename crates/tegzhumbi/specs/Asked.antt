@@ -1,0 +1,14 @@
+-- What is asked, by the numbers of src/. Assumes nothing.
+use Rattle.policy.specs.Meaning.{Context}
+use Rattle.policy.specs.Answer.{Question}
+use Rattle.policy.specs.declared.Class as theClass
+use Rattle.policy.specs.declared.Permission as thePermission
+use Rattle.tegzhumbi.specs.declared.Context as theContext
+
+-- "**Valid context** (user, role, type)"
+abbrev pub contextOf : theContext.Context → Context
+contextOf c = record { user = c .user .0; role = c .role .0; type = c .kind .0 }
+
+-- "**Change** (source, target, class, permission by its place in the class)"
+abbrev pub question : theContext.Context → theContext.Context → theClass.Class → thePermission.Permission → Question
+question s t c k = record { source = contextOf s; target = contextOf t; class = c .0; perm = k .0 }

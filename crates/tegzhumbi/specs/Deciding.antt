@@ -1,0 +1,38 @@
+-- Demand 3 in one step: what becomes of a text and a change question, said of the statements alone, without table, rows or stack. Assumes nothing.
+use Prim.Native.Nat.{ℕ}
+use mathlib.Core.Path.{_≡_}
+use mathlib.Core.Bool.{cond}
+use mathlib.Core.List.{List}
+use lib.Dec.{leb}
+use lib.ListN.{length}
+use Rattle.policy.specs.Statements.{Policy}
+use Rattle.policy.specs.Reading.{Read, policy, refused}
+use Rattle.policy.specs.Answer.{Question, Answer, answer}
+use Rattle.policy.specs.Answers.{changeOf}
+use Rattle.policy.specs.Image.{imageOf}
+use Rattle.policy.specs.Encode.{encode}
+use Rattle.policy.specs.Outcome as outcomes
+use Rattle.policy.specs.Outcome.{policyOf}
+use Rattle.tegzhumbi.specs.declared.Decision as theDecision
+
+-- a refusal of the text by its number and place, or an answer
+pub data Decided : Type 0 where
+  rejected : ℕ → ℕ → Decided
+  answered : Answer → Decided
+
+abbrev pub decisionOf : theDecision.Decision → Decided
+decisionOf (theDecision.Decision.Refused n at) = rejected n at
+decisionOf (theDecision.Decision.Answered c) = answered (changeOf c)
+
+-- what the statements of a policy answer, where its table has room: "the answer that the statements give"; 10: "the length needed"
+abbrev pub answeredBy : Policy → ℕ → Question → Decided
+answeredBy p lent q = cond (leb (length (encode (imageOf p))) lent) (answered (answer p q)) (rejected 10 (length (encode (imageOf p))))
+
+-- of a text: its fault 1 to 9, or what its statements answer
+unfoldable pub decided : List ℕ → ℕ → Question → Decided
+decided text lent q = elim (policyOf text) [ refused n at ↦ rejected n at | policy p ↦ answeredBy p lent q ]
+
+-- the answer, and what the lent memory holds afterwards
+pub record Decides (text before after : List ℕ) (q : Question) (r : theDecision.Decision) : Type 0 where
+  pub answer : decisionOf r ≡ decided text (length before) q
+  pub memory : after ≡ outcomes.after text before

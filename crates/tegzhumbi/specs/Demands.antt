@@ -1,0 +1,36 @@
+-- DEMAND 3, word for word, of a text that was accepted and of the table that was written for it. Assumes nothing.
+use Prim.Native.Nat.{ℕ}
+use mathlib.Core.Path.{_≡_}
+use mathlib.Core.Bool.{true, false}
+use mathlib.Core.List.{List, _++_}
+use mathlib.Core.Option.{some}
+use Rattle.policy.specs.Statements.{Policy, declarations}
+use Rattle.policy.specs.Reading.{policy}
+use Rattle.policy.specs.Meaning.{Context}
+use Rattle.policy.specs.Answer.{Question, granted, declaredQuestion, answer}
+use Rattle.policy.specs.Image.{imageOf}
+use Rattle.policy.specs.Sound.{imageIn}
+use Rattle.policy.specs.Outcome.{policyOf}
+use Rattle.policy.specs.Questions.{validOn, newRoleOn, changeOn}
+use Rattle.answer_laws.specs.ByStatements.{validBy, newRoleBy}
+use Rattle.answer_laws.specs.Granting.{Grants}
+use Rattle.demand_laws.specs.ByText.{isRefusal}
+
+pub record Demand3 (text table : List ℕ) : Type 0 where
+  -- the statements of the text, as read
+  pub statements : Policy
+  pub read : policyOf text ≡ policy statements
+  -- "whatever stands behind the table later, the written table, unaltered and read without the text, gives the answer that the statements
+  -- give .. grant or denial, the denial's number, the failing constraint's number and the number consulted"
+  pub answers : (behind : List ℕ) (q : Question) → changeOn (table ++ behind) q ≡ answer statements q
+  -- "any change question in numbers it declares .. never a refusal"
+  pub never-refused : (behind : List ℕ) (q : Question) → declaredQuestion (declarations statements) q ≡ true → isRefusal (changeOn (table ++ behind) q .verdict) ≡ false
+  -- "It grants exactly when by the statements both contexts are valid, the role change is allowed where process transition or
+  -- dyntransition asks it, and every constraint on that class and permission is true as written"
+  pub grants-only : (behind : List ℕ) (q : Question) → changeOn (table ++ behind) q .verdict ≡ granted → Grants statements q
+  pub grants-when : (behind : List ℕ) (q : Question) → declaredQuestion (declarations statements) q ≡ true → Grants statements q → changeOn (table ++ behind) q .verdict ≡ granted
+  -- valid context and new role give back what the statements say
+  pub valid : (behind : List ℕ) (c : Context) → validOn (table ++ behind) c ≡ validBy statements c
+  pub new-role : (behind : List ℕ) (r y c : ℕ) → newRoleOn (table ++ behind) r y c ≡ newRoleBy statements r y c
+  -- and so do name of and entry: they read from the image of the statements
+  pub holds : (behind : List ℕ) → imageIn (table ++ behind) ≡ some (imageOf statements)

@@ -1,0 +1,19 @@
+-- `tegzhumbi_change` meets its contract: the numbers of the library's answer, which fit. Assumes nothing.
+use mathlib.Core.Path.{ap, _∙_}
+use Rattle.tegzhumbi_c.specs.Numbers.{changeNumbers}
+use Rattle.tegzhumbi_c.proofs.Fitting.{change-fits}
+use borrow.Author.Needs.{needs}
+use Rattle.tegzhumbi_c.proofs.tegzhumbi_change.Statement.{statement}
+use Rattle.tegzhumbi_c.proofs.tegzhumbi_change.Tie as tie
+
+change-requires : tie.Need-change-requires
+change-requires c κs = search needs
+
+change-numbers-requires : tie.Need-change-numbers-requires
+change-numbers-requires c κs = rw (c .change .ensures) (change-fits _ _)
+
+returns : tie.Need-returns
+returns c = c .change-numbers .ensures ∙ ap changeNumbers (c .before .change .ensures)
+
+pub tegzhumbi-change-spec : {M : Type 1} → statement M
+tegzhumbi-change-spec = tie.close (tie.spec change-requires change-numbers-requires returns)

@@ -1,0 +1,28 @@
+-- `tegzhumbi_compile` meets its contract: the numbers of the compiler's answer, which fit. Assumes nothing.
+use mathlib.Core.Path.{sym, ap, _∙_}
+use Rattle.tegzhumbi_c.specs.Numbers.{compiledNumbers}
+use Rattle.tegzhumbi_c.proofs.Fitting.{outcome-fits}
+use Rattle.tegzhumbi_c.proofs.Accepting.{accepted-as}
+use borrow.Author.Needs.{needs}
+use Rattle.tegzhumbi_c.proofs.tegzhumbi_compile.Statement.{statement}
+use Rattle.tegzhumbi_c.proofs.tegzhumbi_compile.Tie as tie
+
+compile-requires : tie.Need-compile-requires
+compile-requires c κs = search needs
+
+compiled-numbers-requires : tie.Need-compiled-numbers-requires
+compiled-numbers-requires c κs = rw (c .before .before .compile .ensures .answer) (outcome-fits _ _)
+
+same-length : tie.Need-same-length
+same-length c = search needs
+
+returns : tie.Need-returns
+returns c = record {
+  answer = c .compiled-numbers .ensures ∙ ap compiledNumbers (c .before .before .before .compile .ensures .answer);
+  memory = c .before .before .before .compile .ensures .memory;
+  answers = λ n h. c .before .before .before .compile .ensures .answers n
+      (accepted-as _ _ _ n (c .before .before .before .compile .ensures .answer) (sym (c .compiled-numbers .ensures) ∙ h));
+}
+
+pub tegzhumbi-compile-spec : {M : Type 1} → statement M
+tegzhumbi-compile-spec = tie.close (tie.spec compile-requires compiled-numbers-requires same-length returns)
