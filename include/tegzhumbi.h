@@ -3,8 +3,8 @@
  * Every function is proved to give the numbers that the library's definitions give, for every text, every table and all numbers. What C
  * adds is the caller's to keep: a pointer must be valid for the length that goes with it (a length of 0 too: pass the address of some byte), and the
  * table lent to tegzhumbi_compile must not overlap the text. No function keeps a pointer, allocates memory or writes to a const one.
- * tegzhumbi_compile takes 295,000 to 311,000 bytes of stack, by how deep the text's parentheses go, and every other function less than 2,000. That is
- * measured, with no part in what is proved. Of the C library only memcpy and memset are called.
+ * tegzhumbi_compile runs within a stack of 360 KB, and every other function within 12 KB. That is measured, with no part in what is proved. Of
+ * the C library only memcpy and memset are called.
  */
 #ifndef TEGZHUMBI_H
 #define TEGZHUMBI_H

@@ -1,10 +1,10 @@
 -- What the parser leaves is what the resolver and the table's writer ask for. Assumes nothing.
-use Prim.Native.Nat.{ℕ, _*_, _≤_}
+use Prim.Native.Nat.{ℕ, _*_}
 use native.Mathlib.Omega.{arith}
 use mathlib.Core.Path.{_≡_, sym, ap, subst, _∙_}
 use mathlib.Core.List.{List}
-use lib.ListN.{length, take, drop, length-append}
-use lib.Seq.{take-at}
+use lib.ListN.{length, take, drop}
+use lib.Seq.{take-at, take-take}
 use Rattle.policy.specs.Statements.{Family, thingOf, attributeOf, Policy, declarations}
 use Rattle.policy.specs.Meaning.{countIn}
 use Rattle.policy.specs.Image.{imageOf}
@@ -23,9 +23,6 @@ use Rattle.table_writer.specs.Sizing.{body, attributesIn, SizesOf}
 starts-take : {lent content now : List ℕ} {end : ℕ} → Starts lent content now end → take end now ≡ content
 starts-take {lent} {content} {now} {end} s = ap (take end) (s .is) ∙ take-at content (drop (length content) lent) end (sym (s .ends))
 
-starts-inside : {lent content now : List ℕ} {end : ℕ} → Starts lent content now end → end ≤ length now
-starts-inside {lent} {content} {now} {end} s = omega (arith, s .ends, ap length (s .is), length-append content (drop (length content) lent))
-
 -- how many of a sort the symbols count
 module _ (p : Policy) {table : List ℕ} {end sort r : ℕ} (f : Family) (s : Symbols table end (declarations p)) (counts : Counts table end sort r) where
   pub things-counted : sort ≡ sortCode (thingOf f) → r ≡ countIn p f
@@ -36,9 +33,18 @@ module _ (p : Policy) {table : List ℕ} {end sort r : ℕ} (f : Family) (s : Sy
   attributes-counted e = counts .things (declarations p) (attributeOf f) s e
 
 module _ {p : Policy} {lent now : Memory} {s : Progress} (h : Holds p lent now s) where
+  -- the symbols end before their index
+  symbols-front : take (s .symbols) (now .symbols) ≡ symbolsOf p
+  symbols-front = sym (take-take (s .symbols) 137088 (now .symbols) (h .indexed .below)) ∙ starts-take (h .symbols)
+
   pub symbols-held : Symbols (now .symbols) (s .symbols) (declarations p)
   unfolding symbolsOf
-  symbols-held = holds-symbols (record { front = starts-take (h .symbols); inside = starts-inside (h .symbols); good = h .accepted .names })
+  symbols-held = holds-symbols (record {
+    front = symbols-front;
+    inside = omega (arith, h .indexed .below, h .indexed .room);
+    good = h .accepted .names;
+    indexed = h .indexed;
+  })
 
   pub names-long : s .symbols ≡ length (body 0 p)
   unfolding symbolsOf sectionOf bodies imageOf
@@ -46,7 +52,7 @@ module _ {p : Policy} {lent now : Memory} {s : Progress} (h : Holds p lent now s
 
   names-front : take (s .symbols) (now .symbols) ≡ body 0 p
   unfolding symbolsOf sectionOf bodies imageOf
-  names-front = starts-take (h .symbols)
+  names-front = symbols-front
 
   constraints-front : take (10 * s .constraints) (now .constraints) ≡ body 5 p
   unfolding constraintsOf bodies imageOf

@@ -17,14 +17,14 @@ use Rattle.policy.specs.Basics.{Name, _>>=_, more, eachOf, indexOf}
 use Rattle.policy.specs.Words.{isReserved, asName}
 use Rattle.policy.specs.Statements.{Declaration, permissions}
 use Rattle.policy.specs.Grammar.{namesIn}
+use Rattle.policy.specs.Encode.{entries}
 use Rattle.policy.specs.Image.{maskOf}
 use Rattle.policy.proofs.Counts.{few-permissions-of}
 use Rattle.table_laws.proofs.ListLaws.{given-some, more-some}
 use Rattle.reading_laws.proofs.Resolving.{index-below}
-use Rattle.symbols.specs.Section.{entriesAt}
 use Rattle.symbols.specs.Lookup.{firstNamed}
 use Rattle.symbols.specs.Resolving.{foundPermission}
-use Rattle.symbols.specs.Symbols.{Symbols}
+use Rattle.symbols.specs.Symbols.{Symbols, Looks}
 use Rattle.symbols.specs.declared.Found.{Found}
 use Rattle.symbols.proofs.ClassesFound.{find-permission, few-permissions}
 use Rattle.items.specs.Looks.{itemAt, rowEnd}
@@ -85,11 +85,10 @@ pub record Numbered (ds : List Declaration) (c : ℕ) (w : Name) (number : ℕ) 
   pub low : number % 32 ≡ place
 
 module _ {table : List ℕ} {end : ℕ} {ds : List Declaration} (y : Symbols table end ds) (c : ℕ) (w : Name) where
-  found-as : (family : ℕ) → family ≡ 4 + c → (r : Found) → r ≡ firstNamed family w (entriesAt table 0 end) → r ≡ foundPermission c (indexOf w (permissions ds c))
+  found-as : (family : ℕ) → family ≡ 4 + c → (r : Found) → Looks table end family w r → r ≡ foundPermission c (indexOf w (permissions ds c))
   found-as family e r h =
-      h
-      ∙ ap (λ (f : ℕ). firstNamed f w (entriesAt table 0 end)) e
-      ∙ ap (firstNamed (4 + c) w) (y .holds)
+      h .finds ds y
+      ∙ ap (λ (f : ℕ). firstNamed f w (entries ds)) e
       ∙ find-permission ds c w (few-permissions [] ds (y .good))
 
   numbered : (sort number : ℕ) → Found.At sort number ≡ foundPermission c (indexOf w (permissions ds c)) → Numbered ds c w number
@@ -119,7 +118,7 @@ abbrev pub tag : Item → ℕ
 tag k = tagOf the-type k
 
 module _ {t : List ℕ} {at : ℕ} {table : List ℕ} {end family i m : ℕ} (g : Going t at table end family i m) where
-  module _ {s n k q : ℕ} (l : Looked t i (Item.Word s n k q)) {r : Found} (h : r ≡ firstNamed family (parts.part t s n) (entriesAt table 0 end)) where
+  module _ {s n k q : ℕ} (l : Looked t i (Item.Word s n k q)) {r : Found} (h : Looks table end family (parts.part t s n) r) where
     name-first : {ds : List Declaration} {c : ℕ} {ps : List Name} (x : Left ds c ps (framesAt t i .here) m) → FirstName (take n (drop s t)) (framesAt t q .here) (x .rest)
     name-first x = first-name s (take n (drop s t)) (framesAt t q .here) (x .rest) (sym (ap namesIn (l .here)) ∙ x .names)
 

@@ -18,10 +18,8 @@ use Rattle.policy.specs.Image.{maskOf}
 use Rattle.policy.proofs.Counts.{few-classes}
 use Rattle.table_laws.proofs.ListLaws.{bound-then}
 use Rattle.reading_laws.proofs.Resolving.{index-below}
-use Rattle.symbols.specs.Section.{entriesAt}
-use Rattle.symbols.specs.Lookup.{firstNamed}
 use Rattle.symbols.specs.Resolving.{foundClass}
-use Rattle.symbols.specs.Symbols.{Symbols}
+use Rattle.symbols.specs.Symbols.{Symbols, Looks}
 use Rattle.symbols.specs.declared.Found.{Found}
 use Rattle.symbols.proofs.ClassesFound.{find-class}
 use Rattle.items.specs.Looks.{itemAt, rowEnd}
@@ -93,9 +91,9 @@ module _ {t : List ℕ} {at s n k q : ℕ} (l : Looked t at (Item.Word s n k q))
 
 -- ---- the class
 
-module _ {table : List ℕ} {end : ℕ} {ds : List Declaration} (y : Symbols table end ds) (w : Name) {r : Found} (h : r ≡ firstNamed 3 w (entriesAt table 0 end)) where
+module _ {table : List ℕ} {end : ℕ} {ds : List Declaration} (y : Symbols table end ds) (w : Name) {r : Found} (h : Looks table end 3 w r) where
   class-as : r ≡ foundClass (indexOf w (classNames ds))
-  class-as = h ∙ ap (firstNamed 3 w) (y .holds) ∙ find-class ds w
+  class-as = h .finds ds y ∙ find-class ds w
 
   class-missing : r ≡ Found.Missing → indexOf w (classNames ds) ≡ none
   class-missing d = go (indexOf w (classNames ds)) refl (sym d ∙ class-as)
@@ -127,7 +125,7 @@ module _ {t : List ℕ} {at : ℕ} {table : List ℕ} {end : ℕ} where
     says = λ ds c ps y h. not-there startsWord t at levels _ (h .row) refl (1 ∷ 2 ∷ 3 ∷ []) no-word e o;
   }
 
-  module _ {s n k q : ℕ} (l : Looked t at (Item.Word s n k q)) {r : Found} (f : r ≡ firstNamed 3 (parts.part t s n) (entriesAt table 0 end)) where
+  module _ {s n k q : ℕ} (l : Looked t at (Item.Word s n k q)) {r : Found} (f : Looks table end 3 (parts.part t s n) r) where
     pub class-undeclared : r ≡ Found.Missing → Scopes t at table end Scope.Undeclared
     unfolding parts.part
     class-undeclared d = record {

@@ -79,7 +79,7 @@ fn permission_mask(text: &[u8], at: usize, symbols: &[u8], end: usize, family: u
                 next,
                 ..
             } => {
-                let found = symbols::find(symbols, 0, end, family, text, start, len);
+                let found = symbols::lookup(symbols, end, family, text, start, len);
                 let Found::At { number, .. } = found else {
                     return Masked::Undeclared;
                 };
@@ -106,7 +106,7 @@ fn scope_of(text: &[u8], at: usize, symbols: &[u8], end: usize) -> Scope
     else {
         return Scope::Undeclared;
     };
-    let found = symbols::find(symbols, 0, end, CLASSES, text, start, len);
+    let found = symbols::lookup(symbols, end, CLASSES, text, start, len);
     let Found::At { number, .. } = found else {
         return Scope::Undeclared;
     };

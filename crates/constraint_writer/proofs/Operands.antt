@@ -10,10 +10,10 @@ use Rattle.policy.specs.Statements.{Family, users, roles, types, Side, source, 
 use Rattle.policy.specs.Words.{Component, componentOf}
 use Rattle.policy.specs.Reading.{refer}
 use Rattle.policy.specs.Rows.{compCode}
-use Rattle.policy.specs.Encode.{sortCode}
+use Rattle.policy.specs.Encode.{sortCode, entries}
 use Rattle.words.specs.Numbers.{wordOf}
-use Rattle.symbols.specs.Section.{entriesAt}
 use Rattle.symbols.specs.Lookup.{firstNamed}
+use Rattle.symbols.specs.Symbols.{Looks}
 use Rattle.symbols.specs.Resolving.{familyCode, foundReference}
 use Rattle.symbols.specs.declared.Found.{Found}
 use Rattle.symbols.proofs.ReferencesFound.{find-reference}
@@ -80,15 +80,14 @@ module _ (t : List ℕ) (start len number side : ℕ) (symbols : List ℕ) (end 
   pub a-side : (code ≡ 6 → ⊥) → Compares t start len number side symbols end (Operand.Is 3 0)
   a-side h = record { operand = λ ds f s y e. two-sides (componentOf (wordOf number)) _ (λ z. h (is ∙ z)) }
 
-  module _ (h : code ≡ 6) (r : Found) (e : r ≡ firstNamed (side / 2) (parts.part t start len) (entriesAt symbols 0 end)) where
+  module _ (h : code ≡ 6) (r : Found) (e : Looks symbols end (side / 2) (parts.part t start len) r) where
     by-reference : (k : Found) (o : Operand) → r ≡ k → ((f : Family) (x : Option Reference) → foundReference f x ≡ k → o ≡ operandOf none x) → Compares t start len number side symbols end o
     unfolding parts.part
     by-reference k o g w = record {
       operand = λ ds f s y d.
           let found : r ≡ foundReference f (refer ds f (take len (drop start t))) =
-          e
-          ∙ ap (λ (n : ℕ). firstNamed n (take len (drop start t)) (entriesAt symbols 0 end)) (ap (λ (n : ℕ). n / 2) d ∙ family-code f s)
-          ∙ ap (firstNamed (familyCode f) (take len (drop start t))) (y .holds)
+          e .finds ds y
+          ∙ ap (λ (n : ℕ). firstNamed n (take len (drop start t)) (entries ds)) (ap (λ (n : ℕ). n / 2) d ∙ family-code f s)
           ∙ find-reference ds f (take len (drop start t)) (y .good) in
           rw (no-component (componentOf (wordOf number)) (sym is ∙ h)) (w f (refer ds f (take len (drop start t))) (sym found ∙ g));
     }

@@ -183,7 +183,7 @@ fn operand_of(
         };
     }
     let family = (side / 2) as usize;
-    let found = symbols::find(symbols, 0, end, family, text, start, len);
+    let found = symbols::lookup(symbols, end, family, text, start, len);
     match found {
         Found::At { sort, number } => {
             if sort < FIRST_ATTRIBUTE {

@@ -17,27 +17,30 @@ use Rattle.policy.specs.Statements.{Declaration, class, classNames}
 use Rattle.policy.specs.Words.{isReserved, classK}
 use Rattle.policy.specs.Reading.{isNew, hasRoom}
 use Rattle.policy.specs.Accepted.{All}
-use Rattle.policy.specs.Encode.{NameEntry, nameEntry, permissionEntries, entriesOf, entryBytes}
+use Rattle.policy.specs.Encode.{NameEntry, nameEntry, permissionEntries, entriesOf, entries, entryBytes}
 use Rattle.policy.specs.Sound.{isGood, someGood, goodNames}
 use Rattle.policy.proofs.Lists.{both-true, true-both}
-use Rattle.symbols.specs.Section.{entriesAt}
+use Rattle.policy.proofs.Counts.{few-classes}
 use Rattle.symbols.specs.Lookup.{familyNumber, firstNamed}
 use Rattle.symbols.specs.Resolving.{isFound}
 use Rattle.symbols.specs.Symbols.{Symbols}
 use Rattle.symbols.specs.declared.Found.{Found}
-use Rattle.symbols.proofs.ClassesFound.{class-found}
+use Rattle.symbols.specs.Index.{Indexed}
+use Rattle.symbols.proofs.ClassesFound.{class-found, few-permissions}
+use Rattle.symbols.proofs.Declaring.{entries-more}
 use Rattle.table_laws.proofs.NamesRoom.{name-short}
-use Rattle.declarations.specs.Counting.{countSort, standing}
+use Rattle.declarations.specs.Counting.{Stands}
 use Rattle.declarations.specs.WordRows.{wordsIn, WordHere, WordIs, Inside}
-use Rattle.declarations.specs.Entering.{Entered, Fitting, Enters, EntersRow, answerOf}
+use Rattle.declarations.specs.Entering.{AllNew, Entered, Fitting, Enters, EntersRow, answerOf}
 use Rattle.declarations.specs.Declaring.{Holds, Declares, DeclaresAt}
 use Rattle.declarations.specs.declared.Declared.{Declared}
 use Rattle.declarations.specs.declared.Added.{Added}
 use Rattle.declarations.specs.declared.Standing.{Standing}
 use Rattle.declarations.specs.declared.NextWord.{NextWord}
-use Rattle.declarations.proofs.SortCounts.{classes-counted}
 use Rattle.declarations.proofs.Holding.{holds-symbols, room-for}
-use Rattle.declarations.proofs.EnteringLaws.{bytes-append, entered-long, entered-then}
+use Rattle.declarations.proofs.EnteringLaws.{bytes-append, entered-then}
+use Rattle.declarations.proofs.Standings.{not-found}
+use Rattle.declarations.proofs.NewPermissions.{permissions-new}
 use Rattle.declarations.proofs.Formed.{class-has-word, class-here, class-named}
 use Rattle.declarations.proofs.NameAnswers.{taken-found, free-missing, full}
 
@@ -71,21 +74,15 @@ module _ (t : List ℕ) (at : ℕ) (before : List ℕ) (end : ℕ) where
     abbrev w : Name
     w = part t start len
 
-    abbrev found : Found
-    found = firstNamed (familyNumber 6 0) w (entriesAt before 0 end)
-
-    abbrev total : ℕ
-    total = countSort 6 (entriesAt before 0 end)
-
-    is-in : {ds : List Declaration} → Symbols before end ds → isFound found ≡ isIn w (classNames ds)
-    is-in {ds} y = ap (λ (es : List NameEntry). isFound (firstNamed 3 w es)) (y .holds) ∙ class-found ds w
+    abbrev found : List Declaration → Found
+    found ds = firstNamed (familyNumber 6 0) w (entries ds)
 
     -- "name declared again in its family"
-    pub class-taken : (after : List ℕ) → Standing.Taken ≡ standing found total → DeclaresAt t at classK before after end Declared.Again
+    pub class-taken : (after : List ℕ) → Stands before end 6 w Standing.Taken → DeclaresAt t at classK before after end Declared.Again
     class-taken after q = record {
       says = λ ds d y g f.
           let c = class-named h d f in
-          let has : isIn w (classNames ds) ≡ true = sym (is-in (holds-symbols y)) ∙ taken-found found total q in
+          let has : isIn w (classNames ds) ≡ true = sym (class-found ds w) ∙ taken-found (found ds) (length (classNames ds)) (q .classes ds (holds-symbols y) refl) in
           subst (λ (x : Declaration). isNew ds x ≡ false) (sym (c .1)) (rw has);
     }
 
@@ -101,13 +98,16 @@ module _ (t : List ℕ) (at : ℕ) (before : List ℕ) (end : ℕ) where
             (rw (not-true (differ ps) q) (and-false (not (isIn w (classNames ds)))));
       }
 
-      module _ (number : ℕ) (q : Standing.Free number ≡ standing found total) (once : not (differ ps) ≡ false) where
+      module _ (number : ℕ) (q : Stands before end 6 w (Standing.Free number)) (once : not (differ ps) ≡ false) where
+        is-free : {ds : List Declaration} → Symbols before end ds → (isFound (found ds) ≡ false) × (length (classNames ds) ≡ number)
+        is-free {ds} y = free-missing (found ds) (length (classNames ds)) number (q .classes ds y refl)
+
         is-new : {ds : List Declaration} → Symbols before end ds → isNew ds (class w ps) ≡ true
         is-new {ds} y =
-            true-both (not (isIn w (classNames ds))) (differ ps) (ap not (sym (is-in y) ∙ free-missing found total number q .0)) (not-false (differ ps) once)
+            true-both (not (isIn w (classNames ds))) (differ ps) (ap not (sym (class-found ds w) ∙ is-free y .0)) (not-false (differ ps) once)
 
         count-is : {ds : List Declaration} → Symbols before end ds → length (classNames ds) ≡ number
-        count-is {ds} y = sym (ap (countSort 6) (y .holds) ∙ classes-counted ds) ∙ free-missing found total number q .1
+        count-is y = is-free y .1
 
         -- "classes 32"
         pub class-full : (after : List ℕ) → 32 ≤ number → DeclaresAt t at classK before after end Declared.Full
@@ -117,67 +117,80 @@ module _ (t : List ℕ) (at : ℕ) (before : List ℕ) (end : ℕ) where
               (is-new (holds-symbols y), rw (le-ltb (length (classNames ds)) 32 (omega (arith, count-is (holds-symbols y)))));
         }
 
-        module _ (long : length before ≡ 137088) where
-          abbrev one : List NameEntry
-          one = nameEntry 6 number w ∷ []
+        abbrev one : List NameEntry
+        one = nameEntry 6 number w ∷ []
 
-          abbrev others : List NameEntry
-          others = permissionEntries (number * 32) ps
+        abbrev others : List NameEntry
+        others = permissionEntries (number * 32) ps
 
-          entries-are : {ds : List Declaration} → Symbols before end ds → one ++ others ≡ entriesOf ds (class w ps)
-          entries-are y = ap (λ (n : ℕ). nameEntry 6 n w ∷ permissionEntries (n * 32) ps) (sym (count-is y))
+        entries-are : {ds : List Declaration} → Symbols before end ds → one ++ others ≡ entriesOf ds (class w ps)
+        entries-are y = ap (λ (n : ℕ). nameEntry 6 n w ∷ permissionEntries (n * 32) ps) (sym (count-is y))
 
-          -- where the maxima allow the class, all of its entries have room
-          all-fit : (ds : List Declaration) → Holds before end ds → goodNames (class w ps) ≡ true → hasRoom ds (class w ps) ≡ true
-              → end + (length (joined (each entryBytes one)) + length (joined (each entryBytes others))) ≤ length before
-          all-fit ds y good room =
-              let fits = room-for y (class w ps) long good (is-new (holds-symbols y)) room in
-              let n : length (joined (each entryBytes (entriesOf ds (class w ps)))) ≡ length (joined (each entryBytes one)) + length (joined (each entryBytes others)) =
-              ap (λ (es : List NameEntry). length (joined (each entryBytes es))) (sym (entries-are (holds-symbols y)))
-              ∙ ap length (bytes-append one others) ∙ length-append (joined (each entryBytes one)) (joined (each entryBytes others)) in
-              omega (arith, n, fits)
+        -- where the maxima allow the class, all of its entries have room
+        all-fit : (ds : List Declaration) → Holds before end ds → goodNames (class w ps) ≡ true → hasRoom ds (class w ps) ≡ true
+            → end + (length (joined (each entryBytes one)) + length (joined (each entryBytes others))) ≤ 137088
+        all-fit ds y good room =
+            let fits = room-for y (class w ps) good (is-new (holds-symbols y)) room in
+            let n : length (joined (each entryBytes (entriesOf ds (class w ps)))) ≡ length (joined (each entryBytes one)) + length (joined (each entryBytes others)) =
+            ap (λ (es : List NameEntry). length (joined (each entryBytes es))) (sym (entries-are (holds-symbols y)))
+            ∙ ap length (bytes-append one others) ∙ length-append (joined (each entryBytes one)) (joined (each entryBytes others)) in
+            omega (arith, n, fits)
 
-          names-of : goodNames (class w ps) ≡ true → (isGood w ≡ true) × (every isGood ps ≡ true)
-          names-of good = let b = both-true (isGood w) (someGood ps) good in (b .0, some-every ps (b .1))
+        names-of : goodNames (class w ps) ≡ true → (isGood w ≡ true) × (every isGood ps ≡ true)
+        names-of good = let b = both-true (isGood w) (someGood ps) good in (b .0, some-every ps (b .1))
 
-          pub class-no-room : (after : List ℕ) → Enters before after end one Added.NoRoom → DeclaresAt t at classK before after end Declared.Full
-          class-no-room after n = record {
-            says = λ ds d y g f.
-                let c = class-here h i d g f in
-                subst (λ (x : Declaration). (isNew ds x ≡ true) × (hasRoom ds x ≡ false)) (sym (c .0))
-                (full ds (class w ps) (is-new (holds-symbols y))
-                (λ room. n .is (record { room = omega (arith, all-fit ds y (c .1) room); short = (short-name w (names-of (c .1) .0), tt) })));
+        pub class-no-room : (after : List ℕ) → Enters before after end one Added.NoRoom → DeclaresAt t at classK before after end Declared.Full
+        class-no-room after n = record {
+          says = λ ds d y g f.
+              let c = class-here h i d g f in
+              subst (λ (x : Declaration). (isNew ds x ≡ true) × (hasRoom ds x ≡ false)) (sym (c .0))
+              (full ds (class w ps) (is-new (holds-symbols y))
+              (λ room. n .is (record { room = omega (arith, all-fit ds y (c .1) room); short = (short-name w (names-of (c .1) .0), tt) })));
+        }
+
+        module _ (mid after : List ℕ) (past : ℕ) (l : number < 32) (n : Enters before mid end one (Added.Past past)) where
+          rest-fits : (ds : List Declaration) → Holds before end ds → goodNames (class w ps) ≡ true → hasRoom ds (class w ps) ≡ true → Fitting past others
+          rest-fits ds y good room = record {
+            room = omega (arith, all-fit ds y good room, n .is .moved);
+            short = short-permissions (number * 32) ps (names-of good .1);
           }
 
-          module _ (mid after : List ℕ) (past : ℕ) (l : number < 32) (n : Enters before mid end one (Added.Past past)) where
-            rest-fits : (ds : List Declaration) → Holds before end ds → goodNames (class w ps) ≡ true → hasRoom ds (class w ps) ≡ true → Fitting mid past others
-            rest-fits ds y good room = record {
-              room = omega (arith, all-fit ds y good room, n .is .moved, entered-long (n .is));
-              short = short-permissions (number * 32) ps (names-of good .1);
-            }
+          entries-new : length ps ≤ 32 → {ds : List Declaration} → Symbols before end ds → AllNew (entries ds) (one ++ others)
+          unfolding AllNew
+          entries-new few {ds} y =
+              subst (λ (k : ℕ). AllNew (entries ds) (nameEntry 6 k w ∷ permissionEntries (k * 32) ps)) (count-is y) (
+                not-found (found ds) (is-free y .0),
+                omega (arith, few-classes ds (y .good)),
+                permissions-new ds w (few-permissions [] ds (y .good)) (few-classes ds (y .good)) ps few (not-false (differ ps) once),
+              )
 
-            added : (a : Added) → EntersRow mid after past (number * 32) ps a → (ds : List Declaration) → Holds before end ds
-                → goodNames (class w ps) ≡ true → Declares before after end ds (class w ps) (answerOf a)
-            added (Added.Past next) e ds y good =
-                let x = subst (λ (es : List NameEntry). Entered before after end es next) (entries-are (holds-symbols y)) (entered-then (n .is) (e .is .0)) in
-                record {
-                  new = is-new (holds-symbols y);
-                  room = true-both (ltb (length (classNames ds)) 32) (leb (length ps) 32)
-                      (lt-ltb (length (classNames ds)) 32 (omega (arith, count-is (holds-symbols y)))) (le-leb (length ps) 32 (e .is .1));
-                  written = x .written;
-                  moved = x .moved;
-                  fits = x .fits;
-                }
-            added Added.NoRoom e ds y good =
-                full ds (class w ps) (is-new (holds-symbols y))
-                (λ room.
-                e .is (rest-fits ds y good room)
-                (leb-true (length ps) 32 (both-true (ltb (length (classNames ds)) 32) (leb (length ps) 32) room .1)))
+          added : (a : Added) → EntersRow mid after past (number * 32) ps a → (ds : List Declaration) → Holds before end ds
+              → goodNames (class w ps) ≡ true → Declares before after end ds (class w ps) (answerOf a)
+          added (Added.Past next) e ds y good =
+              let all = entered-then (n .is) (e .is .0) in
+              let x = subst (λ (es : List NameEntry). Entered before after end es next) (entries-are (holds-symbols y)) all in
+              record {
+                new = is-new (holds-symbols y);
+                room = true-both (ltb (length (classNames ds)) 32) (leb (length ps) 32)
+                    (lt-ltb (length (classNames ds)) 32 (omega (arith, count-is (holds-symbols y)))) (le-leb (length ps) 32 (e .is .1));
+                written = x .written;
+                long = x .long;
+                moved = x .moved;
+                fits = x .fits;
+                indexed =
+                    subst (Indexed after next) (ap (λ (es : List NameEntry). entries ds ++ es) (entries-are (holds-symbols y)) ∙ sym (entries-more ds (class w ps)))
+                    (all .indexed (entries ds) (y .indexed) (entries-new (e .is .1) (holds-symbols y)));
+              }
+          added Added.NoRoom e ds y good =
+              full ds (class w ps) (is-new (holds-symbols y))
+              (λ room.
+              e .is (rest-fits ds y good room)
+              (leb-true (length ps) 32 (both-true (ltb (length (classNames ds)) 32) (leb (length ps) 32) room .1)))
 
-            pub class-added : (a : Added) (r : Declared) → EntersRow mid after past (number * 32) ps a → r ≡ answerOf a → DeclaresAt t at classK before after end r
-            class-added a r e z = record {
-              says = λ ds d y g f.
-                  let c = class-here h i d g f in
-                  subst (λ (x : Declaration). Declares before after end ds x r) (sym (c .0))
-                  (subst (Declares before after end ds (class w ps)) (sym z) (added a e ds y (c .1)));
-            }
+          pub class-added : (a : Added) (r : Declared) → EntersRow mid after past (number * 32) ps a → r ≡ answerOf a → DeclaresAt t at classK before after end r
+          class-added a r e z = record {
+            says = λ ds d y g f.
+                let c = class-here h i d g f in
+                subst (λ (x : Declaration). Declares before after end ds x r) (sym (c .0))
+                (subst (Declares before after end ds (class w ps)) (sym z) (added a e ds y (c .1)));
+          }

@@ -4,8 +4,8 @@ use mathlib.Core.List.{List, [], _∷_, _++_, append-nil, append-assoc}
 use Prim.Native.Nat.{ℕ, suc, _+_, _-_, _<_, _≤_}
 use native.Mathlib.Nat.{add-zero, add-suc, suc-add}
 use native.Mathlib.Omega.{arith}
-use lib.ListN.{length, set, length-append}
-use lib.Seq.{sets}
+use lib.ListN.{length, take, set, length-append}
+use lib.Seq.{sets, length-take-le}
 use Rattle.bitset.specs.Parts.{part, put}
 use Rattle.bitset.specs.Relations.{joined}
 use Rattle.bitset.proofs.PartLaws.{length-part, put-none}
@@ -13,11 +13,12 @@ use Rattle.policy.specs.Basics.{Name, each}
 use Rattle.policy.specs.Accepted.{All}
 use Rattle.policy.specs.Encode.{NameEntry, nameEntry, entryBytes, permissionEntries}
 use Rattle.policy.proofs.Lists.{each-append, joined-append, all-right}
-use Rattle.symbols.specs.Append.{Appended}
+use Rattle.symbols.specs.Index as symbol
+use Rattle.symbols.specs.Index.{Indexed}
 use Rattle.symbols.proofs.AppendLaws.{put-sets, length-put}
 use Rattle.symbols.proofs.Appending.{entry-length}
 use Rattle.symbols.proofs.Declaring.{permission-more}
-use Rattle.declarations.specs.Entering.{Entered, Fitting, Enters, EntersRow}
+use Rattle.declarations.specs.Entering.{AllNew, Entered, Fitting, Enters, EntersRow}
 use Rattle.declarations.specs.declared.Added.{Added}
 
 -- the bytes of entries
@@ -50,26 +51,42 @@ put-put t o us vs h =
 
 -- ---- some entries
 
-pub entered-long : {a b : List ℕ} {end past : ℕ} {es : List NameEntry} → Entered a b end es past → length b ≡ length a
-entered-long {a} {b} {end} {past} {es} h =
-    ap length (h .written) ∙ length-put a end (bytesOf es) (omega (arith, h .moved, h .fits))
+-- the new ones among more
+new-then : (xs es fs : List NameEntry) → AllNew xs (es ++ fs) → AllNew xs es × AllNew (xs ++ es) fs
+unfolding AllNew
+new-then xs [] fs h = (tt, subst (λ (l : List NameEntry). AllNew l fs) (sym (append-nil xs)) h)
+new-then xs (e ∷ es) fs h =
+    let r = new-then (xs ++ (e ∷ [])) es fs (h .2) in
+    ((h .0, h .1, r .0), subst (λ (l : List NameEntry). AllNew l fs) (append-assoc xs (e ∷ []) es) (r .1))
 
 pub entered-then : {a b c : List ℕ} {end past next : ℕ} {es fs : List NameEntry} → Entered a b end es past → Entered b c past fs next → Entered a c end (es ++ fs) next
 entered-then {a} {b} {c} {end} {past} {next} {es} {fs} h g =
-    let long = entered-long h in
+    let short : length (take 137088 a) ≡ 137088 = length-take-le 137088 a (omega (arith, h .room)) in
     let all : length (bytesOf (es ++ fs)) ≡ length (bytesOf es) + length (bytesOf fs) = ap length (bytes-append es fs) ∙ length-append (bytesOf es) (bytesOf fs) in
     record {
+      room = h .room;
       written =
           g .written ∙ ap₂ (λ (t : List ℕ) (o : ℕ). put t o (bytesOf fs)) (h .written) (h .moved)
-          ∙ put-put a end (bytesOf es) (bytesOf fs) (omega (arith, h .moved, g .moved, g .fits, long))
-          ∙ ap (put a end) (sym (bytes-append es fs));
+          ∙ put-put (take 137088 a) end (bytesOf es) (bytesOf fs) (omega (arith, h .moved, g .moved, g .fits, short))
+          ∙ ap (put (take 137088 a) end) (sym (bytes-append es fs));
+      long = g .long ∙ h .long;
       moved = omega (arith, h .moved, g .moved, all);
-      fits = omega (arith, g .fits, long);
+      fits = g .fits;
+      indexed = λ xs i n.
+          let m = new-then xs es fs n in
+          subst (Indexed c next) (append-assoc xs es fs) (g .indexed (xs ++ es) (h .indexed xs i (m .0)) (m .1));
     }
 
-pub entered-none : (a : List ℕ) (end : ℕ) → end ≤ length a → Entered a a end [] end
+pub entered-none : (a : List ℕ) (end : ℕ) → end ≤ 137088 → 186264 ≤ length a → Entered a a end [] end
 unfolding each joined
-entered-none a end h = record { written = sym (put-none a end); moved = omega arith; fits = h }
+entered-none a end h room = record {
+  room = room;
+  written = sym (put-none (take 137088 a) end);
+  long = refl;
+  moved = omega arith;
+  fits = h;
+  indexed = λ xs i n. subst (Indexed a end) (sym (append-nil xs)) i;
+}
 
 -- ---- one entry: the answers of `add`
 
@@ -83,20 +100,24 @@ module _ (t x : List ℕ) (end s n from len : ℕ) (present : from + len ≤ len
   pub too-long : 64 < len → Enters t t end one Added.NoRoom
   too-long h = record { is = λ f. omega (arith, f .short .0, length-part x from len present) }
 
-  pub past-end : length t < end → Enters t t end one Added.NoRoom
+  pub past-end : 137088 < end → Enters t t end one Added.NoRoom
   past-end h = record { is = λ f. omega (arith, f .room) }
 
-  pub no-room : end ≤ length t → length t - end < 4 + len → Enters t t end one Added.NoRoom
+  pub no-room : end ≤ 137088 → 137088 - end < 4 + len → Enters t t end one Added.NoRoom
   no-room g h = record { is = λ f. omega (arith, f .room, long) }
 
-  pub appended : (u : List ℕ) (r : ℕ) → Appended t u end (nameEntry s n (part x from len)) r → Enters t u end one (Added.Past r)
-  appended u r a =
+  pub appended : (u : List ℕ) (r : ℕ) → 186264 ≤ length t → symbol.Entered t u end (nameEntry s n (part x from len)) r → Enters t u end one (Added.Past r)
+  unfolding AllNew
+  appended u r room a =
       let e = bytes-one (nameEntry s n (part x from len)) in
       record {
         is = record {
-          written = a .written ∙ ap (put t end) (sym e);
+          room = room;
+          written = a .written ∙ ap (put (take 137088 t) end) (sym e);
+          long = a .long;
           moved = a .past ∙ ap (λ (l : List ℕ). end + length l) (sym e);
           fits = a .inside;
+          indexed = λ xs i n. a .indexed xs i (n .0) (n .1);
         };
       }
 
@@ -121,13 +142,13 @@ pub record SoFar (before now : List ℕ) (end first : ℕ) (ws left : List Name)
   pub few : place ≤ 32
   pub entered : Entered before now end (permissionEntries first done) past
 
-pub so-far-none : (a : List ℕ) (end first : ℕ) (ws : List Name) → end ≤ length a → SoFar a a end first ws ws end 0
+pub so-far-none : (a : List ℕ) (end first : ℕ) (ws : List Name) → end ≤ 137088 → 186264 ≤ length a → SoFar a a end first ws ws end 0
 unfolding permissionEntries
-so-far-none a end first ws h = record { done = []; whole = refl; many = refl; few = omega arith; entered = entered-none a end h }
+so-far-none a end first ws h room = record { done = []; whole = refl; many = refl; few = omega arith; entered = entered-none a end h room }
 
 module _ {a b : List ℕ} {end first : ℕ} {ws left : List Name} {past place : ℕ} (h : SoFar a b end first ws left past place) where
   pub so-far-long : length b ≡ length a
-  so-far-long = entered-long (h .entered)
+  so-far-long = h .entered .long
 
   -- none is left
   pub all-written : left ≡ [] → EntersRow a b end first ws (Added.Past past)
@@ -157,7 +178,7 @@ module _ {a b : List ℕ} {end first : ℕ} {ws left : List Name} {past place : 
     unfolding permissionEntries
     parted = ap (permissionEntries first) split ∙ permission-append first (h .done) (w ∷ rest) ∙ rw (h .many)
 
-    next-fits : Fitting a end (permissionEntries first ws) → Fitting b past (nameEntry 7 (first + place) w ∷ [])
+    next-fits : Fitting end (permissionEntries first ws) → Fitting past (nameEntry 7 (first + place) w ∷ [])
     next-fits f =
         let one = nameEntry 7 (first + place) w ∷ [] in
         let others = permissionEntries (first + place + 1) rest in
@@ -168,7 +189,7 @@ module _ {a b : List ℕ} {end first : ℕ} {ws left : List Name} {past place : 
         let each = all-right (λ (e : NameEntry). length (e .name) ≤ 64) (permissionEntries first (h .done)) (one ++ others)
         (subst (All (λ (e : NameEntry). length (e .name) ≤ 64)) parted (f .short)) in
         record {
-          room = omega (arith, f .room, n, h .entered .moved, so-far-long);
+          room = omega (arith, f .room, n, h .entered .moved);
           short = (each .0, tt);
         }
 

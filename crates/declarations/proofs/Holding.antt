@@ -7,7 +7,7 @@ use Prim.Native.Nat.{ℕ, _+_, _-_, _<_, _≤_}
 use native.Mathlib.Nat.{sub-zero}
 use native.Mathlib.Omega.{arith}
 use lib.ListN.{length, take, drop, length-append}
-use lib.Seq.{length-take-le, take-at}
+use lib.Seq.{length-take-le, take-at, take-take}
 use Rattle.bitset.specs.Parts.{part, put}
 use Rattle.bitset.specs.Relations.{joined}
 use Rattle.policy.specs.Basics.{each}
@@ -18,7 +18,8 @@ use Rattle.policy.specs.Sound.{goodNames, goodFrom}
 use Rattle.policy.proofs.Gathered.{all-map}
 use Rattle.policy.proofs.Good.{GoodFirst, good-first, good-rest}
 use Rattle.symbols.specs.Symbols.{Symbols}
-use Rattle.symbols.proofs.AppendLaws.{length-put}
+use Rattle.symbols.specs.Index.{slotIn}
+use Rattle.symbols.proofs.Entering.{indexed-none}
 use Rattle.symbols.proofs.Declaring.{entries-more}
 use Rattle.symbols.proofs.ReadBack.{Small}
 use Rattle.symbols.proofs.Written.{entries-written}
@@ -37,12 +38,13 @@ holds-symbols {table} {end} {ds} h = record {
   inside = h .inside;
   holds = entries-written table 0 end (entries ds) (small ds (h .good)) (ap (λ (n : ℕ). take n table) (sub-zero end) ∙ h .front);
   good = h .good;
+  indexed = h .indexed;
 }
 
--- no declaration has no symbols
-pub holds-none : (table : List ℕ) → Holds table 0 []
+-- no declaration has no symbols, in memory that is 0
+pub holds-none : (table : List ℕ) → 186264 ≤ length table → ((s : ℕ) → s < 16392 → slotIn table s ≡ 0) → Holds table 0 []
 unfolding sectionOf entries entriesFrom each joined goodFrom
-holds-none table = record { front = refl; inside = omega arith; good = refl }
+holds-none table room zero = record { front = refl; inside = omega arith; good = refl; indexed = indexed-none table room zero }
 
 -- ---- one more declaration
 
@@ -73,9 +75,9 @@ module _ {table : List ℕ} {end : ℕ} {ds : List Declaration} (h : Holds table
   section-long = ap length (sym (h .front)) ∙ length-take-le end table (h .inside)
 
   -- there is room for a declaration that is new and passes no maximum
-  pub room-for : (d : Declaration) → length table ≡ 137088 → goodNames d ≡ true → isNew ds d ≡ true → hasRoom ds d ≡ true
-      → end + length (joined (each entryBytes (entriesOf ds d))) ≤ length table
-  room-for d l g n r =
+  pub room-for : (d : Declaration) → goodNames d ≡ true → isNew ds d ≡ true → hasRoom ds d ≡ true
+      → end + length (joined (each entryBytes (entriesOf ds d))) ≤ 137088
+  room-for d g n r =
       let more = length-append (sectionOf ds) (joined (each entryBytes (entriesOf ds d))) in
       let whole : length (sectionOf (ds ++ (d ∷ []))) ≡ length (sectionOf ds ++ joined (each entryBytes (entriesOf ds d))) = ap length (section-more ds d) in
       omega (arith, section-short (ds ++ (d ∷ [])) (good-more ds d (h .good) (record { names = g; new = n; room = r })), section-long)
@@ -85,14 +87,16 @@ pub adds-holds : {before after : List ℕ} {end past : ℕ} {ds : List Declarati
 unfolding put
 adds-holds {before} {after} {end} {past} {ds} {d} h g a =
     let new = joined (each entryBytes (entriesOf ds d)) in
-    let fits : end + length new ≤ length before = omega (arith, a .moved, a .fits) in
-    let front : length (take end before ++ new) ≡ past =
-    length-append (take end before) new ∙ omega (arith, length-take-le end before (h .inside), a .moved) in
-    let is : after ≡ (take end before ++ new) ++ drop (end + length new) before = a .written ∙ sym (append-assoc (take end before) new (drop (end + length new) before)) in
+    let names = take 137088 before in
+    let names-end : take end names ≡ take end before = take-take end 137088 before (h .indexed .below) in
+    let front : length (take end names ++ new) ≡ past =
+    length-append (take end names) new ∙ omega (arith, ap length names-end, length-take-le end before (h .inside), a .moved) in
+    let is : take 137088 after ≡ (take end names ++ new) ++ drop (end + length new) names = a .written ∙ sym (append-assoc (take end names) new (drop (end + length new) names)) in
     record {
       front =
-          ap (take past) is ∙ take-at (take end before ++ new) (drop (end + length new) before) past front
-          ∙ ap (λ (l : List ℕ). l ++ new) (h .front) ∙ sym (section-more ds d);
-      inside = omega (arith, a .fits, ap length (a .written), length-put before end new fits);
+          sym (take-take past 137088 after (a .fits)) ∙ ap (take past) is ∙ take-at (take end names ++ new) (drop (end + length new) names) past front
+          ∙ ap (λ (l : List ℕ). l ++ new) (names-end ∙ h .front) ∙ sym (section-more ds d);
+      inside = omega (arith, a .fits, a .long, h .indexed .room);
+      indexed = a .indexed;
       good = good-more ds d (h .good) (record { names = g; new = a .new; room = a .room });
     }

@@ -1,9 +1,9 @@
-pub mod SortCounts
-pub mod Walks
+pub mod Standings
 pub mod Rows
 pub mod EnteringLaws
 pub mod Holding
 pub mod Maxima
 pub mod Formed
+pub mod NewPermissions
 pub mod NameAnswers
 pub mod ClassAnswers

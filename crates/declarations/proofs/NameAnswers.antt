@@ -2,11 +2,10 @@
 -- has room and is written. Assumes nothing.
 use mathlib.Core.Path.{_≡_, refl, sym, ap, ap₂, subst, _∙_}
 use mathlib.Core.Bool.{Bool, true, false, not}
-use mathlib.Core.List.{List, [], _∷_}
+use mathlib.Core.List.{List, [], _∷_, _++_}
 use Prim.Native.Nat.{ℕ, _≤_, _<_}
 use native.Mathlib.Omega.{arith}
 use borrow.Author.Tests.{lt-ltb, le-ltb}
-use lib.ListN.{length}
 use Rattle.bitset.specs.Parts.{part}
 use Rattle.lexer.specs.Class.{isName}
 use Rattle.policy.specs.Basics.{Name, isIn}
@@ -14,26 +13,27 @@ use Rattle.policy.specs.Statements.{users, roles, types, Sort, thingOf, attribu
 use Rattle.policy.specs.Maxima.{maxOf}
 use Rattle.policy.specs.Words.{isReserved}
 use Rattle.policy.specs.Reading.{isNew, hasRoom}
-use Rattle.policy.specs.Encode.{NameEntry, nameEntry, sortCode, entriesOf}
+use Rattle.policy.specs.Encode.{NameEntry, nameEntry, sortCode, entriesOf, entries}
 use Rattle.policy.specs.Sound.{isGood}
 use Rattle.policy.proofs.Lists.{both-true}
-use Rattle.symbols.specs.Section.{entriesAt}
 use Rattle.symbols.specs.Lookup.{familyNumber, firstNamed}
 use Rattle.symbols.specs.Resolving.{familyCode, isFound}
 use Rattle.symbols.specs.Symbols.{Symbols}
 use Rattle.symbols.specs.declared.Found.{Found}
+use Rattle.symbols.specs.Index.{Indexed}
 use Rattle.symbols.proofs.ReferencesFound.{reference-found}
+use Rattle.symbols.proofs.Declaring.{entries-more}
 use Rattle.table_laws.proofs.NamesFit.{code-below}
 use Rattle.table_laws.proofs.NamesRoom.{name-short}
-use Rattle.declarations.specs.Counting.{countSort, standing, MostIs}
+use Rattle.declarations.specs.Counting.{standing, MostIs, Stands}
 use Rattle.declarations.specs.WordRows.{WordHere, WordIs}
-use Rattle.declarations.specs.Entering.{Entered, Enters, answerOf}
+use Rattle.declarations.specs.Entering.{AllNew, Entered, Enters, answerOf}
 use Rattle.declarations.specs.Declaring.{Holds, Declares, DeclaresName}
 use Rattle.declarations.specs.declared.Declared.{Declared}
 use Rattle.declarations.specs.declared.Added.{Added}
 use Rattle.declarations.specs.declared.Standing.{Standing}
 use Rattle.declarations.specs.declared.NextWord.{NextWord}
-use Rattle.declarations.proofs.SortCounts.{things-counted}
+use Rattle.declarations.proofs.Standings.{not-found, family-alone}
 use Rattle.declarations.proofs.Holding.{holds-symbols, room-for}
 use Rattle.declarations.proofs.Formed.{plain-has-word, plain-here}
 
@@ -57,6 +57,14 @@ full ds d n r = (n, by (hasRoom ds d) refl)
 
 -- ---- names
 
+most-small : (s : Sort) → maxOf s ≤ 512
+most-small (thingOf users) = omega arith
+most-small (thingOf roles) = omega arith
+most-small (thingOf types) = omega arith
+most-small (attributeOf users) = omega arith
+most-small (attributeOf roles) = omega arith
+most-small (attributeOf types) = omega arith
+
 code-of : (s : Sort) → familyNumber (sortCode s) 0 ≡ familyCode (familyOf s)
 code-of (thingOf users) = refl
 code-of (thingOf roles) = refl
@@ -77,37 +85,31 @@ module _ (t : List ℕ) (at sort : ℕ) (before : List ℕ) (end : ℕ) where
     abbrev w : Name
     w = part t start len
 
-    abbrev found : Found
-    found = firstNamed (familyNumber sort 0) w (entriesAt before 0 end)
+    abbrev found : List Declaration → Found
+    found ds = firstNamed (familyNumber sort 0) w (entries ds)
 
-    abbrev total : ℕ
-    total = countSort sort (entriesAt before 0 end)
-
-    module _ (s : Sort) (e : sort ≡ sortCode s) {ds : List Declaration} (y : Symbols before end ds) where
-      is-in : isFound found ≡ isIn w (familyNames (familyOf s) ds)
-      is-in =
-          ap isFound (ap₂ (λ (n : ℕ) (es : List NameEntry). firstNamed n w es) (ap (λ (x : ℕ). familyNumber x 0) e ∙ code-of s) (y .holds))
-          ∙ reference-found ds (familyOf s) w
-
-      total-is : total ≡ count s ds
-      total-is = ap₂ countSort e (y .holds) ∙ things-counted s ds
+    is-in : (s : Sort) → sort ≡ sortCode s → (ds : List Declaration) → isFound (found ds) ≡ isIn w (familyNames (familyOf s) ds)
+    is-in s e ds = ap (λ (n : ℕ). isFound (firstNamed n w (entries ds))) (ap (λ (x : ℕ). familyNumber x 0) e ∙ code-of s) ∙ reference-found ds (familyOf s) w
 
     -- "name declared again in its family"
-    pub name-taken : (after : List ℕ) → Standing.Taken ≡ standing found total → DeclaresName t at sort before after end Declared.Again
+    pub name-taken : (after : List ℕ) → Stands before end sort w Standing.Taken → DeclaresName t at sort before after end Declared.Again
     name-taken after q = record {
       of = λ s e. record {
         says = λ ds d y g f.
             subst (λ (x : Declaration). isNew ds x ≡ false) (sym (plain-here h s d g f .0))
-            (ap not (sym (is-in s e (holds-symbols y)) ∙ taken-found found total q));
+            (ap not (sym (is-in s e ds) ∙ taken-found (found ds) (count s ds) (q .names ds s (holds-symbols y) e)));
       };
     }
 
-    module _ {number most : ℕ} (q : Standing.Free number ≡ standing found total) (m : MostIs sort most) where
+    module _ {number most : ℕ} (q : Stands before end sort w (Standing.Free number)) (m : MostIs sort most) where
+      is-free : (s : Sort) → sort ≡ sortCode s → {ds : List Declaration} → Symbols before end ds → (isFound (found ds) ≡ false) × (count s ds ≡ number)
+      is-free s e {ds} y = free-missing (found ds) (count s ds) number (q .names ds s y e)
+
       is-new : (s : Sort) → sort ≡ sortCode s → {ds : List Declaration} → Symbols before end ds → isNew ds (plain s w) ≡ true
-      is-new s e y = ap not (sym (is-in s e y) ∙ free-missing found total number q .0)
+      is-new s e {ds} y = ap not (sym (is-in s e ds) ∙ is-free s e y .0)
 
       count-is : (s : Sort) → sort ≡ sortCode s → {ds : List Declaration} → Symbols before end ds → count s ds ≡ number
-      count-is s e y = sym (total-is s e y) ∙ free-missing found total number q .1
+      count-is s e y = is-free s e y .1
 
       -- "one of the other maxima passed"
       pub name-full : (after : List ℕ) → most ≤ number → DeclaresName t at sort before after end Declared.Full
@@ -119,12 +121,21 @@ module _ (t : List ℕ) (at sort : ℕ) (before : List ℕ) (end : ℕ) where
         };
       }
 
-      module _ (after : List ℕ) (l : number < most) (long : length before ≡ 137088) where
+      module _ (after : List ℕ) (l : number < most) where
         has-room : (s : Sort) → sort ≡ sortCode s → {ds : List Declaration} → Symbols before end ds → hasRoom ds (plain s w) ≡ true
         has-room s e {ds} y = lt-ltb (count s ds) (maxOf s) (omega (arith, count-is s e y, m .is s e))
 
         entries-are : (s : Sort) → sort ≡ sortCode s → {ds : List Declaration} → Symbols before end ds → nameEntry sort number w ∷ [] ≡ entriesOf ds (plain s w)
         entries-are s e y = ap₂ (λ (k n : ℕ). nameEntry k n w ∷ []) e (sym (count-is s e y))
+
+        entry-new : (s : Sort) → sort ≡ sortCode s → {ds : List Declaration} → Symbols before end ds → AllNew (entries ds) (nameEntry sort number w ∷ [])
+        unfolding AllNew
+        entry-new s e {ds} y = (
+          ap (λ (g : ℕ). firstNamed g w (entries ds)) (family-alone sort number 0 (omega (arith, code-below s)))
+              ∙ not-found (found ds) (is-free s e y .0),
+          omega (arith, l, m .is s e, most-small s),
+          tt,
+        )
 
         added : (a : Added) → Enters before after end (nameEntry sort number w ∷ []) a → (s : Sort) → sort ≡ sortCode s → (ds : List Declaration) → Holds before end ds
             → isGood w ≡ true → Declares before after end ds (plain s w) (answerOf a)
@@ -134,11 +145,15 @@ module _ (t : List ℕ) (at sort : ℕ) (before : List ℕ) (end : ℕ) where
               new = is-new s e (holds-symbols y);
               room = has-room s e (holds-symbols y);
               written = x .written;
+              long = x .long;
               moved = x .moved;
               fits = x .fits;
+              indexed =
+                  subst (Indexed after past) (ap (λ (es : List NameEntry). entries ds ++ es) (entries-are s e (holds-symbols y)) ∙ sym (entries-more ds (plain s w)))
+                  (n .is .indexed (entries ds) (y .indexed) (entry-new s e (holds-symbols y)));
             }
         added Added.NoRoom n s e ds y good =
-            let room = room-for y (plain s w) long good (is-new s e (holds-symbols y)) (has-room s e (holds-symbols y)) in
+            let room = room-for y (plain s w) good (is-new s e (holds-symbols y)) (has-room s e (holds-symbols y)) in
             absurd (n .is (record {
               room = rw (entries-are s e (holds-symbols y)) room;
               short = (name-short w (both-true (isName w) (not (isReserved w)) good .0), tt);

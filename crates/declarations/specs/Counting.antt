@@ -1,22 +1,17 @@
 -- How many entries of a sort the symbols have, and what they say of a name. Assumes nothing.
-use Prim.Native.Nat.{ℕ, _+_}
+use Prim.Native.Nat.{ℕ}
 use mathlib.Core.Path.{_≡_}
-use mathlib.Core.Bool.{cond}
-use mathlib.Core.List.{List, [], _∷_}
-use lib.Dec.{eqb}
+use mathlib.Core.List.{List}
 use lib.ListN.{length}
+use Rattle.policy.specs.Basics.{Name}
 use Rattle.policy.specs.Statements.{Sort, Declaration, classNames}
 use Rattle.policy.specs.Statements as statements
 use Rattle.policy.specs.Maxima.{maxOf}
-use Rattle.policy.specs.Encode.{NameEntry, sortCode}
+use Rattle.policy.specs.Encode.{sortCode, entries}
+use Rattle.symbols.specs.Lookup.{familyNumber, firstNamed}
 use Rattle.symbols.specs.Symbols.{Symbols}
 use Rattle.symbols.specs.declared.Found.{Found}
 use Rattle.declarations.specs.declared.Standing.{Standing}
-
--- how many entries of a sort there are
-unfoldable pub countSort : ℕ → List NameEntry → ℕ
-countSort s [] = 0
-countSort s (e ∷ es) = cond (eqb (e .sort) s) (countSort s es + 1) (countSort s es)
 
 -- "Things are numbered from 0 in text order within their sort": so many of a sort are declared; sort 6 is class
 pub record Counts (table : List ℕ) (end sort r : ℕ) : Type 0 where
@@ -31,3 +26,9 @@ pub record MostIs (sort r : ℕ) : Type 0 where
 abbrev pub standing : Found → ℕ → Standing
 standing (Found.At s n) k = Standing.Taken
 standing Found.Missing k = Standing.Free k
+
+-- what the symbols say of the name w, in the family of a sort
+pub record Stands (table : List ℕ) (end sort : ℕ) (w : Name) (r : Standing) : Type 0 where
+  pub names : (ds : List Declaration) (s : Sort) → Symbols table end ds → sort ≡ sortCode s
+      → r ≡ standing (firstNamed (familyNumber sort 0) w (entries ds)) (statements.count s ds)
+  pub classes : (ds : List Declaration) → Symbols table end ds → sort ≡ 6 → r ≡ standing (firstNamed (familyNumber sort 0) w (entries ds)) (length (classNames ds))

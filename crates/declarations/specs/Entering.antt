@@ -1,31 +1,43 @@
 -- Entries written at the end of the symbols. Assumes nothing.
-use Prim.Native.Nat.{ℕ, _+_, _≤_}
+use Prim.Native.Nat.{ℕ, _+_, _≤_, _<_}
 use mathlib.Core.Path.{_≡_}
-use mathlib.Core.List.{List}
-use lib.ListN.{length}
+use mathlib.Core.List.{List, [], _∷_, _++_}
+use lib.ListN.{length, take}
 use Rattle.bitset.specs.Parts.{put}
 use Rattle.bitset.specs.Relations.{joined}
 use Rattle.policy.specs.Basics.{Name, each}
 use Rattle.policy.specs.Accepted.{All}
 use Rattle.policy.specs.Encode.{NameEntry, entryBytes, permissionEntries}
+use Rattle.symbols.specs.Lookup.{familyNumber, firstNamed}
+use Rattle.symbols.specs.Index.{Indexed}
+use Rattle.symbols.specs.declared.Found.{Found}
 use Rattle.declarations.specs.declared.Declared.{Declared}
 use Rattle.declarations.specs.declared.Added.{Added}
 
--- the bytes of some entries stand at the end, nothing else is changed, and past is the place behind them
+-- none of the entries es is found among the entries xs and those before it, and their numbers fit 2 bytes
+unfoldable pub AllNew : List NameEntry → List NameEntry → Type 0
+AllNew xs [] = Unit {0}
+AllNew xs (e ∷ es) = (firstNamed (familyNumber (e .sort) (e .number)) (e .name) xs ≡ Found.Missing) × (e .number < 65536) × AllNew (xs ++ (e ∷ [])) es
+
+-- the bytes of some entries stand at the end, nothing else is changed before the index, and past is the place behind them. The index has them, if it
+-- had the entries before them and they are new
 pub record Entered (before after : List ℕ) (end : ℕ) (es : List NameEntry) (past : ℕ) : Type 0 where
-  pub written : after ≡ put before end (joined (each entryBytes es))
+  pub room : 186264 ≤ length before
+  pub written : take 137088 after ≡ put (take 137088 before) end (joined (each entryBytes es))
+  pub long : length after ≡ length before
   pub moved : past ≡ end + length (joined (each entryBytes es))
-  pub fits : past ≤ length before
+  pub fits : past ≤ 137088
+  pub indexed : (xs : List NameEntry) → Indexed before end xs → AllNew xs es → Indexed after past (xs ++ es)
 
 -- there is room for them, and each name is short enough: "1 to 64 bytes"
-pub record Fitting (before : List ℕ) (end : ℕ) (es : List NameEntry) : Type 0 where
-  pub room : end + length (joined (each entryBytes es)) ≤ length before
+pub record Fitting (end : ℕ) (es : List NameEntry) : Type 0 where
+  pub room : end + length (joined (each entryBytes es)) ≤ 137088
   pub short : All (λ (e : NameEntry). length (e .name) ≤ 64) es
 
 -- they are written, unless they do not fit
 abbrev pub EntersBy : List ℕ → List ℕ → ℕ → List NameEntry → Added → Type 0
 EntersBy before after end es (Added.Past past) = Entered before after end es past
-EntersBy before after end es Added.NoRoom = Fitting before end es → ⊥
+EntersBy before after end es Added.NoRoom = Fitting end es → ⊥
 
 pub record Enters (before after : List ℕ) (end : ℕ) (es : List NameEntry) (r : Added) : Type 0 where
   pub is : EntersBy before after end es r
@@ -33,7 +45,7 @@ pub record Enters (before after : List ℕ) (end : ℕ) (es : List NameEntry) (r
 -- the permissions ws of a class, "permissions 32 per class", the first of them with the number n
 abbrev pub RowBy : List ℕ → List ℕ → ℕ → ℕ → List Name → Added → Type 0
 RowBy before after end n ws (Added.Past past) = Entered before after end (permissionEntries n ws) past × (length ws ≤ 32)
-RowBy before after end n ws Added.NoRoom = Fitting before end (permissionEntries n ws) → length ws ≤ 32 → ⊥
+RowBy before after end n ws Added.NoRoom = Fitting end (permissionEntries n ws) → length ws ≤ 32 → ⊥
 
 pub record EntersRow (before after : List ℕ) (end n : ℕ) (ws : List Name) (r : Added) : Type 0 where
   pub is : RowBy before after end n ws r

@@ -11,17 +11,15 @@ ghost use Rattle.policy.specs.Basics as basics;
 ghost use Rattle.policy.specs.Basics.{isIn, differ};
 ghost use Rattle.policy.specs.Encode.{nameEntry};
 ghost use Rattle.policy.specs.Words.{classK};
-ghost use Rattle.symbols.specs.Section.{entriesAt};
-ghost use Rattle.symbols.specs.Lookup.{familyNumber, firstNamed};
-ghost use Rattle.declarations.specs.Counting.{countSort, standing, Counts, MostIs};
+ghost use Rattle.declarations.specs.Counting.{Counts, MostIs, Stands};
 ghost use Rattle.declarations.specs.WordRows.{wordsIn, WordIs, Inside};
 ghost use Rattle.declarations.specs.Entering.{Enters, EntersRow, answerOf};
 ghost use Rattle.declarations.specs.Declaring.{DeclaresAt, DeclaresName};
 use lexer::Token;
-use symbols::Entry;
+use symbols::Found;
 
-// All names that the maxima allow: 2,016 entries of at most 68 bytes.
-pub const SYMBOL_BYTES: usize = 137_088;
+// The memory of the symbols: their entries, and behind the room for them their index. It is lent zeroed.
+pub const SYMBOL_BYTES: usize = symbols::SYMBOL_BYTES;
 
 // What declaring a name comes to: the new end of the symbols, fault 4, or fault 6.
 pub enum Declared {
@@ -63,27 +61,13 @@ const PERMISSION: usize = 7;
 pub fn count(symbols: &[u8], end: usize, sort: usize) -> usize
     ensures { λ r. ⌜ Counts (now (symbols .entry)) end sort r ⌝ }
 {
-    let mut at: usize = 0;
-    let mut total: usize = 0;
-    loop {
-        let k = symbols::look(symbols, at, end);
-        match k {
-            Entry::Named {
-                sort: kind,
-                past,
-                ..
-            } => {
-                if kind != sort {
-                    at = past;
-                    continue;
-                }
-                total += 1;
-                at = past;
-            }
-            Entry::Done => return total,
-            Entry::Broken => return total,
-        }
+    if symbols.len() < SYMBOL_BYTES {
+        return 0;
     }
+    if PERMISSION < sort {
+        return 0;
+    }
+    symbols::entered(symbols, sort)
 }
 
 // How many names of a sort of things or attributes there may be.
@@ -113,40 +97,15 @@ fn same_name(a: &[u8], i: usize, m: usize, b: &[u8], j: usize, n: usize) -> bool
     symbols::same(a, i, b, j, m)
 }
 
-// One walk over the symbols: whether the family of a sort has the name of len bytes of the text from a place on, and how many the sort has.
-// An entry of another family is of another sort.
+// What the symbols say of the name of len bytes of the text from a place on: its family has it, or how many its sort has.
 fn stands(symbols: &[u8], end: usize, sort: usize, text: &[u8], from: usize, len: usize) -> Standing
-    requires { ⌜ (sort < 7) × (from + len ≤ length (now text)) ⌝ }
-    ensures { λ r. ⌜ r ≡ standing (firstNamed (familyNumber sort 0) (part (now (text .entry)) from len) (entriesAt (now (symbols .entry)) 0 end)) (countSort sort (entriesAt (now (symbols .entry)) 0 end)) ⌝ }
+    ensures { λ r. ⌜ Stands (now (symbols .entry)) end sort (part (now (text .entry)) from len) r ⌝ }
 {
     let family = symbols::family_of(sort, 0);
-    let mut at: usize = 0;
-    let mut number: usize = 0;
-    loop {
-        let k = symbols::look(symbols, at, end);
-        match k {
-            Entry::Named {
-                sort: kind,
-                number: own,
-                past,
-            } => {
-                if symbols::family_of(kind, own) != family {
-                    at = past;
-                    continue;
-                }
-                if same_name(text, from, len, symbols, at + 4, past - at - 4) {
-                    return Standing::Taken;
-                }
-                if kind != sort {
-                    at = past;
-                    continue;
-                }
-                number += 1;
-                at = past;
-            }
-            Entry::Done => return Standing::Free(number),
-            Entry::Broken => return Standing::Free(number),
-        }
+    let found = symbols::lookup(symbols, end, family, text, from, len);
+    match found {
+        Found::At { .. } => Standing::Taken,
+        Found::Missing => Standing::Free(count(symbols, end, sort)),
     }
 }
 
@@ -160,19 +119,19 @@ fn add(
     from: usize,
     len: usize,
 ) -> Added
-    requires { ⌜ (sort < 8) × (from + len ≤ length (now text)) ⌝ }
+    requires { ⌜ (sort < 8) × (from + len ≤ length (now text)) × (186264 ≤ length (now symbols)) ⌝ }
     ensures { λ r. ⌜ Enters (now (symbols .entry)) (now (symbols .exit)) end (nameEntry sort number (part (now (text .entry)) from len) ∷ []) r ⌝ }
 {
     if lexer::Name::MAX < len {
         return Added::NoRoom;
     }
-    if symbols.len() < end {
+    if symbols::NAME_BYTES < end {
         return Added::NoRoom;
     }
-    if symbols.len() - end < 4 + len {
+    if symbols::NAME_BYTES - end < 4 + len {
         return Added::NoRoom;
     }
-    Added::Past(symbols::append(symbols, end, sort, number, text, from, len))
+    Added::Past(symbols::enter(symbols, end, sort, number, text, from, len))
 }
 
 // What the writing of a declaration's last entries comes to.
@@ -275,7 +234,7 @@ fn repeats(text: &[u8], at: usize) -> bool
 
 // Writes the entries of a class's permissions, the names in the row at a place, numbered from a first number on.
 fn add_permissions(symbols: &mut [u8], end: usize, first: usize, text: &[u8], at: usize) -> Added
-    requires { ⌜ (first ≤ 1024) × (end ≤ length (now symbols)) ⌝ }
+    requires { ⌜ (first ≤ 1024) × (end ≤ 137088) × (186264 ≤ length (now symbols)) ⌝ }
     ensures { λ r. ⌜ EntersRow (now (symbols .entry)) (now (symbols .exit)) end first (wordsIn (framesAt (now (text .entry)) at .here)) r ⌝ }
 {
     let mut i = at;

@@ -2,3 +2,4 @@
 pub mod LayoutTest
 pub mod SoundBodyLaws
 pub mod SoundImage
+pub mod WithinLaws

@@ -12,6 +12,8 @@ use table_reader::RowRecord;
 ghost use mathlib.Core.Path.{_≡_};
 ghost use Prim.Native.Nat.{_+_, _*_, _<_};
 ghost use lib.ListN.{length, take, drop};
+ghost use Rattle.bitset.specs.Sets.{within};
+ghost use Rattle.bitset.specs.Parts.{part};
 ghost use Rattle.policy.specs.Sound.{bodiesIn, transitionAt};
 ghost use Rattle.image_rows.specs.Totals.{thingsOf, attributesOf, totalsIn};
 ghost use Rattle.image_rows.specs.SoundRows.{isSome};
@@ -60,6 +62,18 @@ pub fn is_laid_out(table: &[u8]) -> bool
 
 // ---- sets
 
+// Whether the set in the `width` bytes at a place has no number at or above total. The bytes whose numbers are all below it are not looked at.
+fn is_within_at(table: &[u8], place: usize, width: usize, total: usize) -> bool
+    requires { ⌜ place + width < 18446744073709551616 ⌝ }
+    ensures { λ r. ⌜ r ≡ within total (part (now (table .entry)) place width) ⌝ }
+{
+    let filled = total / 8;
+    if width <= filled {
+        return true;
+    }
+    bitset::is_within_at(table, place + filled, width - filled, total % 8)
+}
+
 // Whether so many sets of `width` bytes from `start` on have no number at or above total. The start is so low that no place overflows.
 fn sets_within(table: &[u8], start: usize, count: u16, width: u16, total: u16) -> bool
     requires { ⌜ start < 1099511627776 ⌝ }
@@ -68,7 +82,7 @@ fn sets_within(table: &[u8], start: usize, count: u16, width: u16, total: u16) -
     let mut place = start;
     let mut left = count;
     while 0 < left {
-        if !bitset::is_within_at(table, place, width as usize, total as usize) {
+        if !is_within_at(table, place, width as usize, total as usize) {
             return false;
         }
         place += width as usize;
@@ -103,10 +117,10 @@ fn fits_transition(table: &[u8], start: u32, number: u32, counts: Counts) -> boo
     ensures { λ r. ⌜ r ≡ fitsTransition (thingsOf counts) (counts .classes) (transitionAt (take 82 (drop (start + 82 * number) (now (table .entry))))) ⌝ }
 {
     let at = start as usize + TRANSITION_BYTES * (number as usize);
-    if !bitset::is_within_at(table, at, Role::SET_BYTES, counts.roles as usize) {
+    if !is_within_at(table, at, Role::SET_BYTES, counts.roles as usize) {
         return false;
     }
-    if !bitset::is_within_at(
+    if !is_within_at(
         table,
         at + Role::SET_BYTES,
         Type::SET_BYTES,

@@ -2,7 +2,8 @@
 ghost use mathlib.Core.Path.{_≡_};
 ghost use Prim.Native.Nat.{ℕ};
 ghost use lib.ListN.{drop};
-ghost use Rattle.lexer.specs.Class.{classOf, goesOn, endsComment};
+ghost use Rattle.lexer.specs.Class as spelling;
+ghost use Rattle.lexer.specs.Class.{classOf, goesOn, endsComment, isName};
 ghost use Rattle.lexer.specs.Scan as spec;
 ghost use Rattle.lexer.specs.Scan.{stepBetween};
 ghost use Rattle.lexer.specs.Token.{tokenAt};
@@ -76,7 +77,7 @@ const CLASSES: [u8; 256] = *b"\
     ................................";
 
 // The table, to be lent: each use of the constant itself would write all its bytes anew.
-fn class_table() -> [u8; 256]
+pub fn class_table() -> [u8; 256]
     ensures { λ r. ⌜ Classes r ⌝ }
 {
     CLASSES
@@ -122,6 +123,16 @@ pub fn goes_on(class: ByteClass) -> bool
 {
     match class {
         ByteClass::Letter | ByteClass::Digit => true,
+        _ => false,
+    }
+}
+
+// Whether a name starts with a byte of the class.
+fn starts(class: ByteClass) -> bool
+    ensures { λ r. ⌜ r ≡ spelling.starts class ⌝ }
+{
+    match class {
+        ByteClass::Letter => true,
         _ => false,
     }
 }
@@ -172,6 +183,23 @@ fn word_end(classes: &[u8; 256], text: &[u8], at: usize) -> usize
         i += 1;
     }
     i
+}
+
+// Whether the bytes are a name, by the table that is lent.
+pub fn is_name(classes: &[u8; 256], name: &[u8]) -> bool
+    requires { ⌜ Classes (now classes) ⌝ }
+    ensures { λ r. ⌜ r ≡ isName (now (name .entry)) ⌝ }
+{
+    if name.len() == 0 {
+        return false;
+    }
+    if Name::MAX < name.len() {
+        return false;
+    }
+    if !starts(class_in(classes, name[0])) {
+        return false;
+    }
+    word_end(classes, name, 1) == name.len()
 }
 
 // What a byte between names does where so many parentheses are open.

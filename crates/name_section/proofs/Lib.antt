@@ -1,3 +1,4 @@
+pub mod FilterLaws
 pub mod NameLaws
 pub mod DeclaringLaws
 pub mod BodyLaws

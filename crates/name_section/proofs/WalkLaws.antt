@@ -1,15 +1,15 @@
 -- A turn of the walk over body 1: the entries passed may follow one another, the counts are those of what they declare, and what the walk
 -- says at its end is what `soundNames` says of the whole body. Assumes nothing.
-use mathlib.Core.Path.{_≡_, refl, sym, ap, ap₂, _∙_}
+use mathlib.Core.Path.{_≡_, refl, sym, ap, ap₂, subst, _∙_}
 use mathlib.Core.Logic.{_⊎_, inl, inr, ⊎-elim}
-use mathlib.Core.Bool.{Bool, true, false, not, _&&_, false≢true}
+use mathlib.Core.Bool.{Bool, true, false, not, _&&_, false≢true, and-false}
 use mathlib.Core.List.{List, [], _∷_, _++_}
 use mathlib.Core.Option.{Option, none, some}
 use Prim.Native.Nat.{ℕ, _+_, _-_, _*_, _/_, _≤_, _<_}
 use native.Mathlib.Omega.{arith}
 use borrow.Author.Tests.{eqb-true, ltb-true, leb-true, leb-false}
 use lib.Dec.{eqb, ltb, leb}
-use lib.ListN.{length, getD, drop}
+use lib.ListN.{length, getD, drop, replicate, length-replicate}
 use Rattle.bitset.specs.Parts.{part}
 use Rattle.policy.specs.Basics.{Name, isIn, _>>=_, given}
 use Rattle.policy.specs.Statements.{users, roles, types, Sort, thingOf, attributeOf, Declaration, class, familyOf, classNames}
@@ -32,10 +32,12 @@ use Rattle.table_laws.proofs.NamesFit.{code-below}
 use Rattle.name_section.specs.declared.Counted.{Counted}
 use Rattle.name_section.specs.SoundNames.{soundNames, countsOf, countedOf, permissionCounts, permissionsAfter}
 use Rattle.name_section.specs.Declaring.{Kind, ofThing, ofClass, ofPermission, ofNothing, kindOf, Declaring, complete, opened, declared, closes, isPlaced, isUnused, extended, mayFollow, declaring, finished, declares}
-use Rattle.name_section.specs.Tally.{isFree, counted, permitted, Zeros, Tallied, Room, sound, unsound, judged, countsIn, judgedOf}
+use Rattle.name_section.specs.Filter.{hashOf, marked, Knows}
+use Rattle.name_section.specs.Tally.{allows, isFree, counted, permitted, Zeros, Tallied, Room, sound, unsound, judged, countsIn, judgedOf}
 use Rattle.name_section.proofs.DeclaringLaws.{KindIs, kind-is, GoodSoFar, SoFar, start as start-good, declared-good, declaring-more}
 use Rattle.name_section.proofs.TallyLaws.{closes-open, allows-placed, FewClasses, tallied-after, tallied-start, tallied-counts, tallied-permissions}
 use Rattle.name_section.proofs.BodyLaws.{sound-declares}
+use Rattle.name_section.proofs.FilterLaws.{knows-none, knows-more}
 
 -- ---- an entry is new where its name is not found among those before it
 
@@ -76,6 +78,10 @@ follows-free c p es d t f sort n w = by (isPlaced (kindOf sort) d n) refl
     by : (q : Bool) → isPlaced (kindOf sort) d n ≡ q → (isPlaced (kindOf sort) d n && (isGood w && isUnused (kindOf sort) d w)) ≡ isFree c es sort n w
     by false h = rw (allows-placed c p d t sort n, h)
     by true h = rw (allows-placed c p d t sort n, h, f .are, unused-found (kindOf sort) sort n w d (kind-is sort) (f .good) h)
+
+-- an entry whose name is not good may not follow
+pub not-free : (c : List ℕ) (es : List NameEntry) (sort n : ℕ) (w : Name) → isGood w ≡ false → isFree c es sort n w ≡ false
+not-free c es sort n w h = ap (λ (q : Bool). allows c sort n && (q && not (isFound (firstNamed (familyNumber sort n) w es)))) h ∙ and-false (allows c sort n)
 
 -- ---- room for an entry that may follow
 
@@ -141,6 +147,11 @@ module _ (t : List ℕ) (start end : ℕ) where
       by true h = inl (leb-true start end h)
       by false h = let l = leb-false start end h in inr (refl, omega arith)
 
+  -- at first the filter is empty, as the entries passed are
+  pub knows-begin : Knows (replicate 8192 0) (entriesAt t start start)
+  knows-begin =
+      subst (Knows (replicate 8192 0)) (sym (exact-some (sectionAt t start start) [] (walk-start t start) .1)) (knows-none (replicate 8192 0) (length-replicate {A = ℕ} 8192 0))
+
   module _ (at : ℕ) (c p : List ℕ) (w : Walk t start at end c p) where
     pub good-so-far : SoFar (w .passed) (w .so-far)
     good-so-far = declared-good [] (complete []) start-good (w .passed) (w .so-far) (w .declare)
@@ -177,6 +188,13 @@ module _ (t : List ℕ) (start end : ℕ) where
         tallied = tallied-after c p (w .so-far) (w .tallied) s n (between t (at + 4) past) (is-placed (may-follow true h))
             (few-classes-so-far (w .so-far) (good-so-far .good));
       }
+
+      -- with its marks the filter knows the entry too
+      pub knows-next : (f : List ℕ) → Knows f (entriesAt t start at) → Knows (marked f (hashOf (familyNumber s n) (between t (at + 4) past))) (entriesAt t start past)
+      knows-next f k =
+          subst (Knows (marked f (hashOf (familyNumber s n) (between t (at + 4) past))))
+          (sym (exact-some (sectionAt t start past) (w .passed ++ (here ∷ [])) (walk-on t start at (w .passed) (w .read) (w .order) e) .1))
+          (knows-more f (w .passed) here (subst (Knows f) entries-passed k))
 
       -- an entry that may not follow: whatever follows it, the body is not sound
       refuses : isFree c (entriesAt t start at) s n (between t (at + 4) past) ≡ false → (es : List NameEntry) → declares (w .passed ++ (here ∷ es)) ≡ none

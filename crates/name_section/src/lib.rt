@@ -1,20 +1,21 @@
 // Whether body 1 of a table, its names, is sound, and how many things of each sort it names. The walk keeps counts of what is declared so
-// far; that a name is new is asked of the entries before it.
-use lexer::ByteClass;
+// far, and a filter with two marks for each name so far: a name without its marks is new, and only of the few others are the entries before it asked.
 use symbols::Entry;
 use symbols::Found;
 ghost use mathlib.Core.Path.{_≡_};
 ghost use mathlib.Core.Bool.{not};
-ghost use Prim.Native.Nat.{_+_, _≤_};
+ghost use Prim.Native.Nat.{_+_, _≤_, _<_};
 ghost use lib.ListN.{length};
 ghost use Rattle.bitset.specs.Parts.{part};
-ghost use Rattle.lexer.specs.Class as classes;
 ghost use Rattle.lexer.specs.Class.{isName};
+ghost use Rattle.lexer.specs.Answers.{Classes};
 ghost use Rattle.policy.specs.Words.{isReserved};
+ghost use Rattle.policy.specs.Sound.{isGood};
 ghost use Rattle.symbols.specs.Section.{between, entriesAt};
 ghost use Rattle.symbols.specs.Lookup.{familyNumber, firstNamed};
 ghost use Rattle.symbols.specs.Resolving.{isFound};
 ghost use Rattle.name_section.specs.SoundNames.{soundNames, countedOf, permissionsAfter};
+ghost use Rattle.name_section.specs.Filter.{hashOf, isMarked, marked, Knows, Follows};
 ghost use Rattle.name_section.specs.Tally.{mostOf, allows, isFree, counted, permitted, Room, Zeros, judgedOf, judged};
 
 // How many things of each sort a sound body 1 names.
@@ -39,69 +40,93 @@ const PERMISSION: usize = 7;
 // Behind the counts of the sorts: 0, or right after a class and its permissions 1 more than these are.
 const OPEN: usize = 7;
 
-// The reserved words as entries of one sort.
-const RESERVED: [u8; 151] = *b"\
-    \x00\x00\x00\x03all\x00\x00\x00\x03and\x00\x00\x00\x02or\x00\x00\x00\x03xor\x00\x00\x00\x03not\
-    \x00\x00\x00\x02eq\x00\x00\x00\x03neq\x00\x00\x00\x03dom\x00\x00\x00\x05domby\x00\x00\x00\x06incomp\
-    \x00\x00\x00\x02u1\x00\x00\x00\x02u2\x00\x00\x00\x02u3\x00\x00\x00\x02r1\x00\x00\x00\x02r2\
-    \x00\x00\x00\x02r3\x00\x00\x00\x02t1\x00\x00\x00\x02t2\x00\x00\x00\x02t3\x00\x00\x00\x02l1\
-    \x00\x00\x00\x02l2\x00\x00\x00\x02h1\x00\x00\x00\x02h2";
-
-// Whether a name starts with a byte of the class.
-fn starts(class: ByteClass) -> bool
-    ensures { λ r. ⌜ r ≡ classes.starts class ⌝ }
-{
-    match class {
-        ByteClass::Letter => true,
-        _ => false,
-    }
-}
-
-// Whether the bytes from a place to before another are a name.
-fn is_name(table: &[u8], from: usize, past: usize) -> bool
-    requires { ⌜ past ≤ length (now table) ⌝ }
+// Whether the bytes from a place to before another are a name, by the table of byte classes.
+fn is_name(classes: &[u8; 256], table: &[u8], from: usize, past: usize) -> bool
+    requires { ⌜ Classes (now classes) × (from ≤ past) × (past ≤ length (now table)) ⌝ }
     ensures { λ r. ⌜ r ≡ isName (between (now (table .entry)) from past) ⌝ }
 {
-    if past <= from {
+    lexer::is_name(classes, &table[from..past])
+}
+
+// Whether the bytes from a place to before another are a reserved word.
+fn is_reserved(table: &[u8], from: usize, past: usize) -> bool
+    requires { ⌜ (from ≤ past) × (past ≤ length (now table)) ⌝ }
+    ensures { λ r. ⌜ r ≡ isReserved (between (now (table .entry)) from past) ⌝ }
+{
+    !words::is_name(words::number_at(table, from, past - from))
+}
+
+// Whether they are a good name: one that is not reserved.
+fn is_good(classes: &[u8; 256], table: &[u8], from: usize, past: usize) -> bool
+    requires { ⌜ Classes (now classes) × (from ≤ past) × (past ≤ length (now table)) ⌝ }
+    ensures { λ r. ⌜ r ≡ isGood (between (now (table .entry)) from past) ⌝ }
+{
+    if !is_name(classes, table, from, past) {
         return false;
     }
-    if lexer::Name::MAX < past - from {
-        return false;
-    }
-    if !starts(lexer::class_of(table[from])) {
-        return false;
-    }
-    let mut i = from + 1;
+    !is_reserved(table, from, past)
+}
+
+// ---- the filter
+
+// The bytes of the filter.
+const FILTER_BYTES: usize = 8192;
+
+// How many hashes there are, and the base that they are made to: a power of 2 and 1, by which to multiply is quick.
+const HASHES: usize = 4_294_967_296;
+
+const BASE: usize = 129;
+
+// The marks of a hash are its remainders by these two: how many numbers the filter has room for, and the greatest prime below.
+const FIRST_MARKS: usize = 65_536;
+
+const SECOND_MARKS: usize = 65_521;
+
+fn wide(x: u8) -> usize
+    ensures { λ r. ⌜ (r ≡ x) × (r < 256) ⌝ }
+{
+    x as usize
+}
+
+// The hash of a family and of the name that stands from a place to before another.
+fn hash_of(table: &[u8], from: usize, past: usize, family: usize) -> usize
+    requires { ⌜ past ≤ length (now table) ⌝ }
+    ensures { λ r. ⌜ r ≡ hashOf family (between (now (table .entry)) from past) ⌝ }
+{
+    let mut hash = family % HASHES;
+    let mut i = from;
     while i < past {
-        if !lexer::goes_on(lexer::class_of(table[i])) {
-            return false;
-        }
+        hash = (hash * BASE + wide(table[i])) % HASHES;
         i += 1;
     }
-    true
+    hash
 }
 
-// Whether the len bytes from a place on are a reserved word.
-fn is_reserved(table: &[u8], from: usize, len: usize) -> bool
-    ensures { λ r. ⌜ r ≡ isReserved (part (now (table .entry)) from len) ⌝ }
+// Whether the filter has both marks of a hash.
+fn is_marked(filter: &[u8], hash: usize) -> bool
+    ensures { λ r. ⌜ r ≡ isMarked (now (filter .entry)) hash ⌝ }
 {
-    let words = RESERVED;
-    let k = symbols::find(&words, 0, 151, 0, table, from, len);
-    match k {
-        Found::At {
-            sort: _s,
-            number: _n,
-        } => true,
-        Found::Missing => false,
+    if !bitset::contains(filter, hash % FIRST_MARKS) {
+        return false;
     }
+    bitset::contains(filter, hash % SECOND_MARKS)
 }
+
+// Puts both marks of a hash into the filter.
+fn mark(filter: &mut [u8], hash: usize)
+    ensures { λ _. ⌜ now (filter .exit) ≡ marked (now (filter .entry)) hash ⌝ }
+{
+    bitset::insert(filter, hash % FIRST_MARKS);
+    bitset::insert(filter, hash % SECOND_MARKS);
+}
+
+// ---- one entry
 
 // Whether no entry before the one at a place has its family and its name.
-fn is_new(table: &[u8], start: usize, at: usize, past: usize, sort: usize, number: usize) -> bool
+fn is_first(table: &[u8], start: usize, at: usize, past: usize, family: usize) -> bool
     requires { ⌜ at + 4 ≤ past ⌝ }
-    ensures { λ r. ⌜ r ≡ not (isFound (firstNamed (familyNumber sort number) (between (now (table .entry)) (at + 4) past) (entriesAt (now (table .entry)) start at))) ⌝ }
+    ensures { λ r. ⌜ r ≡ not (isFound (firstNamed family (between (now (table .entry)) (at + 4) past) (entriesAt (now (table .entry)) start at))) ⌝ }
 {
-    let family = symbols::family_of(sort, number);
     let k = symbols::find(table, start, at, family, table, at + 4, past - (at + 4));
     match k {
         Found::At {
@@ -110,6 +135,25 @@ fn is_new(table: &[u8], start: usize, at: usize, past: usize, sort: usize, numbe
         } => false,
         Found::Missing => true,
     }
+}
+
+// The same, asked of the filter first: where it lacks a mark of the name, no entry has it.
+fn is_new(
+    table: &[u8],
+    start: usize,
+    at: usize,
+    past: usize,
+    filter: &[u8],
+    family: usize,
+    hash: usize,
+) -> bool
+    requires { ⌜ (at + 4 ≤ past) × Knows (now filter) (entriesAt (now table) start at) × (hash ≡ hashOf family (between (now table) (at + 4) past)) ⌝ }
+    ensures { λ r. ⌜ r ≡ not (isFound (firstNamed family (between (now (table .entry)) (at + 4) past) (entriesAt (now (table .entry)) start at))) ⌝ }
+{
+    if !is_marked(filter, hash) {
+        return true;
+    }
+    is_first(table, start, at, past, family)
 }
 
 // How many things of a sort, or classes, there may be.
@@ -172,29 +216,26 @@ fn advance(counts: &mut [usize], permissions: &mut [usize], sort: usize, number:
     }
 }
 
-// Whether the entry at a place may follow those before it, of which these are the counts.
+// Whether the entry at a place may follow those before it, of which these are the counts and the filter. Its name is good, and its hash is given.
 fn may_follow(
     table: &[u8],
     start: usize,
     at: usize,
     past: usize,
     counts: &[usize],
+    filter: &[u8],
     sort: usize,
     number: usize,
+    hash: usize,
 ) -> bool
-    requires { ⌜ (at + 4 ≤ past) × (past ≤ length (now table)) × (length (now counts) ≡ 8) ⌝ }
+    requires { ⌜ Follows (now table) start at past (now counts) (now filter) sort number hash ⌝ }
     ensures { λ r. ⌜ r ≡ isFree (now (counts .entry)) (entriesAt (now (table .entry)) start at) sort number (between (now (table .entry)) (at + 4) past) ⌝ }
 {
     if !is_allowed(counts, sort, number) {
         return false;
     }
-    if !is_name(table, at + 4, past) {
-        return false;
-    }
-    if is_reserved(table, at + 4, past - (at + 4)) {
-        return false;
-    }
-    is_new(table, start, at, past, sort, number)
+    let family = symbols::family_of(sort, number);
+    is_new(table, start, at, past, filter, family, hash)
 }
 
 // Walks the entries from start to end, with counts that are 0 at first. Where the body is unsound, the counts are left as they are then.
@@ -208,14 +249,21 @@ fn walk(
     requires { ⌜ Zeros (now counts) (now permissions) ⌝ }
     ensures { λ r. ⌜ judgedOf r (now (counts .exit)) (now (permissions .exit)) ≡ judged (soundNames (between (now (table .entry)) start end)) ⌝ }
 {
+    let classes = lexer::class_table();
+    let mut filter = [0u8; FILTER_BYTES];
     let mut at = start;
     loop {
         let k = symbols::look(table, at, end);
         match k {
             Entry::Named { sort, number, past } => {
-                if !may_follow(table, start, at, past, counts, sort, number) {
+                if !is_good(&classes, table, at + 4, past) {
                     return false;
                 }
+                let hash = hash_of(table, at + 4, past, symbols::family_of(sort, number));
+                if !may_follow(table, start, at, past, counts, &filter, sort, number, hash) {
+                    return false;
+                }
+                mark(&mut filter, hash);
                 advance(counts, permissions, sort, number);
                 at = past;
             }

@@ -29,9 +29,6 @@ module _ {lent content now : List ℕ} {end : ℕ} (s : Starts lent content now 
   pub front : take end now ≡ content
   front = ap₂ take (s .ends) (s .is) ∙ take-at content (drop (length content) lent) (length content) refl
 
-  pub inside : end ≤ length now
-  inside = omega (arith, now-long, s .ends, s .fits)
-
   -- what is put at the end
   pub put-behind : (bytes after : List ℕ) (past : ℕ) → after ≡ put now end bytes → past ≡ end + length bytes → past ≤ length now → Starts lent (content ++ bytes) after past
   put-behind bytes after past e m f = record {

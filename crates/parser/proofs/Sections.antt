@@ -72,6 +72,14 @@ module _ (cs : List Constrain) (c : Constrain) where
 
 module _ (p : Policy) (l : Line) where
   -- a declaration
+  pub declared-more : (d : Declaration) → declared l ≡ some d → declarations (p ++ (l ∷ [])) ≡ declarations p ++ (d ∷ [])
+  unfolding declarations
+  declared-more d h = gather-last declared p l d h
+
+  pub declared-same : declared l ≡ none → declarations (p ++ (l ∷ [])) ≡ declarations p
+  unfolding declarations
+  declared-same h = gather-over declared p l h
+
   pub symbols-more : (d : Declaration) → declared l ≡ some d → symbolsOf (p ++ (l ∷ [])) ≡ symbolsOf p ++ joined (each entryBytes (entriesOf (declarations p) d))
   unfolding symbolsOf sectionOf declarations
   symbols-more d h =

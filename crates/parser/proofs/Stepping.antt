@@ -8,7 +8,8 @@ use mathlib.Core.Bool.{Bool, true, false, not, cond}
 use mathlib.Core.List.{List, [], _∷_, _++_, append-nil}
 use mathlib.Core.Option.{Option, none, some}
 use lib.Dec.{ltb, leb}
-use lib.ListN.{length, length-append}
+use lib.ListN.{length, take, length-append}
+use lib.Seq.{take-take, length-take-le}
 use Rattle.bitset.specs.Parts.{put}
 use Rattle.bitset.specs.Relations.{joined}
 use Rattle.lexer.specs.Forms.{framesAt}
@@ -45,15 +46,23 @@ use Rattle.parser.specs.Steps.{codedKeyword, Filled, Stepped, RowIs, Roo
 use Rattle.parser.specs.declared.Progress.{Progress}
 use Rattle.parser.specs.declared.Step.{Step}
 use Rattle.parser.specs.declared.CodedKind.{CodedKind}
-use Rattle.parser.proofs.Filling.{now-long, front, inside, put-behind, wrote-behind}
-use Rattle.parser.proofs.Sections.{row-count-more, symbols-more, symbols-same, transitions-more, transitions-same, constrains-more, constrains-same, constraints-more, constraints-same, rows-more, rows-same}
+use Rattle.parser.proofs.Filling.{now-long, front, put-behind, wrote-behind}
+use Rattle.parser.proofs.Sections.{row-count-more, declared-more, declared-same, symbols-more, symbols-same, transitions-more, transitions-same, constrains-more, constrains-same, constraints-more, constraints-same, rows-more, rows-same}
 use Rattle.parser.proofs.KeywordKinds.{IsOf, formed-of, resolved-of}
 
 module _ {p : Policy} {lent : Memory} {sy co cs rs : List ℕ} {s : Progress} (h : Holds p lent (memory sy co cs rs) s) where
   -- the memory of the symbols holds what the statements declare
   table-holds : declaring.Holds sy (s .symbols) (declarations p)
   unfolding symbolsOf
-  table-holds = record { front = front (h .symbols); inside = inside (h .symbols); good = h .accepted .names }
+  table-holds = record {
+    front = sym (take-take (s .symbols) 137088 sy (h .indexed .below)) ∙ front (h .symbols);
+    inside = omega (arith, h .indexed .below, h .indexed .room);
+    good = h .accepted .names;
+    indexed = h .indexed;
+  }
+
+  names-long : length (take 137088 sy) ≡ 137088
+  names-long = length-take-le 137088 sy (omega (arith, h .indexed .room))
 
   module _ (place : ℕ) where
     filled-declared : {sy' co' : List ℕ} {past to : ℕ} (d : Declaration) → declaring.Adds sy sy' (s .symbols) past (declarations p) d
@@ -62,7 +71,8 @@ module _ {p : Policy} {lent : Memory} {sy co cs rs : List ℕ} {s : Progress} (h
     filled-declared d a w f =
         let l = line place (declare d) in
         record {
-          symbols = rw (symbols-more p l d refl) (put-behind (h .symbols) _ _ _ (a .written) (a .moved) (a .fits));
+          symbols = rw (symbols-more p l d refl) (put-behind (h .symbols) _ _ _ (a .written) (a .moved) (omega (arith, a .fits, names-long)));
+          indexed = rw (declared-more p l d refl) (a .indexed);
           code = rw (code-last p l) (wrote-behind (h .code) _ _ _ w f);
           constraints = rw (constraints-same p l refl) (h .constraints);
           rows = rw (rows-same p l refl) (h .rows);
@@ -79,6 +89,7 @@ module _ {p : Policy} {lent : Memory} {sy co cs rs : List ℕ} {s : Progress} (h
         let l = line place st in
         record {
           symbols = rw (symbols-same p l d) (h .symbols);
+          indexed = rw (declared-same p l d) (h .indexed);
           code = rw (code-last p l) (wrote-behind (h .code) _ _ _ w f);
           constraints = rw (constraints-same p l k) (h .constraints);
           rows = rw (rows-same p l k) (h .rows);
@@ -105,6 +116,7 @@ module _ {p : Policy} {lent : Memory} {sy co cs rs : List ℕ} {s : Progress} (h
         let numbered : next ≡ rowCount (constrains p ++ (k ∷ [])) = omega (arith, a .next-row, h .row-count, row-count-more (constrains p) k) in
         record {
           symbols = rw (symbols-same p l refl) (h .symbols);
+          indexed = rw (declared-same p l refl) (h .indexed);
           code = rw (code-last p l, append-nil) (h .code);
           constraints = rw (constraints-more p l k refl) (put-behind (h .constraints) head cs' (10 * (s .constraints + 1))
               (a .head ∙ ap (λ (n : ℕ). put cs (10 * s .constraints) (headBytes (headOf c ps e n))) (h .row-count))

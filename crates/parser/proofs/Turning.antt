@@ -8,7 +8,7 @@ use mathlib.Core.Option.{Option, none, some}
 use types.Run.{OneOf}
 use denote.Enum.Declared.{tagOf}
 use lib.Dec.{leb}
-use lib.ListN.{length}
+use lib.ListN.{length, take}
 use Rattle.lexer.specs.declared.Scanned.{Scanned}
 use Rattle.lexer.specs.declared.Token.{Token}
 use Rattle.lexer.specs.Scan.{scan, maxText, maxLevel}
@@ -19,7 +19,7 @@ use Rattle.policy.specs.Basics.{gather, each}
 use Rattle.bitset.specs.Relations.{joined}
 use Rattle.policy.specs.Statements.{Written, Statement, Policy, declarations, transitions, constrains}
 use Rattle.policy.specs.Grammar.{written}
-use Rattle.policy.specs.Reading.{Judged, reads, fault, naming, judge, Read, readFrom, rowCount}
+use Rattle.policy.specs.Reading.{Judged, reads, fault, naming, judge, Read, policy, refused, readFrom, rowCount}
 use Rattle.policy.specs.Sound.{goodFrom}
 use Rattle.policy.specs.Accepted.{Accepted}
 use Rattle.policy.specs.Encode.{headsFrom, entriesFrom, entries}
@@ -39,8 +39,9 @@ use Rattle.code_laws.specs.Weight.{weight}
 use Rattle.code_laws.proofs.TextWeight.{text-weight}
 use Rattle.code_laws.proofs.StatementShape.{statement-fits}
 use Rattle.code_laws.proofs.CodeFits.{part-fits}
+use Rattle.symbols.specs.Index.{Indexed, Cleared}
 use Rattle.declarations.specs.Declaring.{sectionOf}
-use Rattle.parser.specs.Memory.{Memory, symbolsOf, constraintsOf, rowsOf, Holds, Reads}
+use Rattle.parser.specs.Memory.{Memory, symbolsOf, constraintsOf, rowsOf, Holds, Reads, memory, Starts, Parses, ParsesIndexed}
 use Rattle.parser.specs.Steps.{Filled, Stepped, RowIs, Room, StepsAt, nothingRead}
 use Rattle.parser.specs.declared.Progress.{Progress}
 use Rattle.parser.specs.declared.Parsed.{Parsed}
@@ -62,11 +63,12 @@ nothing-accepted : Accepted []
 unfolding declarations transitions constrains gather goodFrom rowCount
 nothing-accepted = record { names = refl; statements = tt; few-transitions = omega arith; few-constrains = omega arith; few-rows = omega arith }
 
-nothing-holds : (lent : Memory) → Holds [] lent lent nothingRead
+nothing-holds : (lent : Memory) → Indexed (lent .symbols) 0 [] → Holds [] lent lent nothingRead
 unfolding symbolsOf sectionOf codeOf constraintsOf rowsOf declarations transitions constrains gather rowCount entries entriesFrom headsFrom joined each
-nothing-holds lent = record {
+nothing-holds lent index = record {
   accepted = nothing-accepted;
   symbols = empty;
+  indexed = index;
   code = empty;
   constraints = empty;
   rows = empty;
@@ -79,11 +81,11 @@ no-code : length (codeOf []) ≡ 0
 unfolding codeOf joined each
 no-code = refl
 
-pub begins : (t : List ℕ) (lent : Memory) → scan t ≡ Scanned.Clean → Rest t 0 lent lent nothingRead
+pub begins : (t : List ℕ) (lent : Memory) → scan t ≡ Scanned.Clean → Indexed (lent .symbols) 0 [] → Rest t 0 lent lent nothingRead
 unfolding formsOf
-begins t lent clean = record {
+begins t lent clean index = record {
   sofar = [];
-  holds = nothing-holds lent;
+  holds = nothing-holds lent index;
   left = refl;
   shut = clean-balanced t clean;
   names = clean-names t clean;
@@ -229,6 +231,7 @@ module _ {t : List ℕ} {at place next past : ℕ} {lent now : Memory} {s : Prog
         holds = record {
           accepted = statement-accepted (r .sofar) (inner r o) place st (r .holds .accepted) (inner-names r o .0) j;
           symbols = g .symbols;
+          indexed = g .indexed;
           code = g .code;
           constraints = g .constraints;
           rows = g .rows;
@@ -266,3 +269,28 @@ module _ {t : List ℕ} {at place next past : ℕ} {lent now : Memory} {s : Prog
 -- memory that is as long as the maxima ask has room
 pub roomy : {a b c : ℕ} → a ≡ 65536 → b ≡ 1280 → c ≡ 12288 → (leb 65536 a && leb 1280 b && leb 12288 c) ≡ true
 roomy e f g = rw (e, f, g)
+
+-- the symbols lent may be others behind the room for the entries
+module _ (lent other c k r : List ℕ) (same : take 137088 other ≡ take 137088 lent) where
+  pub lent-alike : (x : Read) (now : Memory) (y : Parsed) → Reads x (memory other c k r) now y → Reads x (memory lent c k r) now y
+  lent-alike (policy p) now (Parsed.Accepted s) h = record {
+    accepted = h .accepted;
+    symbols = subst (λ (l : List ℕ). Starts l (symbolsOf p) (take 137088 (now .symbols)) (s .symbols)) same (h .symbols);
+    indexed = h .indexed;
+    code = h .code;
+    constraints = h .constraints;
+    rows = h .rows;
+    transition-count = h .transition-count;
+    constraint-count = h .constraint-count;
+    row-count = h .row-count;
+  }
+  lent-alike (policy p) now (Parsed.Refused m q) h = h
+  lent-alike (refused n at) now (Parsed.Accepted s) h = h
+  lent-alike (refused n at) now (Parsed.Refused m q) h = h
+
+-- with the index cleared first, the text is read whatever the memory held
+pub parses : {t lent other c k r : List ℕ} {now : Memory} {y : Parsed} → Cleared lent other → 186264 ≤ length lent → ParsesIndexed t (memory other c k r) now y
+    → Parses t (memory lent c k r) now y
+parses {t} {lent} {other} {c} {k} {r} {now} {y} index room h = record {
+  reads = λ clean. lent-alike lent other c k r (index .front room) (readFrom (formsOf t) []) now y (h .reads clean (index .indexed room));
+}

@@ -3,7 +3,7 @@
 use Prim.Native.Nat.{ℕ, _+_, _*_, _≤_}
 use mathlib.Core.Path.{_≡_}
 use mathlib.Core.List.{List, [], _++_}
-use lib.ListN.{length, drop}
+use lib.ListN.{length, take, drop}
 use Rattle.bitset.specs.Relations.{joined}
 use Rattle.lexer.specs.declared.Scanned.{Scanned}
 use Rattle.lexer.specs.Scan.{scan}
@@ -13,8 +13,9 @@ use Rattle.policy.specs.Statements.{Policy, declarations, transitions, constrai
 use Rattle.policy.specs.Reading.{Read, policy, refused, readFrom, rowCount}
 use Rattle.policy.specs.Accepted.{Accepted}
 use Rattle.policy.specs.Image.{ConstraintEntry, constraintEntry}
-use Rattle.policy.specs.Encode.{headBytes, headsFrom, rowBytes}
+use Rattle.policy.specs.Encode.{entries, headBytes, headsFrom, rowBytes}
 use Rattle.statement_code.specs.Code.{codeOf}
+use Rattle.symbols.specs.Index.{Indexed}
 use Rattle.declarations.specs.Declaring.{sectionOf}
 use Rattle.parser.specs.declared.Progress.{Progress}
 use Rattle.parser.specs.declared.Parsed.{Parsed}
@@ -47,10 +48,11 @@ pub record Starts (lent content now : List ℕ) (end : ℕ) : Type 0 where
   pub ends : end ≡ length content
   pub fits : length content ≤ length lent
 
--- the lent memory holds the statements of p, which keep every rule that faults 3 to 7 stand for
+-- the lent memory holds the statements of p, which keep every rule that faults 3 to 7 stand for. The symbols end before their index
 pub record Holds (p : Policy) (lent now : Memory) (s : Progress) : Type 0 where
   pub accepted : Accepted p
-  pub symbols : Starts (lent .symbols) (symbolsOf p) (now .symbols) (s .symbols)
+  pub symbols : Starts (take 137088 (lent .symbols)) (symbolsOf p) (take 137088 (now .symbols)) (s .symbols)
+  pub indexed : Indexed (now .symbols) (s .symbols) (entries (declarations p))
   pub code : Starts (lent .code) (codeOf p) (now .code) (s .code)
   pub constraints : Starts (lent .constraints) (constraintsOf p) (now .constraints) (10 * s .constraints)
   pub rows : Starts (lent .rows) (rowsOf p) (now .rows) (6 * s .rows)
@@ -65,6 +67,10 @@ Reads (policy p) lent now (Parsed.Refused m q) = ⊥
 Reads (refused n at) lent now (Parsed.Accepted s) = ⊥
 Reads (refused n at) lent now (Parsed.Refused m q) = (m ≡ n) × (q ≡ at)
 
--- for every text that the scan leaves clean, whatever the lent memory held
+-- for every text that the scan leaves clean, whatever the lent memory held. What the index behind the symbols holds is free
 pub record Parses (t : List ℕ) (lent now : Memory) (r : Parsed) : Type 0 where
   pub reads : scan t ≡ Scanned.Clean → Reads (readFrom (formsOf t) []) lent now r
+
+-- the same where the index is known to be empty
+pub record ParsesIndexed (t : List ℕ) (lent now : Memory) (r : Parsed) : Type 0 where
+  pub reads : scan t ≡ Scanned.Clean → Indexed (lent .symbols) 0 [] → Reads (readFrom (formsOf t) []) lent now r

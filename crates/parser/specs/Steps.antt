@@ -5,16 +5,18 @@ use mathlib.Core.Bool.{true, cond}
 use mathlib.Core.List.{List, [], _∷_, _++_}
 use mathlib.Core.Option.{Option, none, some}
 use lib.Dec.{ltb}
-use lib.ListN.{length}
+use lib.ListN.{length, take}
 use Rattle.lexer.specs.Forms.{Forms, framesAt, trim, namesGood}
 use Rattle.lexer.specs.Scan.{maxLevel}
 use Rattle.policy.specs.Words as words
 use Rattle.policy.specs.Words.{declareK, classK, setK, relationK, transitionK, constrainK}
-use Rattle.policy.specs.Statements.{thingOf, attributeOf, Written, Statement, Policy, transitions, constrains}
+use Rattle.policy.specs.Statements.{thingOf, attributeOf, Written, Statement, Policy, declarations, transitions, constrains}
 use Rattle.policy.specs.Maxima.{maxTransitions, maxConstraints}
 use Rattle.policy.specs.Grammar.{formed, written}
 use Rattle.policy.specs.Reading.{Judged, reads, fault, naming, rowCount}
 use Rattle.policy.specs.Answers.{familyOf}
+use Rattle.policy.specs.Encode.{entries}
+use Rattle.symbols.specs.Index.{Indexed}
 use Rattle.statement_code.specs.Code.{statementCode, codeOf}
 use Rattle.declarations.specs.declared.Declared.{Declared}
 use Rattle.statement_writer.specs.Coding.{relationOf}
@@ -42,7 +44,8 @@ keywordIn Keyword.Unknown = none
 
 -- the lent memory holds what the statements of p leave there
 pub record Filled (p : Policy) (lent now : Memory) (s : Progress) : Type 0 where
-  pub symbols : Starts (lent .symbols) (symbolsOf p) (now .symbols) (s .symbols)
+  pub symbols : Starts (take 137088 (lent .symbols)) (symbolsOf p) (take 137088 (now .symbols)) (s .symbols)
+  pub indexed : Indexed (now .symbols) (s .symbols) (entries (declarations p))
   pub code : Starts (lent .code) (codeOf p) (now .code) (s .code)
   pub constraints : Starts (lent .constraints) (constraintsOf p) (now .constraints) (10 * s .constraints)
   pub rows : Starts (lent .rows) (rowsOf p) (now .rows) (6 * s .rows)

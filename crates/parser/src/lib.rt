@@ -11,7 +11,7 @@ ghost use Rattle.policy.specs.Encode.{sortCode};
 ghost use Rattle.policy.specs.Answers.{familyOf};
 ghost use Rattle.words.specs.Numbers.{wordOf};
 ghost use Rattle.statement_writer.specs.Coding.{WritesStatement};
-ghost use Rattle.parser.specs.Memory.{memory, Parses};
+ghost use Rattle.parser.specs.Memory.{memory, Parses, ParsesIndexed};
 ghost use Rattle.parser.specs.Steps.{codedKeyword, keywordIn, Steps, StepsAt, declaredStep, withCode, codedStep, constrainedStep, nothingRead};
 use constrain_statement::CONSTRAINT_BYTES;
 use constrain_statement::Constrained;
@@ -383,15 +383,15 @@ fn nothing_read() -> Progress
     }
 }
 
-// The statements of a text that the scan leaves clean. In such a text only a statement or the end can come next.
-pub fn parse(
+// The statements of a text that the scan leaves clean, with an index that is empty. In such a text only a statement or the end can come next.
+fn parse_indexed(
     text: &[u8],
     symbols: &mut [u8; SYMBOL_BYTES],
     code: &mut [u16; CODE_UNITS],
     constraints: &mut [u8; CONSTRAINT_BYTES],
     rows: &mut [u8; ROW_BYTES],
 ) -> Parsed
-    ensures { λ r. ⌜ Parses (now (text .entry))
+    ensures { λ r. ⌜ ParsesIndexed (now (text .entry))
         (memory (now (symbols .entry)) (now (code .entry)) (now (constraints .entry)) (now (rows .entry)))
         (memory (now (symbols .exit)) (now (code .exit)) (now (constraints .exit)) (now (rows .exit))) r ⌝ }
 {
@@ -422,4 +422,20 @@ pub fn parse(
             Step::Fault(number) => return Parsed::Refused { number, place },
         }
     }
+}
+
+// The statements of a text that the scan leaves clean, whatever the memory held.
+pub fn parse(
+    text: &[u8],
+    symbols: &mut [u8; SYMBOL_BYTES],
+    code: &mut [u16; CODE_UNITS],
+    constraints: &mut [u8; CONSTRAINT_BYTES],
+    rows: &mut [u8; ROW_BYTES],
+) -> Parsed
+    ensures { λ r. ⌜ Parses (now (text .entry))
+        (memory (now (symbols .entry)) (now (code .entry)) (now (constraints .entry)) (now (rows .entry)))
+        (memory (now (symbols .exit)) (now (code .exit)) (now (constraints .exit)) (now (rows .exit))) r ⌝ }
+{
+    symbols::clear_index(symbols);
+    parse_indexed(text, symbols, code, constraints, rows)
 }

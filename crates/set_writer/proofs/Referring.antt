@@ -10,19 +10,18 @@ use borrow.Author.Tests.{lt-ltb, le-ltb, lt-leb, le-leb}
 use lib.Dec.{leb, ltb}
 use Rattle.policy.specs.Basics.{Name}
 use Rattle.policy.specs.Statements.{Family, users, roles, types, thingOf, attributeOf, Declaration, Reference, thing, attribute, nameS}
-use Rattle.policy.specs.Encode.{sortCode}
+use Rattle.policy.specs.Encode.{sortCode, entries}
 use Rattle.policy.specs.Reading.{refer}
 use Rattle.reading_laws.proofs.IfAny.{IfAny}
 use Rattle.reading_laws.proofs.Resolving.{refer-in}
 use Rattle.statement_code.specs.Numbered.{NumberedR}
 use Rattle.code_laws.proofs.Numbers.{set-numbered}
-use Rattle.symbols.specs.Section.{entriesAt}
 use Rattle.symbols.specs.Lookup.{firstNamed}
-use Rattle.symbols.specs.Resolving.{familyCode, foundReference}
+use Rattle.symbols.specs.Resolving.{foundReference}
 use Rattle.symbols.specs.declared.Found.{Found}
 use Rattle.symbols.proofs.ReferencesFound.{find-reference}
 use Rattle.statement_code.specs.Code.{referenceUnit}
-use Rattle.symbols.specs.Symbols.{Symbols}
+use Rattle.symbols.specs.Symbols.{Symbols, Looks}
 use Rattle.set_writer.specs.Naming.{referred, Refers}
 use Rattle.set_writer.specs.declared.Referred.{Referred}
 
@@ -50,11 +49,11 @@ unit-of f (some (attribute n)) h = rw (lt-leb 1024 n (h .has (attribute n) refl)
 small : (ds : List Declaration) (f : Family) (w : Name) (table : List ℕ) (end : ℕ) → Symbols table end ds → IfAny NumberedR (refer ds f w)
 small ds f w table end s = record { has = λ r e. set-numbered ds (s .good) f (nameS r) (refer-in ds f w .has r e) }
 
-pub refers : {table : List ℕ} {end family : ℕ} {w : Name} {r : Referred} {found : Found} → found ≡ firstNamed family w (entriesAt table 0 end) → r ≡ unitOf found
+pub refers : {table : List ℕ} {end family : ℕ} {w : Name} {r : Referred} {found : Found} → Looks table end family w found → r ≡ unitOf found
     → Refers table end family w r
 refers {table} {end} {family} {w} e h = record {
   resolves = λ ds f s g.
-      h ∙ ap unitOf (e ∙ ap (λ (n : ℕ). firstNamed n w (entriesAt table 0 end)) (sym g) ∙ ap (firstNamed (familyCode f) w) (s .holds) ∙ find-reference ds f w (s .good))
+      h ∙ ap unitOf (e .finds ds s ∙ ap (λ (n : ℕ). firstNamed n w (entries ds)) (sym g) ∙ find-reference ds f w (s .good))
       ∙ unit-of f (refer ds f w) (small ds f w table end s);
 }
 

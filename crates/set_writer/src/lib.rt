@@ -52,7 +52,7 @@ pub fn reference(
 ) -> Referred
     ensures { λ r. ⌜ Refers (now (symbols .entry)) end family (part (now (text .entry)) start len) r ⌝ }
 {
-    let found = symbols::find(symbols, 0, end, family, text, start, len);
+    let found = symbols::lookup(symbols, end, family, text, start, len);
     match found {
         Found::At { sort, number } => {
             if Unit::ATTRIBUTE as usize <= number {

@@ -21,10 +21,9 @@ use Rattle.reading_laws.proofs.IfAny.{IfAny}
 use Rattle.reading_laws.proofs.Resolving.{index-below}
 use Rattle.statement_code.specs.Code as code
 use Rattle.statement_code.specs.Code.{referenceUnit}
-use Rattle.symbols.specs.Section.{entriesAt}
 use Rattle.symbols.specs.Lookup.{familyNumber, firstNamed}
 use Rattle.symbols.specs.Resolving.{familyCode, numberOf, foundClass}
-use Rattle.symbols.specs.Symbols.{Symbols}
+use Rattle.symbols.specs.Symbols.{Symbols, Looks}
 use Rattle.symbols.specs.declared.Found.{Found}
 use Rattle.symbols.proofs.ReferencesFound.{find-sort}
 use Rattle.symbols.proofs.ClassesFound.{find-class}
@@ -86,18 +85,18 @@ sort-family (attributeOf roles) = refl
 sort-family (attributeOf types) = refl
 
 pub numbers : {table : List ℕ} {end sort family : ℕ} {w : Name} {r : Referred} {found : Found} → family ≡ familyNumber sort 0
-    → found ≡ firstNamed family w (entriesAt table 0 end) → r ≡ numberBy sort found → Numbers table end sort w r
+    → Looks table end family w found → r ≡ numberBy sort found → Numbers table end sort w r
 numbers {table} {end} {sort} {family} {w} {r} {found} f e h = record {
   of-sort = λ ds s y q.
       let at : family ≡ familyCode (familyOf s) = f ∙ ap (λ (n : ℕ). familyNumber n 0) (sym q) ∙ sort-family s in
       let is : found ≡ firstNamed (familyCode (familyOf s)) w (entries ds) =
-      e ∙ ap (λ (n : ℕ). firstNamed n w (entriesAt table 0 end)) at ∙ ap (firstNamed (familyCode (familyOf s)) w) (y .holds) in
+      e .finds ds y ∙ ap (λ (n : ℕ). firstNamed n w (entries ds)) at in
       h ∙ ap (λ (n : ℕ). numberBy n found) (sym q) ∙ by-sort s found ∙ ap (λ (x : Found). small (numberOf s x)) is
       ∙ ap small (find-sort ds s w (y .good)) ∙ index-small w (namesOf s ds) (few s table end ds y);
   of-class = λ ds y q.
       let at : family ≡ 3 = f ∙ ap (λ (n : ℕ). familyNumber n 0) (sym q) in
       let is : found ≡ foundClass (indexOf w (classNames ds)) =
-      e ∙ ap (λ (n : ℕ). firstNamed n w (entriesAt table 0 end)) at ∙ ap (firstNamed 3 w) (y .holds) ∙ find-class ds w in
+      e .finds ds y ∙ ap (λ (n : ℕ). firstNamed n w (entries ds)) at ∙ find-class ds w in
       h ∙ ap (λ (n : ℕ). numberBy n found) (sym q) ∙ ap (numberBy 6) is ∙ by-class (indexOf w (classNames ds))
       ∙ index-small w (classNames ds) (omega (arith, few-classes ds (y .good)));
 }

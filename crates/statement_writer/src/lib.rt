@@ -78,7 +78,7 @@ fn number_of(
     ensures { λ r. ⌜ Numbers (now (symbols .entry)) end sort (part (now (text .entry)) start len) r ⌝ }
 {
     let family = symbols::family_of(sort, 0);
-    let found = symbols::find(symbols, 0, end, family, text, start, len);
+    let found = symbols::lookup(symbols, end, family, text, start, len);
     match found {
         Found::At { sort: s, number } => {
             if s != sort {

@@ -40,6 +40,10 @@ module _ (t u : List ℕ) (end r : ℕ) (e : NameEntry) (a : Appended t u end e 
   pub part-after : (p w : ℕ) → r ≤ p → part u p w ≡ part t p w
   part-after p w h = rw (a .written) (part-put-after t end (entryBytes e) fits p w (omega (arith, a .past)))
 
+  -- the entry's own bytes
+  pub part-new : part u end (length (entryBytes e)) ≡ entryBytes e
+  part-new = rw (a .written) (part-put-same t end (entryBytes e) fits)
+
   module _ (start : ℕ) (s : start ≤ end) where
     -- its bytes
     pub bytes-after : between u start r ≡ between t start end ++ entryBytes e

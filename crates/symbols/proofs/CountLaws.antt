@@ -42,7 +42,7 @@ module _ {t : List ℕ} {at end s n past : ℕ} (h : EntryIs t at end (Entry.Nam
 
 -- AMONG DECLARATIONS
 
-count-append : (x : ℕ) (xs ys : List NameEntry) → countSort x (xs ++ ys) ≡ countSort x xs + countSort x ys
+pub count-append : (x : ℕ) (xs ys : List NameEntry) → countSort x (xs ++ ys) ≡ countSort x xs + countSort x ys
 unfolding countSort
 count-append x [] ys = omega arith
 count-append x (a ∷ xs) ys = by (eqb (a .sort) x) (count-append x xs ys)

@@ -12,3 +12,6 @@ pub mod Declaring
 pub mod Written
 pub mod Walking
 pub mod CountLaws
+pub mod SlotLaws
+pub mod Indexing
+pub mod Entering

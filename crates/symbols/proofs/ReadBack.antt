@@ -65,7 +65,7 @@ unfolding entriesRead
 entries-over [] s = refl
 entries-over (e ∷ es) s = ap (λ (r : List NameEntry). e ∷ r) (entries-over es s)
 
-entry-back : (e : NameEntry) → e .number < 65536 → (x : List ℕ) → sectionIn (entryBytes e ++ x) ≡ entry e (sectionIn x)
+pub entry-back : (e : NameEntry) → e .number < 65536 → (x : List ℕ) → sectionIn (entryBytes e ++ x) ≡ entry e (sectionIn x)
 unfolding le
 entry-back e h x =
     let n : e .number % 256 + 256 * (e .number / 256 % 256) ≡ e .number = omega arith in

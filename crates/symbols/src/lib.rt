@@ -1,6 +1,7 @@
 // The symbol table, kept in the byte layout of body 1 of a table: an entry is its sort in 1 byte, its number in 2, its name's
 // length in 1, and the name's bytes. The memory is the caller's; the same functions serve the compiler and finished tables.
-// Parts that reach past the end of a slice are cut there, so that of the public functions only `append` and `copy` ask anything of their callers.
+// Parts that reach past the end of a slice are cut there, so that the searches ask nothing of their caller; what writes asks for room. Behind the
+// room for the entries the compiler's memory has an index of them, by which `lookup` finds an entry mostly without a walk.
 ghost use mathlib.Core.Path.{_≡_};
 ghost use Prim.Native.Nat.{ℕ, min, _+_, _-_, _<_, _≤_};
 ghost use lib.ListN.{length};
@@ -8,9 +9,11 @@ ghost use Rattle.bitset.specs.Parts.{part, put};
 ghost use Rattle.policy.specs.Basics as basics;
 ghost use Rattle.policy.specs.Encode.{nameEntry, entryBytes};
 ghost use Rattle.policy.specs.Questions.{nameFrom};
-ghost use Rattle.symbols.specs.Section.{EntryIs, entriesAt};
-ghost use Rattle.symbols.specs.Lookup.{familyNumber, firstNamed, replyOf, countSort};
+ghost use Rattle.symbols.specs.Section.{EntryIs, entriesAt, between};
+ghost use Rattle.symbols.specs.Lookup.{familyNumber, isNamed, headNamed, firstNamed, replyOf, countSort};
 ghost use Rattle.symbols.specs.Append.{Room, Appended};
+ghost use Rattle.symbols.specs.Index.{slotOf, slotIn, Stored, Noted, EntryRoom, Entered, Cleared};
+ghost use Rattle.symbols.specs.Symbols.{Looks, LooksOn};
 
 // What stands at a place of a section: an entry, with the place past it; the section's end; or bytes that are no entry.
 pub enum Entry {
@@ -263,4 +266,205 @@ pub fn count(table: &[u8], start: usize, end: usize, sort: usize) -> usize
             Entry::Broken => return count,
         }
     }
+}
+
+// All names that the maxima allow: 2,016 entries of at most 68 bytes.
+pub const NAME_BYTES: usize = 137_088;
+
+// The index stands behind the room for the entries, in slots of 3 bytes. A name has a slot by its bytes and its family, and another slot for
+// where that is taken. A slot holds 0, or 1 + the place of an entry: a hint, since names can share a slot. Behind these slots one for each
+// sort counts its entries.
+const SLOTS: usize = 16_384;
+
+// How far the other slot of a name is from its own.
+const OTHER: usize = 385;
+
+// The memory of symbols with an index.
+pub const SYMBOL_BYTES: usize = 186_264;
+
+// The slot of a name of a family.
+fn slot_of(family: usize, text: &[u8], from: usize, len: usize) -> usize
+    ensures { λ r. ⌜ (r ≡ slotOf family (part (now (text .entry)) from len)) × (r < 16384) ⌝ }
+{
+    let long = present(text.len(), from, len);
+    let mut slot = family % SLOTS;
+    let mut i: usize = 0;
+    while i < long {
+        slot = (slot * 31 + wide(text[from + i])) % SLOTS;
+        i += 1;
+    }
+    slot
+}
+
+// What a slot holds.
+fn slot_in(symbols: &[u8], slot: usize) -> usize
+    requires { ⌜ (slot < 16392) × (186264 ≤ length (now symbols)) ⌝ }
+    ensures { λ r. ⌜ (r ≡ slotIn (now (symbols .entry)) slot) × (r < 16777216) ⌝ }
+{
+    let at = NAME_BYTES + 3 * slot;
+    wide(symbols[at]) + 256 * (wide(symbols[at + 1]) + 256 * wide(symbols[at + 2]))
+}
+
+// Stores a number into a slot.
+fn set_slot(symbols: &mut [u8], slot: usize, number: usize)
+    requires { ⌜ (slot < 16392) × (186264 ≤ length (now symbols)) ⌝ }
+    ensures { λ _. ⌜ Stored (now (symbols .entry)) (now (symbols .exit)) slot number ⌝ }
+{
+    let at = NAME_BYTES + 3 * slot;
+    symbols[at] = (number % 256) as u8;
+    symbols[at + 1] = (number / 256 % 256) as u8;
+    symbols[at + 2] = (number / 65536 % 256) as u8;
+}
+
+// Whether the entry at a place has a family and a name.
+fn is_named(
+    table: &[u8],
+    at: usize,
+    sort: usize,
+    number: usize,
+    past: usize,
+    family: usize,
+    text: &[u8],
+    from: usize,
+    len: usize,
+) -> bool
+    requires { ⌜ (at + 4 ≤ past) × (past ≤ length (now table)) ⌝ }
+    ensures { λ r. ⌜ r ≡ isNamed family (part (now (text .entry)) from len) (nameEntry sort number (between (now (table .entry)) (at + 4) past)) ⌝ }
+{
+    if family_of(sort, number) != family {
+        return false;
+    }
+    let long = present(text.len(), from, len);
+    if past - at - 4 != long {
+        return false;
+    }
+    same(text, from, table, at + 4, long)
+}
+
+// The entry at a place, if it has a family and a name.
+fn hinted(
+    symbols: &[u8],
+    at: usize,
+    end: usize,
+    family: usize,
+    text: &[u8],
+    from: usize,
+    len: usize,
+) -> Found
+    ensures { λ r. ⌜ r ≡ headNamed family (part (now (text .entry)) from len) (entriesAt (now (symbols .entry)) at end) ⌝ }
+{
+    let k = look(symbols, at, end);
+    match k {
+        Entry::Named { sort, number, past } => {
+            if is_named(symbols, at, sort, number, past, family, text, from, len) {
+                return Found::At { sort, number };
+            }
+            Found::Missing
+        }
+        Entry::Done => Found::Missing,
+        Entry::Broken => Found::Missing,
+    }
+}
+
+// The lookup of a name whose slot holds another entry: by its other slot, and else by the walk.
+fn look_on(
+    symbols: &[u8],
+    end: usize,
+    slot: usize,
+    family: usize,
+    text: &[u8],
+    from: usize,
+    len: usize,
+) -> Found
+    requires { ⌜ (slot < 16384) × (186264 ≤ length (now symbols)) ⌝ }
+    ensures { λ r. ⌜ LooksOn (now (symbols .entry)) end slot family (part (now (text .entry)) from len) r ⌝ }
+{
+    let other = slot_in(symbols, (slot + OTHER) % SLOTS);
+    if other == 0 {
+        return Found::Missing;
+    }
+    let found = hinted(symbols, other - 1, end, family, text, from, len);
+    match found {
+        Found::At { sort, number } => Found::At { sort, number },
+        Found::Missing => find(symbols, 0, end, family, text, from, len),
+    }
+}
+
+// The first entry of a family with a name, among the entries from place 0 on: the one that its slot points at, if that has the family and the
+// name.
+pub fn lookup(
+    symbols: &[u8],
+    end: usize,
+    family: usize,
+    text: &[u8],
+    from: usize,
+    len: usize,
+) -> Found
+    ensures { λ r. ⌜ Looks (now (symbols .entry)) end family (part (now (text .entry)) from len) r ⌝ }
+{
+    if symbols.len() < SYMBOL_BYTES {
+        return find(symbols, 0, end, family, text, from, len);
+    }
+    let slot = slot_of(family, text, from, len);
+    let hint = slot_in(symbols, slot);
+    if hint == 0 {
+        return Found::Missing;
+    }
+    let found = hinted(symbols, hint - 1, end, family, text, from, len);
+    match found {
+        Found::At { sort, number } => Found::At { sort, number },
+        Found::Missing => look_on(symbols, end, slot, family, text, from, len),
+    }
+}
+
+// Notes that an entry of a family with a name starts at a place: in the name's slot, or else in its other slot, if one of them is empty.
+pub fn note(symbols: &mut [u8], at: usize, family: usize, text: &[u8], from: usize, len: usize)
+    requires { ⌜ (at < 137088) × (186264 ≤ length (now symbols)) ⌝ }
+    ensures { λ _. ⌜ Noted (now (symbols .entry)) (now (symbols .exit)) (slotOf family (part (now (text .entry)) from len)) at ⌝ }
+{
+    let slot = slot_of(family, text, from, len);
+    if slot_in(symbols, slot) == 0 {
+        set_slot(symbols, slot, at + 1);
+        return;
+    }
+    let other = (slot + OTHER) % SLOTS;
+    if slot_in(symbols, other) != 0 {
+        return;
+    }
+    set_slot(symbols, other, at + 1);
+}
+
+// How many entries of a sort were entered.
+pub fn entered(symbols: &[u8], sort: usize) -> usize
+    requires { ⌜ (sort < 8) × (186264 ≤ length (now symbols)) ⌝ }
+    ensures { λ r. ⌜ (r ≡ slotIn (now (symbols .entry)) (16384 + sort)) × (r < 16777216) ⌝ }
+{
+    slot_in(symbols, SLOTS + sort)
+}
+
+// Writes an entry at the end of the symbols, as `append`, and into the index.
+pub fn enter(
+    symbols: &mut [u8],
+    end: usize,
+    sort: usize,
+    number: usize,
+    text: &[u8],
+    from: usize,
+    len: usize,
+) -> usize
+    requires { ⌜ EntryRoom (length (now symbols)) end sort len ⌝ }
+    ensures { λ r. ⌜ Entered (now (symbols .entry)) (now (symbols .exit)) end (nameEntry sort number (part (now (text .entry)) from len)) r ⌝ }
+{
+    let past = append(symbols, end, sort, number, text, from, len);
+    note(symbols, end, family_of(sort, number), text, from, len);
+    let count = entered(symbols, sort);
+    set_slot(symbols, SLOTS + sort, count + 1);
+    past
+}
+
+// Empties the index: no name is noted, and none is counted.
+pub fn clear_index(symbols: &mut [u8])
+    ensures { λ _. ⌜ Cleared (now (symbols .entry)) (now (symbols .exit)) ⌝ }
+{
+    bitset::clear_at(symbols, NAME_BYTES, SYMBOL_BYTES - NAME_BYTES);
 }

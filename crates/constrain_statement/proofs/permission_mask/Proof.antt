@@ -23,8 +23,8 @@ look-requires c κs = search needs
 enum-known-item : tie.Need-enum-known-item Inv-loop μ-loop
 enum-known-item c = search needs
 
-find-requires : tie.Need-find-requires Inv-loop μ-loop
-find-requires c κs = search needs
+lookup-requires : tie.Need-lookup-requires Inv-loop μ-loop
+lookup-requires c κs = search needs
 
 enum-known-found : tie.Need-enum-known-found Inv-loop μ-loop
 enum-known-found c = search needs
@@ -33,7 +33,7 @@ enum-told : tie.Need-enum-told Inv-loop μ-loop
 enum-told c = search needs
 
 returns : tie.Need-returns Inv-loop μ-loop
-returns c = not-of-class (c .before .before .before .before .before .before .before .loop .inv) (sees (c .before .before .before .before .before .before .look .ensures) (c .before .before .before .before .item .given .1)) (c .before .before .find .ensures) (c .enum-told .given .1)
+returns c = not-of-class (c .before .before .before .before .before .before .before .loop .inv) (sees (c .before .before .before .before .before .before .look .ensures) (c .before .before .before .before .item .given .1)) (c .before .before .lookup .ensures) (c .enum-told .given .1)
 
 with-permission-requires : tie.Need-with-permission-requires Inv-loop μ-loop
 with-permission-requires c κs = search needs
@@ -42,7 +42,7 @@ loop-less : tie.Need-loop-less Inv-loop μ-loop
 loop-less c = let l = (sees (c .before .before .before .before .before .before .before .before .look .ensures) (c .before .before .before .before .before .before .item .given .1)) in omega (arith, l .ahead .0, l .ahead .1)
 
 loop-again : tie.Need-loop-again Inv-loop μ-loop
-loop-again c = one-more (c .before .before .before .before .before .before .before .before .before .loop .inv) (sees (c .before .before .before .before .before .before .before .before .look .ensures) (c .before .before .before .before .before .before .item .given .1)) (c .before .before .before .before .find .ensures) (c .before .before .found .given .1) (c .with-permission .ensures)
+loop-again c = one-more (c .before .before .before .before .before .before .before .before .before .loop .inv) (sees (c .before .before .before .before .before .before .before .before .look .ensures) (c .before .before .before .before .before .before .item .given .1)) (c .before .before .before .before .lookup .ensures) (c .before .before .found .given .1) (c .with-permission .ensures)
 
 enum-known-item-2 : tie.Need-enum-known-item-2 Inv-loop μ-loop
 enum-known-item-2 c = search needs
@@ -62,7 +62,7 @@ permission-mask-spec =
     loop-holds
     look-requires
     enum-known-item
-    find-requires
+    lookup-requires
     enum-known-found
     enum-told
     returns

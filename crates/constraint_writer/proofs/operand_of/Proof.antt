@@ -13,23 +13,23 @@ returns c = a-side _ _ _ _ _ _ _ _ (c .before .component-of .ensures) (c .if1 .t
 cast-family : tie.Need-cast-family
 cast-family c = search needs
 
-find-requires : tie.Need-find-requires
-find-requires c κs = search needs
+lookup-requires : tie.Need-lookup-requires
+lookup-requires c κs = search needs
 
 enum-known-found : tie.Need-enum-known-found
 enum-known-found c = search needs
 
 returns-2 : tie.Need-returns-2
-returns-2 c = a-thing _ _ _ _ _ _ _ _ (c .before .before .before .before .before .before .component-of .ensures) (c .before .before .before .before .before .if1 .left) _ (c .before .before .before .before .find .ensures) _ _ (c .before .before .found .given .1) (c .if2 .taken)
+returns-2 c = a-thing _ _ _ _ _ _ _ _ (c .before .before .before .before .before .before .component-of .ensures) (c .before .before .before .before .before .if1 .left) _ (c .before .before .before .before .lookup .ensures) _ _ (c .before .before .found .given .1) (c .if2 .taken)
 
 enum-told : tie.Need-enum-told
 enum-told c = search needs
 
 returns-3 : tie.Need-returns-3
-returns-3 c = an-attribute _ _ _ _ _ _ _ _ (c .before .before .before .before .before .before .component-of .ensures) (c .before .before .before .before .before .if1 .left) _ (c .before .before .before .before .find .ensures) _ _ (c .before .before .found .given .1) (c .if2 .left)
+returns-3 c = an-attribute _ _ _ _ _ _ _ _ (c .before .before .before .before .before .before .component-of .ensures) (c .before .before .before .before .before .if1 .left) _ (c .before .before .before .before .lookup .ensures) _ _ (c .before .before .found .given .1) (c .if2 .left)
 
 returns-4 : tie.Need-returns-4
-returns-4 c = missing _ _ _ _ _ _ _ _ (c .before .before .before .before .component-of .ensures) (c .before .before .before .if1 .left) _ (c .before .before .find .ensures) (c .enum-told .given .1)
+returns-4 c = missing _ _ _ _ _ _ _ _ (c .before .before .before .before .component-of .ensures) (c .before .before .before .if1 .left) _ (c .before .before .lookup .ensures) (c .enum-told .given .1)
 
 pub operand-of-spec : {M : Type 1} → statement M
 operand-of-spec =
@@ -38,7 +38,7 @@ operand-of-spec =
     component-of-requires
     returns
     cast-family
-    find-requires
+    lookup-requires
     enum-known-found
     returns-2
     enum-told

@@ -1,4 +1,4 @@
--- `declarations::add` meets its contract: an entry that fits is appended. Assumes nothing.
+-- `declarations::add` meets its contract: an entry that fits is entered. Assumes nothing.
 use native.Mathlib.Omega.{arith}
 use borrow.Author.Needs.{needs}
 use Rattle.declarations.proofs.EnteringLaws.{too-long, past-end, no-room, appended}
@@ -11,25 +11,24 @@ returns c = too-long _ _ _ _ _ _ _ (c .before .before .before .pre .1) (c .if1 .
 returns-2 : tie.Need-returns-2
 returns-2 c = past-end _ _ _ _ _ _ _ (c .before .before .before .before .pre .1) (c .if2 .taken)
 
-sub-if3 : tie.Need-sub-if3
-sub-if3 c = search needs
-
 add-if3 : tie.Need-add-if3
 add-if3 c = search needs
 
 returns-3 : tie.Need-returns-3
 returns-3 c = no-room _ _ _ _ _ _ _ (c .before .before .before .before .before .pre .1) (c .before .if2 .left) (c .if3 .taken)
 
-append-requires : tie.Need-append-requires
-append-requires c κs = record { room = omega arith; sort-byte = omega (arith, c .before .before .before .before .before .before .pre .0); length-byte = omega arith }
+enter-requires : tie.Need-enter-requires
+enter-requires c κs =
+    let s = c .before .before .before .before .before .before in
+    record { index = s .pre .2; room = omega arith; sort-known = s .pre .0; length-byte = omega arith }
 
 same-length : tie.Need-same-length
 same-length c = search needs
 
 returns-4 : tie.Need-returns-4
-returns-4 c = appended _ _ _ _ _ _ _ (c .before .before .before .before .before .before .before .before .before .pre .1) _ _ (c .before .before .append .ensures)
+returns-4 c = appended _ _ _ _ _ _ _ (c .before .before .before .before .before .before .before .before .before .pre .1) _ _ (c .before .before .before .before .before .before .before .before .before .pre .2) (c .before .before .enter .ensures)
 
 pub add-spec : {M : Type 1} → statement M
 add-spec =
     tie.close
-    (tie.spec returns returns-2 sub-if3 add-if3 returns-3 append-requires same-length returns-4)
+    (tie.spec returns returns-2 add-if3 returns-3 enter-requires same-length returns-4)

@@ -20,7 +20,7 @@ abbrev μ-loop : tie.MeasureT-loop
 μ-loop symbols₀ end first text at i₀ past₀ place₀ symbols i past place = length text - i
 
 loop-holds : tie.Need-loop-holds Inv-loop μ-loop
-loop-holds c = so-far-none _ _ _ _ (c .before .before .pre .1)
+loop-holds c = so-far-none _ _ _ _ (c .before .before .pre .1) (c .before .before .pre .2)
 
 word-at-requires : tie.Need-word-at-requires Inv-loop μ-loop
 word-at-requires c κs = search needs
@@ -52,7 +52,7 @@ add-add c = omega (arith, c .before .before .before .before .before .before .bef
 add-requires : tie.Need-add-requires Inv-loop μ-loop
 add-requires c κs =
     let w = told (c .before .before .before .before .before .word-at .ensures) (c .before .before .before .name .given .1) in
-    (omega arith, w .is .within)
+    (omega arith, w .is .within, omega (arith, c .before .before .before .before .before .before .before .before .before .pre .2, so-far-long (c .before .before .before .before .before .before .loop .inv)))
 
 enum-known-added : tie.Need-enum-known-added Inv-loop μ-loop
 enum-known-added c = search needs

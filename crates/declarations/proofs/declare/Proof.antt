@@ -1,8 +1,8 @@
--- `declarations::declare` meets its contract: each answer by what the walk over the symbols said. Assumes nothing.
+-- `declarations::declare` meets its contract: each answer by what the symbols said of the name. Assumes nothing.
 use native.Mathlib.Omega.{arith}
-use mathlib.Core.Path.{sym, _∙_}
 use borrow.Author.Needs.{needs}
 use Rattle.declarations.proofs.Rows.{told}
+use Rattle.declarations.proofs.Standings.{stands-told}
 use Rattle.declarations.proofs.NameAnswers.{no-sort, no-name, name-taken, name-full, name-added}
 use Rattle.declarations.proofs.declare.Statement.{statement}
 use Rattle.declarations.proofs.declare.Tie as tie
@@ -23,7 +23,7 @@ returns-2 : tie.Need-returns-2
 returns-2 c = no-name _ _ _ _ _ _ _ (told (c .before .before .word-at .ensures) (c .enum-told .given .1))
 
 stands-requires : tie.Need-stands-requires
-stands-requires c κs = (omega (arith, c .before .before .before .before .before .before .if1 .left), told (c .before .before .before .before .before .word-at .ensures) (c .before .before .before .name .given .1) .is .within)
+stands-requires c κs = search needs
 
 enum-known-known : tie.Need-enum-known-known
 enum-known-known c = search needs
@@ -32,25 +32,25 @@ enum-told-2 : tie.Need-enum-told-2
 enum-told-2 c = search needs
 
 returns-3 : tie.Need-returns-3
-returns-3 c = name-taken _ _ _ _ _ _ _ (told (c .before .before .before .before .before .before .before .before .word-at .ensures) (c .before .before .before .before .before .before .name .given .1) .is) _ (sym (c .enum-told2 .given .1) ∙ c .before .before .stands .ensures)
+returns-3 c = name-taken _ _ _ _ _ _ _ (told (c .before .before .before .before .before .before .before .before .word-at .ensures) (c .before .before .before .before .before .before .name .given .1) .is) _ (stands-told (c .before .before .stands .ensures) (c .enum-told2 .given .1))
 
 most-requires : tie.Need-most-requires
 most-requires c κs = search needs
 
 returns-4 : tie.Need-returns-4
 returns-4 c =
-    name-full _ _ _ _ _ _ _ (told (c .before .before .before .before .before .before .before .before .before .before .before .word-at .ensures) (c .before .before .before .before .before .before .before .before .before .name .given .1) .is) (sym (c .before .before .before .known .given .1) ∙ c .before .before .before .before .before .stands .ensures) (c .before .most .ensures) _ (c .if2 .taken)
+    name-full _ _ _ _ _ _ _ (told (c .before .before .before .before .before .before .before .before .before .before .before .word-at .ensures) (c .before .before .before .before .before .before .before .before .before .name .given .1) .is) (stands-told (c .before .before .before .before .before .stands .ensures) (c .before .before .before .known .given .1)) (c .before .most .ensures) _ (c .if2 .taken)
 
 add-requires : tie.Need-add-requires
-add-requires c κs = (omega (arith, c .before .before .before .before .before .before .before .before .before .before .before .before .before .if1 .left), told (c .before .before .before .before .before .before .before .before .before .before .before .before .word-at .ensures) (c .before .before .before .before .before .before .before .before .before .before .name .given .1) .is .within)
+add-requires c κs = (omega (arith, c .before .before .before .before .before .before .before .before .before .before .before .before .before .if1 .left), told (c .before .before .before .before .before .before .before .before .before .before .before .before .word-at .ensures) (c .before .before .before .before .before .before .before .before .before .before .name .given .1) .is .within, omega (arith, c .add-arg .given .0 .1))
 
 answer-requires : tie.Need-answer-requires
 answer-requires c κs = search needs
 
 returns-5 : tie.Need-returns-5
 returns-5 c =
-    name-added _ _ _ _ _ _ _ (told (c .before .before .before .before .before .before .before .before .before .before .before .before .before .before .word-at .ensures) (c .before .before .before .before .before .before .before .before .before .before .before .before .name .given .1) .is) (sym (c .before .before .before .before .before .before .known .given .1) ∙ c .before .before .before .before .before .before .before .before .stands .ensures) (c .before .before .before .before .most .ensures) _ (c .before .before .before .if2 .left)
-    (c .before .before .add-arg .given .0 .1) _ _ (c .before .add .ensures) (c .answer .ensures)
+    name-added _ _ _ _ _ _ _ (told (c .before .before .before .before .before .before .before .before .before .before .before .before .before .before .word-at .ensures) (c .before .before .before .before .before .before .before .before .before .before .before .before .name .given .1) .is) (stands-told (c .before .before .before .before .before .before .before .before .stands .ensures) (c .before .before .before .before .before .before .known .given .1)) (c .before .before .before .before .most .ensures) _ (c .before .before .before .if2 .left)
+    _ _ (c .before .add .ensures) (c .answer .ensures)
 
 pub declare-spec : {M : Type 1} → statement M
 declare-spec =

@@ -3,7 +3,8 @@ use native.Mathlib.Omega.{arith}
 use mathlib.Core.Path.{sym, _∙_}
 use borrow.Author.Needs.{needs}
 use Rattle.declarations.proofs.Rows.{told}
-use Rattle.declarations.proofs.EnteringLaws.{entered-long, enters-told}
+use Rattle.declarations.proofs.Standings.{stands-told}
+use Rattle.declarations.proofs.EnteringLaws.{enters-told}
 use Rattle.declarations.proofs.ClassAnswers.{no-class, class-taken, class-repeats, class-full, class-no-room, class-added}
 use Rattle.declarations.proofs.declare_class.Statement.{statement}
 use Rattle.declarations.proofs.declare_class.Tie as tie
@@ -21,7 +22,7 @@ returns : tie.Need-returns
 returns c = no-class _ _ _ _ _ _ (told (c .before .before .word-at .ensures) (c .enum-told .given .1))
 
 stands-requires : tie.Need-stands-requires
-stands-requires c κs = (omega arith, told (c .before .before .before .before .before .word-at .ensures) (c .before .before .before .name .given .1) .is .within)
+stands-requires c κs = search needs
 
 enum-known-known : tie.Need-enum-known-known
 enum-known-known c = search needs
@@ -30,7 +31,7 @@ enum-told-2 : tie.Need-enum-told-2
 enum-told-2 c = search needs
 
 returns-2 : tie.Need-returns-2
-returns-2 c = class-taken _ _ _ _ _ _ (told (c .before .before .before .before .before .before .before .before .word-at .ensures) (c .before .before .before .before .before .before .name .given .1) .is) _ (sym (c .enum-told2 .given .1) ∙ c .before .before .stands .ensures)
+returns-2 c = class-taken _ _ _ _ _ _ (told (c .before .before .before .before .before .before .before .before .word-at .ensures) (c .before .before .before .before .before .before .name .given .1) .is) _ (stands-told (c .before .before .stands .ensures) (c .enum-told2 .given .1))
 
 add-inside : tie.Need-add-inside
 add-inside c = omega (arith, told (c .before .before .before .before .before .before .before .before .before .word-at .ensures) (c .before .before .before .before .before .before .before .name .given .1) .is .within)
@@ -47,10 +48,10 @@ returns-3 c =
 
 returns-4 : tie.Need-returns-4
 returns-4 c =
-    class-full _ _ _ _ _ _ (told (c .before .before .before .before .before .before .before .before .before .before .before .before .before .word-at .ensures) (c .before .before .before .before .before .before .before .before .before .before .before .name .given .1) .is) _ (c .before .before .before .inside .ensures) _ (sym (c .before .before .before .before .before .known .given .1) ∙ c .before .before .before .before .before .before .before .stands .ensures) (sym (c .before .before .repeats .ensures) ∙ c .before .if1 .left) _ (c .if2 .taken)
+    class-full _ _ _ _ _ _ (told (c .before .before .before .before .before .before .before .before .before .before .before .before .before .word-at .ensures) (c .before .before .before .before .before .before .before .before .before .before .before .name .given .1) .is) _ (c .before .before .before .inside .ensures) _ (stands-told (c .before .before .before .before .before .before .before .stands .ensures) (c .before .before .before .before .before .known .given .1)) (sym (c .before .before .repeats .ensures) ∙ c .before .if1 .left) _ (c .if2 .taken)
 
 add-requires : tie.Need-add-requires
-add-requires c κs = (omega arith, told (c .before .before .before .before .before .before .before .before .before .before .before .before .before .before .word-at .ensures) (c .before .before .before .before .before .before .before .before .before .before .before .before .name .given .1) .is .within)
+add-requires c κs = (omega arith, told (c .before .before .before .before .before .before .before .before .before .before .before .before .before .before .word-at .ensures) (c .before .before .before .before .before .before .before .before .before .before .before .before .name .given .1) .is .within, omega (arith, c .add-arg .given .0 .1))
 
 enum-known-added : tie.Need-enum-known-added
 enum-known-added c = search needs
@@ -60,7 +61,7 @@ enum-told-3 c = search needs
 
 returns-5 : tie.Need-returns-5
 returns-5 c =
-    class-no-room _ _ _ _ _ _ (told (c .before .before .before .before .before .before .before .before .before .before .before .before .before .before .before .before .before .word-at .ensures) (c .before .before .before .before .before .before .before .before .before .before .before .before .before .before .before .name .given .1) .is) _ (c .before .before .before .before .before .before .before .inside .ensures) _ (sym (c .before .before .before .before .before .before .before .before .before .known .given .1) ∙ c .before .before .before .before .before .before .before .before .before .before .before .stands .ensures) (sym (c .before .before .before .before .before .before .repeats .ensures) ∙ c .before .before .before .before .before .if1 .left) (c .before .before .before .add-arg .given .0 .1) _ (enters-told (c .before .before .add .ensures) (c .enum-told3 .given .1))
+    class-no-room _ _ _ _ _ _ (told (c .before .before .before .before .before .before .before .before .before .before .before .before .before .before .before .before .before .word-at .ensures) (c .before .before .before .before .before .before .before .before .before .before .before .before .before .before .before .name .given .1) .is) _ (c .before .before .before .before .before .before .before .inside .ensures) _ (stands-told (c .before .before .before .before .before .before .before .before .before .before .before .stands .ensures) (c .before .before .before .before .before .before .before .before .before .known .given .1)) (sym (c .before .before .before .before .before .before .repeats .ensures) ∙ c .before .before .before .before .before .if1 .left) _ (enters-told (c .before .before .add .ensures) (c .enum-told3 .given .1))
 
 mul-add-permissions : tie.Need-mul-add-permissions
 mul-add-permissions c = omega (arith, c .before .before .before .before .before .before .if2 .left)
@@ -68,14 +69,14 @@ mul-add-permissions c = omega (arith, c .before .before .before .before .before 
 add-permissions-requires : tie.Need-add-permissions-requires
 add-permissions-requires c κs =
     let n = enters-told (c .before .before .before .before .add .ensures) (c .before .before .added .given .1) in
-    (omega (arith, c .before .before .before .before .before .before .if2 .left), omega (arith, n .is .fits, entered-long (n .is)))
+    (omega (arith, c .before .before .before .before .before .before .if2 .left), n .is .fits, omega (arith, n .is .long, n .is .room))
 
 answer-requires : tie.Need-answer-requires
 answer-requires c κs = search needs
 
 returns-6 : tie.Need-returns-6
 returns-6 c =
-    class-added _ _ _ _ _ _ (told (c .before .before .before .before .before .before .before .before .before .before .before .before .before .before .before .before .before .before .before .before .before .word-at .ensures) (c .before .before .before .before .before .before .before .before .before .before .before .before .before .before .before .before .before .before .before .name .given .1) .is) _ (c .before .before .before .before .before .before .before .before .before .before .before .inside .ensures) _ (sym (c .before .before .before .before .before .before .before .before .before .before .before .before .before .known .given .1) ∙ c .before .before .before .before .before .before .before .before .before .before .before .before .before .before .before .stands .ensures) (sym (c .before .before .before .before .before .before .before .before .before .before .repeats .ensures) ∙ c .before .before .before .before .before .before .before .before .before .if1 .left) (c .before .before .before .before .before .before .before .add-arg .given .0 .1) _ _ _ (c .before .before .before .before .before .before .before .before .if2 .left) (enters-told (c .before .before .before .before .before .before .add .ensures) (c .before .before .before .before .added .given .1)) _ _
+    class-added _ _ _ _ _ _ (told (c .before .before .before .before .before .before .before .before .before .before .before .before .before .before .before .before .before .before .before .before .before .word-at .ensures) (c .before .before .before .before .before .before .before .before .before .before .before .before .before .before .before .before .before .before .before .name .given .1) .is) _ (c .before .before .before .before .before .before .before .before .before .before .before .inside .ensures) _ (stands-told (c .before .before .before .before .before .before .before .before .before .before .before .before .before .before .before .stands .ensures) (c .before .before .before .before .before .before .before .before .before .before .before .before .before .known .given .1)) (sym (c .before .before .before .before .before .before .before .before .before .before .repeats .ensures) ∙ c .before .before .before .before .before .before .before .before .before .if1 .left) _ _ _ (c .before .before .before .before .before .before .before .before .if2 .left) (enters-told (c .before .before .before .before .before .before .add .ensures) (c .before .before .before .before .added .given .1)) _ _
     (c .before .add-permissions .ensures) (c .answer .ensures)
 
 pub declare-class-spec : {M : Type 1} → statement M

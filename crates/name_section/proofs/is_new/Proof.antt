@@ -1,54 +1,24 @@
--- `name_section::is_new` meets its contract: it is what the search among the entries before says. Assumes nothing.
-use mathlib.Core.Path.{sym, ap, _∙_}
-use mathlib.Core.Bool.{not}
+-- `name_section::is_new` meets its contract: a name without its marks is not among the entries before. Assumes nothing.
+use mathlib.Core.Path.{sym, _∙_}
+use borrow.Author.Tests.{not-true}
 use borrow.Author.Needs.{needs}
-use Rattle.symbols.specs.Resolving.{isFound}
-use Rattle.symbols.specs.declared.Found.{Found}
-use Rattle.name_section.proofs.NameLaws.{searched}
+use Rattle.name_section.proofs.FilterLaws.{unmarked}
 use Rattle.name_section.proofs.is_new.Statement.{statement}
 use Rattle.name_section.proofs.is_new.Tie as tie
 
-family-of-requires : tie.Need-family-of-requires
-family-of-requires c κs = search needs
-
-add-find : tie.Need-add-find
-add-find c = search needs
-
-add-find-2 : tie.Need-add-find-2
-add-find-2 c = search needs
-
-sub-find : tie.Need-sub-find
-sub-find c = search needs
-
-find-requires : tie.Need-find-requires
-find-requires c κs = search needs
-
-enum-known-k : tie.Need-enum-known-k
-enum-known-k c = search needs
-
-enum-told : tie.Need-enum-told
-enum-told c = search needs
+is-marked-requires : tie.Need-is-marked-requires
+is-marked-requires c κs = search needs
 
 returns : tie.Need-returns
 returns c =
-    sym (ap (λ (r : Found). not (isFound r)) (c .before .k .given .1))
-    ∙ searched _ _ (c .before .before .before .before .family-of .result) _ (c .before .before .before .find .result) (c .before .before .before .before .family-of .ensures) (c .before .before .before .find .ensures)
+    let s = c .before .before .before .before in
+    unmarked _ _ _ _ (s .args .hash) (s .pre .1) (s .pre .2) (sym (c .before .is-marked .ensures) ∙ not-true _ (c .if1 .taken))
+
+is-first-requires : tie.Need-is-first-requires
+is-first-requires c κs = c .before .before .before .before .pre .0
 
 returns-2 : tie.Need-returns-2
-returns-2 c =
-    sym (ap (λ (r : Found). not (isFound r)) (c .enum-told .given .1))
-    ∙ searched _ _ (c .before .before .before .family-of .result) _ (c .before .before .find .result) (c .before .before .before .family-of .ensures) (c .before .before .find .ensures)
+returns-2 c = c .is-first .ensures
 
 pub is-new-spec : {M : Type 1} → statement M
-is-new-spec =
-    tie.close
-    (tie.spec
-    family-of-requires
-    add-find
-    add-find-2
-    sub-find
-    find-requires
-    enum-known-k
-    enum-told
-    returns
-    returns-2)
+is-new-spec = tie.close (tie.spec is-marked-requires returns is-first-requires returns-2)

@@ -4,8 +4,8 @@ use Rattle.set_writer.proofs.Referring.{refers, too-large, a-thing, an-
 use Rattle.set_writer.proofs.reference.Statement.{statement}
 use Rattle.set_writer.proofs.reference.Tie as tie
 
-find-requires : tie.Need-find-requires
-find-requires c κs = search needs
+lookup-requires : tie.Need-lookup-requires
+lookup-requires c κs = search needs
 
 enum-known-found : tie.Need-enum-known-found
 enum-known-found c = search needs
@@ -14,13 +14,13 @@ cast-if1 : tie.Need-cast-if1
 cast-if1 c = search needs
 
 returns : tie.Need-returns
-returns c = refers (c .before .before .before .before .find .ensures) (rw (c .before .before .found .given .1) (too-large (c .before .before .found .given .0 .0) _ (c .if1 .taken)))
+returns c = refers (c .before .before .before .before .lookup .ensures) (rw (c .before .before .found .given .1) (too-large (c .before .before .found .given .0 .0) _ (c .if1 .taken)))
 
 cast-t13 : tie.Need-cast-t13
 cast-t13 c = search needs
 
 returns-2 : tie.Need-returns-2
-returns-2 c = refers (c .before .before .before .before .before .find .ensures) (rw (c .before .before .before .found .given .1) (a-thing _ _ (c .before .if1 .left) (c .if2 .taken)))
+returns-2 c = refers (c .before .before .before .before .before .lookup .ensures) (rw (c .before .before .before .found .given .1) (a-thing _ _ (c .before .if1 .left) (c .if2 .taken)))
 
 cast-t14 : tie.Need-cast-t14
 cast-t14 c = search needs
@@ -32,16 +32,16 @@ enum-told : tie.Need-enum-told
 enum-told c = search needs
 
 returns-3 : tie.Need-returns-3
-returns-3 c = refers (c .before .before .before .before .before .find .ensures) (rw (c .before .before .before .found .given .1) (an-attribute _ _ (c .before .if1 .left) (c .if2 .left)))
+returns-3 c = refers (c .before .before .before .before .before .lookup .ensures) (rw (c .before .before .before .found .given .1) (an-attribute _ _ (c .before .if1 .left) (c .if2 .left)))
 
 returns-4 : tie.Need-returns-4
-returns-4 c = refers (c .before .before .find .ensures) (rw (c .enum-told .given .1))
+returns-4 c = refers (c .before .before .lookup .ensures) (rw (c .enum-told .given .1))
 
 pub reference-spec : {M : Type 1} → statement M
 reference-spec =
     tie.close
     (tie.spec
-    find-requires
+    lookup-requires
     enum-known-found
     cast-if1
     returns

@@ -7,20 +7,20 @@ use Rattle.statement_writer.proofs.number_of.Tie as tie
 family-of-requires : tie.Need-family-of-requires
 family-of-requires c κs = search needs
 
-find-requires : tie.Need-find-requires
-find-requires c κs = search needs
+lookup-requires : tie.Need-lookup-requires
+lookup-requires c κs = search needs
 
 enum-known-found : tie.Need-enum-known-found
 enum-known-found c = search needs
 
 returns : tie.Need-returns
-returns c = numbers (c .before .before .before .before .before .family-of .ensures) (c .before .before .before .before .find .ensures) (rw (c .before .before .found .given .1) (other-sort _ _ (c .before .before .found .given .0 .1 .0) (c .if1 .taken)))
+returns c = numbers (c .before .before .before .before .before .family-of .ensures) (c .before .before .before .before .lookup .ensures) (rw (c .before .before .found .given .1) (other-sort _ _ (c .before .before .found .given .0 .1 .0) (c .if1 .taken)))
 
 cast-if2 : tie.Need-cast-if2
 cast-if2 c = search needs
 
 returns-2 : tie.Need-returns-2
-returns-2 c = numbers (c .before .before .before .before .before .before .family-of .ensures) (c .before .before .before .before .before .find .ensures) (rw (c .before .before .before .found .given .1) (too-large _ _ _ (c .before .if1 .left) (c .if2 .taken)))
+returns-2 c = numbers (c .before .before .before .before .before .before .family-of .ensures) (c .before .before .before .before .before .lookup .ensures) (rw (c .before .before .before .found .given .1) (too-large _ _ _ (c .before .if1 .left) (c .if2 .taken)))
 
 cast-t14 : tie.Need-cast-t14
 cast-t14 c = search needs
@@ -29,17 +29,17 @@ enum-told : tie.Need-enum-told
 enum-told c = search needs
 
 returns-3 : tie.Need-returns-3
-returns-3 c = numbers (c .before .before .before .before .before .before .family-of .ensures) (c .before .before .before .before .before .find .ensures) (rw (c .before .before .before .found .given .1) (of-the-sort _ _ _ (c .before .if1 .left) (c .if2 .left)))
+returns-3 c = numbers (c .before .before .before .before .before .before .family-of .ensures) (c .before .before .before .before .before .lookup .ensures) (rw (c .before .before .before .found .given .1) (of-the-sort _ _ _ (c .before .if1 .left) (c .if2 .left)))
 
 returns-4 : tie.Need-returns-4
-returns-4 c = numbers (c .before .before .before .family-of .ensures) (c .before .before .find .ensures) (rw (c .enum-told .given .1))
+returns-4 c = numbers (c .before .before .before .family-of .ensures) (c .before .before .lookup .ensures) (rw (c .enum-told .given .1))
 
 pub number-of-spec : {M : Type 1} → statement M
 number-of-spec =
     tie.close
     (tie.spec
     family-of-requires
-    find-requires
+    lookup-requires
     enum-known-found
     returns
     cast-if2

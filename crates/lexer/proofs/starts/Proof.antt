@@ -1,12 +1,12 @@
--- `name_section::starts` meets its contract: both arms, class by class. Assumes nothing.
+-- `lexer::starts` meets its contract: both arms, class by class. Assumes nothing.
 use mathlib.Core.Bool.{false}
 use mathlib.Core.List.{[], _∷_}
 use mathlib.Core.Path.{_≡_, refl}
 use borrow.Author.Needs.{needs}
 use Rattle.lexer.specs.Class.{starts}
 use Rattle.lexer.proofs.Variants.{among}
-use Rattle.name_section.proofs.starts.Statement.{statement}
-use Rattle.name_section.proofs.starts.Tie as tie
+use Rattle.lexer.proofs.starts.Statement.{statement}
+use Rattle.lexer.proofs.starts.Tie as tie
 
 enum-told : tie.Need-enum-told
 enum-told c = search needs
