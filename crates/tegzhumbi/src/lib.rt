@@ -50,6 +50,8 @@ pub fn compile(text: &[u8], table: &mut [u8]) -> Compiling
 }
 
 // Whether the bytes are a sound table, with anything behind it. The questions ask this first, and refuse with 11.
+//
+//     tegzhumbi::is_sound(&memory)      // true, once compile has accepted; tegzhumbi::is_sound(b"") is false
 pub fn is_sound(table: &[u8]) -> bool
     ensures { λ r. ⌜ r ≡ isSound (now (table .entry)) ⌝ }
 {
@@ -79,6 +81,8 @@ pub fn valid(table: &[u8], context: Context) -> Validity
 // Change: whether the source may do to the target, or become by it, what the permission names, by its place in the class. Denials in order: 1 the
 // source is not valid, 2 the target is not, 3 the role may not change so, 4 the constraint that fails first. With the answer goes the number
 // of constraints consulted.
+//
+//     tegzhumbi::change(&table, source, target, Class(0), Permission(2))   // Granted { consulted: 3 }, Failed { constraint: 7, consulted: 2 }, ..
 pub fn change(
     table: &[u8],
     source: Context,
@@ -98,6 +102,8 @@ pub fn change(
 }
 
 // New role: that of the first transition of the role, the type and the class, else the role given. It is a proposal; the change is still asked.
+//
+//     tegzhumbi::new_role(&table, Role(1), Type(4), Class(0))   // Role { number: 3 }
 pub fn new_role(table: &[u8], role: Role, kind: Type, class: Class) -> NewRole
     ensures { λ r. ⌜ newRoleOf r ≡ newRoleOn (now (table .entry)) (role .0) (kind .0) (class .0) ⌝ }
 {
@@ -106,6 +112,8 @@ pub fn new_role(table: &[u8], role: Role, kind: Type, class: Class) -> NewRole
 
 // Name of a sort and number: the part of the lent table that holds it, an empty part where there is none (where that points is free). Sorts: 0 user, 1 role,
 // 2 type, 3 to 5 their attributes, 6 class, 7 permission, whose number is class x 32 + its place.
+//
+//     tegzhumbi::name_of(&table, 1, 0)   // the bytes of the first role's name, within the table
 pub fn name_of(table: &[u8], sort: usize, number: usize) -> &[u8]
     ensures { λ r. ⌜ now r ≡ shownPart (nameOn (now (table .entry)) sort number) (now (table .entry)) ⌝ }
 {
@@ -113,6 +121,8 @@ pub fn name_of(table: &[u8], sort: usize, number: usize) -> &[u8]
 }
 
 // The same by its place and length, or the number of the refusal.
+//
+//     tegzhumbi::name_place(&table, 1, 0)   // Part { start: 72, length: 5 }, or Refused { number: 12 }
 pub fn name_place(table: &[u8], sort: usize, number: usize) -> Place
     ensures { λ r. ⌜ placeOf r ≡ nameOn (now (table .entry)) sort number ⌝ }
 {
@@ -120,6 +130,8 @@ pub fn name_place(table: &[u8], sort: usize, number: usize) -> Place
 }
 
 // Entry of a body 2 to 8 and its place there, from 0: the part of the lent table that holds it, an empty part where there is none.
+//
+//     tegzhumbi::entry(&table, 2, 0)   // the 16 bytes of the first user's roles
 pub fn entry(table: &[u8], body: usize, place: usize) -> &[u8]
     ensures { λ r. ⌜ now r ≡ shownPart (entryOn (now (table .entry)) body place) (now (table .entry)) ⌝ }
 {
@@ -127,6 +139,8 @@ pub fn entry(table: &[u8], body: usize, place: usize) -> &[u8]
 }
 
 // The same by its place and length, or the number of the refusal.
+//
+//     tegzhumbi::entry_place(&table, 9, 0)   // Refused { number: 12 }: there is no body 9
 pub fn entry_place(table: &[u8], body: usize, place: usize) -> Place
     ensures { λ r. ⌜ placeOf r ≡ entryOn (now (table .entry)) body place ⌝ }
 {
@@ -141,6 +155,8 @@ pub enum Decision {
 
 // Compiles a text and asks a change of its table, in one step: the answer is what the statements of the text answer, and its promise speaks of
 // the text and the question alone.
+//
+//     tegzhumbi::decide(text, &mut memory, source, target, Class(0), Permission(0))   // Answered(Granted { consulted: 1 })
 pub fn decide(
     text: &[u8],
     table: &mut [u8],
