@@ -18,7 +18,8 @@ ghost use Rattle.declarations.specs.Declaring.{DeclaresAt, DeclaresName}
 use lexer::Token;
 use symbols::Found;
 
-// The memory of the symbols: their entries, and behind the room for them their index. It is lent zeroed.
+// The memory of the symbols: their entries, and behind the room for them their index. With no names the index is empty
+// (`symbols::clear_index`).
 pub const SYMBOL_BYTES: usize = symbols::SYMBOL_BYTES;
 
 // What declaring a name comes to: the new end of the symbols, fault 4, or fault 6.
