@@ -1,3 +1,4 @@
 pub mod Asking
 pub mod OneStep
 pub mod Demands
+pub mod NoSlips

@@ -1,3 +1,4 @@
 pub mod Asked
 pub mod Deciding
 pub mod Demands
+pub mod Slips
