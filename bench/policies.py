@@ -58,14 +58,39 @@ def maxima():
     return lines
 
 
-def lines_only():
-    """As many lines over few names as the text holds: what names cost apart from it."""
-    lines = declare(20, 10, 30, 2, 4)
-    n = 0
-    while sum(len(line) + 1 for line in lines) < TEXT_MAX - 40:
-        lines.append(f"(userrole u{n % 20}_ r{n // 20 % 10}_)")
+def fill(lines, line):
+    """As many more lines as the text holds: line(0), line(1), and so on."""
+    size, n = sum(len(each) + 1 for each in lines), 0
+    while size + len(line(n)) + 1 <= TEXT_MAX:
+        size += len(line(n)) + 1
+        lines.append(line(n))
         n += 1
     return lines
+
+
+def full():
+    """The largest: every maximum of names, sets in all families, 128 transitions, 128 constraints on one permission, and lines to the end of the text."""
+    lines = declare(128, 128, 512, 31, 31, 64) + relate(128, 128, 512)
+    for n in range(64):
+        lines += [f"({family}attributeset {family[0]}a{n} ({family[0]}{n}_ {family[0]}{n + 64}_))" for family in ("user", "role", "type")]
+    lines += [f"(roletransition r{n}_ t{n}_ process r{(n + 1) % 128}_)" for n in range(128)]
+    lines += [f"(constrain (c0 (p0)) (or (eq u1 u2) (and (eq r1 ra{n % 64}) (neq t2 ta{n % 64}))))" for n in range(128)]
+    return fill(lines, lambda n: f"(roletype r{n % 128}_ t{n * 7 % 512}_)")
+
+
+def unions():
+    """Sets of ten names each, as many as the text holds."""
+    return fill(declare(60, 60, 120, 4, 8, 32), lambda n: f"(typeattributeset ta{n % 32} ({' '.join(f't{(n * 3 + k) % 120}_' for k in range(10))}))")
+
+
+def nested():
+    """Sets with every operator, as many as the text holds."""
+    return fill(declare(60, 60, 120, 4, 8, 32), lambda n: f"(roleattributeset ra{n % 32} (and (or (r{n % 60}_ r{(n + 1) % 60}_) (not (r{(n + 2) % 60}_))) (xor (all) (r{(n + 5) % 60}_))))")
+
+
+def lines_only():
+    """As many lines over few names as the text holds: what names cost apart from it."""
+    return fill(declare(20, 10, 30, 2, 4), lambda n: f"(userrole u{n % 20}_ r{n // 20 % 10}_)")
 
 
 def constraints(many, spread):
@@ -124,6 +149,9 @@ def main():
         "small": small(),
         "typical": typical(),
         "maxima": maxima(),
+        "full": full(),
+        "unions": unions(),
+        "nested": nested(),
         "lines": lines_only(),
         "one-permission": constraints(128, False),
         "spread": constraints(128, True),

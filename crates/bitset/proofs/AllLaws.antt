@@ -1,20 +1,21 @@
--- What is true of every number below a bound, and loops that test it a byte at a time: one law for all of them, since each compares two bytes
--- that are equal where the rule is true of the byte's eight numbers. Assumes nothing.
-use mathlib.Core.Path.{_≡_, refl, sym, ap, ap₂, _∙_, subst}
-use mathlib.Core.Bool.{Bool, true, false, not, _&&_, _||_, Bool·beq, or-true}
+-- What is true of every number below a bound, and loops that test it a byte at a time: one law for all of them, since each gathers in a byte
+-- the bits of the numbers of which the rule is false. Assumes nothing.
+use mathlib.Core.Path.{_≡_, refl, sym, ap, ap₂, _∙_}
+use mathlib.Core.Bool.{Bool, true, false, not, _&&_, _||_, xor, Bool·beq, or-true, and-true}
 use mathlib.Core.List.{List}
 use mathlib.Core.Logic.{⊎-elim}
 use Prim.Native.Nat.{ℕ, zero, suc, _+_, _-_, _*_, _≤_, _<_, max}
-use native.Mathlib.Nat.{not-suc-le-zero, le-of-suc-le-suc, eq-or-lt-of-le, max-eq-left, le-refl}
+use native.Mathlib.Nat.{add-zero, add-suc, not-suc-le-zero, le-of-suc-le-suc, eq-or-lt-of-le, max-eq-left, le-refl}
 use native.Mathlib.Decide.{decLt}
 use native.Mathlib.Omega.{arith}
-use lib.Bits.{bitAnd}
-use lib.Dec.{ltb}
+use lib.Bits.{bitAnd, bitOr, bitXor, or-zero-l, or-add-and, and-le-r}
+use lib.Dec.{eqb, ltb}
 use lib.ListN.{length, getD}
-use borrow.Author.Tests.{le-ltb, lt-ltb}
+use borrow.Author.Tests.{le-ltb, lt-ltb, ne-eqb}
 use Rattle.bitset.specs.Sets.{bit, member, fromBits, setOf, maskOf, allBelow, meet, within, meets, equal}
-use Rattle.bitset.proofs.BitLaws.{bit-and, bit-zero, bit-fromBits, fromBits-lt, bits-same}
+use Rattle.bitset.proofs.BitLaws.{bit-and, bit-xor, bit-fromBits, fromBits-lt}
 use Rattle.bitset.proofs.SetLaws.{member-at, member-past, member-setOf, length-setOf, setOf-ext, setOf-member}
+use Rattle.bitset.proofs.Tests.{agree2, bit-not}
 
 -- a Bool is true or false, with the equation
 pub either {ℓ} : {P : Type ℓ} (b : Bool) → (b ≡ true → P) → (b ≡ false → P) → P
@@ -52,39 +53,46 @@ unfolding allBelow
 allBelow-ext zero f g h = refl
 allBelow-ext (suc n) f g h = ap₂ _&&_ (h n (omega arith)) (allBelow-ext n f g (λ k l. h k (omega arith)))
 
--- ---- a loop that tests eight numbers a turn
+-- the numbers below n, and m more
+allBelow-add : (n m : ℕ) (f : ℕ → Bool) → allBelow (n + m) f ≡ (allBelow n f && allBelow m (λ k. f (n + k)))
+unfolding allBelow
+allBelow-add n zero f = rw (add-zero n) (sym (and-true (allBelow n f)))
+allBelow-add n (suc m) f =
+    rw (add-suc n m) (ap (λ (b : Bool). f (n + m) && b) (allBelow-add n m f) ∙ swap (f (n + m)) (allBelow n f) (allBelow m (λ k. f (n + k))))
+  where
+    swap : (x y z : Bool) → (x && (y && z)) ≡ (y && (x && z))
+    swap true y z = refl
+    swap false true z = refl
+    swap false false z = refl
 
--- what it knows after i bytes
-pub AllTo : (ℕ → Bool) → ℕ → Type 0
-AllTo f i = allBelow (8 * i) f ≡ true
+-- ---- a loop that tests eight numbers a turn: the byte that it gathers is 0 where the rule is true of all numbers passed
 
-pub all-none : (f : ℕ → Bool) → AllTo f 0
-unfolding AllTo allBelow
+pub all-none : (f : ℕ → Bool) → eqb 0 0 ≡ allBelow (8 * 0) f
+unfolding allBelow
 all-none f = refl
 
-pub all-done : (f : ℕ → Bool) (w i : ℕ) → i ≤ w → w ≤ i → AllTo f i → allBelow (8 * w) f ≡ true
-unfolding AllTo
-all-done f w i a b h = let e : i ≡ w = omega arith in subst (λ (n : ℕ). allBelow (8 * n) f ≡ true) e h
+pub all-done : (f : ℕ → Bool) (w i found : ℕ) → i ≤ w → w ≤ i → eqb found 0 ≡ allBelow (8 * i) f → eqb found 0 ≡ allBelow (8 * w) f
+all-done f w i found a b h = let e : i ≡ w = omega arith in h ∙ ap (λ (n : ℕ). allBelow (8 * n) f) e
 
--- the two bytes x and y are compared, and the rule at each of the eight numbers says whether the bits are the same
-module _ (f : ℕ → Bool) (i x y : ℕ) (small-x : x < 256) (small-y : y < 256)
-    (bits : (k : ℕ) → k < 8 → f (8 * i + k) ≡ Bool·beq (bit x k) (bit y k)) where
-  pub all-more : AllTo f i → x ≡ y → AllTo f (i + 1)
-  unfolding AllTo
-  all-more h e = allBelow-of (8 * (i + 1)) f (λ n l. at n l (decLt n (8 * i)))
-    where
-      at : (n : ℕ) → n < 8 * (i + 1) → Dec (n < 8 * i) → f n ≡ true
-      at n l (yes m) = allBelow-at (8 * i) f h n m
-      at n l (no m) =
-          let s : n ≡ 8 * i + (n - 8 * i) = omega arith in
-          ap f s ∙ bits (n - 8 * i) (omega arith) ∙ ap (λ (v : ℕ). Bool·beq (bit v (n - 8 * i)) (bit y (n - 8 * i))) e ∙ beq-refl (bit y (n - 8 * i))
+-- two bytes together are 0 where both are
+or-none : (a b : ℕ) → eqb (bitOr a b) 0 ≡ (eqb a 0 && eqb b 0)
+or-none zero b = ap (λ (x : ℕ). eqb x 0) (or-zero-l b)
+or-none (suc a) b =
+    ne-eqb (bitOr (suc a) b) 0 (λ e. omega (arith, or-add-and (suc a) b, and-le-r (suc a) b))
+    ∙ sym (ap (λ (x : Bool). x && eqb b 0) (ne-eqb (suc a) 0 (λ e. omega arith)))
 
-  pub all-not : (w : ℕ) → i < w → (x ≡ y → ⊥) → allBelow (8 * w) f ≡ false
-  all-not w l n =
-      either (allBelow (8 * w) f)
-      (λ t. absurd (n (bits-same 8 x y small-x small-y
-      (λ k q. beq-true (bit x k) (bit y k) (sym (bits k q) ∙ allBelow-at (8 * w) f t (8 * i + k) (omega arith))))))
-      (λ e. e)
+-- a byte is 0 where it has no bit
+no-bits : (x : ℕ) → x < 256 → eqb x 0 ≡ allBelow 8 (λ k. not (bit x k))
+unfolding allBelow bit
+no-bits x h = agree2 256 1 (λ y k. eqb y 0) (λ y k. allBelow 8 (λ k. not (bit y k))) tt x 0 h (omega arith)
+
+-- byte x has a bit for each of the eight numbers of which the rule is false
+pub all-more : (f : ℕ → Bool) (i found x : ℕ) → x < 256 → ((k : ℕ) → k < 8 → f (8 * i + k) ≡ not (bit x k)) → eqb found 0 ≡ allBelow (8 * i) f
+    → eqb (bitOr found x) 0 ≡ allBelow (8 * (i + 1)) f
+all-more f i found x small bits h =
+    let next : 8 * i + 8 ≡ 8 * (i + 1) = omega arith in
+    or-none found x ∙ ap₂ _&&_ h (no-bits x small ∙ sym (allBelow-ext 8 (λ k. f (8 * i + k)) (λ k. not (bit x k)) bits))
+    ∙ sym (allBelow-add (8 * i) 8 f) ∙ ap (λ (n : ℕ). allBelow n f) next
 
 -- ---- the three tests of a byte
 
@@ -97,38 +105,36 @@ apartRule a b n = not (member a n && member b n)
 abbrev pub sameRule : List ℕ → List ℕ → ℕ → Bool
 sameRule a b n = Bool·beq (member a n) (member b n)
 
-implies-and : (a b : Bool) → (not a || b) ≡ Bool·beq (a && b) a
-implies-and true true = refl
-implies-and true false = refl
-implies-and false b = refl
-
-not-beq : (a : Bool) → not a ≡ Bool·beq a false
-not-beq true = refl
-not-beq false = refl
-
--- a byte is unchanged by the mask where none of its numbers reaches the total
+-- a byte without the mask has the numbers that reach the total
 pub within-bits : (total : ℕ) (s : List ℕ) (i k : ℕ) → k < 8
-    → withinRule total s (8 * i + k) ≡ Bool·beq (bit (bitAnd (getD s i 0) (maskOf total i)) k) (bit (getD s i 0) k)
+    → withinRule total s (8 * i + k) ≡ not (bit (bitAnd (getD s i 0) (255 - maskOf total i)) k)
 unfolding maskOf
 within-bits total s i k l =
     let b = getD s i 0 in
-    ap (λ (x : Bool). not x || ltb (8 * i + k) total) (member-at s i k l) ∙ implies-and (bit b k) (ltb (8 * i + k) total)
-    ∙ ap (λ (x : Bool). Bool·beq x (bit b k))
-    (ap (λ (x : Bool). bit b k && x) (sym (bit-fromBits 8 (λ j. ltb (8 * i + j) total) k l)) ∙ sym (bit-and b (fromBits 8 (λ j. ltb (8 * i + j) total)) k))
+    let m = fromBits 8 (λ j. ltb (8 * i + j) total) in
+    ap₂ (λ (x y : Bool). not x || y) (member-at s i k l) (sym (bit-fromBits 8 (λ j. ltb (8 * i + j) total) k l)) ∙ implies (bit b k) (bit m k)
+    ∙ ap not (ap (λ (x : Bool). bit b k && x) (sym (bit-not m k (fromBits-lt 8 _) l)) ∙ sym (bit-and b (255 - m) k))
+  where
+    implies : (x y : Bool) → (not x || y) ≡ not (x && not y)
+    implies true true = refl
+    implies true false = refl
+    implies false y = refl
 
-pub mask-lt : (total i : ℕ) → maskOf total i < 256
-unfolding maskOf
-mask-lt total i = fromBits-lt 8 _
+-- two bytes have those bits in common whose numbers are in both
+pub apart-bits : (a b : List ℕ) (i k : ℕ) → k < 8 → apartRule a b (8 * i + k) ≡ not (bit (bitAnd (getD a i 0) (getD b i 0)) k)
+apart-bits a b i k l = ap not (ap₂ _&&_ (member-at a i k l) (member-at b i k l) ∙ sym (bit-and (getD a i 0) (getD b i 0) k))
 
--- two bytes have no bit in common where no number is in both
-pub apart-bits : (a b : List ℕ) (i k : ℕ) → k < 8
-    → apartRule a b (8 * i + k) ≡ Bool·beq (bit (bitAnd (getD a i 0) (getD b i 0)) k) (bit 0 k)
-apart-bits a b i k l =
-    not-beq (member a (8 * i + k) && member b (8 * i + k))
-    ∙ ap₂ Bool·beq (ap₂ _&&_ (member-at a i k l) (member-at b i k l) ∙ sym (bit-and (getD a i 0) (getD b i 0) k)) (sym (bit-zero k))
-
-pub same-bits : (a b : List ℕ) (i k : ℕ) → k < 8 → sameRule a b (8 * i + k) ≡ Bool·beq (bit (getD a i 0) k) (bit (getD b i 0) k)
-same-bits a b i k l = ap₂ Bool·beq (member-at a i k l) (member-at b i k l)
+-- and differ in those whose numbers are in one of them alone
+pub same-bits : (a b : List ℕ) (i k : ℕ) → k < 8 → sameRule a b (8 * i + k) ≡ not (bit (bitXor (getD a i 0) (getD b i 0)) k)
+unfolding xor
+same-bits a b i k l =
+    ap₂ Bool·beq (member-at a i k l) (member-at b i k l) ∙ same (bit (getD a i 0) k) (bit (getD b i 0) k) ∙ ap not (sym (bit-xor (getD a i 0) (getD b i 0) k))
+  where
+    same : (x y : Bool) → Bool·beq x y ≡ not (xor x y)
+    same true true = refl
+    same true false = refl
+    same false true = refl
+    same false false = refl
 
 -- ---- what the tests say, for callers
 

@@ -106,6 +106,3 @@ fromBits-bit (suc w) b h =
 -- a number of w bits is told by its bits
 pub bits-eq : (w v : ℕ) (f : ℕ → Bool) → v < 2 ^ w → ((k : ℕ) → k < w → bit v k ≡ f k) → v ≡ fromBits w f
 bits-eq w v f l h = sym (fromBits-bit w v l) ∙ fromBits-ext w (bit v) f h
-
-pub bits-same : (w a b : ℕ) → a < 2 ^ w → b < 2 ^ w → ((k : ℕ) → k < w → bit a k ≡ bit b k) → a ≡ b
-bits-same w a b l m h = bits-eq w a (bit b) l h ∙ fromBits-bit w b m

@@ -1,16 +1,15 @@
 -- Loops that store every byte of a set in turn: each turn stores the byte that the result's rule tells. Assumes nothing.
 use mathlib.Core.Path.{_≡_, sym, ap, ap₂, _∙_}
-use mathlib.Core.Bool.{Bool, false, not, _&&_}
+use mathlib.Core.Bool.{Bool, false, not}
 use mathlib.Core.List.{List}
 use Prim.Native.Nat.{ℕ, _+_, _-_, _*_, _<_}
 use native.Mathlib.Omega.{arith}
-use lib.Bits.{bitAnd, and-lt}
-use lib.Dec.{ltb}
 use lib.ListN.{length, getD, set}
-use Rattle.bitset.specs.Sets.{bit, member, fromBits, setOf, emptied, complementOf, maskOf}
+use Rattle.bitset.specs.Sets.{bit, member, fromBits, setOf, emptied}
+use Rattle.bitset.specs.Complements.{flipped}
 use Rattle.bitset.specs.Operators.{truth, combined, combinedByte}
 use Rattle.bitset.specs.declared.SetOp.{SetOp}
-use Rattle.bitset.proofs.BitLaws.{bit-and, bit-fromBits, fromBits-lt, bit-zero}
+use Rattle.bitset.proofs.BitLaws.{bit-fromBits, fromBits-lt, bit-zero}
 use Rattle.bitset.proofs.SetLaws.{length-setOf, member-at, byte-eq}
 use Rattle.bitset.proofs.Tests.{bit-not}
 use Rattle.bitset.proofs.Turns.{Turned, turned-read, turned-more}
@@ -34,16 +33,12 @@ combine-turn op a b {e} {i} s h =
     byte-turn f (fromBits 8 g) s h (fromBits-lt 8 g)
     (λ k l. bit-fromBits 8 g k l ∙ ap₂ (truth op) (turned-bit f s k l) (sym (member-at b i k l)))
 
-pub complement-turn : (total : ℕ) (d : List ℕ) {e : List ℕ} {i : ℕ} → Turned (complementOf total d) d e i → i < length e → getD e i 0 < 256
-    → Turned (complementOf total d) d (set e i (bitAnd (maskOf total i) (255 - getD e i 0))) (i + 1)
-unfolding complementOf maskOf
-complement-turn total d {e} {i} s h le =
-    let m = fromBits 8 (λ k. ltb (8 * i + k) total) in
-    byte-turn (λ n. ltb n total && not (member d n)) (bitAnd m (255 - getD e i 0)) s h
-    (and-lt 8 m (255 - getD e i 0) (fromBits-lt 8 (λ k. ltb (8 * i + k) total)) (omega arith))
-    (λ k l. bit-and m (255 - getD e i 0) k
-    ∙ ap₂ _&&_ (bit-fromBits 8 (λ k. ltb (8 * i + k) total) k l)
-    (bit-not (getD e i 0) k le l ∙ ap not (turned-bit (λ n. ltb n total && not (member d n)) s k l)))
+pub flip-turn : (d : List ℕ) {e : List ℕ} {i : ℕ} → Turned (flipped d) d e i → i < length e → getD e i 0 < 256
+    → Turned (flipped d) d (set e i (255 - getD e i 0)) (i + 1)
+unfolding flipped
+flip-turn d {e} {i} s h le =
+    let f : ℕ → Bool = λ n. not (member d n) in
+    byte-turn f (255 - getD e i 0) s h (omega arith) (λ k l. bit-not (getD e i 0) k le l ∙ ap not (turned-bit f s k l))
 
 pub clear-turn : (d : List ℕ) {e : List ℕ} {i : ℕ} → Turned (emptied d) d e i → i < length e → Turned (emptied d) d (set e i 0) (i + 1)
 unfolding emptied

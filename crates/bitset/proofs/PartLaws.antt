@@ -1,14 +1,14 @@
 -- The bytes of a table at an offset: what is lent is the part, what comes back is put, and a part that lies apart is as it was.
 -- Assumes nothing.
 use mathlib.Core.Path.{_≡_, sym, ap, ap₂, _∙_, subst}
-use mathlib.Core.List.{List, [], _++_}
+use mathlib.Core.List.{List, [], _++_, append-assoc}
 use mathlib.Core.Bool.{Bool}
 use Prim.Native.Nat.{ℕ, _+_, _-_, _*_, _/_, _%_, _≤_, _<_, min}
 use native.Mathlib.Nat.{add-zero}
 use native.Mathlib.Decide.{decLt}
 use native.Mathlib.Omega.{arith}
 use lib.ListN.{length, getD, take, drop, length-append, length-take, length-drop, take-append-drop, List·getD-append, List·getD-eq-default}
-use lib.Seq.{ext-getD, length-take-le, getD-take, getD-drop, getD-append-add, drop-append-seam, take-append-seam}
+use lib.Seq.{ext-getD, length-take-le, getD-take, getD-drop, getD-append-add, drop-append-seam, take-append-seam, take-take, take-add, drop-drop, drop-append-le}
 use borrow.Rule.Slice.PartMut.{putMid, post-is}
 use Rattle.bitset.specs.Sets.{member, bit, setOf}
 use Rattle.bitset.specs.Parts.{part, put}
@@ -83,6 +83,13 @@ part-part t o W p v h =
     inner : (len : ℕ) → min v (min W (len - o) - p) ≡ min v (len - (o + p))
     inner len = omega arith
 
+-- a part and what stands behind it
+part-rest : (t : List ℕ) (o w : ℕ) → part t o w ++ drop (o + length (part t o w)) t ≡ drop o t
+unfolding part
+part-rest t o w =
+    ap (λ (l : List ℕ). part t o w ++ l) (drop-same (o + length (part t o w)) (o + w) t (omega (arith, length-part-min t o w)) ∙ sym (drop-drop w o t))
+    ∙ take-append-drop w (drop o t)
+
 -- what stands between other bytes
 pub part-middle : (a b c : List ℕ) → part (a ++ (b ++ c)) (length a) (length b) ≡ b
 unfolding part
@@ -145,6 +152,30 @@ module _ (t : List ℕ) (o : ℕ) (s : List ℕ) (h : o + length s ≤ length t)
 pub put-none : (t : List ℕ) (o : ℕ) → put t o [] ≡ t
 unfolding put
 put-none t o = rw add-zero (take-append-drop o t)
+
+-- a part is put where it stands
+pub put-same : (t : List ℕ) (o w : ℕ) → put t o (part t o w) ≡ t
+unfolding put
+put-same t o w = rw (part-rest t o w) (take-append-drop o t)
+
+-- bytes are put into a part, and the part where it stands
+pub put-part : (t : List ℕ) (o w p : ℕ) (s : List ℕ) → p + length s ≤ length (part t o w) → put t o (put (part t o w) p s) ≡ put t (o + p) s
+unfolding put part
+put-part t o w p s h =
+    let b = part t o w in
+    let q = p + length s in
+    let rest = drop (o + length b) t in
+    let before : take o t ++ take p b ≡ take (o + p) t =
+    ap (λ (l : List ℕ). take o t ++ l) (take-take p w (drop o t) (omega (arith, length-part-le t o w))) ∙ sym (take-add o p t) in
+    let behind : drop q b ++ rest ≡ drop (o + p + length s) t =
+    sym (drop-append-le q b rest h) ∙ ap (drop q) (part-rest t o w) ∙ drop-drop q o t ∙ ap (λ (n : ℕ). drop n t) (regroup (length s)) in
+    ap (λ (n : ℕ). take o t ++ ((take p b ++ (s ++ drop q b)) ++ drop (o + n) t)) (length-put b p s h)
+    ∙ ap (λ (l : List ℕ). take o t ++ l) (append-assoc (take p b) (s ++ drop q b) rest)
+    ∙ sym (append-assoc (take o t) (take p b) ((s ++ drop q b) ++ rest))
+    ∙ ap₂ _++_ before (append-assoc s (drop q b) rest ∙ ap (λ (l : List ℕ). s ++ l) behind)
+  where
+    regroup : (n : ℕ) → o + (p + n) ≡ o + p + n
+    regroup n = omega arith
 
 -- what was lent from the cut start to the cut end comes back as what F makes of the part
 pub put-back : (t : List ℕ) (o w start end : ℕ) (F : List ℕ → List ℕ) (s : List ℕ)

@@ -10,6 +10,7 @@ use native.Mathlib.Omega.{arith}
 use lib.Dec.{eqb, ltb}
 use lib.ListN.{length, getD, List·getD-eq-default}
 use lib.Seq.{ext-getD}
+use borrow.Author.Tests.{ne-eqb}
 use Rattle.bitset.specs.Sets.{bit, member, fromBits, tabulate, setOf, inserted, removed, unionOf, intersectionOf, symmetricDifferenceOf, differenceOf, copyOf, emptied, complementOf}
 use Rattle.bitset.proofs.BitLaws.{bit-zero, bit-fromBits, fromBits-ext, fromBits-lt, bits-eq}
 
@@ -163,6 +164,18 @@ pub complement-setOf : (total w : ℕ) (a : ℕ → Bool) → complementOf total
 unfolding complementOf
 complement-setOf total = map-setOf (λ n x. ltb n total && not x)
 
+-- ---- the set of one number
+
+pub member-one : (w u : ℕ) → u < 8 * w → (n : ℕ) → member (setOf w (λ m. eqb m u)) n ≡ eqb n u
+member-one w u h n = member-setOf-within w (λ m. eqb m u) n (λ l. ne-eqb n u (λ e. omega arith))
+
+-- to join it to a set that is no wider is to insert the number
+pub union-one : (a : List ℕ) (w u : ℕ) → length a ≤ w → unionOf a (setOf w (λ m. eqb m u)) ≡ inserted a u
+unfolding unionOf inserted
+union-one a w u h =
+    setOf-ext (length a) (λ n. member a n || member (setOf w (λ m. eqb m u)) n) (λ n. member a n || eqb n u)
+    (λ n l. ap (λ (b : Bool). member a n || b) (member-setOf w (λ m. eqb m u) n (omega arith)))
+
 -- ---- every operation keeps the length
 
 pub length-inserted : (s : List ℕ) (n : ℕ) → length (inserted s n) ≡ length s
@@ -196,7 +209,3 @@ length-copy a b = length-setOf (length a) _
 pub length-emptied : (s : List ℕ) → length (emptied s) ≡ length s
 unfolding emptied
 length-emptied s = length-setOf (length s) _
-
-pub length-complement : (total : ℕ) (s : List ℕ) → length (complementOf total s) ≡ length s
-unfolding complementOf
-length-complement total s = length-setOf (length s) _

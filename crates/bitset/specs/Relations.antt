@@ -2,7 +2,7 @@
 -- In rows of w bytes number m of row u is number 8 * w * u + m of the whole body. Assumes nothing.
 use mathlib.Core.Bool.{Bool, _&&_, _||_}
 use mathlib.Core.List.{List, [], _∷_, _++_}
-use Prim.Native.Nat.{ℕ, _*_, _/_, _%_}
+use Prim.Native.Nat.{ℕ, _*_, _/_, _%_, _≤_, _<_}
 use lib.ListN.{length, take}
 use Rattle.bitset.specs.Sets.{member, setOf, tabulate}
 
@@ -21,3 +21,8 @@ relation n w f = joined (tabulate n (λ u. setOf w (f u)))
 unfoldable pub granted : ℕ → List ℕ → List ℕ → List ℕ → List ℕ
 granted w body us rs =
     setOf (length body) (λ m. member body m || (member us (m / (8 * w)) && member (take w rs) (m % (8 * w))))
+
+-- r rows of w bytes start in a body of so many bytes
+pub record Rows (w size r : ℕ) : Type 0 where
+  pub starts : (u : ℕ) → u < r → w * u < size
+  pub all : size ≤ w * r

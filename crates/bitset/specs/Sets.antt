@@ -3,7 +3,8 @@
 -- Every operation on bytes is the set, as many bytes long as its first operand, of a rule: the width is free. Assumes nothing.
 use mathlib.Core.Bool.{Bool, true, false, not, _&&_, _||_, xor, Bool·beq}
 use mathlib.Core.List.{List, [], _∷_}
-use Prim.Native.Nat.{ℕ, zero, suc, _+_, _*_, _/_, _%_, _^_, max}
+use mathlib.Core.Path.{_≡_}
+use Prim.Native.Nat.{ℕ, zero, suc, _+_, _*_, _/_, _%_, _^_, _≤_, _<_, max}
 use lib.Dec.{eqb, ltb}
 use lib.ListN.{getD, length}
 
@@ -106,3 +107,8 @@ bitByte n = fromBits 8 (λ k. eqb (8 * (n / 8) + k) n)
 -- byte i of the set of all numbers below total
 unfoldable pub maskOf : ℕ → ℕ → ℕ
 maskOf total i = fromBits 8 (λ k. ltb (8 * i + k) total)
+
+-- r numbers from n on are not in s; where that is none, n is in s
+pub record Gap (s : List ℕ) (n r : ℕ) : Type 0 where
+  pub none : (k : ℕ) → n ≤ k → k < n + r → member s k ≡ false
+  pub here : r ≡ 0 → member s n ≡ true

@@ -1,19 +1,20 @@
 // Sets of numbers as bytes in lent memory: number n is bit n mod 8 (lowest is 0) of byte n div 8.
 //
 // A set is a slice of any length, and every function answers for every slice and every number. A number past the last byte is in no set,
-// and to insert it changes nothing. A second operand that is shorter than the first has no further members. Only to count asks for something:
-// that eight times the bytes are a usize.
+// and to insert it changes nothing. A second operand that is shorter than the first has no further members. Of what other
+// crates call, only to count asks for something: that eight times the bytes are a usize.
 // The functions whose names end in `_at` do the same for the set that stands in the w bytes at offset o of a larger slice, cut where the slice ends.
 ghost use mathlib.Core.Path.{_≡_};
 ghost use Prim.Native.Nat.{_+_, _*_, _≤_, _<_, min, max};
 ghost use lib.Count.{ones};
 ghost use lib.ListN.{length, getD};
 ghost use Rattle.bitset.specs.Sets as sets;
-ghost use Rattle.bitset.specs.Sets.{member, inserted, removed, unionOf, intersectionOf, symmetricDifferenceOf, differenceOf, copyOf, emptied, complementOf, within, bitByte, maskOf};
+ghost use Rattle.bitset.specs.Sets.{member, inserted, removed, unionOf, intersectionOf, symmetricDifferenceOf, differenceOf, copyOf, emptied, complementOf, within, bitByte, maskOf, Gap};
 ghost use Rattle.bitset.specs.Operators.{combined, combinedByte};
+ghost use Rattle.bitset.specs.Complements.{flipped, keptBelow};
 ghost use Rattle.bitset.specs.Parts as parts;
 ghost use Rattle.bitset.specs.Parts.{put};
-ghost use Rattle.bitset.specs.Relations.{granted};
+ghost use Rattle.bitset.specs.Relations.{granted, Rows};
 
 // What two sets are combined by. `Second` takes the second set alone.
 enum SetOp {
@@ -74,7 +75,8 @@ fn ones_of(b: u8) -> usize
     u8::count_ones(b) as usize
 }
 
-fn least(a: usize, b: usize) -> usize
+// The lesser of two numbers.
+pub fn least(a: usize, b: usize) -> usize
     ensures { λ r. ⌜ r ≡ min a b ⌝ }
 {
     if a < b { a } else { b }
@@ -121,14 +123,30 @@ pub fn remove(set: &mut [u8], n: usize)
 
 // ---- two sets
 
-// dst becomes what op makes of it and src.
-fn combine(op: SetOp, dst: &mut [u8], src: &[u8])
+// dst becomes what op makes of it and src, which is not shorter. As no turn tests where src ends, the loop becomes vector code.
+fn combine_whole(op: SetOp, dst: &mut [u8], src: &[u8])
+    requires { ⌜ length (now dst) ≤ length (now src) ⌝ }
     ensures { λ _. ⌜ now (dst .exit) ≡ combined op (now (dst .entry)) (now (src .entry)) ⌝ }
 {
     let mut at = 0;
     while at < dst.len() {
-        dst[at] = apply(op, dst[at], byte(src, at));
+        dst[at] = apply(op, dst[at], src[at]);
         at += 1;
+    }
+}
+
+// dst becomes what op makes of it and src.
+fn combine(op: SetOp, dst: &mut [u8], src: &[u8])
+    ensures { λ _. ⌜ now (dst .exit) ≡ combined op (now (dst .entry)) (now (src .entry)) ⌝ }
+{
+    if dst.len() <= src.len() {
+        combine_whole(op, dst, src);
+        return;
+    }
+    let mut i = 0;
+    while i < dst.len() {
+        dst[i] = apply(op, dst[i], byte(src, i));
+        i += 1;
     }
 }
 
@@ -167,18 +185,17 @@ pub fn copy(dst: &mut [u8], src: &[u8])
     combine(SetOp::Second, dst, src);
 }
 
-// Whether a number is in both.
+// Whether a number is in both. What is found is gathered, here and in the tests below: a loop that no turn leaves early becomes vector code.
 pub fn meets(a: &[u8], b: &[u8]) -> bool
     ensures { λ r. ⌜ r ≡ sets.meets (now (a .entry)) (now (b .entry)) ⌝ }
 {
+    let mut common: u8 = 0;
     let mut i = 0;
     while i < a.len() {
-        if a[i] & byte(b, i) != 0 {
-            return true;
-        }
+        common = common | (a[i] & byte(b, i));
         i += 1;
     }
-    false
+    common != 0
 }
 
 // Whether the same numbers are in both.
@@ -186,14 +203,13 @@ pub fn equal(a: &[u8], b: &[u8]) -> bool
     ensures { λ r. ⌜ r ≡ sets.equal (now (a .entry)) (now (b .entry)) ⌝ }
 {
     let longer = greatest(a.len(), b.len());
+    let mut differing: u8 = 0;
     let mut i = 0;
     while i < longer {
-        if byte(a, i) != byte(b, i) {
-            return false;
-        }
+        differing = differing | (byte(a, i) ^ byte(b, i));
         i += 1;
     }
-    true
+    differing == 0
 }
 
 // ---- one set
@@ -209,30 +225,48 @@ pub fn clear(set: &mut [u8])
     }
 }
 
+// The set becomes all numbers that its bytes can hold and that were not in it.
+fn flip(set: &mut [u8])
+    ensures { λ _. ⌜ now (set .exit) ≡ flipped (now (set .entry)) ⌝ }
+{
+    let mut i = 0;
+    while i < set.len() {
+        set[i] = !set[i];
+        i += 1;
+    }
+}
+
+// The set keeps the numbers below total. One byte is cut, and those behind it become 0.
+fn keep_below(set: &mut [u8], total: usize)
+    ensures { λ _. ⌜ now (set .exit) ≡ keptBelow total (now (set .entry)) ⌝ }
+{
+    let whole = total / 8;
+    if set.len() <= whole {
+        return;
+    }
+    clear_at(set, whole + 1, set.len() - (whole + 1));
+    set[whole] = mask(total, whole) & set[whole];
+}
+
 // The set becomes all numbers below total that were not in it.
 pub fn complement(set: &mut [u8], total: usize)
     ensures { λ _. ⌜ now (set .exit) ≡ complementOf total (now (set .entry)) ⌝ }
 {
-    let mut i = 0;
-    while i < set.len() {
-        set[i] = mask(total, i) & !set[i];
-        i += 1;
-    }
+    flip(set);
+    keep_below(set, total);
 }
 
 // Whether every number in the set is below total.
 pub fn is_within(set: &[u8], total: usize) -> bool
     ensures { λ r. ⌜ r ≡ within total (now (set .entry)) ⌝ }
 {
+    let mut beyond: u8 = 0;
     let mut i = 0;
     while i < set.len() {
-        let b = set[i];
-        if b & mask(total, i) != b {
-            return false;
-        }
+        beyond = beyond | (set[i] & !mask(total, i));
         i += 1;
     }
-    true
+    beyond == 0
 }
 
 // How many numbers the set has. The bytes are few enough that the greatest count is a usize.
@@ -255,13 +289,8 @@ pub fn count(set: &[u8]) -> usize
 fn end_of(o: usize, w: usize, len: usize) -> usize
     ensures { λ r. ⌜ r ≡ min (o + w) len ⌝ }
 {
-    if len <= o {
-        return len;
-    }
-    if len - o <= w {
-        return len;
-    }
-    o + w
+    let start = least(o, len);
+    start + least(w, len - start)
 }
 
 // The w bytes at offset o, or as many of them as the table has.
@@ -366,21 +395,44 @@ pub fn copy_at(table: &mut [u8], o: usize, w: usize, src: &[u8])
     combine_at(SetOp::Second, table, o, w, src);
 }
 
+// How many numbers from n on are not in the set, up to the end of n's byte. The bit above the byte ends the count.
+fn gap_at(set: &[u8], n: usize) -> usize
+    ensures { λ r. ⌜ Gap (now (set .entry)) n r ⌝ }
+{
+    let rest = (256 + byte(set, n / 8) as usize) >> (n % 8);
+    usize::trailing_zeros(rest) as usize
+}
+
+// How many rows of w bytes start in a body of size bytes.
+fn row_count(size: usize, w: usize) -> usize
+    requires { ⌜ 0 < w ⌝ }
+    ensures { λ r. ⌜ Rows w size r ⌝ }
+{
+    if size == 0 {
+        return 0;
+    }
+    (size - 1) / w + 1
+}
+
 // In a body of rows of w bytes each row whose number is in us gains what rs has, as far as a row reaches.
+// Rows that gain nothing are passed over up to eight at a time.
 pub fn grant(body: &mut [u8], us: &[u8], rs: &[u8], w: usize)
     ensures { λ _. ⌜ now (body .exit) ≡ granted w (now (body .entry)) (now (us .entry)) (now (rs .entry)) ⌝ }
 {
     if w == 0 {
         return;
     }
+    let rows = row_count(body.len(), w);
     let mut u = 0;
-    let mut start = 0;
-    while start < body.len() {
-        let reach = least(w, body.len() - start);
-        if contains(us, u) {
-            union_at(body, start, reach, rs);
+    while u < rows {
+        let gap = gap_at(us, u);
+        if 0 < gap {
+            u += least(gap, rows - u);
+            continue;
         }
-        start += reach;
+        let start = w * u;
+        let reach = least(w, body.len() - start);
+        union_at(body, start, reach, rs);
         u += 1;
     }
 }

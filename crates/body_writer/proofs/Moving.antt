@@ -21,10 +21,11 @@ use Rattle.set_code.specs.Evaluation.{valueOf}
 use Rattle.resolver.specs.Clashes.{Codes}
 use Rattle.resolver.specs.Resolving.{finalSets}
 use Rattle.resolver.specs.declared.Move.{Move}
+use Rattle.resolver.specs.Reading.{stepOf}
 use Rattle.resolver.proofs.Items.{Item, moves, unitsOf, itemsCode, items, ItemIn, moveIn, transitions-items, tag-moves, tag-no-move}
 use Rattle.resolver.proofs.Numbers.{items-declared}
 use Rattle.resolver.proofs.ClashLaws.{Reads}
-use Rattle.resolver.proofs.Passes.{nextAt, Through, Met, meet, onward}
+use Rattle.resolver.proofs.Passes.{Through, Met, meet, onward}
 use Rattle.body_writer.specs.Writing.{Appended}
 use Rattle.body_writer.specs.Bodies.{WritesTransition}
 use Rattle.body_writer.proofs.Putting.{appended-then, appended-none}
@@ -96,7 +97,7 @@ module _ (p : Policy) (t : List ℕ) (to : ℕ) where
       let same = transitions-items p in
       subst (λ ts. Appended (bytesOf p ts) t to u r) (sym same) h .written (omega (arith, room, bytes-long p (transitions p)))
 
-  module _ (ok : Accepted p) (code : List ℕ) (at next : ℕ) (inside : at < length code) (e : next ≡ nextAt code at) (u : List ℕ) (r : ℕ) (through : Through (items p) code at (Bytes u r)) where
+  module _ (ok : Accepted p) (code : List ℕ) (at next : ℕ) (inside : at < length code) (e : next ≡ stepOf code at) (u : List ℕ) (r : ℕ) (through : Through (items p) code at (Bytes u r)) where
     the-met : Met p (items p) code at (Bytes u r)
     the-met = meet p ok (items p) (items-declared p ok) code at (Bytes u r) inside through
 

@@ -23,9 +23,10 @@ use Rattle.statement_code.specs.Code.{referenceUnit, familyNumber, relationNumb
 use Rattle.set_code.specs.Evaluation.{valueOf}
 use Rattle.meaning_laws.proofs.ListLaws.{decided}
 use Rattle.resolver.specs.Resolving.{finalSets}
+use Rattle.resolver.specs.Reading.{stepOf}
 use Rattle.resolver.proofs.Items.{Item, declares, fills, relates, moves, tagOf, unitsOf, itemsCode, itemIn, items, ItemIn}
 use Rattle.resolver.proofs.Numbers.{items-declared}
-use Rattle.resolver.proofs.Passes.{nextAt, Through, Met, meet, onward, finish}
+use Rattle.resolver.proofs.Passes.{Through, Met, meet, onward, onward-past, finish}
 use Rattle.body_writer.proofs.Putting.{put-over}
 use Rattle.body_writer.proofs.Filling.{narrow}
 use Rattle.body_writer.proofs.Standing.{value-stands, operand-at}
@@ -168,14 +169,14 @@ module _ {code fs ts : List ℕ} {at many width size tag : ℕ} (p : Policy) (k 
   abbrev pub Body : List ℕ → List Item → List Item → Type 0
   Body u done left = u ≡ put t at (bodyOf p k many width done)
 
-  module _ (place next : ℕ) (inside : place < length code) (e : next ≡ nextAt code place) (u : List ℕ) (through : Through (items p) code place (Body u)) where
+  module _ (place next : ℕ) (inside : place < length code) (u : List ℕ) (through : Through (items p) code place (Body u)) where
     the-met : Met p (items p) code place (Body u)
     the-met = meet p (asked .ok) (items p) (items-declared p (asked .ok)) code place (Body u) inside through
 
-    -- a line of the relation adds what it gives
-    pub line-more : getD code place 0 ≡ tag → (x y : ℕ) → x ≡ getD code (place + 2) 0 → y ≡ getD code (place + 3) 0 → (v : List ℕ)
+    -- a line of the relation adds what it gives, and the next statement stands behind its two operands
+    pub line-more : next ≡ place + 4 → getD code place 0 ≡ tag → (x y : ℕ) → x ≡ getD code (place + 2) 0 → y ≡ getD code (place + 3) 0 → (v : List ℕ)
         → v ≡ put u at (granted width (part u at size) (setOf 64 (valueOf fs x)) (setOf 64 (valueOf ts y))) → Through (items p) code next (Body v)
-    line-more h x y hx hy v told = go (tag-relates k (the-met .item) (sym (the-met .stand .tag) ∙ h ∙ asked .tagged))
+    line-more e h x y hx hy v told = go (tag-relates k (the-met .item) (sym (the-met .stand .tag) ∙ h ∙ asked .tagged))
       where
         go : (s : ℕ) × (a b : Reference) × (the-met .item ≡ relates k s a b) → Through (items p) code next (Body v)
         go (s, a, b, q) =
@@ -183,15 +184,15 @@ module _ {code fs ts : List ℕ} {at many width size tag : ℕ} (p : Policy) (k 
             let units = m .stand .units ∙ ap (λ i. unitsOf i ++ itemsCode (m .rest)) q in
             let first : x ≡ referenceUnit a = hx ∙ operand-at code place _ 0 (place + 2) units (omega arith) in
             let second : y ≡ referenceUnit b = hy ∙ operand-at code place _ 1 (place + 3) units (omega arith) in
-            onward p (items p) code place (Body u) (Body v) next e m
+            onward-past p (items p) code place (Body u) (Body v) next (omega (arith, e, ap length (m .stand .operands ∙ ap unitsOf q))) m
             (granted-over (m .done) (m .done ++ (m .item ∷ [])) _ _ u v
             (body-more (m .done) s a b (subst (ItemIn (declarations p)) q (m .declared)) ∙ ap (λ i. body (m .done ++ (i ∷ []))) (sym q))
             (m .so-far)
             (told ∙ ap₂ (λ (i j : ℕ). put u at (granted width (part u at size) (setOf 64 (valueOf fs i)) (setOf 64 (valueOf ts j)))) first second))
 
     -- any other statement adds nothing
-    pub line-over : (getD code place 0 ≡ tag → ⊥) → Through (items p) code next (Body u)
-    line-over h =
+    pub line-over : next ≡ stepOf code place → (getD code place 0 ≡ tag → ⊥) → Through (items p) code next (Body u)
+    line-over e h =
         let m = the-met in
         onward p (items p) code place (Body u) (Body u) next e m
         (m .so-far ∙ ap (put t at) (body-over p k many width (m .done) (m .item) (λ q. h (m .stand .tag ∙ q ∙ sym (asked .tagged)))))

@@ -5,6 +5,7 @@
 ghost use mathlib.Core.Path.{_≡_};
 ghost use mathlib.Core.List.{[], _∷_};
 ghost use Prim.Native.Nat.{_<_, _≤_};
+ghost use lib.Dec.{eqb};
 ghost use lib.ListN.{length, take};
 ghost use Rattle.bitset.specs.Sets.{setOf};
 ghost use Rattle.bitset.specs.Parts.{part, put};
@@ -93,7 +94,39 @@ fn relation_number(relation: Relation) -> u16
     }
 }
 
-// In the body of rows of width bytes that stands in the size bytes at a place, each row of the first reference gains what the second stands for.
+// In the body of rows of width bytes that stands in the size bytes at a place, the row of one thing gains what a reference stands for.
+// A row that starts past the body's end gains nothing, and one that the end cuts gains as far as it reaches.
+fn grant_row(
+    thing: usize,
+    to: u16,
+    sets: &[u8; FAMILY_BYTES],
+    table: &mut [u8],
+    at: usize,
+    size: usize,
+    width: usize,
+)
+    requires { ⌜ (thing < 512) × (width ≤ 64) ⌝ }
+    ensures { λ _. ⌜ now (table .exit) ≡ put (now (table .entry)) at (granted width (part (now (table .entry)) at size)
+        (setOf 64 (λ n. eqb n thing)) (setOf 64 (valueOf (now (sets .entry)) to))) ⌝ }
+{
+    let body = bitset::part(table, at, size).len();
+    let start = width * thing;
+    if body <= start {
+        return;
+    }
+    let row = at + start;
+    let reach = bitset::least(width, body - start);
+    if to < Unit::ATTRIBUTE {
+        bitset::insert_at(table, row, reach, to as usize);
+        return;
+    }
+    let mut gained = [0u8; Type::SET_BYTES];
+    set_code::reference(to, sets, &mut gained);
+    bitset::union_at(table, row, reach, &gained);
+}
+
+// The same for each row of a reference. The row of a single thing is found without a walk over all rows; a number that no set holds, or rows wider
+// than a set, are left to the walk.
 fn grant_line(
     from: u16,
     to: u16,
@@ -107,6 +140,13 @@ fn grant_line(
     ensures { λ _. ⌜ now (table .exit) ≡ put (now (table .entry)) at (granted width (part (now (table .entry)) at size)
         (setOf 64 (valueOf (now («from_sets» .entry)) from)) (setOf 64 (valueOf (now («to_sets» .entry)) to))) ⌝ }
 {
+    let thing = from as usize;
+    if thing < Type::MAX {
+        if width <= Type::SET_BYTES {
+            grant_row(thing, to, to_sets, table, at, size, width);
+            return;
+        }
+    }
     let mut rows = [0u8; Type::SET_BYTES];
     set_code::reference(from, from_sets, &mut rows);
     let mut gained = [0u8; Type::SET_BYTES];
@@ -114,7 +154,7 @@ fn grant_line(
     bitset::grant_at(table, at, size, &rows, &gained, width);
 }
 
-// Body 2, 3 or 4: so many sets, in so many bytes each.
+// Body 2, 3 or 4: so many sets, in so many bytes each. A statement of the relation has two operands, so the next one starts four units on.
 pub fn write_relation(
     code: &[u16],
     relation: Relation,
@@ -138,13 +178,14 @@ pub fn write_relation(
     let tag = Unit::RELATION + relation_number(relation);
     let mut place = 0;
     while place < code.len() {
-        let next = resolver::statement_end(code, place + 2);
         if code[place] == tag {
             let from = resolver::unit(code, place, 2);
             let to = resolver::unit(code, place, 3);
             grant_line(from, to, from_sets, to_sets, table, at, size, width);
+            place += 4;
+        } else {
+            place = resolver::next_statement(code, place);
         }
-        place = next;
     }
 }
 
@@ -183,7 +224,7 @@ pub fn write_transitions(
     let mut to = at;
     let mut place = 0;
     while place < code.len() {
-        let next = resolver::statement_end(code, place + 2);
+        let next = resolver::next_statement(code, place);
         if code[place] == Unit::TRANSITION {
             let operands = resolver::transition(code, place);
             to = write_transition(operands, role_sets, type_sets, table, to);

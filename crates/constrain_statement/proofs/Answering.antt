@@ -35,6 +35,7 @@ use Rattle.constrain_statement.specs.Scopes.{numbersOf, ScopeForm, Scope
 use Rattle.constrain_statement.specs.Constraining.{headWith, fitsBefore, Answers, WritesConstrain, AdmitsBy, Admits}
 use Rattle.constrain_statement.specs.declared.Constrained.{Constrained}
 use Rattle.constrain_statement.specs.declared.Scope.{Scope}
+use Rattle.constrain_statement.proofs.Admitting.{half-waits}
 use Rattle.constrain_statement.proofs.Masking.{tag}
 use Rattle.constrain_statement.proofs.Shapes.{Shape, shape}
 use Rattle.constrain_statement.proofs.Scoping.{startsPart, not-there, no-part, same-parts}
@@ -193,5 +194,6 @@ module _ {t : List ℕ} {at : ℕ} {table : List ℕ} {end : ℕ} {before : List
               let i = declared y there (told v d) in
               subst (λ (o : Option Statement). Answers o before after count rowsBefore rowsAfter row b)
               (sym (ap (resolved ds) (s .written) ∙ resolves ds (s .class) (s .permissions) (s .body) c (i .expression) (i .refers)))
-              (by-answer before after rowsBefore rowsAfter count class mask row n (need (s .body)) (i .expression) (c .numbers) (need-kept ds (s .body) (i .expression) (i .refers)) (i .count) (c .mask-is) long (i .bytes) b (m .says (s .body) there));
+              (by-answer before after rowsBefore rowsAfter count class mask row n (need (s .body)) (i .expression) (c .numbers) (need-kept ds (s .body) (i .expression) (i .refers)) (i .count) (c .mask-is) long (i .bytes) b
+              (m .says (s .body) there (omega (arith, i .count, half-waits (i .expression) .0, need-kept ds (s .body) (i .expression) (i .refers)))));
         }

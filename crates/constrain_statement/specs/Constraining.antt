@@ -2,7 +2,7 @@
 -- of 6 bytes, operands before operators, left first", or the first of the faults 5, 6 and 7. Assumes nothing.
 use Prim.Native.Nat.{ℕ, _+_, _-_, _*_, _≤_}
 use mathlib.Core.Path.{_≡_}
-use mathlib.Core.Bool.{Bool, true, false, _&&_}
+use mathlib.Core.Bool.{Bool, true, false, not, _&&_}
 use mathlib.Core.List.{List}
 use mathlib.Core.Option.{Option, none, some}
 use lib.Dec.{leb, ltb}
@@ -68,6 +68,10 @@ pub record WritesConstrain (t : List ℕ) (at : ℕ) (table : List ℕ) (end : �
 pub record Needs (t : List ℕ) (at r : ℕ) : Type 0 where
   pub says : (e : Constraint Name) → expressionIn (trim (framesAt t at .here) (maxLevel - 2)) ≡ some e → r ≡ need e
 
+-- whether the expression at a place needs more of the stack than there is, if it has so many rows that twice its need is at most one more than they are
+pub record Deepens (t : List ℕ) (at rows : ℕ) (r : Bool) : Type 0 where
+  pub says : (e : Constraint Name) → expressionIn (trim (framesAt t at .here) (maxLevel - 2)) ≡ some e → 2 * need e ≤ rows + 1 → leb (need e) maxStack ≡ not r
+
 -- the maxima and the stack need allow it, and its record is written; or the first of 6 and 7
 abbrev pub AdmitsBy : ℕ → List ℕ → List ℕ → ℕ → ℕ → ℕ → ℕ → ℕ → Constrained → Type 0
 AdmitsBy deep before after count class mask row next (Constrained.Next n) =
@@ -77,5 +81,5 @@ AdmitsBy deep before after count class mask row next Constrained.Full = fitsBefo
 AdmitsBy deep before after count class mask row next Constrained.Deep = (fitsBefore count next ≡ true) × (leb deep maxStack ≡ false)
 
 pub record Admits (t : List ℕ) (at : ℕ) (before after : List ℕ) (count class mask row next : ℕ) (r : Constrained) : Type 0 where
-  pub says : (e : Constraint Name) → expressionIn (trim (framesAt t at .here) (maxLevel - 2)) ≡ some e
+  pub says : (e : Constraint Name) → expressionIn (trim (framesAt t at .here) (maxLevel - 2)) ≡ some e → 2 * need e ≤ next - row + 1
       → AdmitsBy (need e) before after count class mask row next r

@@ -9,7 +9,7 @@ ghost use Rattle.bitset.specs.Sets.{bit, fromBits};
 ghost use Rattle.bitset.specs.Parts.{put};
 ghost use Rattle.policy.specs.Encode.{headBytes};
 ghost use Rattle.constrain_statement.specs.Scopes.{Masks, Scopes};
-ghost use Rattle.constrain_statement.specs.Constraining.{headWith, Needs, Admits, WritesConstrain};
+ghost use Rattle.constrain_statement.specs.Constraining.{headWith, Needs, Deepens, Admits, WritesConstrain};
 use constraint_grammar::Measured;
 use constraint_writer::RowsWritten;
 use items::Item;
@@ -143,6 +143,19 @@ fn stack_need(text: &[u8], at: usize) -> usize
     }
 }
 
+// An expression of so few rows needs no more of the stack than there is: each comparison that waits there has an operator behind it.
+const FEW_ROWS: usize = 2 * Constraint::MAX_STACK;
+
+// Whether a constraint expression of so many rows, behind its open parenthesis, needs more of the stack than there is.
+fn is_deep(text: &[u8], at: usize, rows: usize) -> bool
+    ensures { λ r. ⌜ Deepens (now (text .entry)) at rows r ⌝ }
+{
+    if rows <= FEW_ROWS {
+        return false;
+    }
+    Constraint::MAX_STACK < stack_need(text, at)
+}
+
 // Writes the record of a constraint: class 2, permission mask 4, first row 2, row count 2.
 fn put_head(
     constraints: &mut [u8],
@@ -189,7 +202,7 @@ fn admit(
     if Row::MAX < next {
         return Constrained::Full;
     }
-    if Constraint::MAX_STACK < stack_need(text, at) {
+    if is_deep(text, at, next - row) {
         return Constrained::Deep;
     }
     put_head(constraints, count, class, mask, row, next - row);

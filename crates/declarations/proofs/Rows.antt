@@ -1,17 +1,19 @@
--- The words of a row, one after the other: what stands at a place, whether a name is among them, and whether one stands twice.
+-- The words of a row, one after the other: what stands at a place, and whether a name is among the first of them.
 -- Assumes nothing.
 use mathlib.Core.Path.{_≡_, sym, ap, subst, _∙_}
-use mathlib.Core.Bool.{true, false, not}
+use mathlib.Core.Bool.{true, false}
 use mathlib.Core.List.{List, [], _∷_}
-use Prim.Native.Nat.{ℕ, _+_}
+use Prim.Native.Nat.{ℕ, suc, _+_, _-_, _<_}
 use native.Mathlib.Omega.{arith}
+use lib.ListN.{take}
+use lib.Seq.{take-nil}
 use Rattle.bitset.specs.Parts as parts
 use Rattle.lexer.specs.Token.{tokenAt}
 use Rattle.lexer.specs.Forms.{Forms, part, Frames, framesAt}
 use Rattle.lexer.specs.declared.Token.{Token}
 use Rattle.lexer.proofs.Seen.{seen}
-use Rattle.policy.specs.Basics.{Name, same, any, isIn, differ}
-use Rattle.declarations.specs.WordRows.{wordsIn, WordHere, WordIs, Inside}
+use Rattle.policy.specs.Basics.{Name, same, any, isIn}
+use Rattle.declarations.specs.WordRows.{wordsIn, isAmongFirst, WordHere, WordIs, Inside}
 use Rattle.declarations.specs.declared.NextWord.{NextWord}
 
 -- ---- the item at a place
@@ -70,28 +72,25 @@ module _ {t : List ℕ} {i s n : ℕ} (h : WordHere t i s n) where
   unfolding wordsIn
   words-here = ap wordsIn (h .here)
 
+  first-words : (k : ℕ) → 0 < k → take k (wordsIn (framesAt t i .here)) ≡ parts.part t s n ∷ take (k - 1) (wordsIn (framesAt t (s + n) .here))
+  first-words k l =
+      let z : k ≡ suc (k - 1) = omega arith in
+      ap (take k) words-here ∙ ap (λ (m : ℕ). take m (parts.part t s n ∷ wordsIn (framesAt t (s + n) .here))) z
+
   module _ (w : Name) where
-    pub is-this : same w (parts.part t s n) ≡ true → true ≡ isIn w (wordsIn (framesAt t i .here))
+    pub is-this : (k : ℕ) → 0 < k → same w (parts.part t s n) ≡ true → true ≡ isAmongFirst t i k w
     unfolding isIn any
-    is-this q = sym (ap (isIn w) words-here ∙ rw q)
+    is-this k l q = sym (ap (isIn w) (first-words k l) ∙ rw q)
 
-    pub is-later : same w (parts.part t s n) ≡ false → isIn w (wordsIn (framesAt t (s + n) .here)) ≡ isIn w (wordsIn (framesAt t i .here))
+    pub is-later : (k : ℕ) → 0 < k → same w (parts.part t s n) ≡ false → isAmongFirst t (s + n) (k - 1) w ≡ isAmongFirst t i k w
     unfolding isIn any
-    is-later q = sym (ap (isIn w) words-here ∙ rw q)
+    is-later k l q = sym (ap (isIn w) (first-words k l) ∙ rw q)
 
-  pub stands-twice : isIn (parts.part t s n) (wordsIn (framesAt t (s + n) .here)) ≡ true → true ≡ not (differ (wordsIn (framesAt t i .here)))
-  unfolding differ
-  stands-twice q = sym (ap (λ (ws : List Name). not (differ ws)) words-here ∙ rw q)
+module _ (t : List ℕ) (i k : ℕ) (w : Name) where
+  pub not-among-none : wordsIn (framesAt t i .here) ≡ [] → false ≡ isAmongFirst t i k w
+  unfolding isIn any
+  not-among-none e = rw (e, take-nil {A = Name} k)
 
-  pub stands-once : isIn (parts.part t s n) (wordsIn (framesAt t (s + n) .here)) ≡ false
-      → differ (wordsIn (framesAt t (s + n) .here)) ≡ differ (wordsIn (framesAt t i .here))
-  unfolding differ
-  stands-once q = sym (ap differ words-here ∙ rw q)
-
-pub not-in-none : (w : Name) (ws : List Name) → ws ≡ [] → false ≡ isIn w ws
-unfolding isIn any
-not-in-none w ws e = rw e
-
-pub none-twice : (ws : List Name) → ws ≡ [] → false ≡ not (differ ws)
-unfolding differ
-none-twice ws e = rw e
+  pub not-among-first-none : k ≡ 0 → false ≡ isAmongFirst t i k w
+  unfolding isIn any
+  not-among-first-none e = rw e

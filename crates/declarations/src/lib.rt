@@ -8,11 +8,12 @@ ghost use lib.ListN.{length};
 ghost use Rattle.bitset.specs.Parts.{part};
 ghost use Rattle.lexer.specs.Forms.{framesAt};
 ghost use Rattle.policy.specs.Basics as basics;
-ghost use Rattle.policy.specs.Basics.{isIn, differ};
+ghost use Rattle.policy.specs.Basics.{differ};
 ghost use Rattle.policy.specs.Encode.{nameEntry};
 ghost use Rattle.policy.specs.Words.{classK};
+ghost use Rattle.name_filter.specs.Filter.{hashOf, Covers};
 ghost use Rattle.declarations.specs.Counting.{Counts, MostIs, Stands};
-ghost use Rattle.declarations.specs.WordRows.{wordsIn, WordIs, Inside};
+ghost use Rattle.declarations.specs.WordRows.{wordsIn, isAmongFirst, WordIs, Inside};
 ghost use Rattle.declarations.specs.Entering.{Enters, EntersRow, answerOf};
 ghost use Rattle.declarations.specs.Declaring.{DeclaresAt, DeclaresName};
 use lexer::Token;
@@ -198,13 +199,14 @@ pub fn declare(
     answer(add(symbols, end, sort, number, text, start, len))
 }
 
-// Whether the name of len bytes of the text at a start stands in the row at a place.
-fn is_in_row(text: &[u8], at: usize, start: usize, len: usize) -> bool
+// Whether the name of len bytes of the text at a start is one of the first names of the row at a place, of so many of them.
+fn is_among_first(text: &[u8], at: usize, count: usize, start: usize, len: usize) -> bool
     requires { ⌜ start + len ≤ length (now text) ⌝ }
-    ensures { λ r. ⌜ r ≡ isIn (part (now (text .entry)) start len) (wordsIn (framesAt (now (text .entry)) at .here)) ⌝ }
+    ensures { λ r. ⌜ r ≡ isAmongFirst (now (text .entry)) at count (part (now (text .entry)) start len) ⌝ }
 {
     let mut i = at;
-    loop {
+    let mut left = count;
+    while 0 < left {
         let other = word_at(text, i);
         let NextWord::At { start: s, len: n } = other else {
             return false;
@@ -213,22 +215,48 @@ fn is_in_row(text: &[u8], at: usize, start: usize, len: usize) -> bool
             return true;
         }
         i = s + n;
+        left -= 1;
     }
+    false
 }
 
-// Whether a name stands twice in the row at a place: each is looked for behind itself.
+// The same, asked of the filter of these names first: one without its marks is none of them.
+fn is_repeated(
+    text: &[u8],
+    at: usize,
+    count: usize,
+    start: usize,
+    len: usize,
+    filter: &[u8],
+    hash: usize,
+) -> bool
+    requires { ⌜ (start + len ≤ length (now text)) × Covers (now filter) 0 (isAmongFirst (now text) at count) × (hash ≡ hashOf 0 (part (now text) start len)) ⌝ }
+    ensures { λ r. ⌜ r ≡ isAmongFirst (now (text .entry)) at count (part (now (text .entry)) start len) ⌝ }
+{
+    if !name_filter::is_marked(filter, hash) {
+        return false;
+    }
+    is_among_first(text, at, count, start, len)
+}
+
+// Whether a name stands twice in the row at a place: each is looked for among those before it.
 fn repeats(text: &[u8], at: usize) -> bool
     ensures { λ r. ⌜ r ≡ not (differ (wordsIn (framesAt (now (text .entry)) at .here))) ⌝ }
 {
+    let mut filter = [0u8; name_filter::FILTER_BYTES];
     let mut i = at;
+    let mut count: usize = 0;
     loop {
         let name = word_at(text, i);
         let NextWord::At { start, len } = name else {
             return false;
         };
-        if is_in_row(text, start + len, start, len) {
+        let hash = name_filter::hash_of(text, start, start + len, 0);
+        if is_repeated(text, at, count, start, len, &filter, hash) {
             return true;
         }
+        name_filter::mark(&mut filter, hash);
+        count += 1;
         i = start + len;
     }
 }

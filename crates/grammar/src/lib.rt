@@ -1,11 +1,12 @@
 // The forms of the statements: fault 3.
 ghost use mathlib.Core.Path.{_≡_};
-ghost use Prim.Native.Nat.{_-_};
+ghost use Prim.Native.Nat.{ℕ, _-_};
 ghost use Rattle.lexer.specs.Forms.{framesAt, trim};
 ghost use Rattle.lexer.specs.Scan.{maxLevel};
 ghost use Rattle.policy.specs.Words.{keywordOf};
 ghost use Rattle.policy.specs.Grammar.{expressionIn, written};
 ghost use Rattle.words.specs.Numbers.{wordOf};
+ghost use Rattle.items.specs.Looks.{itemAt};
 ghost use Rattle.items.specs.Reads.{isSome, Reads};
 ghost use Rattle.grammar.specs.Shapes.{contentOf, onlyPart, nameAndPart, classAndConstraint, shapeOf, byShape};
 use constraint_grammar::Measured;
@@ -151,12 +152,12 @@ fn shape_form(text: &[u8], at: usize, shape: Shape, levels: usize) -> Parsed
     }
 }
 
-// What the parentheses of a statement hold, behind the open one: the place past the close, or that the statement is of no form.
-pub fn statement_form(text: &[u8], at: usize) -> Parsed
-    ensures { λ r. ⌜ Reads (now (text .entry)) at (isSome (written (trim (framesAt (now (text .entry)) at .here) (maxLevel - 1)))) r ⌝ }
+// What the parentheses of a statement hold, by the first item behind the open one: the place past the close, or that the statement is of no form.
+pub fn statement_form(text: &[u8], first: Item) -> Parsed
+    ensures { λ r. ⌜ ((at : ℕ) → first ≡ itemAt (now (text .entry)) at
+        → Reads (now (text .entry)) at (isSome (written (trim (framesAt (now (text .entry)) at .here) (maxLevel - 1)))) r) ⌝ }
 {
-    let item = items::look(text, at);
-    match item {
+    match first {
         Item::Word { number, next, .. } => shape_form(text, next, shape_of(number), Level::MAX - 1),
         Item::Open { .. } | Item::Close { .. } | Item::End => Parsed::Bad,
     }

@@ -1,10 +1,11 @@
 -- The table of byte classes: the mark of each class, and the law that carries a test of the whole table to every byte.
 -- Assumes nothing.
-use mathlib.Core.Path.{_≡_, refl, sym, ap, _∙_}
-use mathlib.Core.Bool.{cond}
+use mathlib.Core.Path.{_≡_, refl, sym, ap, _∙_, subst}
+use mathlib.Core.Bool.{Bool, true, cond}
 use mathlib.Core.List.{List, [], _∷_}
-use Prim.Native.Nat.{ℕ, zero, suc, _+_, _<_}
+use Prim.Native.Nat.{ℕ, zero, suc, _+_, _-_, _≤_, _<_}
 use native.Mathlib.Nat.{add-zero, zero-add, add-suc, suc-add, le-of-suc-le-suc, not-suc-le-zero}
+use native.Mathlib.Omega.{arith}
 use lib.ListN.{getD}
 use Rattle.lexer.specs.Class.{is}
 use Rattle.lexer.specs.Answers.{markOf}
@@ -14,18 +15,25 @@ use Rattle.lexer.specs.declared.ByteClass.the-variants.{Blank, LineFeed,
 -- ---- a table that holds f at each place
 
 -- f at i, i + 1, and so on: n entries
-abbrev pub tabulate : (ℕ → ℕ) → ℕ → ℕ → List ℕ
+abbrev pub tabulate : {A : Type 0} → (ℕ → A) → ℕ → ℕ → List A
 tabulate f i zero = []
 tabulate f i (suc n) = f i ∷ tabulate f (suc i) n
 
-from : (f : ℕ → ℕ) (n i k : ℕ) → k < n → getD (tabulate f i n) k 0 ≡ f (i + k)
-from f zero i k h = absurd (not-suc-le-zero h)
-from f (suc n) i zero h = rw add-zero
-from f (suc n) i (suc k) h = from f n (suc i) k (le-of-suc-le-suc h) ∙ rw (add-suc, suc-add)
+from : {A : Type 0} (d : A) (f : ℕ → A) (n i k : ℕ) → k < n → getD (tabulate f i n) k d ≡ f (i + k)
+from d f zero i k h = absurd (not-suc-le-zero h)
+from d f (suc n) i zero h = rw add-zero
+from d f (suc n) i (suc k) h = from d f n (suc i) k (le-of-suc-le-suc h) ∙ rw (add-suc, suc-add)
 
 -- the whole table is f, so each entry is
 pub entry : (f : ℕ → ℕ) (n : ℕ) (xs : List ℕ) → xs ≡ tabulate f 0 n → (k : ℕ) → k < n → getD xs k 0 ≡ f k
-entry f n xs e k h = rw e (from f n 0 k h ∙ rw zero-add)
+entry f n xs e k h = rw e (from 0 f n 0 k h ∙ rw zero-add)
+
+-- two rules that are computed to be the same at n places from a first one on are the same at each of them
+pub agree : (f g : ℕ → Bool) (first n : ℕ) → tabulate f first n ≡ tabulate g first n → (k : ℕ) → first ≤ k → k < first + n → f k ≡ g k
+agree f g first n e k l h =
+    let inside : k - first < n = omega arith in
+    subst (λ (x : ℕ). f x ≡ g x) (omega arith)
+    (sym (from true f n first (k - first) inside) ∙ ap (λ (xs : List Bool). getD xs (k - first) true) e ∙ from true g n first (k - first) inside)
 
 -- ---- the marks
 
@@ -35,7 +43,7 @@ classAt m =
     cond (is "b" m) Blank
     (cond (is "n" m) LineFeed
     (cond (is ";" m) Comment
-    (cond (is "(" m) Open (cond (is ")" m) Close (cond (is "a" m) Letter (cond (is "d" m) Digit Wrong))))))
+    (cond (is "(" m) Open (cond (is ")" m) Close (cond (is "l" m) Letter (cond (is "d" m) Digit Wrong))))))
 
 class-of-mark : (x : ByteClass) → classAt (markOf x) ≡ x
 class-of-mark Blank = refl

@@ -1,7 +1,6 @@
 -- How the tokens of a text go on by a byte, over a comment and over a word: what the loop of `next` does, stated once.
 -- Assumes nothing.
-use mathlib.Core.Path.{_≡_, refl, sym, ap, subst⁻¹, _∙_}
-use mathlib.Core.Logic.{⊎-elim}
+use mathlib.Core.Path.{_≡_, refl, sym, ap, _∙_}
 use mathlib.Core.Bool.{Bool, true, false}
 use mathlib.Core.List.{List, [], _∷_, _++_}
 use Prim.Native.Nat.{ℕ, _+_, _-_, _≤_, _<_}
@@ -22,6 +21,11 @@ use Rattle.lexer.proofs.Variants.{tag, among}
 
 -- ---- a turn of the loop of `next`
 
+clash : false ≡ true → ⊥
+clash e =
+    let z : _≡_ {A = ℕ} 0 1 = cc in
+    omega arith
+
 -- a byte between tokens that only leads to a mode
 pub record Leads (at : ℕ) (k : ByteClass) (mode : Mode) : Type 0 where
   pub no-token : ownToken at k ≡ []
@@ -36,6 +40,17 @@ pub name-like : (at : ℕ) (k : ByteClass) → OneOf (5 ∷ 6 ∷ []) (tag k) �
 name-like at =
     among (5 ∷ 6 ∷ []) (λ k. Leads at k (inName at 1))
     (tt, tt, tt, tt, tt, record { no-token = refl; to = refl }, record { no-token = refl; to = refl }, tt)
+
+-- a class that goes on a name leads into one
+goes-like : (at : ℕ) (k : ByteClass) → goesOn k ≡ true → Leads at k (inName at 1)
+goes-like at Blank e = absurd (clash e)
+goes-like at LineFeed e = absurd (clash e)
+goes-like at Comment e = absurd (clash e)
+goes-like at Open e = absurd (clash e)
+goes-like at Close e = absurd (clash e)
+goes-like at Letter e = record { no-token = refl; to = refl }
+goes-like at Digit e = record { no-token = refl; to = refl }
+goes-like at Wrong e = absurd (clash e)
 
 pub comment-like : (at : ℕ) (k : ByteClass) → k ≡ Comment → Leads at k inComment
 comment-like at k e = record { no-token = rw e; to = rw e }
@@ -96,17 +111,14 @@ word-here t at = word-first (drop (at + 1) t) at 1 (at + 1) refl
 
 -- ---- a token by the byte at its place alone
 
-space-like : (at b : ℕ) → OneOf (10 ∷ 32 ∷ []) b → Leads at (classOf b) between
-unfolding classOf
-space-like at b h =
-    ⊎-elim (λ e. subst⁻¹ (λ (x : ℕ). Leads at (classOf x) between) e (record { no-token = refl; to = refl }))
-    (λ e. subst⁻¹ (λ (x : ℕ). Leads at (classOf x) between) e (record { no-token = refl; to = refl }))
-    h
-
 module _ (t : List ℕ) (at : ℕ) where
-  pub over-space : at < length t → OneOf (10 ∷ 32 ∷ []) (getD t at 0) → tokenAt t (at + 1) ≡ tokenAt t at
+  pub over-space : (b : ℕ) → at < length t → getD t at 0 ≡ b → Leads at (classOf b) between → tokenAt t (at + 1) ≡ tokenAt t at
   unfolding tokenAt tokensAt
-  over-space h e = sym (ap firstOf (turn t at (classOf (getD t at 0)) between h refl (space-like at (getD t at 0) e)))
+  over-space b h e l = sym (ap firstOf (turn t at (classOf b) between h (ap classOf (sym e)) l))
+
+  pub word-by-byte : at < length t → goesOn (classOf (getD t at 0)) ≡ true → Token.Word at (wordEnd t (at + 1) - at) ≡ tokenAt t at
+  unfolding tokenAt tokensAt
+  word-by-byte h e = sym (word-here t at) ∙ ap firstOf (sym (turn t at (classOf (getD t at 0)) (inName at 1) h refl (goes-like at (classOf (getD t at 0)) e)))
 
   pub by-itself : (b : ℕ) (r : Token) → at < length t → getD t at 0 ≡ b → ownToken at (classOf b) ≡ r ∷ [] → r ≡ tokenAt t at
   unfolding tokenAt tokensAt

@@ -18,7 +18,7 @@ markOf LineFeed = code "n"
 markOf Comment = code ";"
 markOf Open = code "("
 markOf Close = code ")"
-markOf Letter = code "a"
+markOf Letter = code "l"
 markOf Digit = code "d"
 markOf Wrong = code "."
 

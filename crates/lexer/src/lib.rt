@@ -65,12 +65,12 @@ enum Step {
     Fault,
 }
 
-// The class of each byte, 32 bytes to a line: b blank, n line feed, ; comment, ( open, ) close, a letter, d digit, . wrong.
+// The class of each byte, 32 bytes to a line: b blank, n line feed, ; comment, ( open, ) close, l letter, d digit, . wrong.
 const CLASSES: [u8; 256] = *b"\
     .........bn..b..................\
     b.......()...d..dddddddddd.;....\
-    .aaaaaaaaaaaaaaaaaaaaaaaaaa....a\
-    .aaaaaaaaaaaaaaaaaaaaaaaaaa.....\
+    .llllllllllllllllllllllllll....l\
+    .llllllllllllllllllllllllll.....\
     ................................\
     ................................\
     ................................\
@@ -103,7 +103,7 @@ fn class_in(classes: &[u8; 256], b: u8) -> ByteClass
         b';' => ByteClass::Comment,
         b'(' => ByteClass::Open,
         b')' => ByteClass::Close,
-        b'a' => ByteClass::Letter,
+        b'l' => ByteClass::Letter,
         b'd' => ByteClass::Digit,
         _ => ByteClass::Wrong,
     }
@@ -173,13 +173,42 @@ fn name_goes_on(classes: &[u8; 256], text: &[u8], at: usize) -> bool
     goes_on(class_in(classes, text[at]))
 }
 
+// The bytes below 64 with which a name goes on, by their bits: the digits and `-`.
+const LOW_NAME_BYTES: u64 = 0x3ff200000000000;
+
+// The same for the bytes from 64 to 96, by the bits of what they are above 64: capital letters and `_`.
+const HIGH_NAME_BYTES: u64 = 0x87fffffe;
+
+// Whether a name goes on with the byte. Tokens are read several times, so this is asked without the table: the two numbers above say of each byte
+// what the table says.
+fn is_name_byte(b: u8) -> bool
+    ensures { λ r. ⌜ r ≡ goesOn (classOf b) ⌝ }
+{
+    if b'a' <= b {
+        return b <= b'z';
+    }
+    if b < 64 {
+        return (LOW_NAME_BYTES >> b) % 2 == 1;
+    }
+    (HIGH_NAME_BYTES >> (b - 64)) % 2 == 1
+}
+
+// Whether there is a byte at a place with which a name goes on, asked without the table.
+fn word_goes_on(text: &[u8], at: usize) -> bool
+    ensures { λ r. ⌜ r ≡ goesOnWith (drop at (now (text .entry))) ⌝ }
+{
+    if text.len() <= at {
+        return false;
+    }
+    is_name_byte(text[at])
+}
+
 // Where the word ends that is under way at a place: at the first byte that does not go on a name, or with the text.
-fn word_end(classes: &[u8; 256], text: &[u8], at: usize) -> usize
-    requires { ⌜ Classes (now classes) ⌝ }
+fn word_end(text: &[u8], at: usize) -> usize
     ensures { λ r. ⌜ r ≡ wordEnd (now (text .entry)) at ⌝ }
 {
     let mut i = at;
-    while name_goes_on(classes, text, i) {
+    while word_goes_on(text, i) {
         i += 1;
     }
     i
@@ -199,7 +228,7 @@ pub fn is_name(classes: &[u8; 256], name: &[u8]) -> bool
     if !starts(class_in(classes, name[0])) {
         return false;
     }
-    word_end(classes, name, 1) == name.len()
+    word_end(name, 1) == name.len()
 }
 
 // What a byte between names does where so many parentheses are open.
@@ -295,7 +324,7 @@ fn next_in(classes: &[u8; 256], text: &[u8], at: usize) -> Token
             ByteClass::Open => return Token::Open(i),
             ByteClass::Close => return Token::Close(i),
             ByteClass::Letter | ByteClass::Digit => {
-                let end = word_end(classes, text, i + 1);
+                let end = word_end(text, i + 1);
                 return Token::Word {
                     start: i,
                     len: end - i,
@@ -306,7 +335,7 @@ fn next_in(classes: &[u8; 256], text: &[u8], at: usize) -> Token
     Token::End
 }
 
-// The first token at or after a place. Behind spaces and line feeds a parenthesis is met without the table.
+// The first token at or after a place. Behind spaces and line feeds a parenthesis and a word are met without the table.
 pub fn next(text: &[u8], at: usize) -> Token
     ensures { λ r. ⌜ r ≡ tokenAt (now (text .entry)) at ⌝ }
 {
@@ -314,12 +343,22 @@ pub fn next(text: &[u8], at: usize) -> Token
     while i < text.len() {
         let b = text[i];
         match b {
-            b' ' | b'\n' => i += 1,
+            b' ' => i += 1,
             b'(' => return Token::Open(i),
             b')' => return Token::Close(i),
             _ => {
-                let classes = class_table();
-                return next_in(&classes, text, i);
+                if is_name_byte(b) {
+                    let end = word_end(text, i + 1);
+                    return Token::Word {
+                        start: i,
+                        len: end - i,
+                    };
+                }
+                if b != b'\n' {
+                    let classes = class_table();
+                    return next_in(&classes, text, i);
+                }
+                i += 1;
             }
         }
     }

@@ -1,23 +1,24 @@
 -- Entries that may follow one another are the entries of good declarations, and those of good declarations may follow one another.
 -- The first entry by entry, the second by induction on the declarations, from what is declared before. Assumes nothing.
 use mathlib.Core.Path.{_≡_, refl, sym, ap, subst, _∙_}
-use mathlib.Core.Bool.{Bool, true, false, not, _&&_, _||_, cond, false≢true}
+use mathlib.Core.Bool.{Bool, true, false, not, _&&_, cond, false≢true}
 use mathlib.Core.List.{List, [], _∷_, _++_, append-nil, append-assoc}
 use mathlib.Core.Option.{Option, none, some, Option·some-injective}
 use Prim.Native.Nat.{ℕ, zero, suc, _+_, _*_, _≤_, _<_}
 use native.Mathlib.Omega.{arith}
-use borrow.Author.Tests.{eqb-true, eqb-false, eq-eqb, ne-eqb, ltb-true, lt-ltb, leb-true, le-leb, not-true}
+use borrow.Author.Tests.{eqb-true, eq-eqb, ltb-true, lt-ltb, leb-true, le-leb, not-true}
 use lib.Dec.{eqb, ltb, leb}
 use lib.ListN.{length, length-append}
-use Rattle.policy.specs.Basics.{Name, same, any, every, isIn, differ, _>>=_, given}
+use Rattle.policy.specs.Basics.{Name, every, isIn, differ, _>>=_, given}
 use Rattle.policy.specs.Statements.{users, roles, types, Sort, thingOf, attributeOf, Declaration, plain, class, count, classNames}
 use Rattle.policy.specs.Maxima.{maxOf, maxClasses, maxPermissions}
 use Rattle.policy.specs.Encode.{NameEntry, nameEntry, sortCode, permissionEntries, entriesOf, entriesFrom, entries}
 use Rattle.policy.specs.Sound.{isGood, goodFrom}
-use Rattle.policy.proofs.Lists.{both-true, true-both, neither, any-append, every-append}
+use Rattle.policy.proofs.Lists.{both-true, true-both, every-append}
 use Rattle.policy.proofs.Good.{GoodFirst, good-first, good-rest}
 use Rattle.table_laws.proofs.ListLaws.{if-some}
 use Rattle.symbols.proofs.Declaring.{entries-more, permission-more}
+use Rattle.name_filter.proofs.Differing.{differ-more, differ-new}
 use Rattle.name_section.specs.Declaring.{Kind, ofThing, ofClass, ofPermission, ofNothing, kindOf, Declaring, complete, opened, declared, closes, isPlaced, isUnused, extended, mayFollow, declaring, finished, declares}
 
 -- ---- kinds
@@ -46,44 +47,6 @@ kind-of-code (thingOf types) = refl
 kind-of-code (attributeOf users) = refl
 kind-of-code (attributeOf roles) = refl
 kind-of-code (attributeOf types) = refl
-
--- ---- names that differ
-
-eqb-turned : (x y : ℕ) → eqb x y ≡ eqb y x
-eqb-turned x y = by (eqb x y) refl
-  where
-    by : (q : Bool) → eqb x y ≡ q → q ≡ eqb y x
-    by true h = sym (eq-eqb y x (sym (eqb-true x y h)))
-    by false h = sym (ne-eqb y x (λ e. eqb-false x y h (sym e)))
-
-same-turned : (v w : Name) → same v w ≡ same w v
-unfolding same
-same-turned [] [] = refl
-same-turned [] (y ∷ w) = refl
-same-turned (x ∷ v) [] = refl
-same-turned (x ∷ v) (y ∷ w) = rw (eqb-turned x y, same-turned v w)
-
-cond-true : (q r : Bool) → cond q false r ≡ true → (q ≡ false) × (r ≡ true)
-cond-true true r h = absurd (false≢true h)
-cond-true false r h = (refl, h)
-
--- one more that is none of them
-differ-more : (ps : List Name) (w : Name) → differ ps ≡ true → isIn w ps ≡ false → differ (ps ++ (w ∷ [])) ≡ true
-unfolding differ isIn any
-differ-more [] w d h = refl
-differ-more (x ∷ ps) w d h =
-    let p = cond-true (isIn x ps) (differ ps) d in
-    let q = neither (same w x) (any (same w) ps) h in
-    rw (any-append (same x) ps (w ∷ []), p .0, same-turned x w, q .0) (differ-more ps w (p .1) (q .1))
-
--- none of them is one before it
-differ-new : (qs : List Name) (p : Name) (ps : List Name) → differ (qs ++ (p ∷ ps)) ≡ true → isIn p qs ≡ false
-unfolding differ isIn any
-differ-new [] p ps d = refl
-differ-new (x ∷ qs) p ps d =
-    let h = cond-true (isIn x (qs ++ (p ∷ ps))) (differ (qs ++ (p ∷ ps))) d in
-    let q = neither (any (same x) qs) (same x p || any (same x) ps) (sym (any-append (same x) qs (p ∷ ps)) ∙ h .0) in
-    rw (same-turned p x, neither (same x p) (any (same x) ps) (q .1) .0) (differ-new qs p ps (h .1))
 
 -- ---- declarations that are good so far
 

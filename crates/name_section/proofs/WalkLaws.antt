@@ -32,7 +32,8 @@ use Rattle.table_laws.proofs.NamesFit.{code-below}
 use Rattle.name_section.specs.declared.Counted.{Counted}
 use Rattle.name_section.specs.SoundNames.{soundNames, countsOf, countedOf, permissionCounts, permissionsAfter}
 use Rattle.name_section.specs.Declaring.{Kind, ofThing, ofClass, ofPermission, ofNothing, kindOf, Declaring, complete, opened, declared, closes, isPlaced, isUnused, extended, mayFollow, declaring, finished, declares}
-use Rattle.name_section.specs.Filter.{hashOf, marked, Knows}
+use Rattle.name_filter.specs.Filter.{hashOf, marked}
+use Rattle.name_section.specs.Filter.{Knows}
 use Rattle.name_section.specs.Tally.{allows, isFree, counted, permitted, Zeros, Tallied, Room, sound, unsound, judged, countsIn, judgedOf}
 use Rattle.name_section.proofs.DeclaringLaws.{KindIs, kind-is, GoodSoFar, SoFar, start as start-good, declared-good, declaring-more}
 use Rattle.name_section.proofs.TallyLaws.{closes-open, allows-placed, FewClasses, tallied-after, tallied-start, tallied-counts, tallied-permissions}

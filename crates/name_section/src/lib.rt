@@ -6,16 +6,16 @@ ghost use mathlib.Core.Path.{_≡_};
 ghost use mathlib.Core.Bool.{not};
 ghost use Prim.Native.Nat.{_+_, _≤_, _<_};
 ghost use lib.ListN.{length};
-ghost use Rattle.bitset.specs.Parts.{part};
 ghost use Rattle.lexer.specs.Class.{isName};
 ghost use Rattle.lexer.specs.Answers.{Classes};
 ghost use Rattle.policy.specs.Words.{isReserved};
 ghost use Rattle.policy.specs.Sound.{isGood};
 ghost use Rattle.symbols.specs.Section.{between, entriesAt};
-ghost use Rattle.symbols.specs.Lookup.{familyNumber, firstNamed};
+ghost use Rattle.symbols.specs.Lookup.{firstNamed};
 ghost use Rattle.symbols.specs.Resolving.{isFound};
+ghost use Rattle.name_filter.specs.Filter.{hashOf};
 ghost use Rattle.name_section.specs.SoundNames.{soundNames, countedOf, permissionsAfter};
-ghost use Rattle.name_section.specs.Filter.{hashOf, isMarked, marked, Knows, Follows};
+ghost use Rattle.name_section.specs.Filter.{Knows, Follows};
 ghost use Rattle.name_section.specs.Tally.{mostOf, allows, isFree, counted, permitted, Room, Zeros, judgedOf, judged};
 
 // How many things of each sort a sound body 1 names.
@@ -67,59 +67,6 @@ fn is_good(classes: &[u8; 256], table: &[u8], from: usize, past: usize) -> bool
     !is_reserved(table, from, past)
 }
 
-// ---- the filter
-
-// The bytes of the filter.
-const FILTER_BYTES: usize = 8192;
-
-// How many hashes there are, and the base that they are made to: a power of 2 and 1, by which to multiply is quick.
-const HASHES: usize = 4_294_967_296;
-
-const BASE: usize = 129;
-
-// The marks of a hash are its remainders by these two: how many numbers the filter has room for, and the greatest prime below.
-const FIRST_MARKS: usize = 65_536;
-
-const SECOND_MARKS: usize = 65_521;
-
-fn wide(x: u8) -> usize
-    ensures { λ r. ⌜ (r ≡ x) × (r < 256) ⌝ }
-{
-    x as usize
-}
-
-// The hash of a family and of the name that stands from a place to before another.
-fn hash_of(table: &[u8], from: usize, past: usize, family: usize) -> usize
-    requires { ⌜ past ≤ length (now table) ⌝ }
-    ensures { λ r. ⌜ r ≡ hashOf family (between (now (table .entry)) from past) ⌝ }
-{
-    let mut hash = family % HASHES;
-    let mut i = from;
-    while i < past {
-        hash = (hash * BASE + wide(table[i])) % HASHES;
-        i += 1;
-    }
-    hash
-}
-
-// Whether the filter has both marks of a hash.
-fn is_marked(filter: &[u8], hash: usize) -> bool
-    ensures { λ r. ⌜ r ≡ isMarked (now (filter .entry)) hash ⌝ }
-{
-    if !bitset::contains(filter, hash % FIRST_MARKS) {
-        return false;
-    }
-    bitset::contains(filter, hash % SECOND_MARKS)
-}
-
-// Puts both marks of a hash into the filter.
-fn mark(filter: &mut [u8], hash: usize)
-    ensures { λ _. ⌜ now (filter .exit) ≡ marked (now (filter .entry)) hash ⌝ }
-{
-    bitset::insert(filter, hash % FIRST_MARKS);
-    bitset::insert(filter, hash % SECOND_MARKS);
-}
-
 // ---- one entry
 
 // Whether no entry before the one at a place has its family and its name.
@@ -150,7 +97,7 @@ fn is_new(
     requires { ⌜ (at + 4 ≤ past) × Knows (now filter) (entriesAt (now table) start at) × (hash ≡ hashOf family (between (now table) (at + 4) past)) ⌝ }
     ensures { λ r. ⌜ r ≡ not (isFound (firstNamed family (between (now (table .entry)) (at + 4) past) (entriesAt (now (table .entry)) start at))) ⌝ }
 {
-    if !is_marked(filter, hash) {
+    if !name_filter::is_marked(filter, hash) {
         return true;
     }
     is_first(table, start, at, past, family)
@@ -250,7 +197,7 @@ fn walk(
     ensures { λ r. ⌜ judgedOf r (now (counts .exit)) (now (permissions .exit)) ≡ judged (soundNames (between (now (table .entry)) start end)) ⌝ }
 {
     let classes = lexer::class_table();
-    let mut filter = [0u8; FILTER_BYTES];
+    let mut filter = [0u8; name_filter::FILTER_BYTES];
     let mut at = start;
     loop {
         let k = symbols::look(table, at, end);
@@ -259,11 +206,16 @@ fn walk(
                 if !is_good(&classes, table, at + 4, past) {
                     return false;
                 }
-                let hash = hash_of(table, at + 4, past, symbols::family_of(sort, number));
+                let hash = name_filter::hash_of(
+                    table,
+                    at + 4,
+                    past,
+                    symbols::family_of(sort, number),
+                );
                 if !may_follow(table, start, at, past, counts, &filter, sort, number, hash) {
                     return false;
                 }
-                mark(&mut filter, hash);
+                name_filter::mark(&mut filter, hash);
                 advance(counts, permissions, sort, number);
                 at = past;
             }

@@ -10,6 +10,7 @@ ghost use Rattle.policy.specs.Statements.{thingOf, attributeOf};
 ghost use Rattle.policy.specs.Encode.{sortCode};
 ghost use Rattle.policy.specs.Answers.{familyOf};
 ghost use Rattle.words.specs.Numbers.{wordOf};
+ghost use Rattle.items.specs.Looks.{itemAt};
 ghost use Rattle.statement_writer.specs.Coding.{WritesStatement};
 ghost use Rattle.parser.specs.Memory.{memory, Parses, ParsesIndexed};
 ghost use Rattle.parser.specs.Steps.{codedKeyword, keywordIn, Steps, StepsAt, declaredStep, withCode, codedStep, constrainedStep, nothingRead};
@@ -314,10 +315,10 @@ fn constrain(
     constrained_step(written, progress)
 }
 
-// A statement, by what its parentheses hold from a place on. Its form is known to be good where this is called, so it starts with a keyword.
+// A statement, by the first item that its parentheses hold. Its form is known to be good where this is called, so that is a keyword.
 fn statement(
     text: &[u8],
-    at: usize,
+    first: Item,
     place: u16,
     symbols: &mut [u8; SYMBOL_BYTES],
     code: &mut [u16; CODE_UNITS],
@@ -325,12 +326,11 @@ fn statement(
     rows: &mut [u8; ROW_BYTES],
     progress: Progress,
 ) -> Step
-    ensures { λ r. ⌜ StepsAt (now (text .entry)) at place
+    ensures { λ r. ⌜ ((at : ℕ) → first ≡ itemAt (now (text .entry)) at → StepsAt (now (text .entry)) at place
         (memory (now (symbols .entry)) (now (code .entry)) (now (constraints .entry)) (now (rows .entry)))
-        (memory (now (symbols .exit)) (now (code .exit)) (now (constraints .exit)) (now (rows .exit))) progress r ⌝ }
+        (memory (now (symbols .exit)) (now (code .exit)) (now (constraints .exit)) (now (rows .exit))) progress r) ⌝ }
 {
-    let item = items::look(text, at);
-    let Item::Word { number, next, .. } = item else {
+    let Item::Word { number, next, .. } = first else {
         return Step::Fault(3);
     };
     let keyword = keyword_of(number);
@@ -408,12 +408,22 @@ fn parse_indexed(
         let Item::Open { place, next } = item else {
             return Parsed::Accepted(progress);
         };
-        let form = grammar::statement_form(text, next);
+        let first = items::look(text, next);
+        let form = grammar::statement_form(text, first);
         let items::Parsed::Next(past) = form else {
             return Parsed::Refused { number: 3, place };
         };
         let unit = place_unit(place);
-        let step = statement(text, next, unit, symbols, code, constraints, rows, progress);
+        let step = statement(
+            text,
+            first,
+            unit,
+            symbols,
+            code,
+            constraints,
+            rows,
+            progress,
+        );
         match step {
             Step::Read(further) => {
                 progress = further;

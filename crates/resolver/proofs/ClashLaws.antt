@@ -1,11 +1,11 @@
 -- Fault 9 on the code: the test of two transitions by their operands is the rules' own, and a pass over the code looks for the first transition
 -- that clashes with an earlier one. Assumes nothing.
-use Prim.Native.Nat.{ℕ, zero, suc, _+_, _<_, _≤_}
+use Prim.Native.Nat.{ℕ, _+_, _<_, _≤_}
 use native.Mathlib.Omega.{arith}
 use mathlib.Core.Path.{_≡_, refl, sym, ap, ap₂, _∙_, subst}
 use mathlib.Core.Logic.{_⊎_, inl, inr}
 use mathlib.Core.Bool.{Bool, true, false, not, _&&_, _||_, cond}
-use mathlib.Core.List.{List, [], _∷_, _++_, append-assoc}
+use mathlib.Core.List.{List, [], _∷_, _++_}
 use mathlib.Core.Option.{Option, none, some}
 use lib.Dec.{eqb}
 use lib.ListN.{length, getD, take, drop}
@@ -14,11 +14,11 @@ use Rattle.bitset.specs.Relations.{relation}
 use Rattle.bitset.proofs.AllLaws.{meets-setOf, meet-ext, meet-bounded}
 use Rattle.policy.specs.Basics.{any, gather, keep}
 use Rattle.policy.specs.Statements.{Family, roles, types, Reference, thing, attribute, Policy, declarations, Transition, transitions}
-use Rattle.policy.specs.Meaning.{Set, countIn, final, stands}
+use Rattle.policy.specs.Meaning.{countIn, final, stands}
 use Rattle.bitset.specs.Sets.{meet}
-use Rattle.policy.specs.Faults.{clashes, firstClash, clash}
-use Rattle.policy.specs.Accepted.{All, ReferenceIn, Accepted}
-use Rattle.policy.proofs.Lists.{any-append, gather-append, gather-over, gather-last, all-left}
+use Rattle.policy.specs.Faults.{clashes, firstClash}
+use Rattle.policy.specs.Accepted.{ReferenceIn, Accepted}
+use Rattle.policy.proofs.Lists.{any-append, gather-append, gather-over, gather-last}
 use Rattle.statement_code.specs.Code.{referenceUnit, transitionTag, codeOf}
 use Rattle.set_code.specs.Evaluation.{setsIn, valueOf}
 use Rattle.set_code.proofs.Leaves.{value-of-reference}
@@ -26,13 +26,15 @@ use Rattle.set_code.proofs.Places.{here}
 use Rattle.meaning_laws.proofs.ListLaws.{decided, chosen}
 use Rattle.meaning_laws.proofs.WithinDeclared.{stands-within}
 use Rattle.meaning_laws.proofs.Splitting.{CutAt, cut-gathered}
-use Rattle.resolver.specs.Clashes.{sharesOf, clashesOf, Codes}
+use Rattle.resolver.specs.Clashes.{sharesOf, clashesOf, Codes, Segment}
 use Rattle.resolver.specs.declared.Move.{Move}
+use Rattle.resolver.specs.Reading.{stepOf}
 use Rattle.resolver.proofs.Items.{Item, moves, standsAt, unitsOf, itemsCode, itemOf, items, code-items, ItemIn, moveIn, transitions-items, tag-moves, tag-no-move}
-use Rattle.resolver.proofs.Numbers.{few-things, few-attributes, numbered-R, items-declared}
+use Rattle.resolver.proofs.Numbers.{few-things, few-attributes, numbered-R}
 use Rattle.resolver.proofs.ClosureLaws.{sets-in}
+use Rattle.resolver.proofs.SegmentLaws.{part-declared, segment-left, code-append}
 use Rattle.resolver.proofs.Passes as passes
-use Rattle.resolver.proofs.Passes.{nextAt, Through, begin, Met, onward}
+use Rattle.resolver.proofs.Passes.{Through, begin, Met, onward}
 
 -- ---- two transitions
 
@@ -120,88 +122,75 @@ any-last c xs ys x h = any-append c xs (x ∷ ys) ∙ ap (λ (b : Bool). b || (c
 abbrev pub Apart : Policy → Transition → List Item → List Item → Type 0
 Apart p t done left = any (clashes p t) (gather moveIn done) ≡ false
 
-module _ (before after : Policy) (ok : Accepted (before ++ after)) (t : Transition) where
-  abbrev whole : Policy
-  whole = before ++ after
-
-  pub earlier-start : (code : List ℕ) → code ≡ codeOf before → Through (items before) code 0 (Apart whole t)
+module _ (p : Policy) (ok : Accepted p) (part : Policy) (segment : Segment p part) (t : Transition) where
+  pub earlier-start : (code : List ℕ) → code ≡ codeOf part → Through (items part) code 0 (Apart p t)
   unfolding any gather
-  earlier-start code h = begin (items before) code (Apart whole t) (h ∙ code-items before) refl
+  earlier-start code h = begin (items part) code (Apart p t) (h ∙ code-items part) refl
 
-  before-declared : All (ItemIn (declarations whole)) (items before)
-  unfolding items
-  before-declared = all-left (ItemIn (declarations whole)) (items before) (items after)
-      (subst (All (ItemIn (declarations whole))) (gather-append itemOf before after) (items-declared whole ok))
+  pub earlier-none : Apart p t (items part) [] → false ≡ any (clashes p t) (transitions part)
+  earlier-none h = sym (ap (any (clashes p t)) (transitions-items part) ∙ h)
 
-  pub earlier-none : Apart whole t (items before) [] → false ≡ any (clashes whole t) (transitions before)
-  earlier-none h = sym (ap (any (clashes whole t)) (transitions-items before) ∙ h)
+  module _ (code : List ℕ) (at : ℕ) (inside : at < length code) (at-loop : Through (items part) code at (Apart p t)) where
+    met : Met p (items part) code at (Apart p t)
+    met = passes.meet p ok (items part) (part-declared p ok part segment) code at (Apart p t) inside at-loop
 
-  module _ (code : List ℕ) (at : ℕ) (inside : at < length code) (at-loop : Through (items before) code at (Apart whole t)) where
-    met : Met whole (items before) code at (Apart whole t)
-    met = passes.meet whole ok (items before) before-declared code at (Apart whole t) inside at-loop
-
-    pub earlier-over : (next : ℕ) → next ≡ nextAt code at → (getD code at 0 ≡ transitionTag → ⊥) → Through (items before) code next (Apart whole t)
+    pub earlier-over : (next : ℕ) → next ≡ stepOf code at → (getD code at 0 ≡ transitionTag → ⊥) → Through (items part) code next (Apart p t)
     earlier-over next e h =
-        onward whole (items before) code at (Apart whole t) (Apart whole t) next e met
-        (ap (any (clashes whole t)) (gather-over moveIn (met .done) (met .item) (tag-no-move (met .item) (λ q. h (met .stand .tag ∙ q)))) ∙ met .so-far)
+        onward p (items part) code at (Apart p t) (Apart p t) next e met
+        (ap (any (clashes p t)) (gather-over moveIn (met .done) (met .item) (tag-no-move (met .item) (λ q. h (met .stand .tag ∙ q)))) ∙ met .so-far)
 
-    module _ (h : getD code at 0 ≡ transitionTag) (rs ts : List ℕ) (hr : rs ≡ relation 64 64 (final whole roles)) (ht : ts ≡ relation 64 64 (final whole types))
-        (later here : Move) (codes : Codes whole t later) (reads : Reads code at here) where
-      it : Moved whole code at (met .item)
-      it = moved whole (items before) code at (Apart whole t) met h
+    module _ (h : getD code at 0 ≡ transitionTag) (rs ts : List ℕ) (hr : rs ≡ relation 64 64 (final p roles)) (ht : ts ≡ relation 64 64 (final p types))
+        (later here : Move) (codes : Codes p t later) (reads : Reads code at here) where
+      it : Moved p code at (met .item)
+      it = moved p (items part) code at (Apart p t) met h
 
-      tested : clashesOf rs ts later here ≡ clashes whole t (it .the)
-      tested = clash-same whole ok rs ts hr ht t (it .the) later here codes (it .codes here reads)
+      tested : clashesOf rs ts later here ≡ clashes p t (it .the)
+      tested = clash-same p ok rs ts hr ht t (it .the) later here codes (it .codes here reads)
 
-      pub earlier-found : clashesOf rs ts later here ≡ true → true ≡ any (clashes whole t) (transitions before)
+      pub earlier-found : clashesOf rs ts later here ≡ true → true ≡ any (clashes p t) (transitions part)
       unfolding gather any
       earlier-found e = sym (
-          ap (any (clashes whole t)) (transitions-items before ∙ ap (gather moveIn) (met .whole) ∙ gather-append moveIn (met .done) (met .item ∷ met .rest)
+          ap (any (clashes p t)) (transitions-items part ∙ ap (gather moveIn) (met .whole) ∙ gather-append moveIn (met .done) (met .item ∷ met .rest)
           ∙ ap (λ i. gather moveIn (met .done) ++ keep (moveIn i) (gather moveIn (met .rest))) (it .is))
-          ∙ any-last (clashes whole t) (gather moveIn (met .done)) (gather moveIn (met .rest)) (it .the) (met .so-far)
-          ∙ ap (λ (b : Bool). b || any (clashes whole t) (gather moveIn (met .rest))) (sym tested ∙ e))
+          ∙ any-last (clashes p t) (gather moveIn (met .done)) (gather moveIn (met .rest)) (it .the) (met .so-far)
+          ∙ ap (λ (b : Bool). b || any (clashes p t) (gather moveIn (met .rest))) (sym tested ∙ e))
 
-      pub earlier-on : (next : ℕ) → next ≡ nextAt code at → clashesOf rs ts later here ≡ false → Through (items before) code next (Apart whole t)
+      pub earlier-on : (next : ℕ) → next ≡ stepOf code at → clashesOf rs ts later here ≡ false → Through (items part) code next (Apart p t)
       unfolding any
       earlier-on next n e =
-          onward whole (items before) code at (Apart whole t) (Apart whole t) next n met
-          (ap (any (clashes whole t)) (gather-last moveIn (met .done) (met .item) (it .the) (ap moveIn (it .is)))
-          ∙ any-last (clashes whole t) (gather moveIn (met .done)) [] (it .the) (met .so-far) ∙ ap (λ (b : Bool). b || false) (sym tested ∙ e))
+          onward p (items part) code at (Apart p t) (Apart p t) next n met
+          (ap (any (clashes p t)) (gather-last moveIn (met .done) (met .item) (it .the) (ap moveIn (it .is)))
+          ∙ any-last (clashes p t) (gather moveIn (met .done)) [] (it .the) (met .so-far) ∙ ap (λ (b : Bool). b || false) (sym tested ∙ e))
 
 -- ---- the first transition that clashes with an earlier one
 
 -- the answer is still to be found among the items left
-abbrev pub Looks : Policy → List Item → List Item → Type 0
-Looks p done left = firstClash p (gather moveIn done) (gather moveIn left) ≡ clash p
+abbrev pub Looks : Policy → Policy → List Item → List Item → Type 0
+Looks p part done left = firstClash p (gather moveIn done) (gather moveIn left) ≡ firstClash p [] (transitions part)
 
 -- what `clashes_earlier` answers of the first statements
 abbrev pub Earlier : List ℕ → Move → List ℕ → List ℕ → Bool → Type 0
-Earlier code m rs ts r = (before after : Policy) (t : Transition) → Accepted (before ++ after) → code ≡ codeOf before → Codes (before ++ after) t m
-    → rs ≡ relation 64 64 (final (before ++ after) roles) → ts ≡ relation 64 64 (final (before ++ after) types) → r ≡ any (clashes (before ++ after) t) (transitions before)
+Earlier code m rs ts r = (p part : Policy) (t : Transition) → Accepted p → Segment p part → code ≡ codeOf part → Codes p t m
+    → rs ≡ relation 64 64 (final p roles) → ts ≡ relation 64 64 (final p types) → r ≡ any (clashes p t) (transitions part)
 
-code-append : (is js : List Item) → itemsCode (is ++ js) ≡ itemsCode is ++ itemsCode js
-unfolding itemsCode
-code-append [] js = refl
-code-append (i ∷ is) js = rw (code-append is js, append-assoc (unitsOf i) (itemsCode is) (itemsCode js))
+module _ (p : Policy) (ok : Accepted p) (part : Policy) (segment : Segment p part) where
+  pub looks-first : Looks p part [] (items part)
+  unfolding gather
+  looks-first = ap (firstClash p []) (sym (transitions-items part))
 
-module _ (p : Policy) (ok : Accepted p) where
-  pub looks-first : Looks p [] (items p)
-  unfolding clash gather
-  looks-first = ap (firstClash p []) (sym (transitions-items p))
-
-  pub looks-none : Looks p (items p) [] → none ≡ clash p
+  pub looks-none : Looks p part (items part) [] → none ≡ firstClash p [] (transitions part)
   unfolding gather firstClash
   looks-none h = h
 
-  module _ (code : List ℕ) (q : code ≡ codeOf p) (at : ℕ) (inside : at < length code) (at-loop : Through (items p) code at (Looks p)) where
-    met-here : Met p (items p) code at (Looks p)
-    met-here = passes.meet p ok (items p) (items-declared p ok) code at (Looks p) inside at-loop
+  module _ (code : List ℕ) (q : code ≡ codeOf part) (at : ℕ) (inside : at < length code) (at-loop : Through (items part) code at (Looks p part)) where
+    met-here : Met p (items part) code at (Looks p part)
+    met-here = passes.meet p ok (items part) (part-declared p ok part segment) code at (Looks p part) inside at-loop
 
-    pub looks-over : (next : ℕ) → next ≡ nextAt code at → (getD code at 0 ≡ transitionTag → ⊥) → Through (items p) code next (Looks p)
+    pub looks-over : (next : ℕ) → next ≡ stepOf code at → (getD code at 0 ≡ transitionTag → ⊥) → Through (items part) code next (Looks p part)
     unfolding gather
     looks-over next e h =
         let none-here = tag-no-move (met-here .item) (λ w. h (met-here .stand .tag ∙ w)) in
-        onward p (items p) code at (Looks p) (Looks p) next e met-here
+        onward p (items part) code at (Looks p part) (Looks p part) next e met-here
         (ap₂ (λ (xs ys : List Transition). firstClash p xs ys) (gather-over moveIn (met-here .done) (met-here .item) none-here)
         (ap (λ o. keep o (gather moveIn (met-here .rest))) (sym none-here))
         ∙ met-here .so-far)
@@ -209,31 +198,27 @@ module _ (p : Policy) (ok : Accepted p) where
     module _ (h : getD code at 0 ≡ transitionTag) (rs ts : List ℕ) (hr : rs ≡ relation 64 64 (final p roles)) (ht : ts ≡ relation 64 64 (final p types))
         (m : Move) (reads : Reads code at m) (r : Bool) (told : Earlier (take at code) m rs ts r) where
       it-is : Moved p code at (met-here .item)
-      it-is = moved p (items p) code at (Looks p) met-here h
+      it-is = moved p (items part) code at (Looks p part) met-here h
 
-      -- the policy's lines before this one
-      cut : CutAt itemOf p (met-here .done) (moves (it-is .the))
+      -- the lines before this one
+      cut : CutAt itemOf part (met-here .done) (moves (it-is .the))
       unfolding items
-      cut = cut-gathered itemOf p (met-here .done) (moves (it-is .the)) (met-here .rest) (met-here .whole ∙ ap (λ i. met-here .done ++ (i ∷ met-here .rest)) (it-is .is))
+      cut = cut-gathered itemOf part (met-here .done) (moves (it-is .the)) (met-here .rest) (met-here .whole ∙ ap (λ i. met-here .done ++ (i ∷ met-here .rest)) (it-is .is))
 
       earlier-code : take at code ≡ codeOf (cut .before)
       unfolding items
       earlier-code =
-          ap (take at) (q ∙ code-items p ∙ ap itemsCode (met-here .whole) ∙ code-append (met-here .done) (met-here .item ∷ met-here .rest))
+          ap (take at) (q ∙ code-items part ∙ ap itemsCode (met-here .whole) ∙ code-append (met-here .done) (met-here .item ∷ met-here .rest))
           ∙ take-at (itemsCode (met-here .done)) (itemsCode (met-here .item ∷ met-here .rest)) at (sym (met-here .reached))
           ∙ sym (code-items (cut .before) ∙ ap itemsCode (cut .earlier))
 
       answered : r ≡ any (clashes p (it-is .the)) (gather moveIn (met-here .done))
       unfolding items
       answered =
-          subst (λ (x : Policy). Accepted x → Codes x (it-is .the) m → rs ≡ relation 64 64 (final x roles) → ts ≡ relation 64 64 (final x types)
-          → r ≡ any (clashes x (it-is .the)) (transitions (cut .before)))
-          (sym (cut .whole))
-          (λ o c a b. told (cut .before) (cut .here ∷ cut .after) (it-is .the) o earlier-code c a b)
-          ok (it-is .codes m reads) hr ht
+          told p (cut .before) (it-is .the) ok (segment-left p (cut .before) (cut .here ∷ cut .after) (subst (Segment p) (cut .whole) segment)) earlier-code (it-is .codes m reads) hr ht
           ∙ ap (any (clashes p (it-is .the))) (transitions-items (cut .before) ∙ ap (gather moveIn) (cut .earlier))
 
-      chosen-here : cond r (some (it-is .the .place)) (firstClash p (gather moveIn (met-here .done) ++ (it-is .the ∷ [])) (gather moveIn (met-here .rest))) ≡ clash p
+      chosen-here : cond r (some (it-is .the .place)) (firstClash p (gather moveIn (met-here .done) ++ (it-is .the ∷ [])) (gather moveIn (met-here .rest))) ≡ firstClash p [] (transitions part)
       unfolding firstClash gather
       chosen-here =
           ap (λ (b : Bool). cond b (some (it-is .the .place)) (firstClash p (gather moveIn (met-here .done) ++ (it-is .the ∷ [])) (gather moveIn (met-here .rest)))) answered
@@ -242,15 +227,15 @@ module _ (p : Policy) (ok : Accepted p) where
           ∙ ap (λ i. firstClash p (gather moveIn (met-here .done)) (keep (moveIn i) (gather moveIn (met-here .rest)))) (sym (it-is .is))
           ∙ met-here .so-far
 
-      pub clash-found : r ≡ true → some (getD code (at + 1) 0) ≡ clash p
+      pub clash-found : r ≡ true → some (getD code (at + 1) 0) ≡ firstClash p [] (transitions part)
       clash-found e =
           ap {B = Option ℕ} some (met-here .stand .place ∙ ap standsAt (it-is .is))
           ∙ ap (λ (b : Bool). cond b (some (it-is .the .place)) (firstClash p (gather moveIn (met-here .done) ++ (it-is .the ∷ [])) (gather moveIn (met-here .rest)))) (sym e)
           ∙ chosen-here
 
-      pub looks-on : (next : ℕ) → next ≡ nextAt code at → r ≡ false → Through (items p) code next (Looks p)
+      pub looks-on : (next : ℕ) → next ≡ stepOf code at → r ≡ false → Through (items part) code next (Looks p part)
       looks-on next n e =
-          onward p (items p) code at (Looks p) (Looks p) next n met-here
+          onward p (items part) code at (Looks p part) (Looks p part) next n met-here
           (ap (λ (xs : List Transition). firstClash p xs (gather moveIn (met-here .rest))) (gather-last moveIn (met-here .done) (met-here .item) (it-is .the) (ap moveIn (it-is .is)))
           ∙ ap (λ (b : Bool). cond b (some (it-is .the .place)) (firstClash p (gather moveIn (met-here .done) ++ (it-is .the ∷ [])) (gather moveIn (met-here .rest)))) (sym e)
           ∙ chosen-here)

@@ -1,16 +1,21 @@
 -- Closing rows of mentions adds exactly the mentions through others. Once every k below a bound is gone through, two mentions that meet
 -- below it make a third; the bound 64 is past every attribute. By induction on the bound. Assumes nothing.
-use Prim.Native.Nat.{ℕ, zero, suc, _<_, _≤_}
+use Prim.Native.Nat.{ℕ, zero, suc, _+_, _*_, _/_, _%_, _<_, _≤_}
 use native.Mathlib.Omega.{arith}
 use mathlib.Core.Path.{_≡_, refl, sym, ap, ap₂, _∙_, subst}
 use mathlib.Core.Logic.{_⊎_, inl, inr}
-use mathlib.Core.Bool.{Bool, true, false, _&&_, _||_, false≢true}
+use mathlib.Core.Bool.{Bool, true, false, not, _&&_, _||_, or-false, and-false, false≢true}
 use mathlib.Core.List.{List}
 use lib.Dec.{eqb, ltb}
-use lib.ListN.{length}
-use borrow.Author.Tests.{lt-ltb, ltb-true, ltb-false, eqb-true, eqb-false}
+use lib.ListN.{length, getD, take}
+use borrow.Author.Tests.{lt-ltb, ltb-true, ltb-false, eqb-true, eqb-false, not-true}
+use Rattle.bitset.specs.Sets.{bit, member, setOf, allBelow}
 use Rattle.bitset.specs.Relations.{relation, granted}
-use Rattle.bitset.proofs.SetLaws.{setOf-ext, length-setOf}
+use Rattle.bitset.proofs.BitLaws.{bit-zero}
+use Rattle.bitset.proofs.SetLaws.{setOf-ext, length-setOf, member-setOf, set-eq}
+use Rattle.bitset.proofs.PartLaws.{getD-part}
+use Rattle.bitset.proofs.GrantLaws.{member-take}
+use Rattle.bitset.proofs.AllLaws.{allBelow-at}
 use Rattle.bitset.proofs.RelationLaws.{relation-ext, member-relation, granted-sets}
 use Rattle.policy.specs.Basics.{isAmong}
 use Rattle.policy.specs.Statements.{Family, Policy}
@@ -48,7 +53,30 @@ module _ (R : ℕ → ℕ → Bool) where
       holds : ℕ → Bool
       holds a = ltb a 64 && setsIn (relation 64 64 R) a k
 
--- the rule of closed rows
+-- ---- an empty row
+
+row-absent : (rows : List ℕ) (k : ℕ) → ((i : ℕ) → i < 64 → getD rows (64 * k + i) 0 ≡ 0) → (n : ℕ) → n < 512 → setsIn rows k n ≡ false
+unfolding setsIn member
+row-absent rows k none n l =
+    ap (λ (b : ℕ). bit b (n % 8)) (getD-part rows (64 * k) 64 (n / 8) (omega (arith, l)) ∙ none (n / 8) (omega (arith, l))) ∙ bit-zero (n % 8)
+
+-- gone through, it changes nothing
+pub through-empty : (rows : List ℕ) (k : ℕ) → ((i : ℕ) → getD rows i 0 < 256) → ((i : ℕ) → i < 64 → getD rows (64 * k + i) 0 ≡ 0) → throughOf rows k ≡ rows
+unfolding throughOf granted
+through-empty rows k small none = sym (set-eq rows (λ m. member rows m || gains m) small (λ m l. sym (ap (λ (b : Bool). member rows m || b) (nothing m) ∙ or-false (member rows m))))
+  where
+    gains : ℕ → Bool
+    gains m = member (columnOf rows k) (m / 512) && member (take 64 (setOf 64 (setsIn rows k))) (m % 512)
+
+    nothing : (m : ℕ) → gains m ≡ false
+    nothing m =
+        ap (λ (b : Bool). member (columnOf rows k) (m / 512) && b)
+        (member-take 64 (setOf 64 (setsIn rows k)) (m % 512) (omega arith) ∙ member-setOf 64 (setsIn rows k) (m % 512) (omega arith)
+        ∙ row-absent rows k none (m % 512) (omega arith))
+        ∙ and-false (member (columnOf rows k) (m / 512))
+
+-- ---- the rule of closed rows
+
 closed : ℕ → (ℕ → ℕ → Bool) → ℕ → ℕ → Bool
 closed zero R a b = R a b
 closed (suc k) R a b = closed k R a b || (closed k R a k && closed k R k b)
@@ -152,3 +180,11 @@ module _ (p : Policy) (f : Family) (ok : Accepted p) where
           ∙ ap (λ (t : List ℕ). setsIn t a a) (e ∙ closed-rule names 64 (omega arith))
           ∙ sets-in (closed 64 names) a a l (omega (arith, l)) ∙ on
       by (inr h) = ap (λ (t : Bool). t && setsIn rows a a) h ∙ off (ltb-false a 64 h)
+
+-- where no attribute below 64 is in its own row, no number at all is
+pub no-own-row : (rows : List ℕ) → allBelow 64 (λ a. not (setsIn rows a a)) ≡ true → (a : ℕ) → (ltb a 64 && setsIn rows a a) ≡ false
+no-own-row rows h a = by (decided (ltb a 64))
+  where
+    by : (ltb a 64 ≡ true) ⊎ (ltb a 64 ≡ false) → (ltb a 64 && setsIn rows a a) ≡ false
+    by (inl e) = ap (λ (t : Bool). t && setsIn rows a a) e ∙ not-true (setsIn rows a a) (allBelow-at 64 (λ x. not (setsIn rows x x)) h a (ltb-true a 64 e))
+    by (inr e) = ap (λ (t : Bool). t && setsIn rows a a) e

@@ -1,27 +1,30 @@
 -- Rounds of filling the attributes of a family: round k leaves the sets that are nested k deep, and once a round changes nothing no later one
 -- does, so that these are the final sets. Assumes nothing.
-use Prim.Native.Nat.{ℕ, zero, suc, _+_, _-_, _/_, _%_, _<_, _≤_}
+use Prim.Native.Nat.{ℕ, zero, suc, _+_, _-_, _<_, _≤_}
 use native.Mathlib.Nat.{suc-add}
 use native.Mathlib.Numerals.{add-one}
 use native.Mathlib.Omega.{arith}
-use mathlib.Core.Path.{_≡_, refl, sym, ap, _∙_, subst}
-use mathlib.Core.Bool.{Bool, true, false}
+use mathlib.Core.Path.{_≡_, refl, sym, ap, _∙_}
+use mathlib.Core.Bool.{Bool, true, false, false≢true}
+use mathlib.Core.Logic.{⊎-elim}
 use mathlib.Core.List.{List, [], _∷_}
 use lib.Dec.{eqb}
 use lib.ListN.{length, getD}
-use borrow.Author.Tests.{eq-eqb}
-use Rattle.bitset.specs.Sets.{setOf, member, equal, emptied}
+use lib.Seq.{ext-getD}
+use borrow.Author.Tests.{eq-eqb, eqb-true}
+use Rattle.bitset.specs.Sets.{setOf, allBelow, emptied}
 use Rattle.bitset.specs.Relations.{relation}
-use Rattle.bitset.proofs.SetLaws.{setOf-ext, member-setOf, length-setOf, small-setOf}
-use Rattle.bitset.proofs.AllLaws.{equal-bytes}
-use Rattle.bitset.proofs.RelationLaws.{relation-ext, relation-setOf, relation-empty}
+use Rattle.bitset.proofs.AllLaws.{allBelow-at}
+use Rattle.bitset.proofs.RelationLaws.{relation-ext, relation-empty, length-relation}
 use Rattle.policy.specs.Basics.{any, isAmong}
 use Rattle.policy.specs.Statements.{Family, Policy}
 use Rattle.policy.specs.Meaning.{ofS, countIn, unionOf, nested, final}
-use Rattle.policy.specs.Faults.{mentions, attributesIn}
+use Rattle.policy.specs.Faults.{mentions, attributesIn, onCycle}
 use Rattle.policy.specs.Accepted.{All, Accepted}
 use Rattle.set_code.specs.Evaluation.{setsIn}
-use Rattle.meaning_laws.proofs.ListLaws.{or-left, or-right}
+use Rattle.meaning_laws.specs.Mentioning.{MentionsDirectly, Mentions, directly, through}
+use Rattle.meaning_laws.proofs.ListLaws.{or-left, or-right, decided}
+use Rattle.meaning_laws.proofs.Reaching.{on-cycle-exactly}
 use Rattle.meaning_laws.proofs.FinalSets.{same-union}
 use Rattle.meaning_laws.proofs.DirectMention.{mentions-exactly, direct-declared}
 use Rattle.resolver.proofs.Items.{items, sets-items}
@@ -35,22 +38,15 @@ unfolding isAmong any
 all-among P [] h = tt
 all-among P (x ∷ xs) h = (h x (or-left (eqb x x) (isAmong x xs) (eq-eqb x x refl)), all-among P xs (λ b e. h b (or-right (eqb b x) (isAmong b xs) e)))
 
--- rows of sets are bytes, as many as there are
+-- rows are equal where their bytes are
 rows-long : (R : ℕ → ℕ → Bool) → length (relation 64 64 R) ≡ 4096
-rows-long R = ap length (relation-setOf 64 64 R) ∙ length-setOf 4096 _
+rows-long R = length-relation 64 64 R
 
-rows-small : (R : ℕ → ℕ → Bool) (i : ℕ) → getD (relation 64 64 R) i 0 < 256
-rows-small R i = subst (λ (t : List ℕ). getD t i 0 < 256) (sym (relation-setOf 64 64 R)) (small-setOf 4096 _ i)
-
-pub rows-equal : (R Q : ℕ → ℕ → Bool) → equal (relation 64 64 R) (relation 64 64 Q) ≡ true → relation 64 64 R ≡ relation 64 64 Q
-rows-equal R Q h = equal-bytes (relation 64 64 R) (relation 64 64 Q) (rows-long R ∙ sym (rows-long Q)) (rows-small R) (rows-small Q) h
-
-pub rows-copied : (R : ℕ → ℕ → Bool) → setOf 4096 (member (relation 64 64 R)) ≡ relation 64 64 R
-rows-copied R =
-    let F : ℕ → Bool = λ m. R (m / 512) (m % 512) in
-    ap (λ (t : List ℕ). setOf 4096 (member t)) (relation-setOf 64 64 R)
-    ∙ setOf-ext 4096 (member (setOf 4096 F)) F (λ n l. member-setOf 4096 F n l)
-    ∙ sym (relation-setOf 64 64 R)
+rows-equal : (R Q : ℕ → ℕ → Bool) → allBelow 4096 (λ i. eqb (getD (relation 64 64 R) i 0) (getD (relation 64 64 Q) i 0)) ≡ true → relation 64 64 R ≡ relation 64 64 Q
+rows-equal R Q h =
+    ext-getD 0 (relation 64 64 R) (relation 64 64 Q) (rows-long R ∙ sym (rows-long Q))
+    (λ i l. eqb-true (getD (relation 64 64 R) i 0) (getD (relation 64 64 Q) i 0)
+    (allBelow-at 4096 (λ j. eqb (getD (relation 64 64 R) j 0) (getD (relation 64 64 Q) j 0)) h i (omega (arith, l, rows-long R))))
 
 -- what one round leaves is the union of the S of each attribute
 pub round-rows : (p : Policy) (f : Family) (total : ℕ) (sets rows : List ℕ) → total ≡ countIn p f
@@ -94,7 +90,7 @@ module _ (p : Policy) (ok : Accepted p) (f : Family) where
       zero-plus = omega arith
   rests k h (suc j) = ap after (suc-add j k) ∙ sym (next-rows (j + k)) ∙ ap turned (rests k h j) ∙ next-rows k ∙ sym h
 
-  pub last-rows : (k : ℕ) (sets rows : List ℕ) → k ≤ 64 → sets ≡ after k → rows ≡ after (k + 1) → equal sets rows ≡ true → sets ≡ relation 64 64 (final p f)
+  pub last-rows : (k : ℕ) (sets rows : List ℕ) → k ≤ 64 → sets ≡ after k → rows ≡ after (k + 1) → allBelow 4096 (λ i. eqb (getD sets i 0) (getD rows i 0)) ≡ true → sets ≡ relation 64 64 (final p f)
   unfolding final
   last-rows k sets rows l h e same =
       let still : after k ≡ after (suc k) = rows-equal (nested k p f) (nested (suc k) p f) (rw (← h, ← add-one k, ← e) same) in
@@ -104,3 +100,46 @@ module _ (p : Policy) (ok : Accepted p) (f : Family) where
   pub all-rows : (k : ℕ) (sets : List ℕ) → k ≡ 64 → sets ≡ after k → sets ≡ relation 64 64 (final p f)
   unfolding final
   all-rows k sets e h = h ∙ ap after e
+
+  -- ---- no attribute mentions another
+
+  -- which attributes an attribute mentions itself
+  abbrev direct : ℕ → ℕ → Bool
+  direct a b = isAmong b (mentions p f a)
+
+  -- rows that are equal to rows of nothing
+  pub none-mentioned : (rows sets : List ℕ) → rows ≡ relation 64 64 direct → sets ≡ after 0
+      → allBelow 4096 (λ i. eqb (getD rows i 0) (getD sets i 0)) ≡ true → rows ≡ after 0
+  none-mentioned rows sets h e same = h ∙ rows-equal direct (nested 0 p f) (rw (← h, ← e) same)
+
+  module _ (nothing : relation 64 64 direct ≡ after 0) where
+    silent : (a b : ℕ) → a < 64 → b < 64 → isAmong b (mentions p f a) ≡ false
+    unfolding nested
+    silent a b h l =
+        let far : b < 512 = omega (arith, l) in
+        sym (sets-in direct a b h far) ∙ ap (λ (r : List ℕ). setsIn r a b) nothing ∙ sets-in (nested 0 p f) a b h far
+
+    none-directly : (a b : ℕ) → MentionsDirectly p f a b → ⊥
+    unfolding attributesIn
+    none-directly a b m =
+        let d = direct-declared p f ok a b m in
+        let few = few-attributes p ok f in
+        false≢true (sym (silent a b (omega (arith, d .0, few)) (omega (arith, d .1, few))) ∙ mentions-exactly p f a b .0 m)
+
+    none-through : {a b : ℕ} → Mentions p f a b → ⊥
+    none-through (directly {a} {b} m) = none-directly a b m
+    none-through (through m n) = none-through m
+
+    pub off-cycle : (a : ℕ) → onCycle p f a ≡ false
+    off-cycle a = ⊎-elim (λ e. absurd (none-through (on-cycle-exactly p f ok a .0 e))) (λ e. e) (decided (onCycle p f a))
+
+    -- the sets do not depend on those before, so one round is all
+    pub one-round : (rows sets : List ℕ) → rows ≡ after 0 → sets ≡ turned rows → sets ≡ relation 64 64 (final p f)
+    unfolding final
+    one-round rows sets z e =
+        let still : after 1 ≡ after 2 =
+        sym (next-rows 0)
+        ∙ relation-ext 64 64 (unionOf p f (setsIn (after 0))) (unionOf p f (setsIn (after 1)))
+        (λ a n h l. same-union p f a n (setsIn (after 0)) (setsIn (after 1)) (all-among _ (mentions p f a) (λ b m. absurd (none-directly a b (mentions-exactly p f a b .1 m)))))
+        ∙ next-rows 1 in
+        more-rows 0 rows sets z e ∙ sym (rests 1 still 63)

@@ -209,7 +209,7 @@ transitions-items p = sym (gather-gather itemOf moveIn transition (λ l. by-line
 
 -- ---- the tag tells the item
 
-family-few : (f : Family) → familyNumber f < 3
+pub family-few : (f : Family) → familyNumber f < 3
 family-few users = omega arith
 family-few roles = omega arith
 family-few types = omega arith

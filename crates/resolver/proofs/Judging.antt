@@ -2,9 +2,9 @@
 use Prim.Native.Nat.{ℕ}
 use mathlib.Core.Path.{_≡_, refl, ap, ap₂, _∙_}
 use mathlib.Core.Option.{Option, none, some}
-use Rattle.policy.specs.Statements.{Policy}
-use Rattle.policy.specs.Faults.{cycle, clash}
-use Rattle.policy.specs.Reading.{Read, policy, refused}
+use Rattle.policy.specs.Statements.{Policy, users, roles, types}
+use Rattle.policy.specs.Faults.{familyCycle, cycle, clash}
+use Rattle.policy.specs.Reading.{Read, policy, refused, orElse}
 use Rattle.policy.specs.Outcome.{accept}
 
 module _ (p : Policy) where
@@ -14,6 +14,12 @@ module _ (p : Policy) where
   judges : judged (cycle p) (clash p) ≡ accept p
   unfolding accept
   judges = refl
+
+  -- the families in their order
+  pub cycle-found : {a b c first second : Option ℕ} → second ≡ orElse b c → first ≡ orElse a second
+      → a ≡ familyCycle p users → b ≡ familyCycle p roles → c ≡ familyCycle p types → first ≡ cycle p
+  unfolding cycle
+  cycle-found e f x y z = rw (f, e, x, y, z)
 
   pub cycle-first : (at : ℕ) → some at ≡ cycle p → refused 8 at ≡ accept p
   cycle-first at h = ap (λ (o : Option ℕ). judged o (clash p)) h ∙ judges

@@ -1,3 +1,4 @@
+pub mod TestLaws
 pub mod OperandLaws
 pub mod ColumnLaws
 pub mod Items
@@ -7,5 +8,7 @@ pub mod RowLaws
 pub mod ClosureLaws
 pub mod SetPasses
 pub mod FinalLaws
+pub mod SegmentLaws
+pub mod SharingLaws
 pub mod ClashLaws
 pub mod Judging

@@ -2,15 +2,18 @@
 use Prim.Native.Nat.{ℕ, _+_, _<_, _≤_}
 use native.Mathlib.Omega.{arith}
 use mathlib.Core.Path.{_≡_, refl, sym, ap, _∙_, subst}
+use mathlib.Core.Bool.{Bool, true, false, cond, _&&_}
 use mathlib.Core.List.{List, [], _∷_, _++_, append-assoc, append-nil}
+use lib.Dec.{leb, ltb}
 use lib.ListN.{length, getD, drop, length-append, length-drop}
+use borrow.Author.Tests.{leb-true, ltb-true}
 use Rattle.policy.specs.Statements.{Policy, declarations}
 use Rattle.policy.specs.Accepted.{All, Accepted}
 use Rattle.policy.proofs.Lists.{all-right}
 use Rattle.set_code.proofs.Places.{here, behind}
-use Rattle.resolver.specs.Reading.{operandsOf}
+use Rattle.resolver.specs.Reading.{operandsOf, stepOf}
 use Rattle.resolver.proofs.OperandLaws.{Tagged, operands-of}
-use Rattle.resolver.proofs.Items.{Item, tagOf, standsAt, unitsOf, itemsCode, ItemIn, tag-past}
+use Rattle.resolver.proofs.Items.{Item, declares, fills, relates, moves, family-few, tagOf, standsAt, unitsOf, itemsCode, ItemIn, tag-past}
 use Rattle.resolver.proofs.Numbers.{small-units}
 
 -- where the next item stands
@@ -46,6 +49,24 @@ stands p ok code at i left h q =
       operands = all;
       next = ap (λ (us : List ℕ). drop (at + 2 + length us) code) all ∙ behind code (at + 2) (unitsOf i) (itemsCode left) rest;
     }
+
+-- a relation has two operands
+two-operands : (i : Item) → 4102 ≤ tagOf i → tagOf i < 4105 → length (unitsOf i) ≡ 2
+two-operands (declares f at) h l = absurd (omega (arith, h, family-few f))
+two-operands (fills f at a s) h l = absurd (omega (arith, h, family-few f))
+two-operands (relates k at x y) h l = refl
+two-operands (moves t) h l = absurd (omega (arith, l))
+
+-- so that a step over it leads to the next item, as one over any other does
+step-next : (code : List ℕ) (at : ℕ) (i : Item) (left : List Item) → Stands code at i left → stepOf code at ≡ nextAt code at
+step-next code at i left s = go (leb 4102 (getD code at 0)) (ltb (getD code at 0) 4105) refl refl
+  where
+    go : (a b : Bool) → leb 4102 (getD code at 0) ≡ a → ltb (getD code at 0) 4105 ≡ b → cond (a && b) (at + 4) (nextAt code at) ≡ nextAt code at
+    go true true h l =
+        let units = two-operands i (subst (λ (n : ℕ). 4102 ≤ n) (s .tag) (leb-true 4102 (getD code at 0) h)) (subst (λ (n : ℕ). n < 4105) (s .tag) (ltb-true (getD code at 0) 4105 l)) in
+        omega (arith, units, ap length (s .operands))
+    go true false h l = refl
+    go false b h l = refl
 
 -- the code from a place on is that of the items left, and S holds of those done and those left
 pub record Through (is : List Item) (code : List ℕ) (at : ℕ) (S : List Item → List Item → Type 0) : Type 0 where
@@ -88,9 +109,9 @@ unfolding itemsCode
 code-last [] i = omega (arith, length-append (unitsOf i) [])
 code-last (j ∷ is) i = omega (arith, code-last is i, length-append (unitsOf j) (itemsCode is), length-append (unitsOf j) (itemsCode (is ++ (i ∷ []))))
 
-pub onward : (p : Policy) (is : List Item) (code : List ℕ) (at : ℕ) (S T : List Item → List Item → Type 0) (next : ℕ) → next ≡ nextAt code at
+pub onward-past : (p : Policy) (is : List Item) (code : List ℕ) (at : ℕ) (S T : List Item → List Item → Type 0) (next : ℕ) → next ≡ nextAt code at
     → (m : Met p is code at S) → T (m .done ++ (m .item ∷ [])) (m .rest) → Through is code next T
-onward p is code at S T next e m s = record {
+onward-past p is code at S T next e m s = record {
   done = m .done ++ (m .item ∷ []);
   left = m .rest;
   whole = m .whole ∙ sym (append-assoc (m .done) (m .item ∷ []) (m .rest));
@@ -98,6 +119,10 @@ onward p is code at S T next e m s = record {
   ahead = rw e (m .stand .next);
   so-far = s;
 }
+
+pub onward : (p : Policy) (is : List Item) (code : List ℕ) (at : ℕ) (S T : List Item → List Item → Type 0) (next : ℕ) → next ≡ stepOf code at
+    → (m : Met p is code at S) → T (m .done ++ (m .item ∷ [])) (m .rest) → Through is code next T
+onward p is code at S T next e m s = onward-past p is code at S T next (e ∙ step-next code at (m .item) (m .rest) (m .stand)) m s
 
 -- past the end all items are done
 pub finish : (is : List Item) (code : List ℕ) (at : ℕ) (S : List Item → List Item → Type 0) → length code ≤ at → Through is code at S → S is []

@@ -2,7 +2,7 @@
 -- attribute in its own row. Assumes nothing.
 use Prim.Native.Nat.{ℕ, _+_, _<_}
 use native.Mathlib.Omega.{arith}
-use mathlib.Core.Path.{_≡_, sym, ap, _∙_, subst}
+use mathlib.Core.Path.{_≡_, refl, sym, ap, _∙_, subst}
 use mathlib.Core.Bool.{Bool, true, false, cond}
 use mathlib.Core.List.{List, [], _∷_, _++_}
 use mathlib.Core.Option.{none, some}
@@ -11,17 +11,17 @@ use Rattle.bitset.specs.Sets.{setOf}
 use Rattle.bitset.proofs.SetLaws.{setOf-ext}
 use Rattle.policy.specs.Basics.{gather, keep, isAmong}
 use Rattle.policy.specs.Statements.{Family, attributeOf, Reference, SetExpr, Policy, count, declarations}
-use Rattle.policy.specs.Faults.{mentionsS, onCycle, firstCycle, familyCycle}
+use Rattle.policy.specs.Faults.{mentionsS, onCycle, places, firstCycle, familyCycle}
 use Rattle.policy.specs.Accepted.{SetIn, Accepted}
 use Rattle.statement_code.specs.Code.{setCode, setTag, attributeTag, codeOf}
 use Rattle.statement_code.specs.Numbered.{Numbered}
 use Rattle.set_code.proofs.Places.{here}
 use Rattle.meaning_laws.proofs.ListLaws.{chosen}
-use Rattle.resolver.specs.Reading.{operandsOf, added}
+use Rattle.resolver.specs.Reading.{operandsOf, added, stepOf}
 use Rattle.resolver.proofs.OperandLaws.{Tagged, operands-of}
 use Rattle.resolver.proofs.Items.{Item, declares, fills, unitsOf, itemsCode, items, code-items, ItemIn, placeIn, places-items, place-here, tag-fills, tag-declares, tag-no-place}
 use Rattle.resolver.proofs.Numbers.{items-declared, few-attributes, numbered-S, small-S, units-mention}
-use Rattle.resolver.proofs.Passes.{nextAt, code-tagged, Through, begin, Met, meet, onward}
+use Rattle.resolver.proofs.Passes.{code-tagged, Through, begin, Met, meet, onward}
 use Rattle.resolver.proofs.RowLaws.{rowsOf, rows-more, rows-over}
 
 -- the operand of a set statement
@@ -40,7 +40,7 @@ pub start : (p : Policy) (code : List ℕ) (S : List Item → List Item → Type
 start p code S h s = begin (items p) code S (h ∙ code-items p) s
 
 module _ (p : Policy) (ok : Accepted p) (f : Family) (v : SetExpr Reference → ℕ → Bool) (code : List ℕ) (at next : ℕ) (inside : at < length code)
-    (e : next ≡ nextAt code at) (rows : List ℕ) (t : Through (items p) code at (λ done left. rows ≡ rowsOf f v done)) where
+    (e : next ≡ stepOf code at) (rows : List ℕ) (t : Through (items p) code at (λ done left. rows ≡ rowsOf f v done)) where
   abbrev Rows : List ℕ → List Item → List Item → Type 0
   Rows r done left = r ≡ rowsOf f v done
 
@@ -93,6 +93,15 @@ pub seeks-none : (p : Policy) (f : Family) (a : ℕ) → Seeks p f a (items p) [
 unfolding gather firstCycle
 seeks-none p f a h = h
 
+-- where none is on a cycle there is nothing to find
+pub seeks-nothing : (p : Policy) (f : Family) → ((a : ℕ) → onCycle p f a ≡ false) → none ≡ familyCycle p f
+unfolding firstCycle
+seeks-nothing p f off = go 0 (places p f)
+  where
+    go : (a : ℕ) (ats : List ℕ) → none ≡ firstCycle p f a ats
+    go a [] = refl
+    go a (x ∷ xs) = rw (off a, firstCycle) (go (a + 1) xs)
+
 module _ (p : Policy) (ok : Accepted p) (f : Family) (a : ℕ) (code : List ℕ) (at : ℕ) (inside : at < length code) (t : Through (items p) code at (Seeks p f a)) where
   the-next : Met p (items p) code at (Seeks p f a)
   the-next = meet p ok (items p) (items-declared p ok) code at (Seeks p f a) inside t
@@ -114,12 +123,12 @@ module _ (p : Policy) (ok : Accepted p) (f : Family) (a : ℕ) (code : List ℕ)
   pub found-here : getD code at 0 ≡ attributeTag f → onCycle p f a ≡ true → some (getD code (at + 1) 0) ≡ familyCycle p f
   found-here h on = ap (λ (b : Bool). cond b (some (getD code (at + 1) 0)) (firstCycle p f (a + 1) (gather (placeIn f) (the-next .rest)))) (sym on) ∙ chosen-here h
 
-  pub seeks-on : (next : ℕ) → next ≡ nextAt code at → getD code at 0 ≡ attributeTag f → onCycle p f a ≡ false → Through (items p) code next (Seeks p f (a + 1))
+  pub seeks-on : (next : ℕ) → next ≡ stepOf code at → getD code at 0 ≡ attributeTag f → onCycle p f a ≡ false → Through (items p) code next (Seeks p f (a + 1))
   seeks-on next e h off =
       onward p (items p) code at (Seeks p f a) (Seeks p f (a + 1)) next e the-next
       (ap (λ (b : Bool). cond b (some (getD code (at + 1) 0)) (firstCycle p f (a + 1) (gather (placeIn f) (the-next .rest)))) (sym off) ∙ chosen-here h)
 
-  pub seeks-over : (next : ℕ) → next ≡ nextAt code at → (getD code at 0 ≡ attributeTag f → ⊥) → Through (items p) code next (Seeks p f a)
+  pub seeks-over : (next : ℕ) → next ≡ stepOf code at → (getD code at 0 ≡ attributeTag f → ⊥) → Through (items p) code next (Seeks p f a)
   unfolding gather
   seeks-over next e h =
       let m = the-next in

@@ -3,12 +3,12 @@
 use Prim.Native.Nat.{ℕ}
 use mathlib.Core.Path.{_≡_}
 use mathlib.Core.Bool.{Bool, not, _&&_}
-use mathlib.Core.List.{List}
+use mathlib.Core.List.{List, _++_}
 use lib.Dec.{eqb}
 use Rattle.bitset.specs.Sets.{setOf, meets}
-use Rattle.policy.specs.Statements.{roles, types, Policy, declarations, Transition}
+use Rattle.policy.specs.Statements.{roles, types, Policy, declarations, Transition, transitions}
 use Rattle.policy.specs.Accepted.{ReferenceIn}
-use Rattle.statement_code.specs.Code.{referenceUnit}
+use Rattle.statement_code.specs.Code.{referenceUnit, codeOf}
 use Rattle.set_code.specs.Evaluation.{valueOf}
 use Rattle.resolver.specs.declared.Move.{Move}
 
@@ -28,3 +28,16 @@ pub record Codes (p : Policy) (t : Transition) (m : Move) : Type 0 where
   pub new : m .new ≡ t .new
   pub roles-declared : ReferenceIn (declarations p) roles (t .role)
   pub types-declared : ReferenceIn (declarations p) types (t .type)
+
+-- these lines stand in the policy, one behind the other
+pub record Segment (p part : Policy) : Type 0 where
+  pub before : Policy
+  pub after : Policy
+  pub whole : p ≡ before ++ (part ++ after)
+
+-- this is the code of such lines, and all transitions are among them
+pub record AllTransitions (p : Policy) (code : List ℕ) : Type 0 where
+  pub part : Policy
+  pub segment : Segment p part
+  pub all : transitions part ≡ transitions p
+  pub coded : code ≡ codeOf part

@@ -1,9 +1,10 @@
 -- How the code of the statements is read: a tag, a place and operands; and what a search answers. Assumes nothing.
-use Prim.Native.Nat.{ℕ, _*_}
-use mathlib.Core.Bool.{cond}
+use Prim.Native.Nat.{ℕ, _+_, _*_}
+use mathlib.Core.Bool.{Bool, cond, _&&_}
 use mathlib.Core.List.{List, [], _∷_}
 use mathlib.Core.Option.{Option, none, some}
-use lib.Dec.{ltb}
+use lib.Dec.{leb, ltb}
+use lib.ListN.{length, getD, drop}
 use Rattle.bitset.specs.Sets.{unionOf}
 use Rattle.bitset.specs.Parts.{part, put}
 use Rattle.resolver.specs.declared.Found.{Found}
@@ -12,6 +13,14 @@ use Rattle.resolver.specs.declared.Found.{Found}
 unfoldable pub operandsOf : List ℕ → List ℕ
 operandsOf [] = []
 operandsOf (u ∷ us) = cond (ltb u 4096) (u ∷ operandsOf us) []
+
+-- the tags of relations
+abbrev pub isRelation : ℕ → Bool
+isRelation tag = leb 4102 tag && ltb tag 4105
+
+-- where the statement behind the one at a place stands: a relation has a place and two operands behind its tag; any other ends where the next tag stands
+abbrev pub stepOf : List ℕ → ℕ → ℕ
+stepOf code at = cond (isRelation (getD code at 0)) (at + 4) (at + 2 + length (operandsOf (drop (at + 2) code)))
 
 -- a set is added to the set of attribute a
 abbrev pub added : List ℕ → ℕ → List ℕ → List ℕ

@@ -3,13 +3,12 @@
 // A family has at most 64 attributes. What is kept of each is a set of 64 bytes, one after the other, 4,096 bytes for a family: first the
 // attributes that it mentions, later the things that it stands for.
 ghost use mathlib.Core.Path.{_≡_};
-ghost use mathlib.Core.Bool.{_&&_};
-ghost use mathlib.Core.List.{List, _++_};
-ghost use Prim.Native.Nat.{ℕ, _+_, _<_, _≤_};
-ghost use lib.Dec.{ltb};
+ghost use mathlib.Core.Bool.{true, not, _&&_};
+ghost use mathlib.Core.List.{List, [], _++_};
+ghost use Prim.Native.Nat.{ℕ, _+_, _-_, _*_, _<_, _≤_};
+ghost use lib.Dec.{eqb, ltb};
 ghost use lib.ListN.{length, getD, drop};
-ghost use Rattle.bitset.specs.Sets as sets;
-ghost use Rattle.bitset.specs.Sets.{setOf, member};
+ghost use Rattle.bitset.specs.Sets.{setOf, allBelow};
 ghost use Rattle.bitset.specs.Relations.{relation};
 ghost use Rattle.policy.specs.Answers.{familyOf};
 ghost use Rattle.policy.specs.Basics.{any, isAmong};
@@ -18,13 +17,14 @@ ghost use Rattle.policy.specs.Statements.{Policy, Reference, SetExpr, Transitio
 ghost use Rattle.policy.specs.Meaning as meaning;
 ghost use Rattle.policy.specs.Meaning.{ofS, countIn};
 ghost use Rattle.policy.specs.Faults as faults;
+ghost use Rattle.policy.specs.Reading.{orElse};
 ghost use Rattle.policy.specs.Accepted.{Accepted};
 ghost use Rattle.statement_code.specs.Code.{setCode, codeOf, familyNumber};
-ghost use Rattle.set_code.specs.Evaluation.{setsIn};
+ghost use Rattle.set_code.specs.Evaluation.{setsIn, valueOf};
 ghost use Rattle.statement_code.specs.Numbered.{Numbered};
-ghost use Rattle.resolver.specs.Reading.{operandsOf, added, foundOf};
+ghost use Rattle.resolver.specs.Reading.{operandsOf, isRelation, stepOf, added, foundOf};
 ghost use Rattle.resolver.specs.Closure.{columnOf, throughOf, closedOf};
-ghost use Rattle.resolver.specs.Clashes.{sharesOf, clashesOf, Codes};
+ghost use Rattle.resolver.specs.Clashes.{sharesOf, clashesOf, Codes, Segment, AllTransitions};
 ghost use Rattle.resolver.specs.Resolving.{finalSets, Resolves};
 use policy::Attribute;
 use policy::Family;
@@ -56,7 +56,7 @@ pub fn unit(code: &[u16], at: usize, k: usize) -> u16
 }
 
 // Where the operands of a statement end: at the next tag, or at the end of the code. Tags are numbered from DECLARE_ATTRIBUTE on.
-pub fn statement_end(code: &[u16], from: usize) -> usize
+fn statement_end(code: &[u16], from: usize) -> usize
     ensures { λ r. ⌜ r ≡ from + length (operandsOf (drop from (now (code .entry)))) ⌝ }
 {
     let mut at = from;
@@ -67,6 +67,27 @@ pub fn statement_end(code: &[u16], from: usize) -> usize
         at += 1;
     }
     at
+}
+
+// Whether a tag is that of a relation.
+fn is_relation(tag: u16) -> bool
+    ensures { λ r. ⌜ r ≡ isRelation tag ⌝ }
+{
+    if tag < Unit::RELATION {
+        return false;
+    }
+    tag < Unit::TRANSITION
+}
+
+// Where the statement behind the one at a place stands. A relation has two operands, so that nothing is looked for behind it.
+pub fn next_statement(code: &[u16], at: usize) -> usize
+    requires { ⌜ at < length (now code) ⌝ }
+    ensures { λ r. ⌜ (r ≡ stepOf (now (code .entry)) at) × (at < r) ⌝ }
+{
+    if is_relation(code[at]) {
+        return at + 4;
+    }
+    statement_end(code, at + 2)
 }
 
 // What is added to a tag for its family.
@@ -118,7 +139,7 @@ fn add_mentions(code: &[u16], from: usize, a: u16, rows: &mut [u8; FAMILY_BYTES]
 }
 
 // For each attribute of a family, the attributes that its sets mention.
-pub fn mentions(code: &[u16], family: Family, rows: &mut [u8; FAMILY_BYTES])
+fn mentions(code: &[u16], family: Family, rows: &mut [u8; FAMILY_BYTES])
     ensures { λ _. ⌜ ((p : Policy) → Accepted p → now (code .entry) ≡ codeOf p
         → now (rows .exit) ≡ relation 64 64 (λ a b. isAmong b (faults.mentions p (familyOf family) a))) ⌝ }
 {
@@ -126,7 +147,7 @@ pub fn mentions(code: &[u16], family: Family, rows: &mut [u8; FAMILY_BYTES])
     let tag = Unit::ATTRIBUTE_SET + family_number(family);
     let mut at = 0;
     while at < code.len() {
-        let next = statement_end(code, at + 2);
+        let next = next_statement(code, at);
         if code[at] == tag {
             add_mentions(code, at + 3, unit(code, at, 2), rows);
         }
@@ -148,11 +169,30 @@ fn column(rows: &[u8; FAMILY_BYTES], k: usize, out: &mut [u8; Type::SET_BYTES])
     }
 }
 
+// Whether row k is empty: then to go through k changes nothing. There is one test at the end and no early exit, so that many bytes are read
+// at once.
+fn is_empty(rows: &[u8], k: usize) -> bool
+    requires { ⌜ (k < 64) × (length (now rows) ≡ 4096) ⌝ }
+    ensures { λ r. ⌜ (r ≡ true → throughOf (now (rows .entry)) k ≡ now (rows .entry)) ⌝ }
+{
+    let at = Type::SET_BYTES * k;
+    let mut all = 0;
+    let mut i = 0;
+    while i < Type::SET_BYTES {
+        all = all | rows[at + i];
+        i += 1;
+    }
+    all == 0
+}
+
 // What mentions k also mentions what k mentions.
 fn through(rows: &mut [u8; FAMILY_BYTES], k: usize)
     requires { ⌜ k < 64 ⌝ }
     ensures { λ _. ⌜ now (rows .exit) ≡ throughOf (now (rows .entry)) k ⌝ }
 {
+    if is_empty(rows, k) {
+        return;
+    }
     let mut holders = [0u8; Type::SET_BYTES];
     column(rows, k, &mut holders);
     let mut row = [0u8; Type::SET_BYTES];
@@ -181,6 +221,20 @@ fn mentions_itself(rows: &[u8; FAMILY_BYTES], a: usize) -> bool
     bitset::contains_at(rows, Type::SET_BYTES * a, Type::SET_BYTES, a)
 }
 
+// Whether no attribute is in its own row.
+fn is_acyclic(rows: &[u8; FAMILY_BYTES]) -> bool
+    ensures { λ r. ⌜ r ≡ allBelow 64 (λ a. not (setsIn (now (rows .entry)) a a)) ⌝ }
+{
+    let mut a = 0;
+    while a < Attribute::MAX {
+        if mentions_itself(rows, a) {
+            return false;
+        }
+        a += 1;
+    }
+    true
+}
+
 // The declaration of the first attribute of a family that is in its own row.
 fn first_cycle(code: &[u16], family: Family, rows: &[u8; FAMILY_BYTES]) -> Found
     ensures { λ r. ⌜ ((p : Policy) → Accepted p → now (code .entry) ≡ codeOf p
@@ -191,7 +245,7 @@ fn first_cycle(code: &[u16], family: Family, rows: &[u8; FAMILY_BYTES]) -> Found
     let mut a = 0;
     let mut at = 0;
     while at < code.len() {
-        let next = statement_end(code, at + 2);
+        let next = next_statement(code, at);
         if code[at] == tag {
             if mentions_itself(rows, a) {
                 return Found::At(unit(code, at, 1) as usize);
@@ -203,27 +257,16 @@ fn first_cycle(code: &[u16], family: Family, rows: &[u8; FAMILY_BYTES]) -> Found
     Found::Nowhere
 }
 
-// The declaration of the first attribute of a family whose sets mention it, directly or through others.
-pub fn family_cycle(code: &[u16], family: Family) -> Found
-    ensures { λ r. ⌜ ((p : Policy) → Accepted p → now (code .entry) ≡ codeOf p → foundOf r ≡ faults.familyCycle p (familyOf family)) ⌝ }
+// The declaration of the first attribute of a family whose sets mention it, directly or through others. Each row has what an attribute mentions directly.
+fn family_cycle(code: &[u16], family: Family, rows: &mut [u8; FAMILY_BYTES]) -> Found
+    ensures { λ r. ⌜ ((p : Policy) → Accepted p → now (code .entry) ≡ codeOf p → now (rows .entry) ≡ relation 64 64 (λ a b. isAmong b (faults.mentions p (familyOf family) a))
+        → foundOf r ≡ faults.familyCycle p (familyOf family)) ⌝ }
 {
-    let mut rows = [0u8; FAMILY_BYTES];
-    mentions(code, family, &mut rows);
-    close(&mut rows);
-    first_cycle(code, family, &rows)
-}
-
-// Fault 8: users, then roles, then types.
-pub fn cycle(code: &[u16]) -> Found
-    ensures { λ r. ⌜ ((p : Policy) → Accepted p → now (code .entry) ≡ codeOf p → foundOf r ≡ faults.cycle p) ⌝ }
-{
-    if let Found::At(place) = family_cycle(code, Family::Users) {
-        return Found::At(place);
+    close(rows);
+    if is_acyclic(rows) {
+        return Found::Nowhere;
     }
-    if let Found::At(place) = family_cycle(code, Family::Roles) {
-        return Found::At(place);
-    }
-    family_cycle(code, Family::Types)
+    first_cycle(code, family, rows)
 }
 
 // ---- final sets
@@ -260,7 +303,7 @@ fn round(
     let tag = Unit::ATTRIBUTE_SET + family_number(family);
     let mut at = 0;
     while at < code.len() {
-        let next = statement_end(code, at + 2);
+        let next = next_statement(code, at);
         if code[at] == tag {
             add_set(code, at + 3, unit(code, at, 2), total, before, after);
         }
@@ -268,22 +311,23 @@ fn round(
     }
 }
 
-// Whether the sets of all attributes are the same.
+// Whether the sets of all attributes are the same. There is no early exit, so that many bytes are read at once.
 fn same_rows(a: &[u8; FAMILY_BYTES], b: &[u8; FAMILY_BYTES]) -> bool
-    ensures { λ r. ⌜ r ≡ sets.equal (now (a .entry)) (now (b .entry)) ⌝ }
+    ensures { λ r. ⌜ r ≡ allBelow 4096 (λ i. eqb (getD (now (a .entry)) i 0) (getD (now (b .entry)) i 0)) ⌝ }
 {
-    bitset::equal(a, b)
-}
-
-// The sets of all attributes become those of another array.
-fn copy_rows(dst: &mut [u8; FAMILY_BYTES], src: &[u8; FAMILY_BYTES])
-    ensures { λ _. ⌜ now (dst .exit) ≡ setOf 4096 (member (now (src .entry))) ⌝ }
-{
-    bitset::copy(dst, src);
+    let mut same = true;
+    let mut i = 0;
+    while i < FAMILY_BYTES {
+        if a[i] != b[i] {
+            same = false;
+        }
+        i += 1;
+    }
+    same
 }
 
 // The final set of each attribute of a family. Rounds go on until one changes nothing, and 64 are always enough.
-pub fn final_sets(code: &[u16], family: Family, total: usize, sets: &mut [u8; FAMILY_BYTES])
+fn final_sets(code: &[u16], family: Family, total: usize, sets: &mut [u8; FAMILY_BYTES])
     ensures { λ _. ⌜ ((p : Policy) → Accepted p → now (code .entry) ≡ codeOf p → total ≡ countIn p (familyOf family)
         → now (sets .exit) ≡ finalSets p (familyOf family)) ⌝ }
 {
@@ -295,9 +339,30 @@ pub fn final_sets(code: &[u16], family: Family, total: usize, sets: &mut [u8; FA
         if same_rows(sets, &next) {
             return;
         }
-        copy_rows(sets, &next);
+        *sets = next;
         rounds += 1;
     }
+}
+
+// The final set of each attribute of a family, and fault 8 in the family. Where no attribute mentions another, one round is all and there is no cycle.
+fn resolve_family(
+    code: &[u16],
+    family: Family,
+    total: usize,
+    sets: &mut [u8; FAMILY_BYTES],
+) -> Found
+    ensures { λ r. ⌜ ((p : Policy) → Accepted p → now (code .entry) ≡ codeOf p → total ≡ countIn p (familyOf family)
+        → (now (sets .exit) ≡ finalSets p (familyOf family)) × (foundOf r ≡ faults.familyCycle p (familyOf family))) ⌝ }
+{
+    bitset::clear(sets);
+    let mut rows = [0u8; FAMILY_BYTES];
+    mentions(code, family, &mut rows);
+    if same_rows(&rows, sets) {
+        round(code, family, total, &rows, sets);
+        return Found::Nowhere;
+    }
+    final_sets(code, family, total, sets);
+    family_cycle(code, family, &mut rows)
 }
 
 // ---- fault 9
@@ -323,15 +388,41 @@ pub fn transition(code: &[u16], at: usize) -> Move
     }
 }
 
+// Where the set of an attribute begins, from the unit that names it.
+fn row_of(unit: u16) -> usize
+    requires { ⌜ 1024 ≤ unit ⌝ }
+    ensures { λ r. ⌜ r ≡ 64 * (unit - 1024) ⌝ }
+{
+    let attribute = (unit - Unit::ATTRIBUTE) as usize;
+    Type::SET_BYTES * attribute
+}
+
+// Whether a reference stands for a thing. Past the last type there is none.
+fn stands_for(sets: &[u8; FAMILY_BYTES], unit: u16, n: u16) -> bool
+    ensures { λ r. ⌜ r ≡ (ltb n 512 && valueOf (now (sets .entry)) unit n) ⌝ }
+{
+    let thing = n as usize;
+    if Type::MAX <= thing {
+        return false;
+    }
+    if unit < Unit::ATTRIBUTE {
+        return n == unit;
+    }
+    bitset::contains_at(sets, row_of(unit), Type::SET_BYTES, thing)
+}
+
 // Whether two references stand for one thing.
 fn share(sets: &[u8; FAMILY_BYTES], x: u16, y: u16) -> bool
     ensures { λ r. ⌜ r ≡ sharesOf (now (sets .entry)) x y ⌝ }
 {
-    let mut a = [0u8; Type::SET_BYTES];
-    set_code::reference(x, sets, &mut a);
-    let mut b = [0u8; Type::SET_BYTES];
-    set_code::reference(y, sets, &mut b);
-    bitset::meets(&a, &b)
+    if x < Unit::ATTRIBUTE {
+        return stands_for(sets, y, x);
+    }
+    if y < Unit::ATTRIBUTE {
+        return stands_for(sets, x, y);
+    }
+    let second = bitset::part(sets, row_of(y), Type::SET_BYTES);
+    bitset::meets_at(sets, row_of(x), Type::SET_BYTES, second)
 }
 
 // Whether two transitions share a role, a type and the class, and their new roles differ.
@@ -362,13 +453,13 @@ fn clashes_earlier(
     role_sets: &[u8; FAMILY_BYTES],
     type_sets: &[u8; FAMILY_BYTES],
 ) -> bool
-    ensures { λ r. ⌜ ((before after : Policy) (t : Transition) → Accepted (before ++ after) → now (earlier .entry) ≡ codeOf before → Codes (before ++ after) t later
-        → now («role_sets» .entry) ≡ finalSets (before ++ after) statements.roles → now («type_sets» .entry) ≡ finalSets (before ++ after) statements.types
-        → r ≡ any (faults.clashes (before ++ after) t) (transitions before)) ⌝ }
+    ensures { λ r. ⌜ ((p part : Policy) (t : Transition) → Accepted p → Segment p part → now (earlier .entry) ≡ codeOf part → Codes p t later
+        → now («role_sets» .entry) ≡ finalSets p statements.roles → now («type_sets» .entry) ≡ finalSets p statements.types
+        → r ≡ any (faults.clashes p t) (transitions part)) ⌝ }
 {
     let mut at = 0;
     while at < earlier.len() {
-        let next = statement_end(earlier, at + 2);
+        let next = next_statement(earlier, at);
         if earlier[at] == Unit::TRANSITION {
             if clash_between(later, transition(earlier, at), role_sets, type_sets) {
                 return true;
@@ -379,15 +470,19 @@ fn clashes_earlier(
     false
 }
 
-// Fault 9: the first transition that clashes with an earlier one.
-pub fn clash(code: &[u16], role_sets: &[u8; FAMILY_BYTES], type_sets: &[u8; FAMILY_BYTES]) -> Found
-    ensures { λ r. ⌜ ((p : Policy) → Accepted p → now (code .entry) ≡ codeOf p
+// The first transition in a part of the code that clashes with an earlier one in it.
+fn first_clash(
+    code: &[u16],
+    role_sets: &[u8; FAMILY_BYTES],
+    type_sets: &[u8; FAMILY_BYTES],
+) -> Found
+    ensures { λ r. ⌜ ((p part : Policy) → Accepted p → Segment p part → now (code .entry) ≡ codeOf part
         → now («role_sets» .entry) ≡ finalSets p statements.roles → now («type_sets» .entry) ≡ finalSets p statements.types
-        → foundOf r ≡ faults.clash p) ⌝ }
+        → foundOf r ≡ faults.firstClash p [] (transitions part)) ⌝ }
 {
     let mut at = 0;
     while at < code.len() {
-        let next = statement_end(code, at + 2);
+        let next = next_statement(code, at);
         if code[at] == Unit::TRANSITION {
             if clashes_earlier(&code[..at], transition(code, at), role_sets, type_sets) {
                 return Found::At(unit(code, at, 1) as usize);
@@ -398,6 +493,32 @@ pub fn clash(code: &[u16], role_sets: &[u8; FAMILY_BYTES], type_sets: &[u8; FAMI
     Found::Nowhere
 }
 
+// Where the first transition stands, or the end of the code.
+fn first_transition(code: &[u16]) -> usize
+    ensures { λ r. ⌜ (r ≤ length (now (code .entry)))
+        × ((p : Policy) → Accepted p → now (code .entry) ≡ codeOf p → AllTransitions p (drop r (now (code .entry)))) ⌝ }
+{
+    let mut at = 0;
+    while at < code.len() {
+        if code[at] == Unit::TRANSITION {
+            return at;
+        }
+        at = next_statement(code, at);
+    }
+    code.len()
+}
+
+// Fault 9: the first transition that clashes with an earlier one. The earlier code is read again for each transition, so the code before the
+// first is left out.
+pub fn clash(code: &[u16], role_sets: &[u8; FAMILY_BYTES], type_sets: &[u8; FAMILY_BYTES]) -> Found
+    ensures { λ r. ⌜ ((p : Policy) → Accepted p → now (code .entry) ≡ codeOf p
+        → now («role_sets» .entry) ≡ finalSets p statements.roles → now («type_sets» .entry) ≡ finalSets p statements.types
+        → foundOf r ≡ faults.clash p) ⌝ }
+{
+    let first = first_transition(code);
+    first_clash(&code[first..], role_sets, type_sets)
+}
+
 // ---- both, in their order
 
 // What becomes of a text without fault 1 to 7.
@@ -405,6 +526,16 @@ pub enum Resolved {
     Cycle(usize),
     Clash(usize),
     Sound,
+}
+
+// The first of two places, if there is one.
+fn first_found(first: Found, second: Found) -> Found
+    ensures { λ r. ⌜ foundOf r ≡ orElse (foundOf first) (foundOf second) ⌝ }
+{
+    match first {
+        Found::At(place) => Found::At(place),
+        Found::Nowhere => second,
+    }
 }
 
 // Fills the final sets of the three families, and looks for faults 8 and 9. Each total is how many things of the family are declared.
@@ -421,10 +552,11 @@ pub fn resolve(
         → users ≡ countIn p statements.users → roles ≡ countIn p statements.roles → types ≡ countIn p statements.types
         → Resolves p (now («user_sets» .exit)) (now («role_sets» .exit)) (now («type_sets» .exit)) r) ⌝ }
 {
-    final_sets(code, Family::Users, users, user_sets);
-    final_sets(code, Family::Roles, roles, role_sets);
-    final_sets(code, Family::Types, types, type_sets);
-    if let Found::At(place) = cycle(code) {
+    let in_users = resolve_family(code, Family::Users, users, user_sets);
+    let in_roles = resolve_family(code, Family::Roles, roles, role_sets);
+    let in_types = resolve_family(code, Family::Types, types, type_sets);
+    let cycle = first_found(in_users, first_found(in_roles, in_types));
+    if let Found::At(place) = cycle {
         return Resolved::Cycle(place);
     }
     if let Found::At(place) = clash(code, role_sets, type_sets) {

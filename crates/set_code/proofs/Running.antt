@@ -3,11 +3,11 @@ use Prim.Native.Nat.{ℕ, _+_, _<_, _≤_}
 use native.Mathlib.Omega.{arith}
 use mathlib.Core.Path.{_≡_, refl, ap, _∙_}
 use mathlib.Core.Logic.{_⊎_, inl, inr}
-use mathlib.Core.Bool.{Bool}
+use mathlib.Core.Bool.{Bool, _||_}
 use mathlib.Core.List.{List, [], _∷_, _++_, append-assoc}
 use lib.Dec.{ltb}
 use lib.ListN.{length, getD, drop, length-append, length-drop}
-use Rattle.bitset.specs.Sets.{setOf}
+use Rattle.bitset.specs.Sets.{setOf, unionOf}
 use Rattle.bitset.proofs.SetLaws.{setOf-ext}
 use Rattle.policy.specs.Statements.{Reference, SetExpr, nameS}
 use Rattle.policy.specs.Meaning.{ofS}
@@ -15,7 +15,7 @@ use Rattle.policy.specs.Accepted.{All}
 use Rattle.statement_code.specs.Code.{referenceUnit, allUnit, endUnit, setCode}
 use Rattle.set_code.specs.Evaluation.{setsIn, valueOf, startOf, joinOf, joinedBy, Evaluates}
 use Rattle.statement_code.specs.Numbered.{NumberedR, Numbered}
-use Rattle.set_code.proofs.Leaves.{value-of-reference, joined-sets}
+use Rattle.set_code.proofs.Leaves.{value-of-reference, joined-sets, joined-union}
 use Rattle.set_code.proofs.Nodes.{codes, folded, Node, node}
 use Rattle.set_code.proofs.Places.{Here, here, behind}
 
@@ -55,15 +55,11 @@ module _ (code : List ℕ) (at total : ℕ) (sets : List ℕ) (e : SetExpr Refer
       go (operator m w) = omega (arith, h, w .unit, m .operator)
 
 module _ (code : List ℕ) (at total : ℕ) (sets : List ℕ) where
-  -- whether n is in S
-  abbrev the : ℕ → SetExpr Reference → Bool
-  the n x = ofS total (setsIn sets) x n
-
   -- what evaluating at this place is to leave and to answer
-  abbrev pub Right : SetExpr Reference → List ℕ → ℕ → Type 0
+  abbrev Right : SetExpr Reference → List ℕ → ℕ → Type 0
   Right e out r = (out ≡ setOf 64 (ofS total (setsIn sets) e)) × (r ≡ at + length (setCode e))
 
-  pub of-reference : (e : SetExpr Reference) (rest : List ℕ) → Numbered e → drop at code ≡ setCode e ++ rest
+  of-reference : (e : SetExpr Reference) (rest : List ℕ) → Numbered e → drop at code ≡ setCode e ++ rest
       → getD code at 0 < allUnit → Right e (setOf 64 (valueOf sets (getD code at 0))) (at + 1)
   unfolding setCode ofS
   of-reference e rest small q h = go (first code at total sets e rest small q)
@@ -72,6 +68,14 @@ module _ (code : List ℕ) (at total : ℕ) (sets : List ℕ) where
       go (name r p k w) = rw (p, w .unit)
           (setOf-ext 64 (valueOf sets (referenceUnit r)) (ofS total (setsIn sets) (nameS r)) (λ n l. value-of-reference sets r k n), refl)
       go (operator m w) = absurd (omega (arith, h, w .unit, m .operator))
+
+  pub evaluates-reference : getD code at 0 < allUnit → Evaluates code at total sets (setOf 64 (valueOf sets (getD code at 0))) (at + 1)
+  evaluates-reference h = record { forward = λ l. omega arith; right = λ e rest n q. of-reference e rest n q h }
+
+module _ (code : List ℕ) (at total : ℕ) (sets : List ℕ) where
+  -- whether n is in S
+  abbrev the : ℕ → SetExpr Reference → Bool
+  the n x = ofS total (setsIn sets) x n
 
   -- the code that is left from a place on is that of these operands; with them the set becomes that of e
   pub record Ahead (op : ℕ) (out : List ℕ) (place : ℕ) (e : SetExpr Reference) (rest : List ℕ) : Type 0 where
@@ -105,13 +109,13 @@ module _ (code : List ℕ) (at total : ℕ) (sets : List ℕ) where
     not-past h = omega (arith, h, ap length (p .left), length-drop place code, length-append (codes (p .xs)) (endUnit ∷ rest))
 
     -- at the end mark no operand is left
-    pub ended : getD code place 0 ≡ endUnit → Right e out (place + 1)
+    pub ended : getD code place 0 ≡ endUnit → Right code at total sets e out (place + 1)
     unfolding codes folded
     ended h = go (p .xs) (p .numbered) (p .left) (p .till) (p .value)
       where
         go : (xs : List (SetExpr Reference)) → All Numbered xs → drop place code ≡ codes xs ++ (endUnit ∷ rest)
             → place + length (codes xs) + 1 ≡ at + length (setCode e)
-            → ((n : ℕ) → n < 512 → folded op (the n) (p .rule n) xs ≡ the n e) → Right e out (place + 1)
+            → ((n : ℕ) → n < 512 → folded op (the n) (p .rule n) xs ≡ the n e) → Right code at total sets e out (place + 1)
         go [] k q t v = (p .made ∙ setOf-ext 64 (p .rule) (ofS total (setsIn sets) e) v, omega (arith, t))
         go (x ∷ xs) k q t v = absurd (no-end code place total sets x (codes xs ++ (endUnit ∷ rest)) (k .0) (q ∙ append-assoc (setCode x) (codes xs) (endUnit ∷ rest)) h)
 
@@ -137,3 +141,10 @@ module _ (code : List ℕ) (at total : ℕ) (sets : List ℕ) where
               made = rw (p .made, read .0) (joined-sets op (p .rule) (ofS total (setsIn sets) x));
               value = u;
             }
+
+    -- where the operator only adds, a reference is added straight away
+    pub further-reference : getD code place 0 < allUnit → ((a b : Bool) → joinOf op a b ≡ (a || b))
+        → Ahead op (unionOf out (setOf 64 (valueOf sets (getD code place 0)))) (place + 1) e rest
+    further-reference h adds =
+        let operand = setOf 64 (valueOf sets (getD code place 0)) in
+        rw (← joined-union op out operand adds) (further (λ q. omega (arith, h, q)) operand (place + 1) (evaluates-reference code place total sets h))

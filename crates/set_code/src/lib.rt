@@ -2,9 +2,12 @@
 //
 // Every set is as wide as a set of types, 64 bytes, whatever its family. The sets of a family's attributes stand one after the other.
 ghost use mathlib.Core.Path.{_≡_};
+ghost use mathlib.Core.Bool.{Bool, true, _||_};
+ghost use Prim.Native.Nat.{_<_};
 ghost use lib.Dec.{ltb};
 ghost use lib.ListN.{length};
-ghost use Rattle.bitset.specs.Sets.{setOf, member};
+ghost use Rattle.bitset.specs.Sets.{setOf, member, unionOf};
+ghost use Rattle.statement_code.specs.Code.{allUnit};
 ghost use Rattle.set_code.specs.Evaluation.{Evaluates, startOf, joinOf, joinedBy, valueOf};
 use policy::Type;
 use statement_code::Unit;
@@ -21,11 +24,14 @@ fn start(operator: u16, total: usize) -> usize
     }
 }
 
-// The set becomes all numbers below a bound.
+// The set becomes all numbers below a bound: none for a union, which most operators are.
 fn fill(out: &mut [u8; Type::SET_BYTES], bound: usize)
     ensures { λ _. ⌜ now (out .exit) ≡ setOf 64 (λ n. ltb n bound) ⌝ }
 {
     bitset::clear(out);
+    if bound == 0 {
+        return;
+    }
     bitset::complement(out, bound);
 }
 
@@ -54,8 +60,38 @@ pub fn reference(unit: u16, sets: &[u8], out: &mut [u8; Type::SET_BYTES])
     }
 }
 
+// Whether an operand is a reference and its operator only adds. Then the operand is added with no set made of it first.
+fn adds_reference(operator: u16, unit: u16) -> bool
+    ensures { λ r. ⌜ (r ≡ true → (unit < allUnit) × ((a b : Bool) → joinOf operator a b ≡ (a || b))) ⌝ }
+{
+    if Unit::ALL <= unit {
+        return false;
+    }
+    match operator {
+        Unit::NOT => false,
+        Unit::AND => false,
+        Unit::XOR => false,
+        _ => true,
+    }
+}
+
+// The set gains what the unit of a reference stands for.
+fn add_reference(unit: u16, sets: &[u8], out: &mut [u8; Type::SET_BYTES])
+    ensures { λ _. ⌜ now (out .exit) ≡ unionOf (now (out .entry)) (setOf 64 (valueOf (now (sets .entry)) unit)) ⌝ }
+{
+    if unit < Unit::ATTRIBUTE {
+        bitset::insert(out, unit as usize);
+    } else {
+        let attribute = (unit - Unit::ATTRIBUTE) as usize;
+        bitset::union(
+            out,
+            bitset::part(sets, Type::SET_BYTES * attribute, Type::SET_BYTES),
+        );
+    }
+}
+
 // The set becomes that of the S whose code stands at a place. Answers where the code ends.
-// It calls itself on each operand; the number that falls is the length of the code that is left.
+// It calls itself on each operand that is not added as it stands; the number that falls is the length of the code that is left.
 pub fn evaluate(
     code: &[u16],
     at: usize,
@@ -76,8 +112,14 @@ pub fn evaluate(
     fill(out, start(operator, total));
     let mut place = at + 1;
     while place < code.len() {
-        if code[place] == Unit::END {
+        let unit = code[place];
+        if unit == Unit::END {
             return place + 1;
+        }
+        if adds_reference(operator, unit) {
+            add_reference(unit, sets, out);
+            place += 1;
+            continue;
         }
         let mut operand = [0u8; Type::SET_BYTES];
         place = evaluate(code, place, total, sets, &mut operand);

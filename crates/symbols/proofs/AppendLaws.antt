@@ -1,8 +1,8 @@
 -- Bytes written one after the other are bytes put at a place: the turn of `copy`, and the head and name of `append`.
 -- Assumes nothing.
-use mathlib.Core.Path.{_≡_, refl, sym, ap, _∙_}
+use mathlib.Core.Path.{_≡_, refl, sym, ap, subst, _∙_}
 use mathlib.Core.List.{List, [], _∷_, _++_, append-assoc}
-use Prim.Native.Nat.{ℕ, suc, min, _+_, _-_, _/_, _%_, _≤_, _<_}
+use Prim.Native.Nat.{ℕ, suc, _+_, _-_, _/_, _%_, _≤_, _<_}
 use native.Mathlib.Nat.{add-zero, add-suc, suc-add}
 use native.Mathlib.Omega.{arith}
 use lib.ListN.{length, getD, take, drop, set, length-set}
@@ -11,7 +11,7 @@ use Rattle.bitset.specs.Parts.{part, put}
 use Rattle.policy.specs.Basics.{le}
 use Rattle.policy.specs.Encode.{nameEntry, entryBytes}
 use Rattle.symbols.specs.Append.{Appended}
-use Rattle.symbols.proofs.PartLaws.{length-part, part-none, part-cons, part-join, part-present}
+use Rattle.symbols.proofs.PartLaws.{length-part, part-whole, part-none, part-cons, part-join}
 
 pub put-sets : (t : List ℕ) (o : ℕ) (s : List ℕ) → o + length s ≤ length t → sets t o s ≡ put t o s
 unfolding put
@@ -48,9 +48,6 @@ copy-none t x at from = rw (part-none x from 0 refl)
 pub copied : (t x : List ℕ) (at from i len : ℕ) → at + len ≤ length t → len ≤ length x - from → i ≡ len → sets t at (part x from i) ≡ put t at (part x from len)
 copied t x at from i len h l e = rw e (put-sets t at (part x from len) (omega (arith, long x from len l)))
 
-pub name-short : (x : List ℕ) (from len l : ℕ) → l ≡ min len (length x - from) → length (part x from l) ≡ l
-name-short x from len l e = long x from l (omega arith)
-
 -- ---- append: the head of an entry, and then its name
 
 head-then : (t : List ℕ) (end s lo hi n : ℕ) (w : List ℕ)
@@ -62,28 +59,21 @@ head-then t end s lo hi n w =
     let e4 : end + 4 ≡ suc (suc (suc (suc end))) = omega arith in
     rw (e1, e2, e3, e4)
 
-module _ (t x : List ℕ) (end s n from len l : ℕ) (e : l ≡ min len (length x - from)) (room : end + 4 + len ≤ length t) where
-  the-name : part x from l ≡ part x from len
-  the-name = ap (part x from) e ∙ part-present x from len
-
-  name-long : length (part x from len) ≡ l
-  name-long = length-part x from len ∙ sym e
-
-  length-headed : length (set (set (set (set t end s) (end + 1) (n % 256)) (end + 2) (n / 256 % 256)) (end + 3) l) ≡ length t
+module _ (t : List ℕ) (end s n : ℕ) (w : List ℕ) (room : end + 4 + length w ≤ length t) where
+  length-headed : length (set (set (set (set t end s) (end + 1) (n % 256)) (end + 2) (n / 256 % 256)) (end + 3) (length w)) ≡ length t
   length-headed = simp length-set
 
   pub appended : (u : List ℕ)
-      → u ≡ put (set (set (set (set t end s) (end + 1) (n % 256)) (end + 2) (n / 256 % 256)) (end + 3) l) (end + 4) (part x from l)
-      → Appended t u end (nameEntry s n (part x from len)) (end + 4 + l)
+      → u ≡ put (set (set (set (set t end s) (end + 1) (n % 256)) (end + 2) (n / 256 % 256)) (end + 3) (length w)) (end + 4) (part w 0 (length w))
+      → (v : List ℕ) → w ≡ v → Appended t u end (nameEntry s n v) (end + 4 + length w)
   unfolding le
-  appended u q = record {
+  appended u q v e = subst (λ (x : List ℕ). Appended t u end (nameEntry s n x) (end + 4 + length w)) e (record {
     written =
         q
-        ∙ ap (put _ (end + 4)) the-name
-        ∙ sym (put-sets _ (end + 4) (part x from len) (omega (arith, name-long, length-headed)))
-        ∙ head-then t end s (n % 256) (n / 256 % 256) l (part x from len)
-        ∙ ap (λ (k : ℕ). sets t end (s ∷ n % 256 ∷ n / 256 % 256 ∷ k ∷ part x from len)) (sym name-long)
-        ∙ put-sets t end (entryBytes (nameEntry s n (part x from len))) (omega (arith, name-long));
-    past = omega (arith, name-long);
+        ∙ ap (put _ (end + 4)) (part-whole w)
+        ∙ sym (put-sets _ (end + 4) w (omega (arith, length-headed)))
+        ∙ head-then t end s (n % 256) (n / 256 % 256) (length w) w
+        ∙ put-sets t end (entryBytes (nameEntry s n w)) (omega arith);
+    past = omega arith;
     inside = omega arith;
-  }
+  })

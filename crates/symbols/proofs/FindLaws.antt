@@ -2,22 +2,21 @@
 use mathlib.Core.Path.{_≡_, refl, sym, ap, _∙_}
 use mathlib.Core.Bool.{Bool, true, false, _&&_}
 use mathlib.Core.List.{List, [], _∷_}
-use Prim.Native.Nat.{ℕ, min, _+_, _-_}
+use Prim.Native.Nat.{ℕ, zero, suc, min, _+_, _-_, _<_}
 use native.Mathlib.Omega.{arith}
 use borrow.Author.Tests.{eq-eqb, ne-eqb, leb-true, leb-false}
 use lib.Dec.{eqb, leb}
 use lib.ListN.{length}
-use Rattle.bitset.specs.Parts.{part}
-use Rattle.policy.specs.Basics.{Name, same, le}
+use Rattle.policy.specs.Basics.{Name, le}
 use Rattle.policy.specs.Encode.{NameEntry, nameEntry, entryBytes}
 use Rattle.policy.specs.Questions.{refused, nameFrom}
 use Rattle.symbols.specs.Section.{entriesRead, entriesAt, between, EntryIs}
-use Rattle.symbols.specs.Lookup.{familyNumber, isNamed, firstNamed, replyOf}
+use Rattle.symbols.specs.Lookup.{isNamed, firstNamed, replyOf}
 use Rattle.symbols.specs.declared.Entry.{Entry}
 use Rattle.symbols.specs.declared.Found.{Found}
 use Rattle.symbols.specs.declared.NamePlace.{NamePlace}
-use Rattle.symbols.proofs.PartLaws.{length-part, part-present, same-length}
-use Rattle.symbols.proofs.LookLaws.{none-past, begins}
+use Rattle.symbols.proofs.PartLaws.{length-part}
+use Rattle.symbols.proofs.LookLaws.{is-end, is-short, none-past, begins}
 
 -- where no entry stands, none is left
 pub none-done : {t : List ℕ} {at end : ℕ} → EntryIs t at end Entry.Done → entriesAt t at end ≡ []
@@ -27,6 +26,14 @@ none-done h = ap entriesRead (h .reads)
 pub none-broken : {t : List ℕ} {at end : ℕ} → EntryIs t at end Entry.Broken → entriesAt t at end ≡ []
 unfolding entriesRead
 none-broken h = ap entriesRead (h .reads)
+
+-- nor where less is left than the head of an entry
+pub none-near : (t : List ℕ) (at end : ℕ) → end < at + 4 → entriesAt t at end ≡ []
+none-near t at end h = by (min (end - at) (length t - at)) refl
+  where
+    by : (left : ℕ) → left ≡ min (end - at) (length t - at) → entriesAt t at end ≡ []
+    by zero e = none-done (is-end t at end zero e refl)
+    by (suc n) e = none-broken (is-short t at end (suc n) e (omega arith) (omega arith))
 
 pub none-named : (f : ℕ) (w : Name) (es : List NameEntry) → es ≡ [] → Found.Missing ≡ firstNamed f w es
 unfolding firstNamed
@@ -62,33 +69,13 @@ module _ {t : List ℕ} {at end s n past : ℕ} (h : EntryIs t at end (Entry.Nam
   long = length-part t (at + 4) (past - (at + 4)) ∙ omega (arith, h .within)
 
   module _ (f : ℕ) (w : Name) where
-    skip : isNamed f w (nameEntry s n (between t (at + 4) past)) ≡ false → firstNamed f w (entriesAt t past end) ≡ firstNamed f w (entriesAt t at end)
+    pub past-named : isNamed f w (nameEntry s n (between t (at + 4) past)) ≡ false → firstNamed f w (entriesAt t past end) ≡ firstNamed f w (entriesAt t at end)
     unfolding firstNamed
-    skip q = sym (ap (firstNamed f w) ahead ∙ rw q)
+    past-named q = sym (ap (firstNamed f w) ahead ∙ rw q)
 
-    pub other-family : (g : ℕ) → g ≡ familyNumber s n → (g ≡ f → ⊥) → firstNamed f w (entriesAt t past end) ≡ firstNamed f w (entriesAt t at end)
-    other-family g e d = skip (rw (ne-eqb (familyNumber s n) f (λ q. d (e ∙ q))))
-
-    and-false : (q : Bool) → q && false ≡ false
-    and-false true = refl
-    and-false false = refl
-
-    pub other-name : same w (between t (at + 4) past) ≡ false → firstNamed f w (entriesAt t past end) ≡ firstNamed f w (entriesAt t at end)
-    other-name q = skip (rw q (and-false (eqb (familyNumber s n) f)))
-
-    pub other-length : (past - at - 4 ≡ length w → ⊥) → firstNamed f w (entriesAt t past end) ≡ firstNamed f w (entriesAt t at end)
-    other-length d = other-name (same-length w (between t (at + 4) past) (λ e. d (sym (e ∙ long))))
-
-    pub this-named : (g : ℕ) → g ≡ familyNumber s n → g ≡ f → same w (between t (at + 4) past) ≡ true → Found.At s n ≡ firstNamed f w (entriesAt t at end)
+    pub this-named : isNamed f w (nameEntry s n (between t (at + 4) past)) ≡ true → Found.At s n ≡ firstNamed f w (entriesAt t at end)
     unfolding firstNamed
-    this-named g e d q = sym (ap (firstNamed f w) ahead ∙ rw (eq-eqb (familyNumber s n) f (sym e ∙ d), q))
-
-  -- the bytes that are compared are the two names
-  pub compared : (x : List ℕ) (from len l : ℕ) (r : Bool) → l ≡ min len (length x - from) → past - at - 4 ≡ l → r ≡ same (part x from l) (part t (at + 4) l)
-      → same (part x from len) (between t (at + 4) past) ≡ r
-  compared x from len l r e d q =
-      let z : past - (at + 4) ≡ l = omega (arith, h .within) in
-      rw z (sym (q ∙ ap (λ (p : List ℕ). same p (part t (at + 4) l)) (ap (part x from) e ∙ part-present x from len)))
+    this-named q = sym (ap (firstNamed f w) ahead ∙ rw q)
 
   module _ (s′ n′ : ℕ) where
     passes : (eqb s s′ && eqb n n′) ≡ false → nameFrom s′ n′ past (entriesAt t past end) ≡ nameFrom s′ n′ at (entriesAt t at end)

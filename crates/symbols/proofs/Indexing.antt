@@ -1,10 +1,10 @@
 -- What a lookup in the index says of the entries: by the slot of the name, or by the walk. Assumes nothing.
-use mathlib.Core.Path.{_≡_, refl, sym, ap, ap₂, _∙_}
-use mathlib.Core.Bool.{Bool, true, false, _&&_, cond}
+use mathlib.Core.Path.{_≡_, refl, sym, ap, ap₂, subst, _∙_}
+use mathlib.Core.Bool.{Bool, true, false, cond, and-true, and-false}
 use mathlib.Core.List.{List, [], _∷_, _++_}
-use Prim.Native.Nat.{ℕ, min, _+_, _-_, _≤_, _<_}
+use Prim.Native.Nat.{ℕ, _+_, _-_, _<_}
 use native.Mathlib.Omega.{arith}
-use borrow.Author.Tests.{eq-eqb, ne-eqb, eqb-true}
+use borrow.Author.Tests.{eq-eqb, eqb-true}
 use lib.Dec.{eqb}
 use lib.ListN.{length}
 use Rattle.bitset.specs.Parts.{part}
@@ -17,12 +17,12 @@ use Rattle.symbols.specs.Index.{slotOf, otherSlot, slotIn, Pointed}
 use Rattle.symbols.specs.Symbols.{Looks, LooksOn}
 use Rattle.symbols.specs.declared.Entry.{Entry}
 use Rattle.symbols.specs.declared.Found.{Found}
-use Rattle.symbols.proofs.PartLaws.{length-part, part-join, part-present, same-length}
+use Rattle.symbols.proofs.PartLaws.{part-join}
 use Rattle.symbols.proofs.ReadBack.{entry-back}
 
 -- ---- names
 
-same-is : (v w : Name) → same v w ≡ true → v ≡ w
+pub same-is : (v w : Name) → same v w ≡ true → v ≡ w
 unfolding same
 same-is [] [] e = refl
 same-is [] (y ∷ w) e = absurd (let z : _≡_ {A = ℕ} 0 1 = cc in omega arith)
@@ -47,31 +47,12 @@ pub named-self : (e : NameEntry) → isNamed (familyNumber (e .sort) (e .number)
 named-self e = rw (eq-eqb (familyNumber (e .sort) (e .number)) (familyNumber (e .sort) (e .number)) refl, same-self (e .name))
 
 -- the answers of `is_named`
-module _ (t : List ℕ) (at s n past f : ℕ) (x : List ℕ) (from len : ℕ) where
-  abbrev here : NameEntry
-  here = nameEntry s n (between t (at + 4) past)
+module _ (s n f : ℕ) (w v : Name) where
+  pub same-named : same w v ≡ true → (g : ℕ) → g ≡ familyNumber s n → eqb g f ≡ isNamed f w (nameEntry s n v)
+  same-named q g e = rw (e, q) (sym (and-true (eqb (familyNumber s n) f)))
 
-  and-false : (q : Bool) → q && false ≡ false
-  and-false true = refl
-  and-false false = refl
-
-  pub other-family : (g : ℕ) → g ≡ familyNumber s n → (g ≡ f → ⊥) → false ≡ isNamed f (part x from len) here
-  other-family g e d = rw (ne-eqb (familyNumber s n) f (λ q. d (e ∙ q)))
-
-  module _ (ahead : at + 4 ≤ past) (stored : past ≤ length t) (l : ℕ) (present : l ≡ min len (length x - from)) where
-    long : length (between t (at + 4) past) ≡ past - at - 4
-    long = length-part t (at + 4) (past - (at + 4)) ∙ omega arith
-
-    pub other-length : (past - at - 4 ≡ l → ⊥) → false ≡ isNamed f (part x from len) here
-    other-length d =
-        rw (same-length (part x from len) (between t (at + 4) past) (λ e. d (sym long ∙ sym e ∙ length-part x from len ∙ sym present)))
-        (sym (and-false (eqb (familyNumber s n) f)))
-
-    pub compared : (g : ℕ) → g ≡ familyNumber s n → g ≡ f → past - at - 4 ≡ l → (r : Bool) → r ≡ same (part x from l) (part t (at + 4) l)
-        → r ≡ isNamed f (part x from len) here
-    compared g e d q r h =
-        let z : past - (at + 4) ≡ l = omega arith in
-        rw (z, eq-eqb (familyNumber s n) f (sym e ∙ d)) (h ∙ ap (λ (p : List ℕ). same p (part t (at + 4) l)) (ap (part x from) present ∙ part-present x from len))
+  pub other-named : same w v ≡ false → false ≡ isNamed f w (nameEntry s n v)
+  other-named q = rw q (sym (and-false (eqb (familyNumber s n) f)))
 
 -- ---- the answers of `hinted`
 
@@ -129,6 +110,10 @@ other-there p f w h = by (isNamed f w (p .is)) (sym (head-is p f w) ∙ h)
     by : (q : Bool) → cond q (Found.At (p .is .sort) (p .is .number)) Found.Missing ≡ Found.Missing → q ≡ false
     by true z = absurd (let y : _≡_ {A = ℕ} 0 1 = cc in omega arith)
     by false z = refl
+
+-- the name by other words
+pub looks-for : {t : List ℕ} {end f : ℕ} {v w : Name} {r : Found} → Looks t end f v r → v ≡ w → Looks t end f w r
+looks-for {t} {end} {f} {r = r} h e = subst (λ (n : Name). Looks t end f n r) e h
 
 less-one : (n : ℕ) → (n ≡ 0 → ⊥) → n ≡ n - 1 + 1
 less-one n h = omega arith

@@ -1,15 +1,16 @@
 -- The laws of parts of a list: their length, their first bytes, parts of parts, and how two of them are compared byte by byte.
 -- Assumes nothing.
-use mathlib.Core.Path.{_≡_, refl, ap, ap₂, _∙_}
-use mathlib.Core.Bool.{Bool, true, false, _&&_}
+use mathlib.Core.Path.{_≡_, refl, sym, ap, ap₂, _∙_}
+use mathlib.Core.Bool.{Bool, true, false, _&&_, and-true, and-false}
 use mathlib.Core.List.{List, [], _∷_, _++_}
-use Prim.Native.Nat.{ℕ, zero, suc, min, _+_, _-_, _≤_, _<_}
+use Prim.Native.Nat.{ℕ, zero, suc, min, _+_, _-_, _*_, _≤_, _<_}
 use native.Mathlib.Numerals.{add-one}
 use native.Mathlib.Omega.{arith}
-use native.Mathlib.Nat.{add-zero, sub-zero, zero-min, min-zero, suc-min-suc}
+use native.Mathlib.Nat.{sub-zero, zero-min, min-zero, suc-min-suc}
+use borrow.Author.Tests.{eq-eqb, ne-eqb, eqb-true}
 use lib.Dec.{eqb}
-use lib.ListN.{length, getD, take, drop, length-take, length-drop}
-use lib.Seq.{drop-cons, drop-drop, take-take, take-add, take-nil}
+use lib.ListN.{length, getD, take, drop, length-take, length-drop, drop-of-length-le}
+use lib.Seq.{drop-cons, drop-drop, take-take, take-add, take-nil, take-all}
 use Rattle.bitset.specs.Parts.{part}
 use Rattle.policy.specs.Basics.{same}
 
@@ -20,6 +21,10 @@ length-part t o w = simp (length-take, length-drop)
 pub part-none : (t : List ℕ) (o w : ℕ) → w ≡ 0 → part t o w ≡ []
 unfolding part
 part-none t o w h = rw h
+
+pub part-whole : (t : List ℕ) → part t 0 (length t) ≡ t
+unfolding part
+part-whole t = take-all (length t) t (omega arith)
 
 -- a part is cut where the list ends
 take-min : (n : ℕ) (l : List ℕ) → take (min n (length l)) l ≡ take n l
@@ -66,10 +71,6 @@ part-join t o v w = take-add v w (drop o t) ∙ rw (drop-drop v o t)
 
 -- ---- comparing
 
-and-false : (q : Bool) → q && false ≡ false
-and-false true = refl
-and-false false = refl
-
 pub same-length : (a b : List ℕ) → (length a ≡ length b → ⊥) → same a b ≡ false
 unfolding same
 same-length [] [] h = absurd (h refl)
@@ -77,22 +78,52 @@ same-length [] (b ∷ bs) h = refl
 same-length (a ∷ xs) [] h = refl
 same-length (a ∷ xs) (b ∷ bs) h = rw (same-length xs bs (λ e. h (ap suc e))) (and-false (eqb a b))
 
--- the turns of `same`: k bytes of l have been compared
-module _ (a : List ℕ) (i : ℕ) (b : List ℕ) (j : ℕ) where
-  abbrev pub rest : ℕ → ℕ → Bool
-  rest l k = same (part a (i + k) (l - k)) (part b (j + k) (l - k))
+-- what is left from the place before i on, where i is below the end
+pub drop-two : (t : List ℕ) (i : ℕ) → 0 < i → i < length t → drop (i - 1) t ≡ getD t (i - 1) 0 ∷ getD t i 0 ∷ drop (i + 2 - 1) t
+drop-two t i p h =
+    let e : suc (i - 1) ≡ i = omega arith in
+    let f : suc i ≡ i + 2 - 1 = omega arith in
+    drop-cons t (i - 1) 0 (omega arith) ∙ ap (λ (k : ℕ). getD t (i - 1) 0 ∷ drop k t) e
+    ∙ ap (λ (r : List ℕ). getD t (i - 1) 0 ∷ r) (drop-cons t i 0 h ∙ ap (λ (k : ℕ). getD t i 0 ∷ drop k t) f)
 
-  pub same-start : (len l : ℕ) → l ≡ min len (length a - i) → l ≡ min len (length b - j) → rest l 0 ≡ same (part a i len) (part b j len)
-  same-start len l e f =
-      rw (add-zero, add-zero, sub-zero)
-      (ap₂ same (ap (part a i) e ∙ part-present a i len) (ap (part b j) f ∙ part-present b j len))
+-- and where i is the end
+pub drop-last : (t : List ℕ) (i : ℕ) → 0 < i → i ≡ length t → drop (i - 1) t ≡ getD t (i - 1) 0 ∷ []
+drop-last t i p h =
+    drop-cons t (i - 1) 0 (omega arith) ∙ ap (λ (r : List ℕ). getD t (i - 1) 0 ∷ r) (drop-of-length-le t {i = suc (i - 1)} (omega arith))
 
-  pub same-turn : (l k : ℕ) → k < l → i + k < length a → j + k < length b → rest l k ≡ eqb (getD a (i + k) 0) (getD b (j + k) 0) && rest l (k + 1)
+-- the turns of `same_bytes`: the bytes before k - 1 have been compared
+module _ (a b : List ℕ) (k : ℕ) (positive : 0 < k) where
+  module _ (g : k < length a) (f : k < length b) {p q : ℕ}
+      (x : (p ≡ getD a (k - 1) 0 + 256 * getD a (k - 1 + 1) 0) × (getD a (k - 1) 0 < 256))
+      (y : (q ≡ getD b (k - 1) 0 + 256 * getD b (k - 1 + 1) 0) × (getD b (k - 1) 0 < 256)) where
+    back : k - 1 + 1 ≡ k
+    back = omega arith
+
+    by-pair : same (drop (k - 1) a) (drop (k - 1) b)
+        ≡ (eqb (getD a (k - 1) 0) (getD b (k - 1) 0) && (eqb (getD a k 0) (getD b k 0) && same (drop (k + 2 - 1) a) (drop (k + 2 - 1) b)))
+    unfolding same
+    by-pair = ap₂ same (drop-two a k positive g) (drop-two b k positive f)
+
+    pub pair-same : p ≡ q → same (drop (k + 2 - 1) a) (drop (k + 2 - 1) b) ≡ same (drop (k - 1) a) (drop (k - 1) b)
+    pair-same e =
+        let u : p ≡ getD a (k - 1) 0 + 256 * getD a k 0 = x .0 ∙ ap (λ (j : ℕ). getD a (k - 1) 0 + 256 * getD a j 0) back in
+        let v : q ≡ getD b (k - 1) 0 + 256 * getD b k 0 = y .0 ∙ ap (λ (j : ℕ). getD b (k - 1) 0 + 256 * getD b j 0) back in
+        sym (by-pair ∙ rw (eq-eqb (getD a (k - 1) 0) (getD b (k - 1) 0) (omega (arith, u, v, x .1, y .1)), eq-eqb (getD a k 0) (getD b k 0) (omega (arith, u, v, x .1, y .1))))
+
+    pub pair-other : (p ≡ q → ⊥) → false ≡ same (drop (k - 1) a) (drop (k - 1) b)
+    pair-other d = sym (by-pair ∙ by (eqb (getD a (k - 1) 0) (getD b (k - 1) 0)) refl)
+      where
+        by : (r : Bool) → eqb (getD a (k - 1) 0) (getD b (k - 1) 0) ≡ r
+            → (r && (eqb (getD a k 0) (getD b k 0) && same (drop (k + 2 - 1) a) (drop (k + 2 - 1) b))) ≡ false
+        by true e =
+            let low = eqb-true (getD a (k - 1) 0) (getD b (k - 1) 0) e in
+            rw (ne-eqb (getD a k 0) (getD b k 0) (λ z. d (x .0 ∙ ap₂ (λ (l h : ℕ). l + 256 * h) low (ap (λ (j : ℕ). getD a j 0) back ∙ z ∙ ap (λ (j : ℕ). getD b j 0) (sym back)) ∙ sym (y .0))))
+        by false e = refl
+
+  pub last-same : k ≡ length a → k ≡ length b → eqb (getD a (k - 1) 0) (getD b (k - 1) 0) ≡ same (drop (k - 1) a) (drop (k - 1) b)
   unfolding same
-  same-turn l k h g f =
-      ap₂ same (part-cons a (i + k) (l - k) (omega arith) g) (part-cons b (j + k) (l - k) (omega arith) f)
-      ∙ ap (λ (q : Bool). eqb (getD a (i + k) 0) (getD b (j + k) 0) && q) (ap₂ same (ap₂ (part a) (omega arith) (omega arith)) (ap₂ (part b) (omega arith) (omega arith)))
+  last-same g f = sym (ap₂ same (drop-last a k positive g) (drop-last b k positive f) ∙ and-true (eqb (getD a (k - 1) 0) (getD b (k - 1) 0)))
 
-  pub same-end : (l k : ℕ) → l ≤ k → rest l k ≡ true
+  pub none-left : length a < k → length b < k → true ≡ same (drop (k - 1) a) (drop (k - 1) b)
   unfolding same
-  same-end l k h = ap₂ same (part-none a (i + k) (l - k) (omega arith)) (part-none b (j + k) (l - k) (omega arith))
+  none-left g f = sym (ap₂ same (drop-of-length-le a {i = k - 1} (omega arith)) (drop-of-length-le b {i = k - 1} (omega arith)))

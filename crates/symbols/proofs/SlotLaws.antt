@@ -3,20 +3,20 @@ use mathlib.Core.Path.{_≡_, refl, sym, ap, ap₂, subst, _∙_}
 use mathlib.Core.Bool.{Bool, true, false}
 use mathlib.Core.Logic.{_⊎_, inl, inr}
 use mathlib.Core.List.{List, [], _∷_}
-use Prim.Native.Nat.{ℕ, suc, min, _+_, _-_, _*_, _/_, _%_, _≤_, _<_}
-use native.Mathlib.Nat.{add-zero, sub-zero}
+use Prim.Native.Nat.{ℕ, suc, _+_, _-_, _*_, _/_, _%_, _≤_, _<_}
+use native.Mathlib.Nat.{add-mul-mod-self-left}
 use native.Mathlib.Decide.{decLt}
 use native.Mathlib.Omega.{arith}
 use borrow.Author.Tests.{eqb-true, eqb-false}
 use lib.Dec.{eqb}
-use lib.ListN.{length, getD, set}
+use lib.ListN.{length, getD, drop, set, drop-of-length-le}
 use lib.Seq.{sets}
 use Rattle.bitset.specs.Parts.{part, put}
 use Rattle.bitset.proofs.PartLaws.{length-put, part-put-same, part-put-before, part-put-after}
 use Rattle.policy.specs.Basics.{Name, unle}
 use Rattle.symbols.specs.Index.{slotFrom, slotOf, otherSlot, slotIn, Stored, Noted}
 use Rattle.symbols.proofs.AppendLaws.{put-sets}
-use Rattle.symbols.proofs.PartLaws.{part-none, part-cons, part-present}
+use Rattle.symbols.proofs.PartLaws.{part-none, part-cons, drop-two, drop-last}
 
 -- ---- the slot of a name
 
@@ -29,22 +29,29 @@ pub slot-below : (f : ℕ) (w : Name) → slotOf f w < 16384
 unfolding slotOf
 slot-below f w = slot-from-below w (f % 16384) (omega arith)
 
--- the turns of `slot_of`: i bytes of l are in the slot so far
-module _ (x : List ℕ) (from : ℕ) where
-  pub slot-start : (f len l : ℕ) → l ≡ min len (length x - from) → slotFrom (part x (from + 0) (l - 0)) (f % 16384) ≡ slotOf f (part x from len)
-  unfolding slotOf
-  slot-start f len l e = rw (add-zero, sub-zero) (ap (λ (w : Name). slotFrom w (f % 16384)) (ap (part x from) e ∙ part-present x from len))
+-- the turns of `slot_of`: the bytes before i - 1 are in the slot so far
+pub slot-start : (f : ℕ) (w : Name) → slotFrom (drop 0 w) (f % 16384) ≡ slotOf f w
+unfolding slotOf
+slot-start f w = refl
 
-  pub slot-turn : (l i s : ℕ) → i < l → from + i < length x
-      → slotFrom (part x (from + (i + 1)) (l - (i + 1))) ((s * 31 + getD x (from + i) 0) % 16384) ≡ slotFrom (part x (from + i) (l - i)) s
-  unfolding slotFrom
-  slot-turn l i s h g =
-      sym (ap (λ (w : Name). slotFrom w s) (part-cons x (from + i) (l - i) (omega arith) g)
-      ∙ ap (λ (w : Name). slotFrom w ((s * 31 + getD x (from + i) 0) % 16384)) (ap₂ (part x) (omega arith) (omega arith)))
+two-turns : (s a b : ℕ) → ((s * 31 + a) % 16384 * 31 + b) % 16384 ≡ (s * 961 + a * 31 + b) % 16384
+two-turns s a b =
+    let n : ℕ = (s * 31 + a) / 16384 in
+    let e : (s * 31 + a) % 16384 * 31 + b + 16384 * (31 * n) ≡ s * 961 + a * 31 + b = omega arith in
+    sym (add-mul-mod-self-left ((s * 31 + a) % 16384 * 31 + b) 16384 (31 * n)) ∙ ap (λ (k : ℕ). k % 16384) e
 
-  pub slot-end : (l i s : ℕ) → l ≤ i → slotFrom (part x (from + i) (l - i)) s ≡ s
+module _ (w : Name) (i : ℕ) (positive : 0 < i) (s : ℕ) where
+  pub slot-pair : i < length w → slotFrom (drop (i + 2 - 1) w) ((s * 961 + getD w (i - 1) 0 * 31 + getD w i 0) % 16384) ≡ slotFrom (drop (i - 1) w) s
   unfolding slotFrom
-  slot-end l i s h = ap (λ (w : Name). slotFrom w s) (part-none x (from + i) (l - i) (omega arith))
+  slot-pair h = sym (ap (λ (l : Name). slotFrom l s) (drop-two w i positive h) ∙ ap (slotFrom (drop (i + 2 - 1) w)) (two-turns s (getD w (i - 1) 0) (getD w i 0)))
+
+  pub slot-last : i ≡ length w → (s * 31 + getD w (i - 1) 0) % 16384 ≡ slotFrom (drop (i - 1) w) s
+  unfolding slotFrom
+  slot-last h = sym (ap (λ (l : Name). slotFrom l s) (drop-last w i positive h))
+
+  pub slot-end : length w < i → s ≡ slotFrom (drop (i - 1) w) s
+  unfolding slotFrom
+  slot-end h = sym (ap (λ (l : Name). slotFrom l s) (drop-of-length-le w {i = i - 1} (omega arith)))
 
 -- ---- what a slot holds
 

@@ -3,8 +3,8 @@
 // Parts that reach past the end of a slice are cut there, so that the searches ask nothing of their caller; what writes asks for room. Behind the
 // room for the entries the compiler's memory has an index of them, by which `lookup` finds an entry mostly without a walk.
 ghost use mathlib.Core.Path.{_≡_};
-ghost use Prim.Native.Nat.{ℕ, min, _+_, _-_, _<_, _≤_};
-ghost use lib.ListN.{length};
+ghost use Prim.Native.Nat.{ℕ, min, _+_, _-_, _*_, _<_, _≤_};
+ghost use lib.ListN.{length, getD};
 ghost use Rattle.bitset.specs.Parts.{part, put};
 ghost use Rattle.policy.specs.Basics as basics;
 ghost use Rattle.policy.specs.Encode.{nameEntry, entryBytes};
@@ -42,20 +42,6 @@ fn wide(x: u8) -> usize
     ensures { λ r. ⌜ (r ≡ x) × (r < 256) ⌝ }
 {
     x as usize
-}
-
-// How many bytes a part of len bytes has that starts at a place of a slice of so many bytes.
-fn present(total: usize, from: usize, len: usize) -> usize
-    ensures { λ r. ⌜ r ≡ min len (total - from) ⌝ }
-{
-    if total <= from {
-        return 0;
-    }
-    let left = total - from;
-    if left < len {
-        return left;
-    }
-    len
 }
 
 // The lesser of two places.
@@ -105,22 +91,42 @@ pub fn look(table: &[u8], at: usize, end: usize) -> Entry
     entry_at(table, at, last)
 }
 
+// The two bytes from a place on as one number.
+fn pair(bytes: &[u8], at: usize) -> usize
+    requires { ⌜ at + 1 < length (now bytes) ⌝ }
+    ensures { λ r. ⌜ (r ≡ getD (now (bytes .entry)) at 0 + 256 * getD (now (bytes .entry)) (at + 1) 0) × (getD (now (bytes .entry)) at 0 < 256) ⌝ }
+{
+    let low = wide(bytes[at]);
+    let high = wide(bytes[at + 1]);
+    low + 256 * high
+}
+
+// Whether two slices hold the same bytes. Lengths are compared first. A turn compares two bytes, since most names are short; k is the place of
+// the second.
+fn same_bytes(a: &[u8], b: &[u8]) -> bool
+    ensures { λ r. ⌜ r ≡ basics.same (now (a .entry)) (now (b .entry)) ⌝ }
+{
+    if a.len() != b.len() {
+        return false;
+    }
+    let mut k: usize = 1;
+    while k < a.len() {
+        if pair(a, k - 1) != pair(b, k - 1) {
+            return false;
+        }
+        k += 2;
+    }
+    if k == a.len() {
+        return a[k - 1] == b[k - 1];
+    }
+    true
+}
+
 // Whether the len bytes of a at i and of b at j are the same.
 pub fn same(a: &[u8], i: usize, b: &[u8], j: usize, len: usize) -> bool
     ensures { λ r. ⌜ r ≡ basics.same (part (now (a .entry)) i len) (part (now (b .entry)) j len) ⌝ }
 {
-    let long = present(a.len(), i, len);
-    if present(b.len(), j, len) != long {
-        return false;
-    }
-    let mut k: usize = 0;
-    while k < long {
-        if a[i + k] != b[j + k] {
-            return false;
-        }
-        k += 1;
-    }
-    true
+    same_bytes(bitset::part(a, i, len), bitset::part(b, j, len))
 }
 
 // The number of the family that an entry's name belongs to.
@@ -139,7 +145,27 @@ pub fn family_of(sort: usize, number: usize) -> usize
     4 + number / policy::Permission::MAX
 }
 
-// The first entry of a family whose name is the len bytes of text from a place on. Lengths are compared first, then bytes.
+// Whether the entry at a place has a family and a name.
+fn is_named(
+    table: &[u8],
+    at: usize,
+    sort: usize,
+    number: usize,
+    past: usize,
+    family: usize,
+    name: &[u8],
+) -> bool
+    requires { ⌜ (at + 4 ≤ past) × (past ≤ length (now table)) ⌝ }
+    ensures { λ r. ⌜ r ≡ isNamed family (now (name .entry)) (nameEntry sort number (between (now (table .entry)) (at + 4) past)) ⌝ }
+{
+    let start = at + 4;
+    if same_bytes(name, &table[start..past]) {
+        return family_of(sort, number) == family;
+    }
+    false
+}
+
+// The first entry of a family whose name is the len bytes of text from a place on.
 pub fn find(
     table: &[u8],
     start: usize,
@@ -151,23 +177,14 @@ pub fn find(
 ) -> Found
     ensures { λ r. ⌜ r ≡ firstNamed family (part (now (text .entry)) from len) (entriesAt (now (table .entry)) start end) ⌝ }
 {
-    let long = present(text.len(), from, len);
+    let name = bitset::part(text, from, len);
     let last = lesser(end, table.len());
     let mut at = lesser(start, last);
     loop {
         let k = entry_at(table, at, last);
         match k {
             Entry::Named { sort, number, past } => {
-                let size = past - at - 4;
-                if size != long {
-                    at = past;
-                    continue;
-                }
-                if family_of(sort, number) != family {
-                    at = past;
-                    continue;
-                }
-                if same(text, from, table, at + 4, long) {
+                if is_named(table, at, sort, number, past, family, name) {
                     return Found::At { sort, number };
                 }
                 at = past;
@@ -203,12 +220,13 @@ pub fn append(
     requires { ⌜ Room (length (now table)) end sort len ⌝ }
     ensures { λ r. ⌜ Appended (now (table .entry)) (now (table .exit)) end (nameEntry sort number (part (now (text .entry)) from len)) r ⌝ }
 {
-    let long = present(text.len(), from, len);
+    let name = bitset::part(text, from, len);
+    let long = name.len();
     table[end] = sort as u8;
     table[end + 1] = (number % 256) as u8;
     table[end + 2] = (number / 256 % 256) as u8;
     table[end + 3] = long as u8;
-    copy(table, end + 4, text, from, long);
+    copy(table, end + 4, name, 0, long);
     end + 4 + long
 }
 
@@ -282,16 +300,18 @@ const OTHER: usize = 385;
 // The memory of symbols with an index.
 pub const SYMBOL_BYTES: usize = 186_264;
 
-// The slot of a name of a family.
-fn slot_of(family: usize, text: &[u8], from: usize, len: usize) -> usize
-    ensures { λ r. ⌜ (r ≡ slotOf family (part (now (text .entry)) from len)) × (r < 16384) ⌝ }
+// The slot of a name of a family. A turn takes two bytes, i being the place of the second; 961 is 31 times 31.
+fn slot_of(family: usize, name: &[u8]) -> usize
+    ensures { λ r. ⌜ (r ≡ slotOf family (now (name .entry))) × (r < 16384) ⌝ }
 {
-    let long = present(text.len(), from, len);
     let mut slot = family % SLOTS;
-    let mut i: usize = 0;
-    while i < long {
-        slot = (slot * 31 + wide(text[from + i])) % SLOTS;
-        i += 1;
+    let mut i: usize = 1;
+    while i < name.len() {
+        slot = (slot * 961 + wide(name[i - 1]) * 31 + wide(name[i])) % SLOTS;
+        i += 2;
+    }
+    if i == name.len() {
+        return (slot * 31 + wide(name[i - 1])) % SLOTS;
     }
     slot
 }
@@ -316,47 +336,18 @@ fn set_slot(symbols: &mut [u8], slot: usize, number: usize)
     symbols[at + 2] = (number / 65536 % 256) as u8;
 }
 
-// Whether the entry at a place has a family and a name.
-fn is_named(
-    table: &[u8],
-    at: usize,
-    sort: usize,
-    number: usize,
-    past: usize,
-    family: usize,
-    text: &[u8],
-    from: usize,
-    len: usize,
-) -> bool
-    requires { ⌜ (at + 4 ≤ past) × (past ≤ length (now table)) ⌝ }
-    ensures { λ r. ⌜ r ≡ isNamed family (part (now (text .entry)) from len) (nameEntry sort number (between (now (table .entry)) (at + 4) past)) ⌝ }
-{
-    if family_of(sort, number) != family {
-        return false;
-    }
-    let long = present(text.len(), from, len);
-    if past - at - 4 != long {
-        return false;
-    }
-    same(text, from, table, at + 4, long)
-}
-
 // The entry at a place, if it has a family and a name.
-fn hinted(
-    symbols: &[u8],
-    at: usize,
-    end: usize,
-    family: usize,
-    text: &[u8],
-    from: usize,
-    len: usize,
-) -> Found
-    ensures { λ r. ⌜ r ≡ headNamed family (part (now (text .entry)) from len) (entriesAt (now (symbols .entry)) at end) ⌝ }
+fn hinted(symbols: &[u8], at: usize, end: usize, family: usize, name: &[u8]) -> Found
+    requires { ⌜ (at < 16777216) × (end ≤ length (now symbols)) ⌝ }
+    ensures { λ r. ⌜ r ≡ headNamed family (now (name .entry)) (entriesAt (now (symbols .entry)) at end) ⌝ }
 {
-    let k = look(symbols, at, end);
+    if end < at + 4 {
+        return Found::Missing;
+    }
+    let k = entry_at(symbols, at, end);
     match k {
         Entry::Named { sort, number, past } => {
-            if is_named(symbols, at, sort, number, past, family, text, from, len) {
+            if is_named(symbols, at, sort, number, past, family, name) {
                 return Found::At { sort, number };
             }
             Found::Missing
@@ -366,32 +357,58 @@ fn hinted(
     }
 }
 
+// The lookup by the walk. The answer is built anew from the one of `find`: what another function writes lies in memory, and the answers of
+// the index would be copied through that memory too.
+fn walked(symbols: &[u8], end: usize, family: usize, name: &[u8]) -> Found
+    ensures { λ r. ⌜ r ≡ firstNamed family (now (name .entry)) (entriesAt (now (symbols .entry)) 0 end) ⌝ }
+{
+    let found = find(symbols, 0, end, family, name, 0, name.len());
+    match found {
+        Found::At { sort, number } => Found::At { sort, number },
+        Found::Missing => Found::Missing,
+    }
+}
+
 // The lookup of a name whose slot holds another entry: by its other slot, and else by the walk.
-fn look_on(
-    symbols: &[u8],
-    end: usize,
-    slot: usize,
-    family: usize,
-    text: &[u8],
-    from: usize,
-    len: usize,
-) -> Found
-    requires { ⌜ (slot < 16384) × (186264 ≤ length (now symbols)) ⌝ }
-    ensures { λ r. ⌜ LooksOn (now (symbols .entry)) end slot family (part (now (text .entry)) from len) r ⌝ }
+fn look_on(symbols: &[u8], end: usize, slot: usize, family: usize, name: &[u8]) -> Found
+    requires { ⌜ (slot < 16384) × (186264 ≤ length (now symbols)) × (end ≤ 137088) ⌝ }
+    ensures { λ r. ⌜ LooksOn (now (symbols .entry)) end slot family (now (name .entry)) r ⌝ }
 {
     let other = slot_in(symbols, (slot + OTHER) % SLOTS);
     if other == 0 {
         return Found::Missing;
     }
-    let found = hinted(symbols, other - 1, end, family, text, from, len);
+    let found = hinted(symbols, other - 1, end, family, name);
     match found {
         Found::At { sort, number } => Found::At { sort, number },
-        Found::Missing => find(symbols, 0, end, family, text, from, len),
+        Found::Missing => walked(symbols, end, family, name),
     }
 }
 
 // The first entry of a family with a name, among the entries from place 0 on: the one that its slot points at, if that has the family and the
-// name.
+// name. Memory without an index is walked.
+fn lookup_name(symbols: &[u8], end: usize, family: usize, name: &[u8]) -> Found
+    ensures { λ r. ⌜ Looks (now (symbols .entry)) end family (now (name .entry)) r ⌝ }
+{
+    if symbols.len() < SYMBOL_BYTES {
+        return walked(symbols, end, family, name);
+    }
+    if NAME_BYTES < end {
+        return walked(symbols, end, family, name);
+    }
+    let slot = slot_of(family, name);
+    let hint = slot_in(symbols, slot);
+    if hint == 0 {
+        return Found::Missing;
+    }
+    let found = hinted(symbols, hint - 1, end, family, name);
+    match found {
+        Found::At { sort, number } => Found::At { sort, number },
+        Found::Missing => look_on(symbols, end, slot, family, name),
+    }
+}
+
+// The first entry of a family whose name is the len bytes of text from a place on, among the entries from place 0 on: found by the index.
 pub fn lookup(
     symbols: &[u8],
     end: usize,
@@ -402,19 +419,7 @@ pub fn lookup(
 ) -> Found
     ensures { λ r. ⌜ Looks (now (symbols .entry)) end family (part (now (text .entry)) from len) r ⌝ }
 {
-    if symbols.len() < SYMBOL_BYTES {
-        return find(symbols, 0, end, family, text, from, len);
-    }
-    let slot = slot_of(family, text, from, len);
-    let hint = slot_in(symbols, slot);
-    if hint == 0 {
-        return Found::Missing;
-    }
-    let found = hinted(symbols, hint - 1, end, family, text, from, len);
-    match found {
-        Found::At { sort, number } => Found::At { sort, number },
-        Found::Missing => look_on(symbols, end, slot, family, text, from, len),
-    }
+    lookup_name(symbols, end, family, bitset::part(text, from, len))
 }
 
 // Notes that an entry of a family with a name starts at a place: in the name's slot, or else in its other slot, if one of them is empty.
@@ -422,7 +427,7 @@ pub fn note(symbols: &mut [u8], at: usize, family: usize, text: &[u8], from: usi
     requires { ⌜ (at < 137088) × (186264 ≤ length (now symbols)) ⌝ }
     ensures { λ _. ⌜ Noted (now (symbols .entry)) (now (symbols .exit)) (slotOf family (part (now (text .entry)) from len)) at ⌝ }
 {
-    let slot = slot_of(family, text, from, len);
+    let slot = slot_of(family, bitset::part(text, from, len));
     if slot_in(symbols, slot) == 0 {
         set_slot(symbols, slot, at + 1);
         return;

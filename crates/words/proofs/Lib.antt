@@ -1,3 +1,2 @@
-pub mod ByLength
+pub mod KeyLaws
 pub mod Meaning
-pub mod Table

@@ -16,7 +16,11 @@ use Rattle.policy.specs.Basics.{Name, same, any, every, isIn, Under, lookup}
 use Rattle.policy.specs.Words.{reserved, isReserved, keywordOf, setWord, expressionWord, opOf, componentOf}
 use Rattle.policy.proofs.Lists.{both-true, neither, any-append}
 use Rattle.words.specs.Numbers.{keywords, words, numberIn, numberOf, wordOf}
-use Rattle.words.proofs.Table.{counted}
+
+-- how many there are
+counted : length words ≡ 38
+unfolding reserved keywords words
+counted = refl
 
 -- ---- from a word to its number
 
@@ -32,7 +36,7 @@ same-is (x ∷ v) (y ∷ w) e =
     cc
 
 -- what holds at 0 if w is none of them, and at the number of each of them that is w, holds at the number of w
-pub by-cases : (P : ℕ → Type 0) (xs : List Name) (w : Name) (n : ℕ) → (isIn w xs ≡ false → P 0)
+by-cases : (P : ℕ → Type 0) (xs : List Name) (w : Name) (n : ℕ) → (isIn w xs ≡ false → P 0)
     → ((j : ℕ) → j < length xs → w ≡ getD xs j [] → P (n + j)) → P (numberIn xs w n)
 unfolding numberIn isIn any
 by-cases P [] w n a b = a refl

@@ -1,11 +1,11 @@
-// The keywords and the reserved words, by their numbers: one table and one loop.
+// The keywords and the reserved words, by their numbers.
 ghost use mathlib.Core.Path.{_≡_};
 ghost use mathlib.Core.Bool.{true, not};
-ghost use Prim.Native.Nat.{_≤_, _<_, _+_, _-_};
-ghost use lib.ListN.{length, getD, take, drop};
+ghost use Prim.Native.Nat.{_≤_, _<_, _+_};
+ghost use lib.ListN.{length, take, drop};
 ghost use Rattle.policy.specs.Words.{isReserved};
 ghost use Rattle.words.specs.Numbers.{numberOf, wordOf};
-ghost use Rattle.words.specs.Order.{letters, numbers, Is, stretchOf, leads, numberFrom, listed};
+ghost use Rattle.words.specs.Keys.{twoAt, threeAt, fourAt, fiveAt, sixAt, eightAt, numberBy};
 
 // The number of a word: its place in the table of words, from 1.
 pub struct Word;
@@ -90,160 +90,323 @@ impl Word {
 
     pub const CONSTRAIN: usize = 38;
 
-    // How many words there are.
-    pub const COUNT: usize = 38;
-
     // The last of the reserved words, which come first.
     pub const LAST_RESERVED: usize = 23;
 }
 
-// How many letters the words have, all together.
-const SIZE: usize = 211;
+// Letters of the words as numbers, little endian, so that up to eight are compared at once.
+struct Letters;
 
-// The words, letter by letter: the shorter first, those of one length in the order of their numbers. So a word is compared only with those of
-// its own length, and most names with few or none.
-const LETTERS: [u8; SIZE] = *b"\
-    oreq\
-    u1u2u3r1r2r3t1t2t3l1l2h1h2\
-    allandxornotneqdom\
-    userroletype\
-    dombyclass\
-    incomp\
-    userroleroletype\
-    roleallowconstrain\
-    userattributeroleattributetypeattribute\
-    roletransition\
-    userattributesetroleattributesettypeattributeset";
+impl Letters {
+    // What a number is multiplied by if its letters stand behind four others.
+    const FOUR_ON: u64 = 4_294_967_296;
 
-// The numbers of the words in that order.
-const NUMBERS: [u8; Word::COUNT] = [
-    Word::OR as u8,
-    Word::EQ as u8,
-    Word::U1 as u8,
-    Word::U2 as u8,
-    Word::U3 as u8,
-    Word::R1 as u8,
-    Word::R2 as u8,
-    Word::R3 as u8,
-    Word::T1 as u8,
-    Word::T2 as u8,
-    Word::T3 as u8,
-    Word::L1 as u8,
-    Word::L2 as u8,
-    Word::H1 as u8,
-    Word::H2 as u8,
-    Word::ALL as u8,
-    Word::AND as u8,
-    Word::XOR as u8,
-    Word::NOT as u8,
-    Word::NEQ as u8,
-    Word::DOM as u8,
-    Word::USER as u8,
-    Word::ROLE as u8,
-    Word::TYPE as u8,
-    Word::DOMBY as u8,
-    Word::CLASS as u8,
-    Word::INCOMP as u8,
-    Word::USERROLE as u8,
-    Word::ROLETYPE as u8,
-    Word::ROLEALLOW as u8,
-    Word::CONSTRAIN as u8,
-    Word::USERATTRIBUTE as u8,
-    Word::ROLEATTRIBUTE as u8,
-    Word::TYPEATTRIBUTE as u8,
-    Word::ROLETRANSITION as u8,
-    Word::USERATTRIBUTESET as u8,
-    Word::ROLEATTRIBUTESET as u8,
-    Word::TYPEATTRIBUTESET as u8,
-];
+    // Up to four letters.
+    const OR: u64 = b'o' as u64 + 256 * (b'r' as u64);
 
-// The words of one length: where their letters begin, the place of the first of them in the order, and the place past the last.
-struct Stretch(usize, usize, usize);
+    const EQ: u64 = b'e' as u64 + 256 * (b'q' as u64);
 
-// The words of a length.
-fn stretch_of(len: usize) -> Stretch
-    ensures { λ r. ⌜ Is (stretchOf len) (r .0) (r .1) (r .2) ⌝ }
+    const U1: u64 = b'u' as u64 + 256 * (b'1' as u64);
+
+    const U2: u64 = b'u' as u64 + 256 * (b'2' as u64);
+
+    const U3: u64 = b'u' as u64 + 256 * (b'3' as u64);
+
+    const R1: u64 = b'r' as u64 + 256 * (b'1' as u64);
+
+    const R2: u64 = b'r' as u64 + 256 * (b'2' as u64);
+
+    const R3: u64 = b'r' as u64 + 256 * (b'3' as u64);
+
+    const T1: u64 = b't' as u64 + 256 * (b'1' as u64);
+
+    const T2: u64 = b't' as u64 + 256 * (b'2' as u64);
+
+    const T3: u64 = b't' as u64 + 256 * (b'3' as u64);
+
+    const L1: u64 = b'l' as u64 + 256 * (b'1' as u64);
+
+    const L2: u64 = b'l' as u64 + 256 * (b'2' as u64);
+
+    const H1: u64 = b'h' as u64 + 256 * (b'1' as u64);
+
+    const H2: u64 = b'h' as u64 + 256 * (b'2' as u64);
+
+    const ALL: u64 = b'a' as u64 + 256 * (b'l' as u64 + 256 * (b'l' as u64));
+
+    const AND: u64 = b'a' as u64 + 256 * (b'n' as u64 + 256 * (b'd' as u64));
+
+    const XOR: u64 = b'x' as u64 + 256 * (b'o' as u64 + 256 * (b'r' as u64));
+
+    const NOT: u64 = b'n' as u64 + 256 * (b'o' as u64 + 256 * (b't' as u64));
+
+    const NEQ: u64 = b'n' as u64 + 256 * (b'e' as u64 + 256 * (b'q' as u64));
+
+    const DOM: u64 = b'd' as u64 + 256 * (b'o' as u64 + 256 * (b'm' as u64));
+
+    const USER: u64 = b'u' as u64 + 256 * (b's' as u64 + 256 * (b'e' as u64 + 256 * (b'r' as u64)));
+
+    const ROLE: u64 = b'r' as u64 + 256 * (b'o' as u64 + 256 * (b'l' as u64 + 256 * (b'e' as u64)));
+
+    const TYPE: u64 = b't' as u64 + 256 * (b'y' as u64 + 256 * (b'p' as u64 + 256 * (b'e' as u64)));
+
+    const DOMB: u64 = b'd' as u64 + 256 * (b'o' as u64 + 256 * (b'm' as u64 + 256 * (b'b' as u64)));
+
+    const CLAS: u64 = b'c' as u64 + 256 * (b'l' as u64 + 256 * (b'a' as u64 + 256 * (b's' as u64)));
+
+    const INCO: u64 = b'i' as u64 + 256 * (b'n' as u64 + 256 * (b'c' as u64 + 256 * (b'o' as u64)));
+
+    const ATTR: u64 = b'a' as u64 + 256 * (b't' as u64 + 256 * (b't' as u64 + 256 * (b'r' as u64)));
+
+    const IBUT: u64 = b'i' as u64 + 256 * (b'b' as u64 + 256 * (b'u' as u64 + 256 * (b't' as u64)));
+
+    const ALLO: u64 = b'a' as u64 + 256 * (b'l' as u64 + 256 * (b'l' as u64 + 256 * (b'o' as u64)));
+
+    const CONS: u64 = b'c' as u64 + 256 * (b'o' as u64 + 256 * (b'n' as u64 + 256 * (b's' as u64)));
+
+    const TRAI: u64 = b't' as u64 + 256 * (b'r' as u64 + 256 * (b'a' as u64 + 256 * (b'i' as u64)));
+
+    const TRAN: u64 = b't' as u64 + 256 * (b'r' as u64 + 256 * (b'a' as u64 + 256 * (b'n' as u64)));
+
+    const SITI: u64 = b's' as u64 + 256 * (b'i' as u64 + 256 * (b't' as u64 + 256 * (b'i' as u64)));
+
+    const ESET: u64 = b'e' as u64 + 256 * (b's' as u64 + 256 * (b'e' as u64 + 256 * (b't' as u64)));
+
+    // More letters: four, and those behind them.
+    const DOMBY: u64 = Letters::DOMB + Letters::FOUR_ON * (b'y' as u64);
+
+    const CLASS: u64 = Letters::CLAS + Letters::FOUR_ON * (b's' as u64);
+
+    const INCOMP: u64 = Letters::INCO + Letters::FOUR_ON * (b'm' as u64 + 256 * (b'p' as u64));
+
+    const USERROLE: u64 = Letters::USER + Letters::FOUR_ON * Letters::ROLE;
+
+    const ROLETYPE: u64 = Letters::ROLE + Letters::FOUR_ON * Letters::TYPE;
+
+    const ROLEALLO: u64 = Letters::ROLE + Letters::FOUR_ON * Letters::ALLO;
+
+    const CONSTRAI: u64 = Letters::CONS + Letters::FOUR_ON * Letters::TRAI;
+
+    const USERATTR: u64 = Letters::USER + Letters::FOUR_ON * Letters::ATTR;
+
+    const ROLEATTR: u64 = Letters::ROLE + Letters::FOUR_ON * Letters::ATTR;
+
+    const TYPEATTR: u64 = Letters::TYPE + Letters::FOUR_ON * Letters::ATTR;
+
+    const ROLETRAN: u64 = Letters::ROLE + Letters::FOUR_ON * Letters::TRAN;
+
+    const IBUTE: u64 = Letters::IBUT + Letters::FOUR_ON * (b'e' as u64);
+
+    const IBUTESET: u64 = Letters::IBUT + Letters::FOUR_ON * Letters::ESET;
+
+    const SITION: u64 = Letters::SITI + Letters::FOUR_ON * (b'o' as u64 + 256 * (b'n' as u64));
+}
+
+fn wide(x: u8) -> u64
+    ensures { λ r. ⌜ (r ≡ x) × (r < 256) ⌝ }
 {
-    match len {
-        2 => Stretch(0, 0, 15),
-        3 => Stretch(30, 15, 21),
-        4 => Stretch(48, 21, 24),
-        5 => Stretch(60, 24, 26),
-        6 => Stretch(70, 26, 27),
-        8 => Stretch(76, 27, 29),
-        9 => Stretch(92, 29, 31),
-        13 => Stretch(110, 31, 34),
-        14 => Stretch(149, 34, 35),
-        16 => Stretch(163, 35, 38),
-        _ => Stretch(0, 0, 0),
+    x as u64
+}
+
+// The two letters of w from a place on, as a number; below the same for three letters and more.
+fn two(w: &[u8], at: usize) -> u64
+    requires { ⌜ at + 2 ≤ length (now w) ⌝ }
+    ensures { λ r. ⌜ (r ≡ twoAt (now (w .entry)) at) × (r < 65536) ⌝ }
+{
+    wide(w[at]) + 256 * wide(w[at + 1])
+}
+
+fn three(w: &[u8], at: usize) -> u64
+    requires { ⌜ at + 3 ≤ length (now w) ⌝ }
+    ensures { λ r. ⌜ r ≡ threeAt (now (w .entry)) at ⌝ }
+{
+    two(w, at) + 65_536 * wide(w[at + 2])
+}
+
+fn four(w: &[u8], at: usize) -> u64
+    requires { ⌜ at + 4 ≤ length (now w) ⌝ }
+    ensures { λ r. ⌜ (r ≡ fourAt (now (w .entry)) at) × (r < 4294967296) ⌝ }
+{
+    two(w, at) + 65_536 * two(w, at + 2)
+}
+
+fn five(w: &[u8], at: usize) -> u64
+    requires { ⌜ at + 5 ≤ length (now w) ⌝ }
+    ensures { λ r. ⌜ r ≡ fiveAt (now (w .entry)) at ⌝ }
+{
+    four(w, at) + Letters::FOUR_ON * wide(w[at + 4])
+}
+
+fn six(w: &[u8], at: usize) -> u64
+    requires { ⌜ at + 6 ≤ length (now w) ⌝ }
+    ensures { λ r. ⌜ r ≡ sixAt (now (w .entry)) at ⌝ }
+{
+    four(w, at) + Letters::FOUR_ON * two(w, at + 4)
+}
+
+fn eight(w: &[u8], at: usize) -> u64
+    requires { ⌜ at + 8 ≤ length (now w) ⌝ }
+    ensures { λ r. ⌜ r ≡ eightAt (now (w .entry)) at ⌝ }
+{
+    four(w, at) + Letters::FOUR_ON * four(w, at + 4)
+}
+
+// The number of a word of two letters; below those of the other lengths. `low` is the number of the first eight letters, `high` that of the letters behind
+// them.
+fn of_two(low: u64) -> usize
+    ensures { λ r. ⌜ r ≡ numberBy 2 low 0 ⌝ }
+{
+    match low {
+        Letters::OR => Word::OR,
+        Letters::EQ => Word::EQ,
+        Letters::U1 => Word::U1,
+        Letters::U2 => Word::U2,
+        Letters::U3 => Word::U3,
+        Letters::R1 => Word::R1,
+        Letters::R2 => Word::R2,
+        Letters::R3 => Word::R3,
+        Letters::T1 => Word::T1,
+        Letters::T2 => Word::T2,
+        Letters::T3 => Word::T3,
+        Letters::L1 => Word::L1,
+        Letters::L2 => Word::L2,
+        Letters::H1 => Word::H1,
+        Letters::H2 => Word::H2,
+        _ => Word::OTHER,
     }
 }
 
-fn wide(x: u8) -> usize
-    ensures { λ r. ⌜ r ≡ x ⌝ }
+fn of_three(low: u64) -> usize
+    ensures { λ r. ⌜ r ≡ numberBy 3 low 0 ⌝ }
 {
-    x as usize
-}
-
-// The number of the word at a place of the order.
-fn number(k: usize) -> usize
-    requires { ⌜ k < 38 ⌝ }
-    ensures { λ r. ⌜ r ≡ getD numbers k 0 ⌝ }
-{
-    wide(NUMBERS[k])
-}
-
-// The letters, to be lent: each use of the constant itself would write all its bytes anew.
-fn letter_table() -> [u8; SIZE]
-    ensures { λ r. ⌜ r ≡ letters ⌝ }
-{
-    LETTERS
-}
-
-// Whether the letters at a place begin with w.
-fn is_word(table: &[u8; SIZE], at: usize, w: &[u8]) -> bool
-    requires { ⌜ (length (now table) ≡ 211) × (at + length (now w) ≤ 211) ⌝ }
-    ensures { λ r. ⌜ r ≡ leads (now (w .entry)) (drop at (now (table .entry))) ⌝ }
-{
-    let mut i: usize = 0;
-    while i < w.len() {
-        if w[i] != table[at + i] {
-            return false;
-        }
-        i += 1;
+    match low {
+        Letters::ALL => Word::ALL,
+        Letters::AND => Word::AND,
+        Letters::XOR => Word::XOR,
+        Letters::NOT => Word::NOT,
+        Letters::NEQ => Word::NEQ,
+        Letters::DOM => Word::DOM,
+        _ => Word::OTHER,
     }
-    true
 }
 
-// The number of w among the words of its length, from the first to before the one past the last, whose letters begin at a place.
-fn search(table: &[u8; SIZE], w: &[u8], start: usize, first: usize, past: usize) -> usize
-    requires { ⌜ (now table ≡ letters) × (past ≤ 38) × (listed (past - first) (length (now w)) start ≡ true) ⌝ }
-    ensures { λ r. ⌜ r ≡ numberFrom (past - first) (now (w .entry)) start first ⌝ }
+fn of_four(low: u64) -> usize
+    ensures { λ r. ⌜ r ≡ numberBy 4 low 0 ⌝ }
 {
-    let mut at = start;
-    let mut k = first;
-    while k < past {
-        if is_word(table, at, w) {
-            return number(k);
-        }
-        at += w.len();
-        k += 1;
+    match low {
+        Letters::USER => Word::USER,
+        Letters::ROLE => Word::ROLE,
+        Letters::TYPE => Word::TYPE,
+        _ => Word::OTHER,
     }
-    Word::OTHER
 }
 
-// The number of the word w.
+fn of_five(low: u64) -> usize
+    ensures { λ r. ⌜ r ≡ numberBy 5 low 0 ⌝ }
+{
+    match low {
+        Letters::DOMBY => Word::DOMBY,
+        Letters::CLASS => Word::CLASS,
+        _ => Word::OTHER,
+    }
+}
+
+fn of_six(low: u64) -> usize
+    ensures { λ r. ⌜ r ≡ numberBy 6 low 0 ⌝ }
+{
+    if low == Letters::INCOMP {
+        Word::INCOMP
+    } else {
+        Word::OTHER
+    }
+}
+
+fn of_eight(low: u64) -> usize
+    ensures { λ r. ⌜ r ≡ numberBy 8 low 0 ⌝ }
+{
+    match low {
+        Letters::USERROLE => Word::USERROLE,
+        Letters::ROLETYPE => Word::ROLETYPE,
+        _ => Word::OTHER,
+    }
+}
+
+fn of_nine(low: u64, last: u8) -> usize
+    ensures { λ r. ⌜ r ≡ numberBy 9 low last ⌝ }
+{
+    match last {
+        b'w' => if low == Letters::ROLEALLO {
+            Word::ROLEALLOW
+        } else {
+            Word::OTHER
+        },
+        b'n' => if low == Letters::CONSTRAI {
+            Word::CONSTRAIN
+        } else {
+            Word::OTHER
+        },
+        _ => Word::OTHER,
+    }
+}
+
+fn of_thirteen(low: u64, high: u64) -> usize
+    ensures { λ r. ⌜ r ≡ numberBy 13 low high ⌝ }
+{
+    if high != Letters::IBUTE {
+        return Word::OTHER;
+    }
+    match low {
+        Letters::USERATTR => Word::USERATTRIBUTE,
+        Letters::ROLEATTR => Word::ROLEATTRIBUTE,
+        Letters::TYPEATTR => Word::TYPEATTRIBUTE,
+        _ => Word::OTHER,
+    }
+}
+
+fn of_fourteen(low: u64, high: u64) -> usize
+    ensures { λ r. ⌜ r ≡ numberBy 14 low high ⌝ }
+{
+    if high != Letters::SITION {
+        return Word::OTHER;
+    }
+    if low == Letters::ROLETRAN {
+        Word::ROLETRANSITION
+    } else {
+        Word::OTHER
+    }
+}
+
+fn of_sixteen(low: u64, high: u64) -> usize
+    ensures { λ r. ⌜ r ≡ numberBy 16 low high ⌝ }
+{
+    if high != Letters::IBUTESET {
+        return Word::OTHER;
+    }
+    match low {
+        Letters::USERATTR => Word::USERATTRIBUTESET,
+        Letters::ROLEATTR => Word::ROLEATTRIBUTESET,
+        Letters::TYPEATTR => Word::TYPEATTRIBUTESET,
+        _ => Word::OTHER,
+    }
+}
+
+// The number of the word w, which is compared only with the words of its own length.
 pub fn number_of(w: &[u8]) -> usize
     ensures { λ r. ⌜ r ≡ numberOf (now (w .entry)) ⌝ }
 {
-    let stretch = stretch_of(w.len());
-    let first = stretch.1;
-    let past = stretch.2;
-    if past <= first {
-        return Word::OTHER;
+    match w.len() {
+        2 => of_two(two(w, 0)),
+        3 => of_three(three(w, 0)),
+        4 => of_four(four(w, 0)),
+        5 => of_five(five(w, 0)),
+        6 => of_six(six(w, 0)),
+        8 => of_eight(eight(w, 0)),
+        9 => of_nine(eight(w, 0), w[8]),
+        13 => of_thirteen(eight(w, 0), five(w, 8)),
+        14 => of_fourteen(eight(w, 0), six(w, 8)),
+        16 => of_sixteen(eight(w, 0), eight(w, 8)),
+        _ => Word::OTHER,
     }
-    let table = letter_table();
-    search(&table, w, stretch.0, first, past)
 }
 
 // The number of the word that stands in a text, by the place of its first byte and its length.

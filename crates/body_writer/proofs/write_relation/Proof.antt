@@ -41,11 +41,11 @@ loop-again : tie.Need-loop-again Inv-loop μ-loop
 loop-again c = (
   search needs,
   λ p k t a e.
-      line-more p k t a _ _ (c .before .before .before .before .before .before .before .before .before .loop-test .taken) (c .before .before .before .before .before .before .before .before .statement-end .ensures) _ (c .before .before .before .before .before .before .before .before .before .before .loop .inv .1 p k t a e) (c .before .before .before .before .before .before .if3 .taken) _ _ (c .before .before .before .before .before .unit .ensures) (c .before .before .before .before .unit2 .ensures) _ (c .before .before .grant-line .ensures),
+      line-more p k t a _ _ (c .before .before .before .before .before .before .before .before .loop-test .taken) _ (c .before .before .before .before .before .before .before .before .before .loop .inv .1 p k t a e) refl (c .before .before .before .before .before .before .if3 .taken) _ _ (c .before .before .before .before .before .unit .ensures) (c .before .before .before .before .unit2 .ensures) _ (c .before .before .grant-line .ensures),
 )
 
 loop-again-2 : tie.Need-loop-again-2 Inv-loop μ-loop
-loop-again-2 c = (search needs, λ p k t a e. line-over p k t a _ _ (c .before .before .before .loop-test .taken) (c .before .before .statement-end .ensures) _ (c .before .before .before .before .loop .inv .1 p k t a e) (c .if3 .left))
+loop-again-2 c = (search needs, λ p k t a e. line-over p k t a _ _ (c .before .before .before .loop-test .taken) _ (c .before .before .before .before .loop .inv .1 p k t a e) (c .next-statement .ensures .0) (c .before .if3 .left))
 
 returns-3 : tie.Need-returns-3 Inv-loop μ-loop
 returns-3 c = record {
@@ -67,4 +67,4 @@ returns-3 c = record {
 pub write-relation-spec : {M : Type 1} → statement M
 write-relation-spec =
     tie.close
-    (tie.spec Inv-loop μ-loop returns returns-2 mul-size (λ c κs. search needs) (λ c κs. search needs) (λ c. search needs) loop-holds (λ c. search needs) (λ c κs. search needs) (λ c. search needs) (λ c. search needs) (λ c κs. search needs) (λ c κs. search needs) (λ c κs. search needs) (λ c. search needs) loop-again (λ c. search needs) loop-again-2 (λ c. search needs) returns-3)
+    (tie.spec Inv-loop μ-loop returns returns-2 mul-size (λ c κs. search needs) (λ c κs. search needs) (λ c. search needs) loop-holds (λ c. search needs) (λ c. search needs) (λ c κs. search needs) (λ c κs. search needs) (λ c κs. search needs) (λ c. search needs) (λ c. search needs) loop-again (λ c κs. search needs) (λ c. search needs) loop-again-2 (λ c. search needs) returns-3)

@@ -1,26 +1,23 @@
--- `declarations::repeats` meets its contract. The loop's invariant: the names of the row differ exactly where those that are left do.
--- Assumes nothing.
+-- `declarations::repeats` meets its contract. The loop's invariant is that of proofs/Repeating: the names passed differ, and the filter covers
+-- them. Assumes nothing.
 use Prim.Native.Nat.{_-_}
 use native.Mathlib.Omega.{arith}
-use mathlib.Core.Path.{_≡_, refl, sym, ap, _∙_}
-use mathlib.Core.Bool.{not}
+use mathlib.Core.Path.{sym, _∙_}
 use borrow.Author.Needs.{needs}
 use lib.ListN.{length}
-use Rattle.lexer.specs.Forms.{framesAt}
-use Rattle.policy.specs.Basics.{differ}
-use Rattle.declarations.specs.WordRows.{wordsIn}
-use Rattle.declarations.proofs.Rows.{told, stands-twice, stands-once, none-twice}
+use Rattle.declarations.proofs.Rows.{told}
+use Rattle.declarations.proofs.Repeating.{Passed, passed-none, passed-more, none-twice, stands-twice, hash-here}
 use Rattle.declarations.proofs.repeats.Statement.{statement}
 use Rattle.declarations.proofs.repeats.Tie as tie
 
 abbrev Inv-loop : tie.InvT-loop
-Inv-loop text at i₀ i = differ (wordsIn (framesAt text i .here)) ≡ differ (wordsIn (framesAt text at .here))
+Inv-loop text at filter₀ i₀ count₀ filter i count = Passed text at filter count i
 
 abbrev μ-loop : tie.MeasureT-loop
-μ-loop text at i₀ i = length text - i
+μ-loop text at filter₀ i₀ count₀ filter i count = length text - i
 
 loop-holds : tie.Need-loop-holds Inv-loop μ-loop
-loop-holds c = refl
+loop-holds c = passed-none (c .before .args .text .now) (c .before .args .at)
 
 word-at-requires : tie.Need-word-at-requires Inv-loop μ-loop
 word-at-requires c κs = search needs
@@ -32,35 +29,56 @@ enum-told : tie.Need-enum-told Inv-loop μ-loop
 enum-told c = search needs
 
 returns : tie.Need-returns Inv-loop μ-loop
-returns c = none-twice _ (told (c .before .before .word-at .ensures) (c .enum-told .given .1) .is) ∙ ap not (c .before .before .before .loop .inv)
+returns c = none-twice _ _ _ _ _ (c .before .before .before .loop .inv) (told (c .before .before .word-at .ensures) (c .enum-told .given .1) .is)
 
-add-is-in-row : tie.Need-add-is-in-row Inv-loop μ-loop
-add-is-in-row c =
+add-hash-of : tie.Need-add-hash-of Inv-loop μ-loop
+add-hash-of c =
     let w = told (c .before .before .before .word-at .ensures) (c .before .name .given .1) in
     omega (arith, w .is .within)
 
-is-in-row-requires : tie.Need-is-in-row-requires Inv-loop μ-loop
-is-in-row-requires c κs = told (c .before .before .before .word-at .ensures) (c .before .name .given .1) .is .within
+hash-of-requires : tie.Need-hash-of-requires Inv-loop μ-loop
+hash-of-requires c κs = told (c .before .before .before .word-at .ensures) (c .before .name .given .1) .is .within
+
+slice-aggregate-is-repeated : tie.Need-slice-aggregate-is-repeated Inv-loop μ-loop
+slice-aggregate-is-repeated c = sym (c .before .before .before .before .before .before .loop .inv .covers .long)
+
+is-repeated-requires : tie.Need-is-repeated-requires Inv-loop μ-loop
+is-repeated-requires c κs =
+    let w = told (c .before .before .before .before .before .word-at .ensures) (c .before .before .before .name .given .1) in
+    (w .is .within, c .before .before .before .before .before .before .loop .inv .covers, hash-here _ _ _ _ (c .before .hash-of .ensures))
 
 returns-2 : tie.Need-returns-2 Inv-loop μ-loop
 returns-2 c =
-    let w = told (c .before .before .before .before .before .word-at .ensures) (c .before .before .before .name .given .1) in
-    stands-twice (w .is) (sym (c .before .is-in-row .ensures) ∙ c .if1 .taken) ∙ ap not (c .before .before .before .before .before .before .loop .inv)
+    let w = told (c .before .before .before .before .before .before .before .word-at .ensures) (c .before .before .before .before .before .name .given .1) in
+    stands-twice _ _ _ _ _ (c .before .before .before .before .before .before .before .before .loop .inv) _ _ (w .is) (sym (c .before .is-repeated .ensures) ∙ c .if1 .taken)
+
+slice-aggregate-mark : tie.Need-slice-aggregate-mark Inv-loop μ-loop
+slice-aggregate-mark c = sym (c .before .before .before .before .before .before .before .before .before .loop .inv .covers .long)
+
+mark-requires : tie.Need-mark-requires Inv-loop μ-loop
+mark-requires c κs = search needs
+
+add-count : tie.Need-add-count Inv-loop μ-loop
+add-count c =
+    let w = told (c .before .before .before .before .before .before .before .before .before .before .word-at .ensures) (c .before .before .before .before .before .before .before .before .name .given .1) in
+    omega (arith, w .is .within, w .is .ahead, c .before .before .before .before .before .before .before .before .before .before .before .loop .inv .few)
 
 add-i : tie.Need-add-i Inv-loop μ-loop
 add-i c =
-    let w = told (c .before .before .before .before .before .word-at .ensures) (c .before .before .before .name .given .1) in
+    let w = told (c .before .before .before .before .before .before .before .before .before .before .word-at .ensures) (c .before .before .before .before .before .before .before .before .name .given .1) in
     omega (arith, w .is .within)
 
 loop-less : tie.Need-loop-less Inv-loop μ-loop
 loop-less c =
-    let w = told (c .before .before .before .before .before .word-at .ensures) (c .before .before .before .name .given .1) in
+    let w = told (c .before .before .before .before .before .before .before .before .before .before .word-at .ensures) (c .before .before .before .before .before .before .before .before .name .given .1) in
     omega (arith, w .is .within, w .is .ahead)
 
 loop-again : tie.Need-loop-again Inv-loop μ-loop
 loop-again c =
-    let w = told (c .before .before .before .before .before .word-at .ensures) (c .before .before .before .name .given .1) in
-    stands-once (w .is) (sym (c .before .is-in-row .ensures) ∙ c .if1 .left) ∙ c .before .before .before .before .before .before .loop .inv
+    let w = told (c .before .before .before .before .before .before .before .before .before .before .word-at .ensures) (c .before .before .before .before .before .before .before .before .name .given .1) in
+    rw (c .before .mark .ensures, hash-here _ _ _ _ (c .before .before .before .before .before .before .hash-of .ensures))
+    (passed-more _ _ _ _ _ (c .before .before .before .before .before .before .before .before .before .before .before .loop .inv) _ _ (w .is)
+    (sym (c .before .before .before .before .is-repeated .ensures) ∙ c .before .before .before .if1 .left))
 
 pub repeats-spec : {M : Type 1} → statement M
 repeats-spec =
@@ -73,9 +91,14 @@ repeats-spec =
     enum-known-name
     enum-told
     returns
-    add-is-in-row
-    is-in-row-requires
+    add-hash-of
+    hash-of-requires
+    slice-aggregate-is-repeated
+    is-repeated-requires
     returns-2
+    slice-aggregate-mark
+    mark-requires
+    add-count
     add-i
     loop-less
     loop-again)

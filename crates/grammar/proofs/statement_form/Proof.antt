@@ -17,11 +17,8 @@ use Rattle.grammar.proofs.statement_form.Lts as lts
 abbrev isWritten : Forms → Bool
 isWritten f = isSome (written f)
 
-look-requires : tie.Need-look-requires
-look-requires c κs = search needs
-
-enum-known-item : tie.Need-enum-known-item
-enum-known-item c = search needs
+enum-known-first : tie.Need-enum-known-first
+enum-known-first c = search needs
 
 shape-of-requires : tie.Need-shape-of-requires
 shape-of-requires c κs = search needs
@@ -33,21 +30,14 @@ shape-form-requires : tie.Need-shape-form-requires
 shape-form-requires c κs = search needs
 
 returns : tie.Need-returns
-returns c =
-    let l = sees (c .before .before .before .before .before .look .ensures) (c .before .before .before .item .given .1) in
+returns c = λ at e.
+    let l = sees e (c .before .before .before .first .given .1) in
     after-word l (statement-row 31 l _ (c .before .shape-of .ensures)) (c .shape-form .ensures)
 
 returns-2 : tie.Need-returns-2
-returns-2 c = refuse (alike isWritten (λ f. false) _ _ _ (1 ∷ 2 ∷ 3 ∷ []) 31 (tt, λ x f g. refl, refl, refl) (c .before .look .ensures) (c .match .keys2))
+returns-2 c = λ at e. refuse (alike isWritten (λ f. false) _ _ _ (1 ∷ 2 ∷ 3 ∷ []) 31 (tt, λ x f g. refl, refl, refl) e (c .match .keys2))
 
 pub statement-form-spec : {M : Type 1} → statement M
 statement-form-spec =
     tie.close
-    (tie.spec
-    look-requires
-    enum-known-item
-    shape-of-requires
-    sub-shape-form
-    shape-form-requires
-    returns
-    returns-2)
+    (tie.spec enum-known-first shape-of-requires sub-shape-form shape-form-requires returns returns-2)

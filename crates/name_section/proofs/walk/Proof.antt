@@ -79,7 +79,7 @@ hash-of-requires c κs =
     here .within .stored
 
 slice-aggregate-may-follow : tie.Need-slice-aggregate-may-follow Inv-loop μ-loop
-slice-aggregate-may-follow c = search needs
+slice-aggregate-may-follow c = sym (c .before .before .before .before .before .before .before .before .before .before .before .loop .inv .1 .covers 0 .long)
 
 may-follow-requires : tie.Need-may-follow-requires Inv-loop μ-loop
 may-follow-requires c κs =
@@ -112,7 +112,7 @@ returns-2 c =
     (sym (c .before .may-follow .ensures) ∙ not-true _ (c .if2 .taken))
 
 slice-aggregate-mark : tie.Need-slice-aggregate-mark Inv-loop μ-loop
-slice-aggregate-mark c = search needs
+slice-aggregate-mark c = sym (c .before .before .before .before .before .before .before .before .before .before .before .before .before .before .loop .inv .1 .covers 0 .long)
 
 mark-requires : tie.Need-mark-requires Inv-loop μ-loop
 mark-requires c κs = search needs

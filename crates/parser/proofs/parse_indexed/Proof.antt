@@ -37,28 +37,28 @@ returns-2 c = record { reads = λ clean index. finishes (c .before .before .loop
 returns-3 : tie.Need-returns-3 Inv-loop μ-loop
 returns-3 c = record {
   reads = λ clean index.
-      let r = c .before .before .before .before .before .before .before .loop .inv clean index in
-      formless r (opens clean (c .before .before .before .before .before .before .look .ensures) (c .before .before .before .before .item .given .1)) (c .before .before .statement-form .ensures) (c .enum-told .given .1);
+      let r = c .before .before .before .before .before .before .before .before .loop .inv clean index in
+      formless r (opens clean (c .before .before .before .before .before .before .before .look .ensures) (c .before .before .before .before .before .item .given .1)) (c .before .before .statement-form .ensures _ (c .before .before .before .look2 .ensures)) (c .enum-told .given .1);
 }
 
 loop-less : tie.Need-loop-less Inv-loop μ-loop
 loop-less c =
-    further (c .before .before .before .before .before .before .before .before .before .before .before .before .before .before .before .before .before .loop .at) (c .before .before .before .before .before .before .before .before .before .before .before .before .before .before .before .before .look .ensures) (c .before .before .before .before .before .before .before .before .before .before .before .before .before .before .item .given .1) (c .before .before .before .before .before .before .before .before .before .before .before .before .statement-form .ensures) (c .before .before .before .before .before .before .before .before .before .before .form .given .1)
+    further (c .before .before .before .before .before .before .before .before .before .before .before .before .before .before .before .before .before .before .loop .at) (c .before .before .before .before .before .before .before .before .before .before .before .before .before .before .before .before .before .look .ensures) (c .before .before .before .before .before .before .before .before .before .before .before .before .before .before .before .item .given .1) (c .before .before .before .before .before .before .before .before .before .before .before .before .statement-form .ensures _ (c .before .before .before .before .before .before .before .before .before .before .before .before .before .look2 .ensures)) (c .before .before .before .before .before .before .before .before .before .before .form .given .1)
 
 loop-again : tie.Need-loop-again Inv-loop μ-loop
 loop-again c = λ clean index.
-    let r = c .before .before .before .before .before .before .before .before .before .before .before .before .before .before .before .before .before .loop .inv clean index in
-    goes-on r (opens clean (c .before .before .before .before .before .before .before .before .before .before .before .before .before .before .before .before .look .ensures) (c .before .before .before .before .before .before .before .before .before .before .before .before .before .before .item .given .1)) (c .before .before .before .before .before .before .before .before .before .before .before .before .statement-form .ensures) (c .before .before .before .before .before .before .before .before .before .before .form .given .1)
-    (omega (arith, c .before .before .before .before .before .before .before .before .before .before .before .before .before .before .before .before .before .before .before .before .before .before .before .before .before .has-room-arg2 .given .0)) (omega (arith, c .before .before .before .before .before .before .before .before .before .before .before .before .before .before .before .before .before .before .before .before .before .before .before .has-room-arg4 .given .0)) (omega (arith, c .before .before .before .before .before .before .before .before .before .before .before .before .before .before .before .before .before .before .before .before .before .has-room-arg6 .given .0))
-    (c .before .before .before .before .before .before .before .before .place-unit .ensures) (c .before .before .before .statement .ensures) (c .before .step .given .1)
+    let r = c .before .before .before .before .before .before .before .before .before .before .before .before .before .before .before .before .before .before .loop .inv clean index in
+    goes-on r (opens clean (c .before .before .before .before .before .before .before .before .before .before .before .before .before .before .before .before .before .look .ensures) (c .before .before .before .before .before .before .before .before .before .before .before .before .before .before .before .item .given .1)) (c .before .before .before .before .before .before .before .before .before .before .before .before .statement-form .ensures _ (c .before .before .before .before .before .before .before .before .before .before .before .before .before .look2 .ensures)) (c .before .before .before .before .before .before .before .before .before .before .form .given .1)
+    (omega (arith, c .before .before .before .before .before .before .before .before .before .before .before .before .before .before .before .before .before .before .before .before .before .before .before .before .before .before .has-room-arg2 .given .0)) (omega (arith, c .before .before .before .before .before .before .before .before .before .before .before .before .before .before .before .before .before .before .before .before .before .before .before .before .has-room-arg4 .given .0)) (omega (arith, c .before .before .before .before .before .before .before .before .before .before .before .before .before .before .before .before .before .before .before .before .before .before .has-room-arg6 .given .0))
+    (c .before .before .before .before .before .before .before .before .place-unit .ensures) (c .before .before .before .statement .ensures _ (c .before .before .before .before .before .before .before .before .before .before .before .before .before .look2 .ensures)) (c .before .step .given .1)
 
 returns-4 : tie.Need-returns-4 Inv-loop μ-loop
 returns-4 c = record {
   reads = λ clean index.
-      let r = c .before .before .before .before .before .before .before .before .before .before .before .before .before .before .before .before .before .loop .inv clean index in
-      stops r (opens clean (c .before .before .before .before .before .before .before .before .before .before .before .before .before .before .before .before .look .ensures) (c .before .before .before .before .before .before .before .before .before .before .before .before .before .before .item .given .1)) (c .before .before .before .before .before .before .before .before .before .before .before .before .statement-form .ensures) (c .before .before .before .before .before .before .before .before .before .before .form .given .1)
-      (omega (arith, c .before .before .before .before .before .before .before .before .before .before .before .before .before .before .before .before .before .before .before .before .before .before .before .before .before .has-room-arg2 .given .0)) (omega (arith, c .before .before .before .before .before .before .before .before .before .before .before .before .before .before .before .before .before .before .before .before .before .before .before .has-room-arg4 .given .0)) (omega (arith, c .before .before .before .before .before .before .before .before .before .before .before .before .before .before .before .before .before .before .before .before .before .has-room-arg6 .given .0))
-      (c .before .before .before .before .before .before .before .before .place-unit .ensures) (c .before .before .before .statement .ensures) (c .before .step2 .given .1);
+      let r = c .before .before .before .before .before .before .before .before .before .before .before .before .before .before .before .before .before .before .loop .inv clean index in
+      stops r (opens clean (c .before .before .before .before .before .before .before .before .before .before .before .before .before .before .before .before .before .look .ensures) (c .before .before .before .before .before .before .before .before .before .before .before .before .before .before .before .item .given .1)) (c .before .before .before .before .before .before .before .before .before .before .before .before .statement-form .ensures _ (c .before .before .before .before .before .before .before .before .before .before .before .before .before .look2 .ensures)) (c .before .before .before .before .before .before .before .before .before .before .form .given .1)
+      (omega (arith, c .before .before .before .before .before .before .before .before .before .before .before .before .before .before .before .before .before .before .before .before .before .before .before .before .before .before .has-room-arg2 .given .0)) (omega (arith, c .before .before .before .before .before .before .before .before .before .before .before .before .before .before .before .before .before .before .before .before .before .before .before .before .has-room-arg4 .given .0)) (omega (arith, c .before .before .before .before .before .before .before .before .before .before .before .before .before .before .before .before .before .before .before .before .before .before .has-room-arg6 .given .0))
+      (c .before .before .before .before .before .before .before .before .place-unit .ensures) (c .before .before .before .statement .ensures _ (c .before .before .before .before .before .before .before .before .before .before .before .before .before .look2 .ensures)) (c .before .step2 .given .1);
 }
 
 pub parse-indexed-spec : {M : Type 1} → statement M
@@ -74,6 +74,7 @@ parse-indexed-spec =
     (λ c κs. search needs)
     (λ c. search needs)
     returns-2
+    (λ c κs. search needs)
     (λ c κs. search needs)
     (λ c. search needs)
     (λ c. search needs)

@@ -1,54 +1,25 @@
--- `resolver::clash` meets its contract: the answer is still to be found among the items ahead. Assumes nothing.
+-- `resolver::clash` meets its contract: all transitions stand in the code from the first one on. Assumes nothing.
 use Prim.Native.Nat.{_-_}
 use native.Mathlib.Omega.{arith}
-use mathlib.Core.Path.{_≡_, sym}
-use lib.Seq.{length-take-le}
-use lib.ListN.{length}
+use mathlib.Core.Path.{ap, _∙_}
+use mathlib.Core.List.{[]}
+use lib.ListN.{length, drop, length-drop}
+use lib.Seq.{take-all}
 use borrow.Author.Needs.{needs}
-use Rattle.bitset.specs.Relations.{relation}
-use Rattle.policy.specs.Accepted.{Accepted}
-use Rattle.policy.specs.Meaning.{final}
-use Rattle.policy.specs.Statements.{roles, types, Policy}
-use Rattle.statement_code.specs.Code.{codeOf}
-use Rattle.resolver.proofs.ClashLaws.{Looks, looks-first, looks-none, looks-over, looks-on, clash-found}
-use Rattle.resolver.proofs.SetPasses.{start}
-use Rattle.resolver.proofs.Passes.{Through, finish}
-use Rattle.resolver.proofs.Items.{items}
+use Rattle.policy.specs.Faults.{firstClash, clash}
 use Rattle.resolver.proofs.clash.Statement.{statement}
 use Rattle.resolver.proofs.clash.Tie as tie
 
-abbrev Inv-loop : tie.InvT-loop
-Inv-loop code role-sets type-sets at₀ at =
-    (p : Policy) → Accepted p → code ≡ codeOf p → role-sets ≡ relation 64 64 (final p roles) → type-sets ≡ relation 64 64 (final p types)
-    → Through (items p) code at (Looks p)
-
-abbrev μ-loop : tie.MeasureT-loop
-μ-loop code role-sets type-sets at₀ at = length code - at
-
-loop-holds : tie.Need-loop-holds Inv-loop μ-loop
-loop-holds c = λ p ok q hr ht. start p _ _ q (looks-first p ok)
-
-slice-aggregate-clashes-earlier : tie.Need-slice-aggregate-clashes-earlier Inv-loop μ-loop
-slice-aggregate-clashes-earlier c = sym (length-take-le _ _ (omega arith))
-
-returns : tie.Need-returns Inv-loop μ-loop
-returns c = λ p ok q hr ht. rw (c .unit .ensures)
-    (clash-found p ok _ q _ (c .before .before .before .before .before .before .before .before .loop-test .taken) (c .before .before .before .before .before .before .before .before .before .loop .inv p ok q hr ht) (c .before .before .before .before .before .if1 .taken) _ _ hr ht _ (c .before .before .before .transition .ensures) _ (c .before .before .clashes-earlier .ensures)
-    (c .before .if2 .taken))
-
-loop-again : tie.Need-loop-again Inv-loop μ-loop
-loop-again c = λ p ok q hr ht.
-    looks-on p ok _ q _ (c .before .before .before .before .before .before .before .loop-test .taken) (c .before .before .before .before .before .before .before .before .loop .inv p ok q hr ht) (c .before .before .before .before .if1 .taken) _ _ hr ht _ (c .before .before .transition .ensures) _ (c .before .clashes-earlier .ensures)
-    _ (c .before .before .before .before .before .before .statement-end .ensures) (c .if2 .left)
-
-loop-again-2 : tie.Need-loop-again-2 Inv-loop μ-loop
-loop-again-2 c = λ p ok q hr ht.
-    looks-over p ok _ q _ (c .before .before .before .loop-test .taken) (c .before .before .before .before .loop .inv p ok q hr ht) _ (c .before .before .statement-end .ensures) (c .if1 .left)
-
-returns-2 : tie.Need-returns-2 Inv-loop μ-loop
-returns-2 c = λ p ok q hr ht. looks-none p ok (finish (items p) _ _ _ (c .loop-test .left) (c .before .loop .inv p ok q hr ht))
+returns : tie.Need-returns
+unfolding clash
+returns c = λ p ok q hr ht.
+    let first = c .before .before .first-transition in
+    let rest = first .ensures .1 p ok q in
+    let code = c .before .before .before .before .args .code .now in
+    let left = take-all (length code - first .result) (drop (first .result) code) (omega (arith, length-drop (first .result) code)) in
+    c .first-clash .ensures p (rest .part) ok (rest .segment) (left ∙ rest .coded) hr ht ∙ ap (firstClash p []) (rest .all)
 
 pub clash-spec : {M : Type 1} → statement M
 clash-spec =
     tie.close
-    (tie.spec Inv-loop μ-loop loop-holds (λ c. search needs) (λ c κs. search needs) (λ c. search needs) (λ c. search needs) slice-aggregate-clashes-earlier (λ c κs. search needs) (λ c κs. search needs) (λ c κs. search needs) (λ c. search needs) returns (λ c. search needs) loop-again (λ c. search needs) loop-again-2 returns-2)
+    (tie.spec (λ c κs. search needs) (λ c. search needs) (λ c. search needs) (λ c. search needs) (λ c. search needs) (λ c κs. search needs) returns)

@@ -1,6 +1,5 @@
 -- `resolver::clashes_earlier` meets its contract: none of the items passed clashes. Assumes nothing.
 use Prim.Native.Nat.{_-_}
-use mathlib.Core.List.{_++_}
 use mathlib.Core.Path.{_≡_, sym, _∙_}
 use lib.ListN.{length}
 use borrow.Author.Needs.{needs}
@@ -9,7 +8,7 @@ use Rattle.policy.specs.Accepted.{Accepted}
 use Rattle.policy.specs.Meaning.{final}
 use Rattle.policy.specs.Statements.{roles, types, Policy, Transition}
 use Rattle.statement_code.specs.Code.{codeOf}
-use Rattle.resolver.specs.Clashes.{Codes}
+use Rattle.resolver.specs.Clashes.{Codes, Segment}
 use Rattle.resolver.proofs.ClashLaws.{Apart, earlier-start, earlier-none, earlier-over, earlier-found, earlier-on}
 use Rattle.resolver.proofs.Passes.{Through, finish}
 use Rattle.resolver.proofs.Items.{items}
@@ -18,33 +17,33 @@ use Rattle.resolver.proofs.clashes_earlier.Tie as tie
 
 abbrev Inv-loop : tie.InvT-loop
 Inv-loop earlier later role-sets type-sets at₀ at =
-    (before after : Policy) (t : Transition) → Accepted (before ++ after) → earlier ≡ codeOf before → Codes (before ++ after) t later
-    → role-sets ≡ relation 64 64 (final (before ++ after) roles) → type-sets ≡ relation 64 64 (final (before ++ after) types) → Through (items before) earlier at (Apart (before ++ after) t)
+    (p part : Policy) (t : Transition) → Accepted p → Segment p part → earlier ≡ codeOf part → Codes p t later
+    → role-sets ≡ relation 64 64 (final p roles) → type-sets ≡ relation 64 64 (final p types) → Through (items part) earlier at (Apart p t)
 
 abbrev μ-loop : tie.MeasureT-loop
 μ-loop earlier later role-sets type-sets at₀ at = length earlier - at
 
 loop-holds : tie.Need-loop-holds Inv-loop μ-loop
-loop-holds c = λ before after t ok q codes hr ht. earlier-start before after ok t _ q
+loop-holds c = λ p part t ok s q codes hr ht. earlier-start p ok part s t _ q
 
 returns : tie.Need-returns Inv-loop μ-loop
-returns c = λ before after t ok q codes hr ht.
-    earlier-found before after ok t _ _ (c .before .before .before .before .before .before .loop-test .taken) (c .before .before .before .before .before .before .before .loop .inv before after t ok q codes hr ht) (c .before .before .before .if1 .taken) _ _ hr ht _ _ codes (c .before .before .transition .ensures)
+returns c = λ p part t ok s q codes hr ht.
+    earlier-found p ok part s t _ _ (c .before .before .before .before .before .before .loop-test .taken) (c .before .before .before .before .before .before .before .loop .inv p part t ok s q codes hr ht) (c .before .before .before .if1 .taken) _ _ hr ht _ _ codes (c .before .before .transition .ensures)
     (sym (c .before .clash-between .ensures) ∙ c .if2 .taken)
 
 loop-again : tie.Need-loop-again Inv-loop μ-loop
-loop-again c = λ before after t ok q codes hr ht.
-    earlier-on before after ok t _ _ (c .before .before .before .before .before .before .loop-test .taken) (c .before .before .before .before .before .before .before .loop .inv before after t ok q codes hr ht) (c .before .before .before .if1 .taken) _ _ hr ht _ _ codes (c .before .before .transition .ensures)
-    _ (c .before .before .before .before .before .statement-end .ensures) (sym (c .before .clash-between .ensures) ∙ c .if2 .left)
+loop-again c = λ p part t ok s q codes hr ht.
+    earlier-on p ok part s t _ _ (c .before .before .before .before .before .before .loop-test .taken) (c .before .before .before .before .before .before .before .loop .inv p part t ok s q codes hr ht) (c .before .before .before .if1 .taken) _ _ hr ht _ _ codes (c .before .before .transition .ensures)
+    _ (c .before .before .before .before .before .next-statement .ensures .0) (sym (c .before .clash-between .ensures) ∙ c .if2 .left)
 
 loop-again-2 : tie.Need-loop-again-2 Inv-loop μ-loop
-loop-again-2 c = λ before after t ok q codes hr ht.
-    earlier-over before after ok t _ _ (c .before .before .before .loop-test .taken) (c .before .before .before .before .loop .inv before after t ok q codes hr ht) _ (c .before .before .statement-end .ensures) (c .if1 .left)
+loop-again-2 c = λ p part t ok s q codes hr ht.
+    earlier-over p ok part s t _ _ (c .before .before .before .loop-test .taken) (c .before .before .before .before .loop .inv p part t ok s q codes hr ht) _ (c .before .before .next-statement .ensures .0) (c .if1 .left)
 
 returns-2 : tie.Need-returns-2 Inv-loop μ-loop
-returns-2 c = λ before after t ok q codes hr ht. earlier-none before after ok t (finish (items before) _ _ _ (c .loop-test .left) (c .before .loop .inv before after t ok q codes hr ht))
+returns-2 c = λ p part t ok s q codes hr ht. earlier-none p ok part s t (finish (items part) _ _ _ (c .loop-test .left) (c .before .loop .inv p part t ok s q codes hr ht))
 
 pub clashes-earlier-spec : {M : Type 1} → statement M
 clashes-earlier-spec =
     tie.close
-    (tie.spec Inv-loop μ-loop loop-holds (λ c. search needs) (λ c κs. search needs) (λ c. search needs) (λ c. search needs) (λ c κs. search needs) (λ c κs. search needs) returns (λ c. search needs) loop-again (λ c. search needs) loop-again-2 returns-2)
+    (tie.spec Inv-loop μ-loop loop-holds (λ c κs. search needs) (λ c. search needs) (λ c. search needs) (λ c κs. search needs) (λ c κs. search needs) returns (λ c. search needs) loop-again (λ c. search needs) loop-again-2 returns-2)

@@ -1,17 +1,15 @@
 -- `resolver::final_sets` meets its contract: after so many rounds the sets are nested so deep; a round that changes nothing is the last that
 -- counts. Assumes nothing.
-use Prim.Native.Nat.{ℕ, _+_, _-_, _≤_}
+use Prim.Native.Nat.{_-_, _≤_}
 use native.Mathlib.Omega.{arith}
-use mathlib.Core.List.{List}
-use mathlib.Core.Path.{_≡_, sym, ap, _∙_}
+use mathlib.Core.Path.{_≡_, sym, _∙_}
 use borrow.Author.Needs.{needs}
-use Rattle.bitset.specs.Sets.{setOf, member}
 use Rattle.policy.specs.Answers.{familyOf}
 use Rattle.policy.specs.Accepted.{Accepted}
-use Rattle.policy.specs.Meaning.{countIn, nested}
+use Rattle.policy.specs.Meaning.{countIn}
 use Rattle.policy.specs.Statements.{Policy}
 use Rattle.statement_code.specs.Code.{codeOf}
-use Rattle.resolver.proofs.FinalLaws.{after, first-rows, more-rows, last-rows, all-rows, rows-copied}
+use Rattle.resolver.proofs.FinalLaws.{after, first-rows, more-rows, last-rows, all-rows}
 use Rattle.resolver.proofs.final_sets.Statement.{statement}
 use Rattle.resolver.proofs.final_sets.Tie as tie
 
@@ -36,11 +34,9 @@ loop-again : tie.Need-loop-again Inv-loop μ-loop
 loop-again c = (
   omega arith,
   λ p ok q n.
-      let at-loop = c .before .before .before .before .before .before .before .before .before .before .before .loop in
-      let f = familyOf (c .before .before .before .before .before .before .before .before .before .before .before .before .before .before .before .args .family) in
-      c .copy-rows .ensures
-      ∙ ap (λ (t : List ℕ). setOf 4096 (member t)) (more-rows p ok f (at-loop .rounds) _ _ (at-loop .inv .1 p ok q n) (c .before .before .before .before .before .before .before .round .ensures p ok q n))
-      ∙ rows-copied (nested (at-loop .rounds + 1) p f),
+      let at-loop = c .before .before .before .before .before .before .before .before .loop in
+      let f = familyOf (c .before .before .before .before .before .before .before .before .before .before .before .before .args .family) in
+      more-rows p ok f (at-loop .rounds) _ _ (at-loop .inv .1 p ok q n) (c .before .before .before .before .round .ensures p ok q n),
 )
 
 returns-2 : tie.Need-returns-2 Inv-loop μ-loop
@@ -49,4 +45,4 @@ returns-2 c = λ p ok q n. all-rows p ok (familyOf (c .before .before .before .b
 pub final-sets-spec : {M : Type 1} → statement M
 final-sets-spec =
     tie.close
-    (tie.spec Inv-loop μ-loop (λ c κs. search needs) loop-holds (λ c κs. search needs) (λ c κs. search needs) returns (λ c κs. search needs) (λ c. search needs) (λ c. search needs) loop-again returns-2)
+    (tie.spec Inv-loop μ-loop (λ c κs. search needs) loop-holds (λ c κs. search needs) (λ c κs. search needs) returns (λ c. search needs) (λ c. search needs) loop-again returns-2)

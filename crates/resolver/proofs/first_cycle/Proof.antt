@@ -39,17 +39,17 @@ returns c = λ p ok q on.
 
 loop-again : tie.Need-loop-again Inv-loop μ-loop
 loop-again c = (
-  omega (arith, c .before .before .before .before .statement-end .ensures),
+  omega (arith, c .before .before .before .before .next-statement .ensures .0),
   λ p f ok t q on.
-      seeks-on p ok f _ _ _ (c .before .before .before .before .before .loop-test .taken) (c .before .before .before .before .before .before .loop .inv .1 p f ok t q on) _ (c .before .before .before .before .statement-end .ensures) (c .before .before .if1 .taken ∙ t)
+      seeks-on p ok f _ _ _ (c .before .before .before .before .before .loop-test .taken) (c .before .before .before .before .before .before .loop .inv .1 p f ok t q on) _ (c .before .before .before .before .next-statement .ensures .0) (c .before .before .if1 .taken ∙ t)
       (sym (on _) ∙ sym (c .before .mentions-itself .ensures) ∙ c .if2 .left),
 )
 
 loop-again-2 : tie.Need-loop-again-2 Inv-loop μ-loop
 loop-again-2 c = (
-  omega (arith, c .before .before .statement-end .ensures),
+  omega (arith, c .before .before .next-statement .ensures .0),
   λ p f ok t q on.
-      seeks-over p ok f _ _ _ (c .before .before .before .loop-test .taken) (c .before .before .before .before .loop .inv .1 p f ok t q on) _ (c .before .before .statement-end .ensures) (λ h. c .if1 .left (h ∙ sym t)),
+      seeks-over p ok f _ _ _ (c .before .before .before .loop-test .taken) (c .before .before .before .before .loop .inv .1 p f ok t q on) _ (c .before .before .next-statement .ensures .0) (λ h. c .if1 .left (h ∙ sym t)),
 )
 
 returns-2 : tie.Need-returns-2 Inv-loop μ-loop
@@ -60,4 +60,4 @@ returns-2 c = λ p ok q on.
 pub first-cycle-spec : {M : Type 1} → statement M
 first-cycle-spec =
     tie.close
-    (tie.spec Inv-loop μ-loop (λ c κs. search needs) (λ c. search needs) loop-holds (λ c. search needs) (λ c κs. search needs) (λ c. search needs) (λ c. search needs) (λ c κs. search needs) (λ c κs. search needs) (λ c. search needs) returns (λ c. search needs) (λ c. search needs) loop-again (λ c. search needs) loop-again-2 returns-2)
+    (tie.spec Inv-loop μ-loop (λ c κs. search needs) (λ c. search needs) loop-holds (λ c κs. search needs) (λ c. search needs) (λ c. search needs) (λ c κs. search needs) (λ c κs. search needs) (λ c. search needs) returns (λ c. search needs) (λ c. search needs) loop-again (λ c. search needs) loop-again-2 returns-2)

@@ -2,35 +2,35 @@
 use mathlib.Core.Path.{sym, ap, _∙_}
 use borrow.Author.Needs.{needs}
 use Rattle.resolver.specs.Reading.{foundOf}
-use Rattle.resolver.proofs.Judging.{cycle-first, clash-next, sound-last}
+use Rattle.resolver.proofs.Judging.{cycle-found, cycle-first, clash-next, sound-last}
 use Rattle.resolver.proofs.resolve.Statement.{statement}
 use Rattle.resolver.proofs.resolve.Tie as tie
 
 returns : tie.Need-returns
 returns c = λ p ok q u r t. record {
-  user-sets = c .before .before .before .before .before .before .before .before .final-sets .ensures p ok q u;
-  role-sets = c .before .before .before .before .before .before .final-sets2 .ensures p ok q r;
-  type-sets = c .before .before .before .before .final-sets3 .ensures p ok q t;
-  answer = cycle-first p _ (sym (ap foundOf (c .before .place .given .1)) ∙ c .before .before .before .cycle .ensures p ok q);
+  user-sets = c .before .before .before .before .before .before .before .before .before .resolve-family .ensures p ok q u .0;
+  role-sets = c .before .before .before .before .before .before .before .resolve-family2 .ensures p ok q r .0;
+  type-sets = c .before .before .before .before .before .resolve-family3 .ensures p ok q t .0;
+  answer = cycle-first p _ (sym (ap foundOf (c .before .cycle .given .1)) ∙ cycle-found p (c .before .before .before .before .first-found .ensures) (c .before .before .before .first-found2 .ensures) (c .before .before .before .before .before .before .before .before .before .resolve-family .ensures p ok q u .1) (c .before .before .before .before .before .before .before .resolve-family2 .ensures p ok q r .1) (c .before .before .before .before .before .resolve-family3 .ensures p ok q t .1));
 }
 
 returns-2 : tie.Need-returns-2
 returns-2 c = λ p ok q u r t. record {
-  user-sets = c .before .before .before .before .before .before .before .before .before .before .before .before .before .final-sets .ensures p ok q u;
-  role-sets = c .before .before .before .before .before .before .before .before .before .before .before .final-sets2 .ensures p ok q r;
-  type-sets = c .before .before .before .before .before .before .before .before .before .final-sets3 .ensures p ok q t;
-  answer = clash-next p _ (sym (ap foundOf (c .before .before .before .before .before .before .enum-told .given .1)) ∙ c .before .before .before .before .before .before .before .before .cycle .ensures p ok q) (sym (ap foundOf (c .before .place2 .given .1)) ∙ c .before .before .before .clash .ensures p ok q (c .before .before .before .before .before .before .before .before .before .before .before .final-sets2 .ensures p ok q r) (c .before .before .before .before .before .before .before .before .before .final-sets3 .ensures p ok q t));
+  user-sets = c .before .before .before .before .before .before .before .before .before .before .before .before .before .before .resolve-family .ensures p ok q u .0;
+  role-sets = c .before .before .before .before .before .before .before .before .before .before .before .before .resolve-family2 .ensures p ok q r .0;
+  type-sets = c .before .before .before .before .before .before .before .before .before .before .resolve-family3 .ensures p ok q t .0;
+  answer = clash-next p _ (sym (ap foundOf (c .before .before .before .before .before .before .enum-told .given .1)) ∙ cycle-found p (c .before .before .before .before .before .before .before .before .before .first-found .ensures) (c .before .before .before .before .before .before .before .before .first-found2 .ensures) (c .before .before .before .before .before .before .before .before .before .before .before .before .before .before .resolve-family .ensures p ok q u .1) (c .before .before .before .before .before .before .before .before .before .before .before .before .resolve-family2 .ensures p ok q r .1) (c .before .before .before .before .before .before .before .before .before .before .resolve-family3 .ensures p ok q t .1)) (sym (ap foundOf (c .before .place .given .1)) ∙ c .before .before .before .clash .ensures p ok q (c .before .before .before .before .before .before .before .before .before .before .before .before .resolve-family2 .ensures p ok q r .0) (c .before .before .before .before .before .before .before .before .before .before .resolve-family3 .ensures p ok q t .0));
 }
 
 returns-3 : tie.Need-returns-3
 returns-3 c = λ p ok q u r t. record {
-  user-sets = c .before .before .before .before .before .before .before .before .before .before .before .before .final-sets .ensures p ok q u;
-  role-sets = c .before .before .before .before .before .before .before .before .before .before .final-sets2 .ensures p ok q r;
-  type-sets = c .before .before .before .before .before .before .before .before .final-sets3 .ensures p ok q t;
-  answer = sound-last p (sym (ap foundOf (c .before .before .before .before .before .enum-told .given .1)) ∙ c .before .before .before .before .before .before .before .cycle .ensures p ok q) (sym (ap foundOf (c .enum-told2 .given .1)) ∙ c .before .before .clash .ensures p ok q (c .before .before .before .before .before .before .before .before .before .before .final-sets2 .ensures p ok q r) (c .before .before .before .before .before .before .before .before .final-sets3 .ensures p ok q t));
+  user-sets = c .before .before .before .before .before .before .before .before .before .before .before .before .before .resolve-family .ensures p ok q u .0;
+  role-sets = c .before .before .before .before .before .before .before .before .before .before .before .resolve-family2 .ensures p ok q r .0;
+  type-sets = c .before .before .before .before .before .before .before .before .before .resolve-family3 .ensures p ok q t .0;
+  answer = sound-last p (sym (ap foundOf (c .before .before .before .before .before .enum-told .given .1)) ∙ cycle-found p (c .before .before .before .before .before .before .before .before .first-found .ensures) (c .before .before .before .before .before .before .before .first-found2 .ensures) (c .before .before .before .before .before .before .before .before .before .before .before .before .before .resolve-family .ensures p ok q u .1) (c .before .before .before .before .before .before .before .before .before .before .before .resolve-family2 .ensures p ok q r .1) (c .before .before .before .before .before .before .before .before .before .resolve-family3 .ensures p ok q t .1)) (sym (ap foundOf (c .enum-told2 .given .1)) ∙ c .before .before .clash .ensures p ok q (c .before .before .before .before .before .before .before .before .before .before .before .resolve-family2 .ensures p ok q r .0) (c .before .before .before .before .before .before .before .before .before .resolve-family3 .ensures p ok q t .0));
 }
 
 pub resolve-spec : {M : Type 1} → statement M
 resolve-spec =
     tie.close
-    (tie.spec (λ c κs. search needs) (λ c κs. search needs) (λ c κs. search needs) (λ c κs. search needs) (λ c. search needs) returns (λ c. search needs) (λ c κs. search needs) (λ c. search needs) returns-2 (λ c. search needs) returns-3)
+    (tie.spec (λ c κs. search needs) (λ c κs. search needs) (λ c κs. search needs) (λ c κs. search needs) (λ c κs. search needs) (λ c. search needs) returns (λ c. search needs) (λ c κs. search needs) (λ c. search needs) returns-2 (λ c. search needs) returns-3)

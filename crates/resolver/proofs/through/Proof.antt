@@ -1,4 +1,4 @@
--- `resolver::through` meets its contract: the rows that have k are granted row k. Assumes nothing.
+-- `resolver::through` meets its contract: the rows that have k are granted row k, which changes nothing where it is empty. Assumes nothing.
 use mathlib.Core.Path.{sym, ap, _∙_}
 use lib.ListN.{length}
 use borrow.Author.Needs.{needs}
@@ -9,14 +9,17 @@ use Rattle.resolver.proofs.ClosureLaws.{length-column}
 use Rattle.resolver.proofs.through.Statement.{statement}
 use Rattle.resolver.proofs.through.Tie as tie
 
+returns : tie.Need-returns
+returns c = sym (c .before .is-empty .ensures (c .if1 .taken))
+
 slice-aggregate-grant : tie.Need-slice-aggregate-grant
 slice-aggregate-grant c = sym (ap length (c .before .before .before .before .before .before .before .column .ensures) ∙ length-column _ _)
 
-returns : tie.Need-returns
+returns-2 : tie.Need-returns-2
 unfolding throughOf copyOf setsIn
-returns c = rw (c .grant .ensures, c .before .before .before .before .before .before .before .before .before .column .ensures, c .before .before .before .before .before .read-at .ensures)
+returns-2 c = rw (c .grant .ensures, c .before .before .before .before .before .before .before .before .before .column .ensures, c .before .before .before .before .before .read-at .ensures)
 
 pub through-spec : {M : Type 1} → statement M
 through-spec =
     tie.close
-    (tie.spec (λ c κs. search needs) (λ c. search needs) (λ c. search needs) (λ c κs. search needs) slice-aggregate-grant (λ c. search needs) (λ c κs. search needs) returns)
+    (tie.spec (λ c κs. search needs) returns (λ c κs. search needs) (λ c. search needs) (λ c. search needs) (λ c κs. search needs) slice-aggregate-grant (λ c. search needs) (λ c κs. search needs) returns-2)

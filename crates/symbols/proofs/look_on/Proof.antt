@@ -25,14 +25,14 @@ enum-known-found c = search needs
 enum-told : tie.Need-enum-told
 enum-told c = search needs
 
-find-requires : tie.Need-find-requires
-find-requires c κs = search needs
+walked-requires : tie.Need-walked-requires
+walked-requires c κs = search needs
 
 returns-2 : tie.Need-returns-2
 returns-2 c = on-hint (c .before .before .before .before .before .before .before .before .pre .0) (c .before .before .before .before .before .slot-in .ensures) (c .before .before .before .before .if1 .left) (c .before .before .before .hinted .ensures) _ _ (c .before .found .given .1)
 
 returns-3 : tie.Need-returns-3
-returns-3 c = on-walk (c .find .ensures)
+returns-3 c = on-walk (c .walked .ensures)
 
 pub look-on-spec : {M : Type 1} → statement M
 look-on-spec =
@@ -45,6 +45,6 @@ look-on-spec =
     hinted-requires
     enum-known-found
     enum-told
-    find-requires
+    walked-requires
     returns-2
     returns-3)

@@ -1,58 +1,17 @@
--- `symbols::lookup` meets its contract: each way by its law (Indexing). Assumes nothing.
-use Rattle.symbols.proofs.Indexing.{by-walk, no-hint, by-hint, by-other}
+-- `symbols::lookup` meets its contract: it lends the name's bytes. Assumes nothing.
+use Rattle.symbols.proofs.Indexing.{looks-for}
 use borrow.Author.Needs.{needs}
 use Rattle.symbols.proofs.lookup.Statement.{statement}
 use Rattle.symbols.proofs.lookup.Tie as tie
 
-find-requires : tie.Need-find-requires
-find-requires c κs = search needs
+part-requires : tie.Need-part-requires
+part-requires c κs = search needs
+
+lookup-name-requires : tie.Need-lookup-name-requires
+lookup-name-requires c κs = search needs
 
 returns : tie.Need-returns
-returns c = by-walk (c .find .ensures)
-
-slot-of-requires : tie.Need-slot-of-requires
-slot-of-requires c κs = search needs
-
-slot-in-requires : tie.Need-slot-in-requires
-slot-in-requires c κs = search needs
-
-returns-2 : tie.Need-returns-2
-returns-2 c = no-hint (c .before .before .slot-of .ensures) (c .before .slot-in .ensures) (c .if2 .taken)
-
-sub-hinted : tie.Need-sub-hinted
-sub-hinted c = search needs
-
-hinted-requires : tie.Need-hinted-requires
-hinted-requires c κs = search needs
-
-enum-known-found : tie.Need-enum-known-found
-enum-known-found c = search needs
-
-enum-told : tie.Need-enum-told
-enum-told c = search needs
-
-look-on-requires : tie.Need-look-on-requires
-look-on-requires c κs = search needs
-
-returns-3 : tie.Need-returns-3
-returns-3 c = by-hint (c .before .before .before .before .before .before .slot-of .ensures) (c .before .before .before .before .before .slot-in .ensures) (c .before .before .before .before .if2 .left) (c .before .before .before .hinted .ensures) _ _ (c .before .found .given .1)
-
-returns-4 : tie.Need-returns-4
-returns-4 c = by-other (c .before .before .before .before .before .before .slot-of .ensures) (c .before .before .before .before .before .slot-in .ensures) (c .before .before .before .before .if2 .left) (c .before .before .before .hinted .ensures) (c .before .enum-told .given .1) (c .look-on .ensures)
+returns c = looks-for (c .lookup-name .ensures) (c .before .part .ensures)
 
 pub lookup-spec : {M : Type 1} → statement M
-lookup-spec =
-    tie.close
-    (tie.spec
-    find-requires
-    returns
-    slot-of-requires
-    slot-in-requires
-    returns-2
-    sub-hinted
-    hinted-requires
-    enum-known-found
-    enum-told
-    look-on-requires
-    returns-3
-    returns-4)
+lookup-spec = tie.close (tie.spec part-requires lookup-name-requires returns)

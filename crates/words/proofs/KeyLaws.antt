@@ -1,0 +1,98 @@
+-- A word has the number that its length and its two numbers say, since no two words of bytes have the same. Assumes nothing.
+use mathlib.Core.Path.{_≡_, refl, sym, ap, ap₂, _∙_}
+use mathlib.Core.Bool.{Bool, true, false, _&&_, cond}
+use mathlib.Core.List.{List, [], _∷_}
+use Prim.Native.Nat.{ℕ, zero, suc, _+_, _<_}
+use native.Mathlib.Nat.{zero-add}
+use native.Mathlib.Omega.{arith}
+use borrow.Author.Tests.{eqb-true, eq-eqb, ltb-true}
+use lib.Dec.{eqb, ltb}
+use lib.ListN.{length, getD, take, drop}
+use Rattle.lexer.proofs.Marks.{tabulate}
+use Rattle.policy.specs.Basics.{Name, same, every, unle}
+use Rattle.policy.specs.Words.{reserved}
+use Rattle.policy.proofs.Lists.{both-true}
+use Rattle.words.specs.Numbers.{keywords, words, numberIn, numberOf}
+use Rattle.words.specs.Keys.{numberAmong, numberBy}
+use Rattle.words.proofs.Meaning.{same-is}
+
+-- the letters are bytes
+abbrev pub Small : Name → Type 0
+Small w = (i : ℕ) → getD w i 0 < 256
+
+small : (w : Name) → every (λ b. ltb b 256) w ≡ true → Small w
+unfolding every
+small [] e i = omega arith
+small (x ∷ w) e zero = ltb-true x 256 (both-true (ltb x 256) (every (λ b. ltb b 256) w) e .0)
+small (x ∷ w) e (suc i) = small w (both-true (ltb x 256) (every (λ b. ltb b 256) w) e .1) i
+
+-- two words of a length are the same if the numbers of their first n letters are, and those of the letters behind them
+alike : (n : ℕ) (v w : Name) → Small v → Small w → length v ≡ length w → unle (take n v) ≡ unle (take n w) → unle (drop n v) ≡ unle (drop n w)
+    → same v w ≡ true
+unfolding unle same
+alike n [] [] s t l a b = refl
+alike n [] (y ∷ w) s t l a b = absurd (omega arith)
+alike n (x ∷ v) [] s t l a b = absurd (omega arith)
+alike zero (x ∷ v) (y ∷ w) s t l a b =
+    rw (eq-eqb x y (omega (arith, s 0, t 0)))
+    (alike zero v w (λ i. s (suc i)) (λ i. t (suc i)) (omega arith) refl (omega (arith, s 0, t 0)))
+alike (suc n) (x ∷ v) (y ∷ w) s t l a b =
+    rw (eq-eqb x y (omega (arith, s 0, t 0)))
+    (alike n v w (λ i. s (suc i)) (λ i. t (suc i)) (omega arith) (omega (arith, s 0, t 0)) b)
+
+-- the test of the length and the two numbers
+abbrev keyed : Name → Name → Bool
+keyed w x = eqb (length w) (length x) && (eqb (unle (drop 8 w)) (unle (drop 8 x)) && eqb (unle (take 8 w)) (unle (take 8 x)))
+
+keyed-self : (w : Name) → keyed w w ≡ true
+keyed-self w = rw (eq-eqb (length w) (length w) refl, eq-eqb (unle (drop 8 w)) (unle (drop 8 w)) refl, eq-eqb (unle (take 8 w)) (unle (take 8 w)) refl)
+
+same-keyed : (w x : Name) → Small w → Small x → same w x ≡ keyed w x
+same-keyed w x s t = go (same w x) (keyed w x) refl refl
+  where
+    go : (p q : Bool) → same w x ≡ p → keyed w x ≡ q → p ≡ q
+    go true true e f = refl
+    go false false e f = refl
+    go true false e f = sym (keyed-self w) ∙ ap (keyed w) (same-is w x e) ∙ f
+    go false true e f =
+        let a = both-true (eqb (length w) (length x)) _ f in
+        let b = both-true (eqb (unle (drop 8 w)) (unle (drop 8 x))) _ (a .1) in
+        sym e ∙ alike 8 w x s t (eqb-true _ _ (a .0)) (eqb-true _ _ (b .1)) (eqb-true _ _ (b .0))
+
+-- so the number among some words of bytes is the same
+among : (xs : List Name) (w : Name) (n : ℕ) → Small w → every (every (λ b. ltb b 256)) xs ≡ true
+    → numberAmong xs (length w) (unle (take 8 w)) (unle (drop 8 w)) n ≡ numberIn xs w n
+unfolding every numberIn numberAmong
+among [] w n s e = refl
+among (x ∷ xs) w n s e =
+    let b = both-true (every (λ b. ltb b 256) x) (every (every (λ b. ltb b 256)) xs) e in
+    rw (← same-keyed w x s (small x (b .0))) (go (same w x) (among xs w (n + 1) s (b .1)))
+  where
+    go : (q : Bool) → numberAmong xs (length w) (unle (take 8 w)) (unle (drop 8 w)) (n + 1) ≡ numberIn xs w (n + 1)
+        → cond q n (numberAmong xs (length w) (unle (take 8 w)) (unle (drop 8 w)) (n + 1)) ≡ elim q [ true ↦ n | false ↦ numberIn xs w (n + 1) ]
+    go true i = refl
+    go false i = i
+
+pub by-keys : (w : Name) → Small w → numberBy (length w) (unle (take 8 w)) (unle (drop 8 w)) ≡ numberOf w
+unfolding every reserved keywords words numberOf numberBy
+by-keys w s = among words w 1 s refl
+
+-- a word, letter by letter
+spelled : (w : Name) (f : ℕ → ℕ) (at : ℕ) → ((i : ℕ) → f (at + i) ≡ getD w i 0) → w ≡ tabulate f at (length w)
+spelled [] f at e = refl
+spelled (x ∷ w) f at e =
+    ap₂ (λ (c : ℕ) (r : Name). c ∷ r)
+    (sym (e 0) ∙ ap f (omega arith))
+    (spelled w f (suc at) (λ i. ap f (let d : suc at + i ≡ at + suc i = omega arith in d) ∙ e (suc i)))
+
+module _ (w : Name) (n low high : ℕ) where
+  abbrev letters : Name
+  letters = tabulate (λ i. getD w i 0) 0 n
+
+  -- the number of a word of the length n, where the two numbers are given by its letters
+  pub number-by : length w ≡ n → Small w → low ≡ unle (take 8 letters) → high ≡ unle (drop 8 letters) → numberBy n low high ≡ numberOf w
+  number-by l s a b =
+      let e : w ≡ letters = spelled w (λ i. getD w i 0) 0 (λ i. rw zero-add) ∙ ap (λ (k : ℕ). tabulate (λ i. getD w i 0) 0 k) l in
+      let c : low ≡ unle (take 8 w) = a ∙ sym (ap (λ (v : Name). unle (take 8 v)) e) in
+      let d : high ≡ unle (drop 8 w) = b ∙ sym (ap (λ (v : Name). unle (drop 8 v)) e) in
+      rw (← l, c, d) (by-keys w s)
