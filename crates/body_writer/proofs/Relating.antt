@@ -24,7 +24,7 @@ use Rattle.set_code.specs.Evaluation.{valueOf}
 use Rattle.meaning_laws.proofs.ListLaws.{decided}
 use Rattle.resolver.specs.Resolving.{finalSets}
 use Rattle.resolver.specs.Reading.{stepOf}
-use Rattle.resolver.proofs.Items.{Item, declares, fills, relates, moves, tagOf, unitsOf, itemsCode, itemIn, items, ItemIn}
+use Rattle.resolver.proofs.Items.{Item, declares, fills, relates, moves, family-few, relation-few, tagOf, unitsOf, itemsCode, itemIn, items, ItemIn}
 use Rattle.resolver.proofs.Numbers.{items-declared}
 use Rattle.resolver.proofs.Passes.{Through, Met, meet, onward, onward-past, finish}
 use Rattle.body_writer.proofs.Putting.{put-over}
@@ -57,16 +57,6 @@ gives-items for k x y (l ∷ p) = by-line (l .says) (gives-items for k x y p)
     by-line (constrain c ps e) h = h
 
 -- ---- the tag tells the item
-
-relation-few : (k : Relation) → relationNumber k < 3
-relation-few userrole = omega arith
-relation-few roletype = omega arith
-relation-few roleallow = omega arith
-
-family-few : (f : Family) → familyNumber f < 3
-family-few users = omega arith
-family-few roles = omega arith
-family-few types = omega arith
 
 relation-number : (k j : Relation) → relationNumber k ≡ relationNumber j → k ≡ j
 relation-number userrole userrole h = refl

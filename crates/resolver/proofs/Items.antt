@@ -214,7 +214,7 @@ family-few users = omega arith
 family-few roles = omega arith
 family-few types = omega arith
 
-relation-few : (k : Relation) → relationNumber k < 3
+pub relation-few : (k : Relation) → relationNumber k < 3
 relation-few userrole = omega arith
 relation-few roletype = omega arith
 relation-few roleallow = omega arith

@@ -4,16 +4,16 @@ use native.Mathlib.Omega.{arith}
 use mathlib.Core.Path.{_≡_, refl, sym, ap, _∙_, subst}
 use mathlib.Core.Bool.{Bool, true, false, cond, _&&_}
 use mathlib.Core.List.{List, [], _∷_, _++_, append-assoc, append-nil}
-use lib.Dec.{leb, ltb}
+use lib.Dec.{leb, ltb, eqb}
 use lib.ListN.{length, getD, drop, length-append, length-drop}
-use borrow.Author.Tests.{leb-true, ltb-true}
+use borrow.Author.Tests.{leb-true, ltb-true, eqb-true}
 use Rattle.policy.specs.Statements.{Policy, declarations}
 use Rattle.policy.specs.Accepted.{All, Accepted}
 use Rattle.policy.proofs.Lists.{all-right}
 use Rattle.set_code.proofs.Places.{here, behind}
 use Rattle.resolver.specs.Reading.{operandsOf, stepOf}
 use Rattle.resolver.proofs.OperandLaws.{Tagged, operands-of}
-use Rattle.resolver.proofs.Items.{Item, declares, fills, relates, moves, family-few, tagOf, standsAt, unitsOf, itemsCode, ItemIn, tag-past}
+use Rattle.resolver.proofs.Items.{Item, declares, fills, relates, moves, family-few, relation-few, tagOf, standsAt, unitsOf, itemsCode, ItemIn, tag-past}
 use Rattle.resolver.proofs.Numbers.{small-units}
 
 -- where the next item stands
@@ -57,16 +57,26 @@ two-operands (fills f at a s) h l = absurd (omega (arith, h, family-few f))
 two-operands (relates k at x y) h l = refl
 two-operands (moves t) h l = absurd (omega (arith, l))
 
--- so that a step over it leads to the next item, as one over any other does
+-- a transition has four
+four-operands : (i : Item) → tagOf i ≡ 4105 → length (unitsOf i) ≡ 4
+four-operands (declares f at) h = absurd (omega (arith, h, family-few f))
+four-operands (fills f at a s) h = absurd (omega (arith, h, family-few f))
+four-operands (relates k at x y) h = absurd (omega (arith, h, relation-few k))
+four-operands (moves t) h = refl
+
+-- so that a step over them leads to the next item, as one over any other does
 step-next : (code : List ℕ) (at : ℕ) (i : Item) (left : List Item) → Stands code at i left → stepOf code at ≡ nextAt code at
-step-next code at i left s = go (leb 4102 (getD code at 0)) (ltb (getD code at 0) 4105) refl refl
+step-next code at i left s = go (leb 4102 (getD code at 0)) (ltb (getD code at 0) 4105) (eqb (getD code at 0) 4105) refl refl refl
   where
-    go : (a b : Bool) → leb 4102 (getD code at 0) ≡ a → ltb (getD code at 0) 4105 ≡ b → cond (a && b) (at + 4) (nextAt code at) ≡ nextAt code at
-    go true true h l =
+    go : (a b c : Bool) → leb 4102 (getD code at 0) ≡ a → ltb (getD code at 0) 4105 ≡ b → eqb (getD code at 0) 4105 ≡ c
+        → cond (a && b) (at + 4) (cond c (at + 6) (nextAt code at)) ≡ nextAt code at
+    go true true c h l e =
         let units = two-operands i (subst (λ (n : ℕ). 4102 ≤ n) (s .tag) (leb-true 4102 (getD code at 0) h)) (subst (λ (n : ℕ). n < 4105) (s .tag) (ltb-true (getD code at 0) 4105 l)) in
         omega (arith, units, ap length (s .operands))
-    go true false h l = refl
-    go false b h l = refl
+    go true false true h l e = omega (arith, four-operands i (sym (s .tag) ∙ eqb-true (getD code at 0) 4105 e), ap length (s .operands))
+    go true false false h l e = refl
+    go false b true h l e = omega (arith, four-operands i (sym (s .tag) ∙ eqb-true (getD code at 0) 4105 e), ap length (s .operands))
+    go false b false h l e = refl
 
 -- the code from a place on is that of the items left, and S holds of those done and those left
 pub record Through (is : List Item) (code : List ℕ) (at : ℕ) (S : List Item → List Item → Type 0) : Type 0 where

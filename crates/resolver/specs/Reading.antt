@@ -3,7 +3,7 @@ use Prim.Native.Nat.{ℕ, _+_, _*_}
 use mathlib.Core.Bool.{Bool, cond, _&&_}
 use mathlib.Core.List.{List, [], _∷_}
 use mathlib.Core.Option.{Option, none, some}
-use lib.Dec.{leb, ltb}
+use lib.Dec.{leb, ltb, eqb}
 use lib.ListN.{length, getD, drop}
 use Rattle.bitset.specs.Sets.{unionOf}
 use Rattle.bitset.specs.Parts.{part, put}
@@ -18,9 +18,10 @@ operandsOf (u ∷ us) = cond (ltb u 4096) (u ∷ operandsOf us) []
 abbrev pub isRelation : ℕ → Bool
 isRelation tag = leb 4102 tag && ltb tag 4105
 
--- where the statement behind the one at a place stands: a relation has a place and two operands behind its tag; any other ends where the next tag stands
+-- where the statement behind the one at a place stands: a relation has a place and two operands behind its tag, a transition a place and four; any other ends
+-- where the next tag stands
 abbrev pub stepOf : List ℕ → ℕ → ℕ
-stepOf code at = cond (isRelation (getD code at 0)) (at + 4) (at + 2 + length (operandsOf (drop (at + 2) code)))
+stepOf code at = cond (isRelation (getD code at 0)) (at + 4) (cond (eqb (getD code at 0) 4105) (at + 6) (at + 2 + length (operandsOf (drop (at + 2) code))))
 
 -- a set is added to the set of attribute a
 abbrev pub added : List ℕ → ℕ → List ℕ → List ℕ

@@ -79,13 +79,17 @@ fn is_relation(tag: u16) -> bool
     tag < Unit::TRANSITION
 }
 
-// Where the statement behind the one at a place stands. A relation has two operands, so that nothing is looked for behind it.
+// Where the statement behind the one at a place stands. A relation has two operands and a transition four, so that nothing is looked for behind them.
 pub fn next_statement(code: &[u16], at: usize) -> usize
     requires { ⌜ at < length (now code) ⌝ }
     ensures { λ r. ⌜ (r ≡ stepOf (now (code .entry)) at) × (at < r) ⌝ }
 {
-    if is_relation(code[at]) {
+    let tag = code[at];
+    if is_relation(tag) {
         return at + 4;
+    }
+    if tag == Unit::TRANSITION {
+        return at + 6;
     }
     statement_end(code, at + 2)
 }
