@@ -3,7 +3,7 @@
 // A family has at most 64 attributes. What is kept of each is a set of 64 bytes, one after the other, 4,096 bytes for a family: first the
 // attributes that it mentions, later the things that it stands for.
 ghost use mathlib.Core.Path.{_≡_};
-ghost use mathlib.Core.Bool.{true, not, _&&_};
+ghost use mathlib.Core.Bool.{true, not, _&&_, false};
 ghost use mathlib.Core.List.{List, [], _++_};
 ghost use Prim.Native.Nat.{ℕ, _+_, _-_, _*_, _<_, _≤_};
 ghost use lib.Dec.{eqb, ltb};
@@ -429,7 +429,20 @@ fn share(sets: &[u8; FAMILY_BYTES], x: u16, y: u16) -> bool
     bitset::meets_at(sets, row_of(x), Type::SET_BYTES, second)
 }
 
-// Whether two transitions share a role, a type and the class, and their new roles differ.
+// Whether two references are to things that are not the same, so that they share nothing.
+fn are_apart(x: u16, y: u16) -> bool
+    ensures { λ r. ⌜ (r ≡ true → (sets : List ℕ) → sharesOf sets x y ≡ false) ⌝ }
+{
+    if Unit::ATTRIBUTE <= x {
+        return false;
+    }
+    if Unit::ATTRIBUTE <= y {
+        return false;
+    }
+    x != y
+}
+
+// Whether two transitions share a role, a type and the class, and their new roles differ. Most are of two other roles, which is seen at once.
 fn clash_between(
     a: Move,
     b: Move,
@@ -438,6 +451,9 @@ fn clash_between(
 ) -> bool
     ensures { λ r. ⌜ r ≡ clashesOf (now («role_sets» .entry)) (now («type_sets» .entry)) a b ⌝ }
 {
+    if are_apart(a.roles, b.roles) {
+        return false;
+    }
     if a.class != b.class {
         return false;
     }
