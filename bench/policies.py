@@ -83,9 +83,27 @@ def unions():
     return fill(declare(60, 60, 120, 4, 8, 32), lambda n: f"(typeattributeset ta{n % 32} ({' '.join(f't{(n * 3 + k) % 120}_' for k in range(10))}))")
 
 
+def expression(x, n, many):
+    """A set with every operator, over so many things."""
+    return f"(and (or ({x}{n % many}_ {x}{(n * 5 + 1) % many}_) (not ({x}{(n * 7 + 2) % many}_))) (xor (all) ({x}{(n * 3 + 5) % many}_)))"
+
+
 def nested():
-    """Sets with every operator, as many as the text holds."""
-    return fill(declare(60, 60, 120, 4, 8, 32), lambda n: f"(roleattributeset ra{n % 32} (and (or (r{n % 60}_ r{(n + 1) % 60}_) (not (r{(n + 2) % 60}_))) (xor (all) (r{(n + 5) % 60}_))))")
+    """Sets with every operator over few roles, as many as the text holds."""
+    return fill(declare(60, 60, 120, 4, 8, 32), lambda n: f"(roleattributeset ra{n % 32} {expression('r', n, 60)})")
+
+
+def wide():
+    """The same over as many types as there may be, behind every maximum of names."""
+    return fill(declare(128, 128, 512, 31, 31, 64), lambda n: f"(typeattributeset ta{n % 64} {expression('t', n, 512)})")
+
+
+def groups():
+    """Relations between attributes, as many as the text holds, behind every maximum of names."""
+    lines = declare(128, 128, 512, 31, 31, 64)
+    for x, family in (("r", "role"), ("t", "type")):
+        lines += [f"({family}attributeset {x}a{n} ({x}{n}_ {x}{n + 64}_))" for n in range(64)]
+    return fill(lines, lambda n: f"(roletype ra{n % 64} ta{n * 7 % 64})")
 
 
 def lines_only():
@@ -152,6 +170,8 @@ def main():
         "full": full(),
         "unions": unions(),
         "nested": nested(),
+        "wide": wide(),
+        "groups": groups(),
         "lines": lines_only(),
         "one-permission": constraints(128, False),
         "spread": constraints(128, True),

@@ -1,10 +1,11 @@
 -- Document 01, fault 9: "two transitions share a role, a type and the class, new roles differ", on the operands of two transitions in the code.
 -- Assumes nothing.
-use Prim.Native.Nat.{ℕ}
+use Prim.Native.Nat.{ℕ, _+_}
 use mathlib.Core.Path.{_≡_}
 use mathlib.Core.Bool.{Bool, not, _&&_}
 use mathlib.Core.List.{List, _++_}
 use lib.Dec.{eqb}
+use lib.ListN.{getD}
 use Rattle.bitset.specs.Sets.{setOf, meets}
 use Rattle.policy.specs.Statements.{roles, types, Policy, declarations, Transition, transitions}
 use Rattle.policy.specs.Accepted.{ReferenceIn}
@@ -19,6 +20,10 @@ sharesOf sets x y = meets (setOf 64 (valueOf sets x)) (setOf 64 (valueOf sets y)
 unfoldable pub clashesOf : List ℕ → List ℕ → Move → Move → Bool
 clashesOf roleSets typeSets a b =
     eqb (a .class) (b .class) && not (eqb (a .new) (b .new)) && sharesOf roleSets (a .roles) (b .roles) && sharesOf typeSets (a .types) (b .types)
+
+-- the operands of the transition that stands at a place of the code
+abbrev pub moveAt : List ℕ → ℕ → Move
+moveAt code at = record { roles = getD code (at + 2) 0; types = getD code (at + 3) 0; class = getD code (at + 4) 0; new = getD code (at + 5) 0 }
 
 -- these are the operands of a transition that names what the policy declares
 pub record Codes (p : Policy) (t : Transition) (m : Move) : Type 0 where

@@ -24,7 +24,7 @@ ghost use Rattle.set_code.specs.Evaluation.{setsIn, valueOf};
 ghost use Rattle.statement_code.specs.Numbered.{Numbered};
 ghost use Rattle.resolver.specs.Reading.{operandsOf, isRelation, stepOf, added, foundOf};
 ghost use Rattle.resolver.specs.Closure.{columnOf, throughOf, closedOf};
-ghost use Rattle.resolver.specs.Clashes.{sharesOf, clashesOf, Codes, Segment, AllTransitions};
+ghost use Rattle.resolver.specs.Clashes.{sharesOf, clashesOf, moveAt, Codes, Segment, AllTransitions};
 ghost use Rattle.resolver.specs.Resolving.{finalSets, Resolves};
 use policy::Attribute;
 use policy::Family;
@@ -442,7 +442,7 @@ fn are_apart(x: u16, y: u16) -> bool
     x != y
 }
 
-// Whether two transitions share a role, a type and the class, and their new roles differ. Most are of two other roles, which is seen at once.
+// Whether two transitions share a role, a type and the class, and their new roles differ.
 fn clash_between(
     a: Move,
     b: Move,
@@ -451,9 +451,6 @@ fn clash_between(
 ) -> bool
     ensures { λ r. ⌜ r ≡ clashesOf (now («role_sets» .entry)) (now («type_sets» .entry)) a b ⌝ }
 {
-    if are_apart(a.roles, b.roles) {
-        return false;
-    }
     if a.class != b.class {
         return false;
     }
@@ -464,6 +461,22 @@ fn clash_between(
         return share(type_sets, a.types, b.types);
     }
     false
+}
+
+// Whether a transition clashes with the one that stands at a place. Most are of two other roles, which is seen at once.
+fn clashes_at(
+    earlier: &[u16],
+    at: usize,
+    later: Move,
+    role_sets: &[u8; FAMILY_BYTES],
+    type_sets: &[u8; FAMILY_BYTES],
+) -> bool
+    ensures { λ r. ⌜ r ≡ clashesOf (now («role_sets» .entry)) (now («type_sets» .entry)) later (moveAt (now (earlier .entry)) at) ⌝ }
+{
+    if are_apart(later.roles, unit(earlier, at, 2)) {
+        return false;
+    }
+    clash_between(later, transition(earlier, at), role_sets, type_sets)
 }
 
 // Whether a transition clashes with one of the earlier statements, whose code is given.
@@ -481,7 +494,7 @@ fn clashes_earlier(
     while at < earlier.len() {
         let next = next_statement(earlier, at);
         if earlier[at] == Unit::TRANSITION {
-            if clash_between(later, transition(earlier, at), role_sets, type_sets) {
+            if clashes_at(earlier, at, later, role_sets, type_sets) {
                 return true;
             }
         }

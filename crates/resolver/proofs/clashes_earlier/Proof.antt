@@ -1,6 +1,6 @@
 -- `resolver::clashes_earlier` meets its contract: none of the items passed clashes. Assumes nothing.
 use Prim.Native.Nat.{_-_}
-use mathlib.Core.Path.{_≡_, sym, _∙_}
+use mathlib.Core.Path.{_≡_, refl, sym, _∙_}
 use lib.ListN.{length}
 use borrow.Author.Needs.{needs}
 use Rattle.bitset.specs.Relations.{relation}
@@ -28,13 +28,13 @@ loop-holds c = λ p part t ok s q codes hr ht. earlier-start p ok part s t _ q
 
 returns : tie.Need-returns Inv-loop μ-loop
 returns c = λ p part t ok s q codes hr ht.
-    earlier-found p ok part s t _ _ (c .before .before .before .before .before .before .loop-test .taken) (c .before .before .before .before .before .before .before .loop .inv p part t ok s q codes hr ht) (c .before .before .before .if1 .taken) _ _ hr ht _ _ codes (c .before .before .transition .ensures)
-    (sym (c .before .clash-between .ensures) ∙ c .if2 .taken)
+    earlier-found p ok part s t _ _ (c .before .before .before .before .before .loop-test .taken) (c .before .before .before .before .before .before .loop .inv p part t ok s q codes hr ht) (c .before .before .if1 .taken) _ _ hr ht _ _ codes (refl, refl, refl, refl)
+    (sym (c .before .clashes-at .ensures) ∙ c .if2 .taken)
 
 loop-again : tie.Need-loop-again Inv-loop μ-loop
 loop-again c = λ p part t ok s q codes hr ht.
-    earlier-on p ok part s t _ _ (c .before .before .before .before .before .before .loop-test .taken) (c .before .before .before .before .before .before .before .loop .inv p part t ok s q codes hr ht) (c .before .before .before .if1 .taken) _ _ hr ht _ _ codes (c .before .before .transition .ensures)
-    _ (c .before .before .before .before .before .next-statement .ensures .0) (sym (c .before .clash-between .ensures) ∙ c .if2 .left)
+    earlier-on p ok part s t _ _ (c .before .before .before .before .before .loop-test .taken) (c .before .before .before .before .before .before .loop .inv p part t ok s q codes hr ht) (c .before .before .if1 .taken) _ _ hr ht _ _ codes (refl, refl, refl, refl)
+    _ (c .before .before .before .before .next-statement .ensures .0) (sym (c .before .clashes-at .ensures) ∙ c .if2 .left)
 
 loop-again-2 : tie.Need-loop-again-2 Inv-loop μ-loop
 loop-again-2 c = λ p part t ok s q codes hr ht.
@@ -46,4 +46,4 @@ returns-2 c = λ p part t ok s q codes hr ht. earlier-none p ok part s t (finish
 pub clashes-earlier-spec : {M : Type 1} → statement M
 clashes-earlier-spec =
     tie.close
-    (tie.spec Inv-loop μ-loop loop-holds (λ c κs. search needs) (λ c. search needs) (λ c. search needs) (λ c κs. search needs) (λ c κs. search needs) returns (λ c. search needs) loop-again (λ c. search needs) loop-again-2 returns-2)
+    (tie.spec Inv-loop μ-loop loop-holds (λ c κs. search needs) (λ c. search needs) (λ c. search needs) (λ c κs. search needs) returns (λ c. search needs) loop-again (λ c. search needs) loop-again-2 returns-2)
