@@ -179,8 +179,8 @@ const LOW_NAME_BYTES: u64 = 0x3ff200000000000;
 // The same for the bytes from 64 to 96, by the bits of what they are above 64: capital letters and `_`.
 const HIGH_NAME_BYTES: u64 = 0x87fffffe;
 
-// Whether a name goes on with the byte. Tokens are read several times, so this is asked without the table: the two numbers above say of each byte
-// what the table says.
+// Whether a name goes on with the byte. Tokens are read several times, so this is asked without the table: the range of small letters and the two
+// numbers above say of each byte what the table says.
 fn is_name_byte(b: u8) -> bool
     ensures { λ r. ⌜ r ≡ goesOn (classOf b) ⌝ }
 {
