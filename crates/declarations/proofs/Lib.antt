@@ -1,5 +1,6 @@
 pub mod Standings
 pub mod Rows
+pub mod Heads
 pub mod Repeating
 pub mod EnteringLaws
 pub mod Holding
@@ -7,4 +8,6 @@ pub mod Maxima
 pub mod Formed
 pub mod NewPermissions
 pub mod NameAnswers
+pub mod Permissions
+pub mod PermitRows
 pub mod ClassAnswers

@@ -1,6 +1,6 @@
 -- Rounds of filling the attributes of a family: round k leaves the sets that are nested k deep, and once a round changes nothing no later one
 -- does, so that these are the final sets. Assumes nothing.
-use Prim.Native.Nat.{ℕ, zero, suc, _+_, _-_, _<_, _≤_}
+use Prim.Native.Nat.{ℕ, zero, suc, _+_, _-_, _*_, _<_, _≤_}
 use native.Mathlib.Nat.{suc-add}
 use native.Mathlib.Numerals.{add-one}
 use native.Mathlib.Omega.{arith}
@@ -9,13 +9,15 @@ use mathlib.Core.Bool.{Bool, true, false, false≢true}
 use mathlib.Core.Logic.{⊎-elim}
 use mathlib.Core.List.{List, [], _∷_}
 use lib.Dec.{eqb}
-use lib.ListN.{length, getD}
-use lib.Seq.{ext-getD}
+use lib.ListN.{length, getD, take}
+use lib.Seq.{ext-getD, take-nil, drop-nil}
 use borrow.Author.Tests.{eq-eqb, eqb-true}
-use Rattle.bitset.specs.Sets.{setOf, allBelow, emptied}
+use Rattle.bitset.specs.Sets.{member, allBelow}
+use Rattle.bitset.specs.Parts.{part}
 use Rattle.bitset.specs.Relations.{relation}
 use Rattle.bitset.proofs.AllLaws.{allBelow-at}
-use Rattle.bitset.proofs.RelationLaws.{relation-ext, relation-empty, length-relation}
+use Rattle.bitset.proofs.SetLaws.{member-past}
+use Rattle.bitset.proofs.RelationLaws.{relation-ext, length-relation}
 use Rattle.policy.specs.Basics.{any, isAmong}
 use Rattle.policy.specs.Statements.{Family, Policy}
 use Rattle.policy.specs.Meaning.{ofS, countIn, unionOf, nested, final}
@@ -69,14 +71,19 @@ module _ (p : Policy) (ok : Accepted p) (f : Family) where
   all-mentioned P a h = all-among P (mentions p f a)
       (λ b e. h b (omega (arith, direct-declared p f ok a b (mentions-exactly p f a b .1 e) .1, few-attributes p ok f)))
 
-  pub first-rows : (s : List ℕ) → length s ≡ 4096 → emptied s ≡ after 0
-  unfolding emptied nested
-  first-rows s h = ap (λ (w : ℕ). setOf w (λ n. false)) h ∙ sym (relation-empty 64 64)
-
   next-rows : (k : ℕ) → turned (after k) ≡ after (suc k)
   unfolding nested
   next-rows k = relation-ext 64 64 (unionOf p f (setsIn (after k))) (unionOf p f (nested k p f))
       (λ a n h l. same-union p f a n (setsIn (after k)) (nested k p f) (all-mentioned _ a (λ b d. sets-in (nested k p f) b n d l)))
+
+  -- the first round, from no sets at all
+  pub first-filled : turned [] ≡ after 1
+  unfolding nested setsIn part
+  first-filled = relation-ext 64 64 (unionOf p f (setsIn [])) (unionOf p f (nested 0 p f))
+      (λ a n h l. same-union p f a n (setsIn []) (nested 0 p f) (all-mentioned _ a (λ b d. nothing-in b n)))
+    where
+      nothing-in : (b n : ℕ) → setsIn [] b n ≡ false
+      nothing-in b n = ap (λ (s : List ℕ). member s n) (ap (take 64) (drop-nil (64 * b)) ∙ take-nil 64) ∙ member-past [] n (omega arith)
 
   -- one round more
   pub more-rows : (k : ℕ) (sets rows : List ℕ) → sets ≡ after k → rows ≡ turned sets → rows ≡ after (k + 1)
@@ -107,10 +114,9 @@ module _ (p : Policy) (ok : Accepted p) (f : Family) where
   abbrev direct : ℕ → ℕ → Bool
   direct a b = isAmong b (mentions p f a)
 
-  -- rows that are equal to rows of nothing
-  pub none-mentioned : (rows sets : List ℕ) → rows ≡ relation 64 64 direct → sets ≡ after 0
-      → allBelow 4096 (λ i. eqb (getD rows i 0) (getD sets i 0)) ≡ true → rows ≡ after 0
-  none-mentioned rows sets h e same = h ∙ rows-equal direct (nested 0 p f) (rw (← h, ← e) same)
+  pub none-mentioned : ((a b : ℕ) → b < 512 → isAmong b (mentions p f a) ≡ false) → relation 64 64 direct ≡ after 0
+  unfolding nested
+  none-mentioned h = relation-ext 64 64 direct (nested 0 p f) (λ a b k l. h a b l)
 
   module _ (nothing : relation 64 64 direct ≡ after 0) where
     silent : (a b : ℕ) → a < 64 → b < 64 → isAmong b (mentions p f a) ≡ false
@@ -134,12 +140,12 @@ module _ (p : Policy) (ok : Accepted p) (f : Family) where
     off-cycle a = ⊎-elim (λ e. absurd (none-through (on-cycle-exactly p f ok a .0 e))) (λ e. e) (decided (onCycle p f a))
 
     -- the sets do not depend on those before, so one round is all
-    pub one-round : (rows sets : List ℕ) → rows ≡ after 0 → sets ≡ turned rows → sets ≡ relation 64 64 (final p f)
+    pub one-round : (sets : List ℕ) → sets ≡ after 1 → sets ≡ relation 64 64 (final p f)
     unfolding final
-    one-round rows sets z e =
+    one-round sets e =
         let still : after 1 ≡ after 2 =
         sym (next-rows 0)
         ∙ relation-ext 64 64 (unionOf p f (setsIn (after 0))) (unionOf p f (setsIn (after 1)))
         (λ a n h l. same-union p f a n (setsIn (after 0)) (setsIn (after 1)) (all-among _ (mentions p f a) (λ b m. absurd (none-directly a b (mentions-exactly p f a b .1 m)))))
         ∙ next-rows 1 in
-        more-rows 0 rows sets z e ∙ sym (rests 1 still 63)
+        e ∙ sym (rests 1 still 63)

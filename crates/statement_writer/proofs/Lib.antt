@@ -1,4 +1,5 @@
 pub mod Numbering
+pub mod NamedRows
 pub mod RowNames
 pub mod Wholes
 pub mod Finishing

@@ -1,4 +1,5 @@
 pub mod PartLaws
+pub mod WordLaws
 pub mod SectionLaws
 pub mod LookLaws
 pub mod FindLaws
@@ -14,4 +15,5 @@ pub mod Walking
 pub mod CountLaws
 pub mod SlotLaws
 pub mod Indexing
+pub mod SameLaws
 pub mod Entering
