@@ -4,3 +4,4 @@ pub mod SoundLaws
 pub mod TransitionLaws
 pub mod NameLaws
 pub mod ChangeLaws
+pub mod CountedLaws

@@ -117,7 +117,7 @@ module _ (t : List ℕ) (s : Sound t) where
   few-in-class : (c : ℕ) → length (permissions (s .image .names) c) ≤ 32
   few-in-class c = few-permissions-of (s .image .names) (formed (s .image) (s .formed) .names) c
 
-  class-below : (c : ℕ) → c < length (classNames (s .image .names)) → c < 32
+  pub class-below : (c : ℕ) → c < length (classNames (s .image .names)) → c < 32
   class-below c h = omega (arith, few-classes (s .image .names) (formed (s .image) (s .formed) .names))
 
   too-far : (c k : ℕ) → ltb k 32 ≡ false → permissionIn t c k ≡ refused 12 0
@@ -129,7 +129,7 @@ module _ (t : List ℕ) (s : Sound t) where
       by false = refl
 
   -- a permission is declared
-  permission-found : (c k : ℕ) → c < length (classNames (s .image .names)) → isFoundName (permissionIn t c k) ≡ ltb k (length (permissions (s .image .names) c))
+  pub permission-found : (c k : ℕ) → c < length (classNames (s .image .names)) → isFoundName (permissionIn t c k) ≡ ltb k (length (permissions (s .image .names) c))
   permission-found c k h = by (ltb k 32) refl
     where
       by : (b : Bool) → ltb k 32 ≡ b → isFoundName (permissionIn t c k) ≡ ltb k (length (permissions (s .image .names) c))

@@ -13,7 +13,8 @@ use symbols::Entry;
 use symbols::NamePlace;
 ghost use mathlib.Core.Path.{_≡_};
 ghost use mathlib.Core.Bool.{true};
-ghost use Prim.Native.Nat.{_≤_};
+ghost use mathlib.Core.List.{List};
+ghost use Prim.Native.Nat.{ℕ, _≤_, _<_};
 ghost use lib.ListN.{drop, replicate};
 ghost use Rattle.policy.specs.Sound.{transitionAt};
 ghost use Rattle.policy.specs.Answer.{firstFailing, roleMay};
@@ -67,13 +68,13 @@ fn names_end(table: &[u8]) -> usize
 }
 
 // How many names of some sorts there are.
-struct Counts {
-    users: usize,
-    roles: usize,
-    types: usize,
-    userattributes: usize,
-    roleattributes: usize,
-    classes: usize,
+pub struct Counts {
+    pub users: usize,
+    pub roles: usize,
+    pub types: usize,
+    pub userattributes: usize,
+    pub roleattributes: usize,
+    pub classes: usize,
 }
 
 // Counts the names of each sort in one walk, with counts that are 0 at first.
@@ -280,16 +281,16 @@ fn declares_permission(table: &[u8], class: usize, permission: usize) -> bool
     }
 }
 
-// Whether all numbers of a question are declared.
+// Whether all numbers of a question are declared, where it is known of a declared class whether it has the permission.
 fn declares_question(
-    table: &[u8],
     counts: Counts,
+    has: bool,
     source: Context,
     target: Context,
     class: usize,
-    permission: usize,
 ) -> bool
-    ensures { λ r. ⌜ r ≡ declaresQuestion (now (table .entry)) counts (question source target class permission) ⌝ }
+    ensures { λ r. ⌜ ((t : List ℕ) (permission : ℕ) → (class < counts .classes → has ≡ isFoundName (permissionIn t class permission))
+        → r ≡ declaresQuestion t counts (question source target class permission)) ⌝ }
 {
     if !declares_context(counts, source) {
         return false;
@@ -300,7 +301,7 @@ fn declares_question(
     if counts.classes <= class {
         return false;
     }
-    declares_permission(table, class, permission)
+    has
 }
 
 // ---- change: the role
@@ -410,19 +411,22 @@ fn ask_constraints(
     constraints::first_failing(table, bodies, class, permission, &sides)
 }
 
-// **Change**: denials 1 to 3 in their order, then the constraints, with the number consulted.
-pub fn change_in_sound(
+// **Change** on a table whose names are counted, and of which it is known whether the class, if it is declared, has the permission: denials 1 to 3 in their
+// order, then the constraints, with the number consulted.
+pub fn change_in_counted(
     table: &[u8],
+    counts: Counts,
+    has: bool,
     source: Context,
     target: Context,
     class: usize,
     permission: usize,
 ) -> Change
-    requires { ⌜ isSound (now table) ≡ true ⌝ }
+    requires { ⌜ (isSound (now table) ≡ true) × (counts ≡ countsIn (now table))
+        × (class < counts .classes → has ≡ isFoundName (permissionIn (now table) class permission)) ⌝ }
     ensures { λ r. ⌜ changeOf r ≡ changeOn (now (table .entry)) (question source target class permission) ⌝ }
 {
-    let counts = count_names(table);
-    if !declares_question(table, counts, source, target, class, permission) {
+    if !declares_question(counts, has, source, target, class) {
         return Change::Refused { number: UNDECLARED };
     }
     if !is_valid(table, source) {
@@ -435,4 +439,20 @@ pub fn change_in_sound(
         return Change::Denied { number: 3 };
     }
     ask_constraints(table, counts, source, target, class, permission)
+}
+
+// The same on a table that is only known to be sound.
+pub fn change_in_sound(
+    table: &[u8],
+    source: Context,
+    target: Context,
+    class: usize,
+    permission: usize,
+) -> Change
+    requires { ⌜ isSound (now table) ≡ true ⌝ }
+    ensures { λ r. ⌜ changeOf r ≡ changeOn (now (table .entry)) (question source target class permission) ⌝ }
+{
+    let counts = count_names(table);
+    let has = declares_permission(table, class, permission);
+    change_in_counted(table, counts, has, source, target, class, permission)
 }

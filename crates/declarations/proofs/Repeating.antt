@@ -6,7 +6,7 @@ use mathlib.Core.Bool.{Bool, true, false, not, _||_, false≢true}
 use mathlib.Core.List.{List, [], _∷_, _++_, append-nil}
 use Prim.Native.Nat.{ℕ, _+_, _≤_}
 use native.Mathlib.Omega.{arith}
-use lib.ListN.{take, drop, replicate, take-append-drop, length-replicate}
+use lib.ListN.{length, take, drop, replicate, take-append-drop, length-replicate}
 use lib.Seq.{take-add, drop-drop}
 use Rattle.bitset.specs.Parts.{part}
 use Rattle.lexer.specs.Forms.{framesAt}
@@ -14,8 +14,8 @@ use Rattle.policy.specs.Basics.{Name, same, any, isIn, differ}
 use Rattle.policy.proofs.Lists.{either-true, any-append}
 use Rattle.symbols.specs.Section.{between}
 use Rattle.symbols.proofs.Indexing.{same-is}
-use Rattle.name_filter.specs.Filter.{hashOf, marked, Covers}
-use Rattle.name_filter.proofs.FilterLaws.{covers-none, covers-more}
+use Rattle.name_filter.specs.Filter.{hashOf, isMarked, marked, Covers}
+use Rattle.name_filter.proofs.FilterLaws.{covers-none, covers-more, unmarked, marked-long}
 use Rattle.name_filter.proofs.Differing.{differ-more, differ-new}
 use Rattle.declarations.specs.WordRows.{wordsIn, isAmongFirst, WordHere}
 use Rattle.declarations.proofs.Rows.{words-here}
@@ -57,18 +57,20 @@ pub record Passed (t : List ℕ) (at : ℕ) (s : List ℕ) (k i : ℕ) : Type 0 
   pub left : drop k (wordsIn (framesAt t at .here)) ≡ wordsIn (framesAt t i .here)
   pub apart : differ (take k (wordsIn (framesAt t at .here))) ≡ true
   pub covers : Covers s 0 (isAmongFirst t at k)
+  pub long : length s ≡ 2048
   pub few : k ≤ i
 
 module _ (t : List ℕ) (at : ℕ) where
   abbrev ws : List Name
   ws = wordsIn (framesAt t at .here)
 
-  pub passed-none : Passed t at (replicate 8192 0) 0 at
+  pub passed-none : Passed t at (replicate 2048 0) 0 at
   unfolding differ isIn any
   passed-none = record {
     left = refl;
     apart = refl;
-    covers = covers-none (replicate 8192 0) 0 (isAmongFirst t at 0) (length-replicate {A = ℕ} 8192 0) (λ w. refl);
+    covers = covers-none (replicate 2048 0) 0 (isAmongFirst t at 0) (omega (arith, length-replicate {A = ℕ} 2048 0)) (λ w. refl);
+    long = length-replicate {A = ℕ} 2048 0;
     few = omega arith;
   }
 
@@ -83,6 +85,10 @@ module _ (t : List ℕ) (at : ℕ) where
       abbrev next : drop k ws ≡ part t start len ∷ wordsIn (framesAt t (start + len) .here)
       next = p .left ∙ words-here h
 
+      -- where it lacks a mark it is none of them
+      pub not-among : (q : Bool) (r : ℕ) → r ≡ hashOf 0 (part t start len) → q ≡ isMarked s r → q ≡ false → isAmongFirst t at k (part t start len) ≡ false
+      not-among q r e g f = unmarked s 0 (isAmongFirst t at k) (part t start len) r (p .covers) e (sym g ∙ f)
+
       pub stands-twice : isAmongFirst t at k (part t start len) ≡ true → true ≡ not (differ ws)
       stands-twice q = ap not (sym (not-apart ws k (part t start len) (wordsIn (framesAt t (start + len) .here)) next q))
 
@@ -92,6 +98,7 @@ module _ (t : List ℕ) (at : ℕ) where
         apart = ap differ more ∙ differ-more (take k ws) (part t start len) (p .apart) q;
         covers = covers-more s 0 (isAmongFirst t at k) (isAmongFirst t at (k + 1)) 0 (part t start len) (p .covers)
             (λ w g. ⊎-elim (λ x. inl x) (λ x. inr (refl, x)) (in-more w (part t start len) (take k ws) (sym (ap (isIn w) more) ∙ g)));
+        long = marked-long s (hashOf 0 (part t start len)) (p .covers .some-words) ∙ p .long;
         few = omega (arith, p .few, h .ahead);
       }
         where

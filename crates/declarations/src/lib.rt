@@ -1,7 +1,7 @@
 // Declarations of names and classes, put into the symbol table: faults 4 and 6. The form of a statement is tested on the way: one of a wrong form is
 // never declared, but which refusal it gets is not said here.
 ghost use mathlib.Core.Path.{_≡_};
-ghost use mathlib.Core.Bool.{not};
+ghost use mathlib.Core.Bool.{not, false};
 ghost use mathlib.Core.List.{[], _∷_};
 ghost use Prim.Native.Nat.{_+_, _≤_, _<_};
 ghost use lib.ListN.{length};
@@ -11,7 +11,6 @@ ghost use Rattle.policy.specs.Basics as basics;
 ghost use Rattle.policy.specs.Basics.{differ};
 ghost use Rattle.policy.specs.Encode.{nameEntry};
 ghost use Rattle.policy.specs.Words.{classK};
-ghost use Rattle.name_filter.specs.Filter.{hashOf, Covers};
 ghost use Rattle.declarations.specs.Counting.{Counts, MostIs, Stands};
 ghost use Rattle.declarations.specs.WordRows.{wordsIn, isAmongFirst, WordIs, NameIs, HeadIs};
 ghost use Rattle.declarations.specs.Entering.{Enters, answerOf};
@@ -270,30 +269,25 @@ fn is_among_first(text: &[u8], at: usize, count: usize, start: usize, len: usize
     false
 }
 
-// The same, asked of the filter of these names first: one without its marks is none of them.
-fn is_repeated(
-    text: &[u8],
-    at: usize,
-    count: usize,
-    start: usize,
-    len: usize,
-    filter: &[u8],
-    hash: usize,
-) -> bool
-    requires { ⌜ (start + len ≤ length (now text)) × Covers (now filter) 0 (isAmongFirst (now text) at count) × (hash ≡ hashOf 0 (part (now text) start len)) ⌝ }
+// The same, where a filter of these names was asked first: only a name that shares its marks with them is compared.
+fn is_repeated(text: &[u8], at: usize, count: usize, start: usize, len: usize, shares: bool) -> bool
+    requires { ⌜ (start + len ≤ length (now text)) × (shares ≡ false → isAmongFirst (now text) at count (part (now text) start len) ≡ false) ⌝ }
     ensures { λ r. ⌜ r ≡ isAmongFirst (now (text .entry)) at count (part (now (text .entry)) start len) ⌝ }
 {
-    if !name_filter::is_marked(filter, hash) {
+    if !shares {
         return false;
     }
     is_among_first(text, at, count, start, len)
 }
 
+// The words of the filter of a class's permissions. A class may name thousands, which are then too many: even these do not fill it.
+const FILTER_WORDS: usize = 2048;
+
 // Whether a name stands twice in the row at a place: each is looked for among those before it.
 fn repeats(text: &[u8], at: usize) -> bool
     ensures { λ r. ⌜ r ≡ not (differ (wordsIn (framesAt (now (text .entry)) at .here))) ⌝ }
 {
-    let mut filter = [0u8; name_filter::FILTER_BYTES];
+    let mut filter = [0u64; FILTER_WORDS];
     let mut i = at;
     let mut count: usize = 0;
     loop {
@@ -302,10 +296,10 @@ fn repeats(text: &[u8], at: usize) -> bool
             return false;
         };
         let hash = name_filter::hash_of(text, start, start + len, 0);
-        if is_repeated(text, at, count, start, len, &filter, hash) {
+        let shares = name_filter::mark(&mut filter, hash);
+        if is_repeated(text, at, count, start, len, shares) {
             return true;
         }
-        name_filter::mark(&mut filter, hash);
         count += 1;
         i = start + len;
     }

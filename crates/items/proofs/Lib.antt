@@ -3,3 +3,5 @@ pub mod Ends
 pub mod Items
 pub mod Rows
 pub mod Frames
+pub mod Keywords
+pub mod Bytes

@@ -1,17 +1,15 @@
 -- The first place of a text whose byte's class passes a test: how a loop finds it, and where it lies.
 -- Assumes nothing.
 use mathlib.Core.Path.{_≡_, refl, sym, ap, _∙_}
-use mathlib.Core.Bool.{Bool, true, false, not, _&&_, and-true, and-false}
+use mathlib.Core.Bool.{Bool, true, false, not, _&&_}
 use mathlib.Core.List.{List, [], _∷_}
 use Prim.Native.Nat.{ℕ, suc, _+_, _≤_, _<_}
 use native.Mathlib.Nat.{le-refl}
 use native.Mathlib.Numerals.{add-one}
 use native.Mathlib.Omega.{arith}
-use borrow.Author.Tests.{le-leb, lt-leb, eq-eqb, ne-eqb}
-use lib.Dec.{eqb}
 use lib.ListN.{length, getD, drop, length-drop, drop-of-length-le}
 use lib.Seq.{drop-cons, drop-drop}
-use Rattle.lexer.specs.Class.{classOf, starts, goesOn, endsComment, allGoOn, isName}
+use Rattle.lexer.specs.Class.{classOf, goesOn, endsComment}
 use Rattle.lexer.specs.Scan.{Mode, between, inComment, commentThen}
 use Rattle.lexer.specs.Answers.{goesOnWith, firstFrom, endsWord}
 use Rattle.lexer.specs.declared.ByteClass.{ByteClass}
@@ -95,36 +93,13 @@ module _ (t : List ℕ) (at : ℕ) where
   pub word-goes-on : goesOnWith (drop at t) ≡ true → firstFrom (drop at t) endsWord at ≡ firstFrom (drop (at + 1) t) endsWord (at + 1)
   word-goes-on e = further t endsWord at (ap not (byte-goes-on e)) (byte-there e)
 
--- ---- a name, by where its word ends
+-- the same by the answer to a test of a byte: the word goes on at the next place, or ends here
+module _ (t : List ℕ) (i : ℕ) {r : Bool} (e : r ≡ goesOn (classOf (getD t i 0))) (h : i < length t) where
+  pub passes : (j : ℕ) → not r ≡ false → j ≡ i + 1 → firstFrom (drop i t) endsWord i ≡ firstFrom (drop j t) endsWord j
+  passes j n f = further t endsWord i (ap not (sym e) ∙ n) h ∙ ap (λ (k : ℕ). firstFrom (drop k t) endsWord k) (sym f)
 
--- all bytes go on a name where the word that is under way ends with them
-pub all-go-on : (bs : List ℕ) (at : ℕ) → eqb (firstFrom bs endsWord at) (at + length bs) ≡ allGoOn bs
-unfolding firstFrom allGoOn
-all-go-on [] at = eq-eqb at (at + 0) (omega arith)
-all-go-on (b ∷ bs) at = go (goesOn (classOf b)) (all-go-on bs (at + 1))
-  where
-    go : (q : Bool) → eqb (firstFrom bs endsWord (at + 1)) (at + 1 + length bs) ≡ allGoOn bs
-        → eqb (elim (not q) [ true ↦ at | false ↦ firstFrom bs endsWord (at + 1) ]) (at + suc (length bs)) ≡ (q && allGoOn bs)
-    go true i = ap (eqb (firstFrom bs endsWord (at + 1))) (omega arith) ∙ i
-    go false i = ne-eqb at (at + suc (length bs)) (λ e. omega arith)
-
-pub no-name : (bs : List ℕ) → length bs ≡ 0 → false ≡ isName bs
-unfolding isName
-no-name [] e = refl
-no-name (b ∷ bs) e = absurd (omega arith)
-
-pub long-name : (bs : List ℕ) → 64 < length bs → false ≡ isName bs
-unfolding isName
-long-name [] h = refl
-long-name (b ∷ bs) h = rw (lt-leb (suc (length bs)) 64 h, and-false)
-
--- bytes that are few enough and at least one are a name by the first and by where the word ends that goes on behind it
-pub name-ends : (bs : List ℕ) → 0 < length bs → length bs ≤ 64 → isName bs ≡ (starts (classOf (getD bs 0 0)) && eqb (firstFrom (drop 1 bs) endsWord 1) (length bs))
-unfolding isName
-name-ends [] h g = absurd (omega arith)
-name-ends (b ∷ bs) h g =
-    rw (le-leb (suc (length bs)) 64 g, and-true)
-    (ap (λ (q : Bool). starts (classOf b) && q) (sym (ap (eqb (firstFrom bs endsWord 1)) (omega arith) ∙ all-go-on bs 1)))
+  pub stays : not r ≡ true → firstFrom (drop i t) endsWord i ≡ i
+  stays n = found t endsWord i (ap not (sym e) ∙ n) h
 
 -- ---- whatever is run over the bytes of a text passes over a comment: one law for the scan and for the tokens
 

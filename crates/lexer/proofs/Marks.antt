@@ -6,8 +6,9 @@ use mathlib.Core.List.{List, [], _∷_}
 use Prim.Native.Nat.{ℕ, zero, suc, _+_, _-_, _≤_, _<_}
 use native.Mathlib.Nat.{add-zero, zero-add, add-suc, suc-add, le-of-suc-le-suc, not-suc-le-zero}
 use native.Mathlib.Omega.{arith}
+use lib.Dec.{ltb}
 use lib.ListN.{getD}
-use Rattle.lexer.specs.Class.{is}
+use Rattle.lexer.specs.Class.{is, goesOn}
 use Rattle.lexer.specs.Answers.{markOf}
 use Rattle.lexer.specs.declared.ByteClass.{ByteClass}
 use Rattle.lexer.specs.declared.ByteClass.the-variants.{Blank, LineFeed, Comment, Open, Close, Letter, Digit, Wrong}
@@ -42,8 +43,8 @@ abbrev classAt : ℕ → ByteClass
 classAt m =
     cond (is "b" m) Blank
     (cond (is "n" m) LineFeed
-    (cond (is ";" m) Comment
-    (cond (is "(" m) Open (cond (is ")" m) Close (cond (is "l" m) Letter (cond (is "d" m) Digit Wrong))))))
+    (cond (is "s" m) Comment
+    (cond (is "o" m) Open (cond (is "c" m) Close (cond (is "L" m) Letter (cond (is "D" m) Digit Wrong))))))
 
 class-of-mark : (x : ByteClass) → classAt (markOf x) ≡ x
 class-of-mark Blank = refl
@@ -70,3 +71,17 @@ unmarked Close k e a b c d f g h = absurd (f e)
 unmarked Letter k e a b c d f g h = absurd (g e)
 unmarked Digit k e a b c d f g h = absurd (h e)
 unmarked Wrong k e a b c d f g h = refl
+
+-- the marks below `a` are those of the classes with which a name goes on
+pub capital : (x : ByteClass) (k : ℕ) → k ≡ markOf x → ltb k 97 ≡ goesOn x
+capital x k e = ap (λ (m : ℕ). ltb m 97) e ∙ go x
+  where
+    go : (x : ByteClass) → ltb (markOf x) 97 ≡ goesOn x
+    go Blank = refl
+    go LineFeed = refl
+    go Comment = refl
+    go Open = refl
+    go Close = refl
+    go Letter = refl
+    go Digit = refl
+    go Wrong = refl

@@ -11,16 +11,16 @@ use Rattle.lexer.specs.declared.ByteClass.{ByteClass}
 use Rattle.lexer.specs.declared.ByteClass.the-variants.{Blank, LineFeed, Comment, Open, Close, Letter, Digit, Wrong}
 use Rattle.lexer.specs.declared.Step.{Step}
 
--- the mark of a class in the table
+-- the mark of a class in the table: a capital where a name goes on
 abbrev pub markOf : ByteClass → ℕ
 markOf Blank = code "b"
 markOf LineFeed = code "n"
-markOf Comment = code ";"
-markOf Open = code "("
-markOf Close = code ")"
-markOf Letter = code "l"
-markOf Digit = code "d"
-markOf Wrong = code "."
+markOf Comment = code "s"
+markOf Open = code "o"
+markOf Close = code "c"
+markOf Letter = code "L"
+markOf Digit = code "D"
+markOf Wrong = code "w"
 
 -- "One table of 256 entries says what each byte is": a table that has the mark of each byte's class
 pub record Classes (table : List ℕ) : Type 0 where

@@ -2,8 +2,7 @@
 ghost use mathlib.Core.Path.{_≡_};
 ghost use Prim.Native.Nat.{ℕ};
 ghost use lib.ListN.{drop};
-ghost use Rattle.lexer.specs.Class as spelling;
-ghost use Rattle.lexer.specs.Class.{classOf, goesOn, endsComment, isName};
+ghost use Rattle.lexer.specs.Class.{classOf, goesOn, endsComment};
 ghost use Rattle.lexer.specs.Scan as spec;
 ghost use Rattle.lexer.specs.Scan.{stepBetween};
 ghost use Rattle.lexer.specs.Token.{tokenAt};
@@ -65,19 +64,20 @@ enum Step {
     Fault,
 }
 
-// The class of each byte, 32 bytes to a line: b blank, n line feed, ; comment, ( open, ) close, l letter, d digit, . wrong.
+// The class of each byte, 32 bytes to a line: b blank, n line feed, s start of a comment, o open, c close, w wrong, and as capitals those with which a
+// name goes on: L letter, D digit.
 const CLASSES: [u8; 256] = *b"\
-    .........bn..b..................\
-    b.......()...d..dddddddddd.;....\
-    .llllllllllllllllllllllllll....l\
-    .llllllllllllllllllllllllll.....\
-    ................................\
-    ................................\
-    ................................\
-    ................................";
+    wwwwwwwwwbnwwbwwwwwwwwwwwwwwwwww\
+    bwwwwwwwocwwwDwwDDDDDDDDDDwswwww\
+    wLLLLLLLLLLLLLLLLLLLLLLLLLLwwwwL\
+    wLLLLLLLLLLLLLLLLLLLLLLLLLLwwwww\
+    wwwwwwwwwwwwwwwwwwwwwwwwwwwwwwww\
+    wwwwwwwwwwwwwwwwwwwwwwwwwwwwwwww\
+    wwwwwwwwwwwwwwwwwwwwwwwwwwwwwwww\
+    wwwwwwwwwwwwwwwwwwwwwwwwwwwwwwww";
 
 // The table, to be lent: each use of the constant itself would write all its bytes anew.
-pub fn class_table() -> [u8; 256]
+fn class_table() -> [u8; 256]
     ensures { λ r. ⌜ Classes r ⌝ }
 {
     CLASSES
@@ -100,11 +100,11 @@ fn class_in(classes: &[u8; 256], b: u8) -> ByteClass
     match mark {
         b'b' => ByteClass::Blank,
         b'n' => ByteClass::LineFeed,
-        b';' => ByteClass::Comment,
-        b'(' => ByteClass::Open,
-        b')' => ByteClass::Close,
-        b'l' => ByteClass::Letter,
-        b'd' => ByteClass::Digit,
+        b's' => ByteClass::Comment,
+        b'o' => ByteClass::Open,
+        b'c' => ByteClass::Close,
+        b'L' => ByteClass::Letter,
+        b'D' => ByteClass::Digit,
         _ => ByteClass::Wrong,
     }
 }
@@ -123,16 +123,6 @@ pub fn goes_on(class: ByteClass) -> bool
 {
     match class {
         ByteClass::Letter | ByteClass::Digit => true,
-        _ => false,
-    }
-}
-
-// Whether a name starts with a byte of the class.
-fn starts(class: ByteClass) -> bool
-    ensures { λ r. ⌜ r ≡ spelling.starts class ⌝ }
-{
-    match class {
-        ByteClass::Letter => true,
         _ => false,
     }
 }
@@ -162,6 +152,14 @@ fn comment_end(classes: &[u8; 256], text: &[u8], at: usize) -> usize
     i
 }
 
+// Whether a name goes on with the byte, by the table that is lent: its mark is a capital.
+fn is_in_name(classes: &[u8; 256], b: u8) -> bool
+    requires { ⌜ Classes (now classes) ⌝ }
+    ensures { λ r. ⌜ r ≡ goesOn (classOf b) ⌝ }
+{
+    mark_in(classes, b) < b'a'
+}
+
 // Whether there is a byte at a place with which a name goes on.
 fn name_goes_on(classes: &[u8; 256], text: &[u8], at: usize) -> bool
     requires { ⌜ Classes (now classes) ⌝ }
@@ -170,7 +168,48 @@ fn name_goes_on(classes: &[u8; 256], text: &[u8], at: usize) -> bool
     if text.len() <= at {
         return false;
     }
-    goes_on(class_in(classes, text[at]))
+    is_in_name(classes, text[at])
+}
+
+// Where the name ends that is under way at a place, byte by byte.
+fn last_name_end(classes: &[u8; 256], text: &[u8], at: usize) -> usize
+    requires { ⌜ Classes (now classes) ⌝ }
+    ensures { λ r. ⌜ r ≡ wordEnd (now (text .entry)) at ⌝ }
+{
+    let mut i = at;
+    while name_goes_on(classes, text, i) {
+        i += 1;
+    }
+    i
+}
+
+// Where the name ends that is under way at a place: at the first byte with which it does not go on, or with the text. A turn tests four bytes and asks only
+// once whether they are there.
+fn name_end(classes: &[u8; 256], text: &[u8], at: usize) -> usize
+    requires { ⌜ Classes (now classes) ⌝ }
+    ensures { λ r. ⌜ r ≡ wordEnd (now (text .entry)) at ⌝ }
+{
+    if text.len() < 4 {
+        return last_name_end(classes, text, at);
+    }
+    let last = text.len() - 4;
+    let mut i = at;
+    while i <= last {
+        if !is_in_name(classes, text[i]) {
+            return i;
+        }
+        if !is_in_name(classes, text[i + 1]) {
+            return i + 1;
+        }
+        if !is_in_name(classes, text[i + 2]) {
+            return i + 2;
+        }
+        if !is_in_name(classes, text[i + 3]) {
+            return i + 3;
+        }
+        i += 4;
+    }
+    last_name_end(classes, text, i)
 }
 
 // The bytes below 64 with which a name goes on, by their bits: the digits and `-`.
@@ -212,23 +251,6 @@ fn word_end(text: &[u8], at: usize) -> usize
         i += 1;
     }
     i
-}
-
-// Whether the bytes are a name, by the table that is lent.
-pub fn is_name(classes: &[u8; 256], name: &[u8]) -> bool
-    requires { ⌜ Classes (now classes) ⌝ }
-    ensures { λ r. ⌜ r ≡ isName (now (name .entry)) ⌝ }
-{
-    if name.len() == 0 {
-        return false;
-    }
-    if Name::MAX < name.len() {
-        return false;
-    }
-    if !starts(class_in(classes, name[0])) {
-        return false;
-    }
-    word_end(name, 1) == name.len()
 }
 
 // What a byte between names does where so many parentheses are open.
@@ -287,14 +309,11 @@ fn scan_in(classes: &[u8; 256], text: &[u8]) -> Scanned
             }
             Step::Comment => at = comment_end(classes, text, at + 1),
             Step::Name => {
-                let start = at;
-                at += 1;
-                while name_goes_on(classes, text, at) {
-                    if Name::MAX <= at - start {
-                        break 'text start;
-                    }
-                    at += 1;
+                let end = name_end(classes, text, at + 1);
+                if Name::MAX < end - at {
+                    break 'text at;
                 }
+                at = end;
             }
             Step::Fault => break 'text at,
         }

@@ -1,23 +1,26 @@
-// A filter of names: two marks for each name that was put into it, by the name's hash. A name without its marks was not put in; one with its
-// marks may share them with others, so that it still has to be compared.
+// A filter of names: three marks for each name that was put into it, all in one word of it, by the name's hash. A name without its marks was not put in; one with
+// its marks may share them with others, so that it still has to be compared.
 ghost use mathlib.Core.Path.{_≡_};
 ghost use Prim.Native.Nat.{_≤_, _<_};
 ghost use lib.ListN.{length};
 ghost use Rattle.symbols.specs.Section.{between};
-ghost use Rattle.name_filter.specs.Filter.{hashOf, isMarked, marked};
+ghost use Rattle.name_filter.specs.Filter.{stepped, hashOf, bitOf, maskOf, isMarked, marked};
 
-// The bytes of a filter. With no names they are 0.
-pub const FILTER_BYTES: usize = 8192;
-
-// How many hashes there are, and the base that they are made to: a power of 2 and 1, by which to multiply is quick.
+// How many hashes there are, and what each step multiplies by: an odd number whose multiples are spread over all hashes.
 const HASHES: usize = 4_294_967_296;
 
-const BASE: usize = 129;
+const FACTOR: usize = 1_640_531_527;
 
-// The marks of a hash are its remainders by these two: how many numbers the filter has room for, and the greatest prime below.
-const FIRST_MARKS: usize = 65_536;
+// The highest bits of a hash are the number of its word, and groups of six bits below them are its marks there.
+const WORD_SHARE: usize = 2_097_152;
 
-const SECOND_MARKS: usize = 65_521;
+const FIRST_SHARE: usize = 32_768;
+
+const SECOND_SHARE: usize = 512;
+
+const THIRD_SHARE: usize = 8;
+
+const WORD_BITS: usize = 64;
 
 fn wide(x: u8) -> usize
     ensures { λ r. ⌜ (r ≡ x) × (r < 256) ⌝ }
@@ -25,34 +28,50 @@ fn wide(x: u8) -> usize
     x as usize
 }
 
+// The hash of what has a hash so far and goes on with a number: the next byte of a name, or its family behind the last.
+pub fn step(hash: usize, number: usize) -> usize
+    requires { ⌜ hash < 4294967296 ⌝ }
+    ensures { λ r. ⌜ (r ≡ stepped hash number) × (r < 4294967296) ⌝ }
+{
+    (hash + number % HASHES) * FACTOR % HASHES
+}
+
 // The hash of a family and of the name that stands from a place to before another.
 pub fn hash_of(bytes: &[u8], from: usize, past: usize, family: usize) -> usize
     requires { ⌜ past ≤ length (now bytes) ⌝ }
-    ensures { λ r. ⌜ r ≡ hashOf family (between (now (bytes .entry)) from past) ⌝ }
+    ensures { λ r. ⌜ (r ≡ hashOf family (between (now (bytes .entry)) from past)) × (r < 4294967296) ⌝ }
 {
-    let mut hash = family % HASHES;
+    let mut hash: usize = 0;
     let mut i = from;
     while i < past {
-        hash = (hash * BASE + wide(bytes[i])) % HASHES;
+        hash = step(hash, wide(bytes[i]));
         i += 1;
     }
-    hash
+    step(hash, family)
 }
 
-// Whether the filter has both marks of a hash.
-pub fn is_marked(filter: &[u8], hash: usize) -> bool
-    ensures { λ r. ⌜ r ≡ isMarked (now (filter .entry)) hash ⌝ }
+// The word with the mark of a group of bits alone.
+fn bit_of(group: usize) -> u64
+    ensures { λ r. ⌜ r ≡ bitOf group ⌝ }
 {
-    if !bitset::contains(filter, hash % FIRST_MARKS) {
-        return false;
-    }
-    bitset::contains(filter, hash % SECOND_MARKS)
+    1u64 << (group % WORD_BITS)
 }
 
-// Puts both marks of a hash into the filter.
-pub fn mark(filter: &mut [u8], hash: usize)
-    ensures { λ _. ⌜ now (filter .exit) ≡ marked (now (filter .entry)) hash ⌝ }
+// The word with the marks of a hash alone.
+fn mask_of(hash: usize) -> u64
+    ensures { λ r. ⌜ r ≡ maskOf hash ⌝ }
 {
-    bitset::insert(filter, hash % FIRST_MARKS);
-    bitset::insert(filter, hash % SECOND_MARKS);
+    bit_of(hash / FIRST_SHARE) | bit_of(hash / SECOND_SHARE) | bit_of(hash / THIRD_SHARE)
+}
+
+// Puts the marks of a hash into the filter, and says whether all of them were there before.
+pub fn mark(filter: &mut [u64], hash: usize) -> bool
+    requires { ⌜ (0 < length (now filter)) × (hash < 4294967296) ⌝ }
+    ensures { λ r. ⌜ (r ≡ isMarked (now (filter .entry)) hash) × (now (filter .exit) ≡ marked (now (filter .entry)) hash) ⌝ }
+{
+    let place = hash / WORD_SHARE % filter.len();
+    let before = filter[place];
+    let after = before | mask_of(hash);
+    filter[place] = after;
+    before == after
 }

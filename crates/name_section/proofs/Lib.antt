@@ -1,4 +1,5 @@
 pub mod FilterLaws
+pub mod SpellingLaws
 pub mod NameLaws
 pub mod DeclaringLaws
 pub mod BodyLaws

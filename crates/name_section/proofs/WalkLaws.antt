@@ -2,14 +2,14 @@
 -- says at its end is what `soundNames` says of the whole body. Assumes nothing.
 use mathlib.Core.Path.{_≡_, refl, sym, ap, ap₂, subst, _∙_}
 use mathlib.Core.Logic.{_⊎_, inl, inr, ⊎-elim}
-use mathlib.Core.Bool.{Bool, true, false, not, _&&_, false≢true, and-false}
+use mathlib.Core.Bool.{Bool, true, false, not, _&&_, cond, false≢true, and-false}
 use mathlib.Core.List.{List, [], _∷_, _++_}
 use mathlib.Core.Option.{Option, none, some}
-use Prim.Native.Nat.{ℕ, _+_, _-_, _*_, _/_, _≤_, _<_}
+use Prim.Native.Nat.{ℕ, _+_, _-_, _*_, _/_, _%_, _≤_, _<_}
 use native.Mathlib.Omega.{arith}
 use borrow.Author.Tests.{eqb-true, ltb-true, leb-true, leb-false}
 use lib.Dec.{eqb, ltb, leb}
-use lib.ListN.{length, getD, drop, replicate, length-replicate}
+use lib.ListN.{length, getD, drop, set, replicate, length-set, length-replicate}
 use Rattle.bitset.specs.Parts.{part}
 use Rattle.policy.specs.Basics.{Name, isIn, _>>=_, given}
 use Rattle.policy.specs.Statements.{users, roles, types, Sort, thingOf, attributeOf, Declaration, class, familyOf, classNames}
@@ -84,6 +84,28 @@ follows-free c p es d t f sort n w = by (isPlaced (kindOf sort) d n) refl
 pub not-free : (c : List ℕ) (es : List NameEntry) (sort n : ℕ) (w : Name) → isGood w ≡ false → isFree c es sort n w ≡ false
 not-free c es sort n w h = ap (λ (q : Bool). allows c sort n && (q && not (isFound (firstNamed (familyNumber sort n) w es)))) h ∙ and-false (allows c sort n)
 
+-- whether it may, by the three tests
+pub free-by : (c : List ℕ) (es : List NameEntry) (sort n : ℕ) (w : Name) {a b d : Bool} → allows c sort n ≡ a → isGood w ≡ b
+    → not (isFound (firstNamed (familyNumber sort n) w es)) ≡ d → isFree c es sort n w ≡ (a && (b && d))
+free-by c es sort n w e f g = rw (e, f, g)
+
+-- the counts stay as many
+pub counted-long : (c : List ℕ) (sort n : ℕ) → length (counted c sort n) ≡ length c
+unfolding counted
+counted-long c sort n = by (eqb sort 7)
+  where
+    by : (q : Bool) → length (cond q (set c 7 (n % 32 + 2)) (set (set c sort (n + 1)) 7 (cond (eqb sort 6) 1 0))) ≡ length c
+    by true = length-set c 7 (n % 32 + 2)
+    by false = length-set (set c sort (n + 1)) 7 (cond (eqb sort 6) 1 0) ∙ length-set c sort (n + 1)
+
+pub permitted-long : (p : List ℕ) (sort n : ℕ) → length (permitted p sort n) ≡ length p
+unfolding permitted
+permitted-long p sort n = by (eqb sort 7)
+  where
+    by : (q : Bool) → length (cond q (set p (n / 32) (n % 32 + 1)) p) ≡ length p
+    by true = length-set p (n / 32) (n % 32 + 1)
+    by false = refl
+
 -- ---- room for an entry that may follow
 
 few-classes-so-far : (d : Declaring) → GoodSoFar d → FewClasses d
@@ -149,9 +171,9 @@ module _ (t : List ℕ) (start end : ℕ) where
       by false h = let l = leb-false start end h in inr (refl, omega arith)
 
   -- at first the filter is empty, as the entries passed are
-  pub knows-begin : Knows (replicate 8192 0) (entriesAt t start start)
+  pub knows-begin : Knows (replicate 2048 0) (entriesAt t start start)
   knows-begin =
-      subst (Knows (replicate 8192 0)) (sym (exact-some (sectionAt t start start) [] (walk-start t start) .1)) (knows-none (replicate 8192 0) (length-replicate {A = ℕ} 8192 0))
+      subst (Knows (replicate 2048 0)) (sym (exact-some (sectionAt t start start) [] (walk-start t start) .1)) (knows-none (replicate 2048 0) (length-replicate {A = ℕ} 2048 0))
 
   module _ (at : ℕ) (c p : List ℕ) (w : Walk t start at end c p) where
     pub good-so-far : SoFar (w .passed) (w .so-far)
@@ -174,8 +196,8 @@ module _ (t : List ℕ) (start end : ℕ) where
       is-placed h =
           both-true (isPlaced (kindOf s) (w .so-far) n) (isGood (between t (at + 4) past) && isUnused (kindOf s) (w .so-far) (between t (at + 4) past)) h .0
 
-      pub walk-room : isFree c (entriesAt t start at) s n (between t (at + 4) past) ≡ true → Room (length c) (length p) s n
-      walk-room h = room c p (w .so-far) (w .tallied) (good-so-far .good) s n (e .within .number-two-bytes) (is-placed (may-follow true h))
+      pub walk-room : allows c s n ≡ true → Room (length c) (length p) s n
+      walk-room h = room c p (w .so-far) (w .tallied) (good-so-far .good) s n (e .within .number-two-bytes) (sym (allows-placed c p (w .so-far) (w .tallied) s n) ∙ h)
 
       pub walk-next : isFree c (entriesAt t start at) s n (between t (at + 4) past) ≡ true → Walk t start past end (counted c s n) (permitted p s n)
       unfolding declaring

@@ -424,11 +424,11 @@ pub fn parse(
     let mut progress = nothing_read();
     let mut at: usize = 0;
     loop {
-        let item = items::look(text, at);
+        let item = items::look_line(text, at);
         let Item::Open { place, next } = item else {
             return Parsed::Accepted(progress);
         };
-        let first = items::look(text, next);
+        let first = items::look_keyword(text, next);
         let unit = place_unit(place);
         let step = statement(
             text,

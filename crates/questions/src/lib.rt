@@ -3,10 +3,15 @@
 //
 // Each asks first whether the table is sound, which goes over all of it. A caller that knows a table to be sound asks `decisions` instead.
 use decisions::Context;
+use decisions::Counts;
+use name_section::Counted;
 use policy::Change;
 use policy::NewRole;
 use policy::Validity;
 ghost use mathlib.Core.Path.{_≡_};
+ghost use Prim.Native.Nat.{_<_};
+ghost use lib.Dec.{ltb};
+ghost use lib.ListN.{getD};
 ghost use Rattle.policy.specs.Questions.{validOn, newRoleOn, changeOn};
 ghost use Rattle.policy.specs.Answers.{validityOf, newRoleOf, changeOf};
 ghost use Rattle.decisions.specs.Asked.{context, question};
@@ -24,6 +29,20 @@ pub fn valid(table: &[u8], user: usize, role: usize, kind: usize) -> Validity
     decisions::valid_in_sound(table, user, role, kind)
 }
 
+// Whether a class has a permission, where the numbers are how many each has. A class past them has none.
+fn has_permission(
+    permissions: &[usize; policy::Class::MAX],
+    class: usize,
+    permission: usize,
+) -> bool
+    ensures { λ r. ⌜ (class < 32 → r ≡ ltb permission (getD (now (permissions .entry)) class 0)) ⌝ }
+{
+    if policy::Class::MAX <= class {
+        return false;
+    }
+    permission < permissions[class]
+}
+
 // **Change**: granted or denied, with the number consulted.
 pub fn change(
     table: &[u8],
@@ -34,10 +53,30 @@ pub fn change(
 ) -> Change
     ensures { λ r. ⌜ changeOf r ≡ changeOn (now (table .entry)) (question source target class permission) ⌝ }
 {
-    if !soundness::sound(table) {
+    let mut permissions = [0usize; policy::Class::MAX];
+    let counted = soundness::count(table, &mut permissions);
+    let Counted::Sound {
+        users,
+        roles,
+        types,
+        user_attributes,
+        role_attributes,
+        type_attributes: _t,
+        classes,
+    } = counted
+    else {
         return Change::Refused { number: NOT_SOUND };
-    }
-    decisions::change_in_sound(table, source, target, class, permission)
+    };
+    let counts = Counts {
+        users,
+        roles,
+        types,
+        userattributes: user_attributes,
+        roleattributes: role_attributes,
+        classes,
+    };
+    let has = has_permission(&permissions, class, permission);
+    decisions::change_in_counted(table, counts, has, source, target, class, permission)
 }
 
 // **New role**: that of the first matching transition, else the role given.

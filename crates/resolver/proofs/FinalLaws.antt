@@ -1,23 +1,23 @@
 -- Rounds of filling the attributes of a family: round k leaves the sets that are nested k deep, and once a round changes nothing no later one
 -- does, so that these are the final sets. Assumes nothing.
-use Prim.Native.Nat.{ℕ, zero, suc, _+_, _-_, _*_, _<_, _≤_}
+use Prim.Native.Nat.{ℕ, zero, suc, _+_, _-_, _<_, _≤_}
 use native.Mathlib.Nat.{suc-add}
 use native.Mathlib.Numerals.{add-one}
 use native.Mathlib.Omega.{arith}
-use mathlib.Core.Path.{_≡_, refl, sym, ap, _∙_}
+use mathlib.Core.Path.{_≡_, refl, sym, ap, subst, _∙_}
 use mathlib.Core.Bool.{Bool, true, false, false≢true}
 use mathlib.Core.Logic.{⊎-elim}
 use mathlib.Core.List.{List, [], _∷_}
 use lib.Dec.{eqb}
-use lib.ListN.{length, getD, take}
-use lib.Seq.{ext-getD, take-nil, drop-nil}
+use lib.ListN.{length, getD, replicate, length-replicate, getD-replicate}
+use lib.Seq.{ext-getD}
 use borrow.Author.Tests.{eq-eqb, eqb-true}
-use Rattle.bitset.specs.Sets.{member, allBelow}
-use Rattle.bitset.specs.Parts.{part}
+use Rattle.bitset.specs.Sets.{setOf, allBelow}
 use Rattle.bitset.specs.Relations.{relation}
 use Rattle.bitset.proofs.AllLaws.{allBelow-at}
-use Rattle.bitset.proofs.SetLaws.{member-past}
-use Rattle.bitset.proofs.RelationLaws.{relation-ext, length-relation}
+use Rattle.bitset.proofs.BitLaws.{bit-zero}
+use Rattle.bitset.proofs.SetLaws.{length-setOf, byte-eq}
+use Rattle.bitset.proofs.RelationLaws.{relation-ext, relation-empty, length-relation}
 use Rattle.policy.specs.Basics.{any, isAmong}
 use Rattle.policy.specs.Statements.{Family, Policy}
 use Rattle.policy.specs.Meaning.{ofS, countIn, unionOf, nested, final}
@@ -50,6 +50,12 @@ rows-equal R Q h =
     (λ i l. eqb-true (getD (relation 64 64 R) i 0) (getD (relation 64 64 Q) i 0)
     (allBelow-at 4096 (λ j. eqb (getD (relation 64 64 R) j 0) (getD (relation 64 64 Q) j 0)) h i (omega (arith, l, rows-long R))))
 
+-- bytes of 0 are sets of nothing
+zeros : (w : ℕ) → replicate w 0 ≡ setOf w (λ n. false)
+zeros w =
+    ext-getD 0 (replicate w 0) (setOf w (λ n. false)) (length-replicate w 0 ∙ sym (length-setOf w (λ n. false)))
+    (λ i l. let m : i < w = subst (λ (x : ℕ). i < x) (length-replicate w 0) l in getD-replicate w i 0 0 m ∙ byte-eq w (λ n. false) i 0 m (omega arith) (λ k b. bit-zero k))
+
 -- what one round leaves is the union of the S of each attribute
 pub round-rows : (p : Policy) (f : Family) (total : ℕ) (sets rows : List ℕ) → total ≡ countIn p f
     → rows ≡ rowsOf f (ofS total (setsIn sets)) (items p) → rows ≡ relation 64 64 (unionOf p f (setsIn sets))
@@ -76,14 +82,10 @@ module _ (p : Policy) (ok : Accepted p) (f : Family) where
   next-rows k = relation-ext 64 64 (unionOf p f (setsIn (after k))) (unionOf p f (nested k p f))
       (λ a n h l. same-union p f a n (setsIn (after k)) (nested k p f) (all-mentioned _ a (λ b d. sets-in (nested k p f) b n d l)))
 
-  -- the first round, from no sets at all
-  pub first-filled : turned [] ≡ after 1
-  unfolding nested setsIn part
-  first-filled = relation-ext 64 64 (unionOf p f (setsIn [])) (unionOf p f (nested 0 p f))
-      (λ a n h l. same-union p f a n (setsIn []) (nested 0 p f) (all-mentioned _ a (λ b d. nothing-in b n)))
-    where
-      nothing-in : (b n : ℕ) → setsIn [] b n ≡ false
-      nothing-in b n = ap (λ (s : List ℕ). member s n) (ap (take 64) (drop-nil (64 * b)) ∙ take-nil 64) ∙ member-past [] n (omega arith)
+  -- the first round, from sets of nothing
+  pub first-filled : (before : List ℕ) → before ≡ replicate 4096 0 → turned before ≡ after 1
+  unfolding nested
+  first-filled before e = ap turned (e ∙ zeros 4096 ∙ sym (relation-empty 64 64)) ∙ next-rows 0
 
   -- one round more
   pub more-rows : (k : ℕ) (sets rows : List ℕ) → sets ≡ after k → rows ≡ turned sets → rows ≡ after (k + 1)

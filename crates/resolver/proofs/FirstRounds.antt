@@ -8,7 +8,7 @@ use mathlib.Core.Bool.{Bool, true, false, _&&_, _||_, or-assoc, or-false, and-fa
 use mathlib.Core.List.{List, [], _∷_, _++_}
 use lib.Bits.{bitOr}
 use lib.Dec.{eqb}
-use lib.ListN.{length, getD, take, drop, length-append, length-drop, drop-of-length-le}
+use lib.ListN.{length, getD, take, drop, replicate, length-append, length-drop, drop-of-length-le}
 use lib.Seq.{drop-cons, take-append-seam}
 use borrow.Author.Tests.{eq-eqb, ne-eqb}
 use Rattle.bitset.specs.Sets.{bit, setOf, emptied}
@@ -93,31 +93,31 @@ part-of code at next end us rest q n e =
 -- ---- one family
 
 -- the rows are those of the sets passed, and where no unit of them is marked none of them mentions an attribute
-abbrev pub Taking : Family → ℕ → List ℕ → ℕ → List Item → List Item → Type 0
-Taking f total rows units done left =
-    (rows ≡ rowsOf f (ofS total (setsIn [])) done) × (marked units ≡ false → (a b : ℕ) → b < 512 → any (gain f named a b) done ≡ false)
+abbrev pub Taking : Family → ℕ → List ℕ → List ℕ → ℕ → List Item → List Item → Type 0
+Taking f total before rows units done left =
+    (rows ≡ rowsOf f (ofS total (setsIn before)) done) × (marked units ≡ false → (a b : ℕ) → b < 512 → any (gain f named a b) done ≡ false)
 
-pub taking-none : (p : Policy) (f : Family) (total : ℕ) (code s rows : List ℕ) → code ≡ codeOf p → length s ≡ 4096 → rows ≡ emptied s
-    → Through (items p) code 0 (Taking f total rows 0)
+pub taking-none : (p : Policy) (f : Family) (total : ℕ) (before code s rows : List ℕ) → code ≡ codeOf p → length s ≡ 4096 → rows ≡ emptied s
+    → Through (items p) code 0 (Taking f total before rows 0)
 unfolding any
-taking-none p f total code s rows q l e = start p code (Taking f total rows 0) q (e ∙ rows-none f (ofS total (setsIn [])) s l, λ u a b k. refl)
+taking-none p f total before code s rows q l e = start p code (Taking f total before rows 0) q (e ∙ rows-none f (ofS total (setsIn before)) s l, λ u a b k. refl)
 
-module _ (p : Policy) (ok : Accepted p) (f : Family) (total : ℕ) (code : List ℕ) (at : ℕ) (inside : at < length code) (rows : List ℕ) (units : ℕ)
-    (t : Through (items p) code at (Taking f total rows units)) where
-  the-met : Met p (items p) code at (Taking f total rows units)
-  the-met = meet p ok (items p) (items-declared p ok) code at (Taking f total rows units) inside t
+module _ (p : Policy) (ok : Accepted p) (f : Family) (total : ℕ) (before code : List ℕ) (at : ℕ) (inside : at < length code) (rows : List ℕ) (units : ℕ)
+    (t : Through (items p) code at (Taking f total before rows units)) where
+  the-met : Met p (items p) code at (Taking f total before rows units)
+  the-met = meet p ok (items p) (items-declared p ok) code at (Taking f total before rows units) inside t
 
   -- another statement than one of the family's sets
-  pub taking-over : (next : ℕ) → next ≡ stepOf code at → (getD code at 0 ≡ setTag f → ⊥) → Through (items p) code next (Taking f total rows units)
+  pub taking-over : (next : ℕ) → next ≡ stepOf code at → (getD code at 0 ≡ setTag f → ⊥) → Through (items p) code next (Taking f total before rows units)
   taking-over next e h =
       let m = the-met in
       let other : tagOf (m .item) ≡ setTag f → ⊥ = λ q. h (m .stand .tag ∙ q) in
-      onward p (items p) code at (Taking f total rows units) (Taking f total rows units) next e m (
-        rows-over f (ofS total (setsIn [])) (m .done) (m .item) rows other (m .so-far .0),
+      onward p (items p) code at (Taking f total before rows units) (Taking f total before rows units) next e m (
+        rows-over f (ofS total (setsIn before)) (m .done) (m .item) rows other (m .so-far .0),
         λ u a b l. any-over (gain f named a b) (m .done) (m .item) (tag-no-gain f named a b (m .item) other) ∙ m .so-far .1 u a b l,
       )
 
-  module _ (g : Family) (many : ℕ) (old new : List ℕ) (next got : ℕ) (h : getD code at 0 ≡ setTag g) (told : TakesSet code at many old new next got) where
+  module _ (g : Family) (many : ℕ) (old new : List ℕ) (next got : ℕ) (h : getD code at 0 ≡ setTag g) (told : TakesSet code at many before old new next got) where
     -- what stands at a set statement
     record Set-here : Type 0 where
       place : ℕ
@@ -126,7 +126,7 @@ module _ (p : Policy) (ok : Accepted p) (f : Family) (total : ℕ) (code : List 
       is : the-met .item ≡ fills g place row set
       declared : (row < count (attributeOf g) (declarations p)) × SetIn (declarations p) g set
       names : getD code (at + 2) 0 ≡ row
-      taken : (new ≡ added old (getD code (at + 2) 0) (setOf 64 (ofS many (setsIn []) set))) × (next ≡ at + 3 + length (setCode set)) × (marked got ≡ any marked (setCode set))
+      taken : (new ≡ added old (getD code (at + 2) 0) (setOf 64 (ofS many (setsIn before) set))) × (next ≡ at + 3 + length (setCode set)) × (marked got ≡ any marked (setCode set))
 
     set-here : Set-here
     set-here = go (tag-fills g (the-met .item) (sym (the-met .stand .tag) ∙ h))
@@ -154,14 +154,14 @@ module _ (p : Policy) (ok : Accepted p) (f : Family) (total : ℕ) (code : List 
         end ∙ sym (step-next code at (m .item) (m .rest) (m .stand))
 
   -- a set of the family
-  pub taking-set : (new : List ℕ) (next got : ℕ) → getD code at 0 ≡ setTag f → TakesSet code at total rows new next got
-      → Through (items p) code next (Taking f total new (bitOr units got))
+  pub taking-set : (new : List ℕ) (next got : ℕ) → getD code at 0 ≡ setTag f → TakesSet code at total before rows new next got
+      → Through (items p) code next (Taking f total before new (bitOr units got))
   unfolding any
   taking-set new next got h told =
       let m = the-met in
       let s = set-here f total rows new next got h told in
-      let v = ofS total (setsIn []) in
-      onward p (items p) code at (Taking f total rows units) (Taking f total new (bitOr units got)) next (next-set f total rows new next got h told) m (
+      let v = ofS total (setsIn before) in
+      onward p (items p) code at (Taking f total before rows units) (Taking f total before new (bitOr units got)) next (next-set f total rows new next got h told) m (
         s .taken .0
             ∙ ap (λ (r : ℕ). added rows r (setOf 64 (v (s .set)))) (s .names)
             ∙ rw (s .is) (rows-more f v (m .done) (s .place) (s .row) (s .set) rows (omega (arith, s .declared .0, few-attributes p ok f)) (m .so-far .0)),
@@ -175,11 +175,11 @@ module _ (p : Policy) (ok : Accepted p) (f : Family) (total : ℕ) (code : List 
       )
 
 -- past the end of the code
-pub taking-all : (p : Policy) → Accepted p → (f : Family) (total : ℕ) (code : List ℕ) (at : ℕ) (rows : List ℕ) (units : ℕ) → total ≡ countIn p f → length code ≤ at
-    → Through (items p) code at (Taking f total rows units) → FirstRound p f rows units
-taking-all p ok f total code at rows units n l t =
-    let all = finish (items p) code at (Taking f total rows units) l t in
+pub taking-all : (p : Policy) → Accepted p → (f : Family) (total : ℕ) (before code : List ℕ) (at : ℕ) (rows : List ℕ) (units : ℕ) → before ≡ replicate 4096 0
+    → total ≡ countIn p f → length code ≤ at → Through (items p) code at (Taking f total before rows units) → FirstRound p f rows units
+taking-all p ok f total before code at rows units e n l t =
+    let all = finish (items p) code at (Taking f total before rows units) l t in
     record {
-      filled = round-rows p f total [] rows n (all .0) ∙ first-filled p ok f;
+      filled = round-rows p f total before rows n (all .0) ∙ first-filled p ok f before e;
       silent = λ u a b k. mentions-items p f a b ∙ all .1 u a b k;
     }

@@ -2,7 +2,7 @@
 use Prim.Native.Nat.{ℕ, _+_, _<_}
 use mathlib.Core.Path.{_≡_}
 use mathlib.Core.Bool.{Bool, false}
-use mathlib.Core.List.{List, [], _++_}
+use mathlib.Core.List.{List, _++_}
 use lib.ListN.{length, getD, drop}
 use Rattle.bitset.specs.Sets.{setOf, bit}
 use Rattle.bitset.specs.Relations.{relation}
@@ -26,11 +26,11 @@ finalSets p f = relation 64 64 (final p f)
 abbrev pub marked : ℕ → Bool
 marked unit = bit unit 10
 
--- the set of the statement at a place, in which attributes stand for nothing, is added to its attribute; reading goes on behind it
-pub record TakesSet (code : List ℕ) (at total : ℕ) (sets new : List ℕ) (next units : ℕ) : Type 0 where
+-- the set of the statement at a place, in which attributes stand for their sets of before, is added to its attribute; reading goes on behind it
+pub record TakesSet (code : List ℕ) (at total : ℕ) (before sets new : List ℕ) (next units : ℕ) : Type 0 where
   pub forward : at < next
   pub right : (s : SetExpr Reference) (rest : List ℕ) → Numbered s → drop (at + 3) code ≡ setCode s ++ rest
-      → (new ≡ added sets (getD code (at + 2) 0) (setOf 64 (ofS total (setsIn []) s))) × (next ≡ at + 3 + length (setCode s)) × (marked units ≡ any marked (setCode s))
+      → (new ≡ added sets (getD code (at + 2) 0) (setOf 64 (ofS total (setsIn before) s))) × (next ≡ at + 3 + length (setCode s)) × (marked units ≡ any marked (setCode s))
 
 -- the sets after one round; and where no unit of a set is marked, no attribute of the family mentions another
 pub record FirstRound (p : Policy) (f : Family) (sets : List ℕ) (units : ℕ) : Type 0 where

@@ -373,10 +373,16 @@ struct Taken {
     units: u16,
 }
 
-// The first round at the set statement that stands at a place: its attribute gains its set, in which attributes stand for nothing.
-fn take_set(code: &[u16], at: usize, total: usize, sets: &mut [u8; FAMILY_BYTES]) -> Taken
+// The first round at the set statement that stands at a place: its attribute gains its set, in which attributes stand for their sets of before.
+fn take_set(
+    code: &[u16],
+    at: usize,
+    total: usize,
+    before: &[u8; FAMILY_BYTES],
+    sets: &mut [u8; FAMILY_BYTES],
+) -> Taken
     requires { ⌜ at < length (now code) ⌝ }
-    ensures { λ r. ⌜ TakesSet (now (code .entry)) at total (now (sets .entry)) (now (sets .exit)) (r .next) (r .units) ⌝ }
+    ensures { λ r. ⌜ TakesSet (now (code .entry)) at total (now (before .entry)) (now (sets .entry)) (now (sets .exit)) (r .next) (r .units) ⌝ }
 {
     let from = at + 3;
     if code.len() <= from {
@@ -386,7 +392,7 @@ fn take_set(code: &[u16], at: usize, total: usize, sets: &mut [u8; FAMILY_BYTES]
         };
     }
     let mut set = [0u8; Type::SET_BYTES];
-    let next = set_code::evaluate(code, from, total, &[], &mut set);
+    let next = set_code::evaluate(code, from, total, before, &mut set);
     add_row(sets, code[at + 2], &set);
     let end = bitset::least(next, code.len());
     let units = joined(&code[from..end]);
@@ -412,7 +418,7 @@ struct Walked {
 }
 
 // The first round for all families in one walk over the code: each attribute becomes the union of the S in its statements, in which attributes
-// stand for nothing. The first transition is found on the way.
+// stand for nothing: for cleared sets, as a set of full length is added many bytes at once. The first transition is found on the way.
 fn first_round(
     code: &[u16],
     users: usize,
@@ -432,6 +438,7 @@ fn first_round(
     bitset::clear(user_sets);
     bitset::clear(role_sets);
     bitset::clear(type_sets);
+    let none = [0u8; FAMILY_BYTES];
     let mut of_users = 0;
     let mut of_roles = 0;
     let mut of_types = 0;
@@ -440,25 +447,26 @@ fn first_round(
     while at < code.len() {
         let tag = code[at];
         if tag == Unit::ATTRIBUTE_SET {
-            let taken = take_set(code, at, users, user_sets);
+            let taken = take_set(code, at, users, &none, user_sets);
             of_users = of_users | taken.units;
             at = taken.next;
             continue;
         }
         if tag == Unit::ATTRIBUTE_SET + 1 {
-            let taken = take_set(code, at, roles, role_sets);
+            let taken = take_set(code, at, roles, &none, role_sets);
             of_roles = of_roles | taken.units;
             at = taken.next;
             continue;
         }
         if tag == Unit::ATTRIBUTE_SET + 2 {
-            let taken = take_set(code, at, types, type_sets);
+            let taken = take_set(code, at, types, &none, type_sets);
             of_types = of_types | taken.units;
             at = taken.next;
             continue;
         }
+        let next = next_statement(code, at);
         first = sooner(first, at, tag);
-        at = next_statement(code, at);
+        at = next;
     }
     Walked {
         users: of_users,

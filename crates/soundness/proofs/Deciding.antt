@@ -1,8 +1,8 @@
 -- What the answers of the layout, the names and the other bodies say of the whole table, one after the other. Assumes nothing.
 use Prim.Native.Nat.{ℕ, _+_, _-_}
 use native.Mathlib.Omega.{arith}
-use mathlib.Core.Path.{_≡_, sym, ap, _∙_}
-use mathlib.Core.Bool.{Bool, true, false}
+use mathlib.Core.Path.{_≡_, refl, sym, ap, _∙_}
+use mathlib.Core.Bool.{Bool, true, false, false≢true}
 use mathlib.Core.List.{List, []}
 use mathlib.Core.Option.{Option}
 use lib.ListN.{length}
@@ -23,6 +23,31 @@ use Rattle.image.specs.SoundBodies.{bodiesSound}
 use Rattle.image.proofs.SoundImage.{not-laid-out, names-not-sound, bodies-decide}
 use Rattle.soundness.specs.IsSound.{isSound}
 use Rattle.soundness.specs.SmallCounts.{Small, Holds}
+use Rattle.soundness.specs.Telling.{Tells}
+
+-- what the count then tells
+pub tells-not : (t ps : List ℕ) → false ≡ isSound t → Tells t counted.Counted.Unsound ps
+tells-not t ps h = record { refuses = λ f. refl; counts = λ f. absurd (false≢true (h ∙ f)) }
+
+-- and what is sound where it tells something or nothing
+module _ (t ps : List ℕ) {r : counted.Counted} (h : Tells t r ps) where
+  pub sound-by : {us rs ts ua ra ta cs : ℕ} → r ≡ counted.Counted.Sound us rs ts ua ra ta cs → true ≡ isSound t
+  sound-by {us} {rs} {ts} {ua} {ra} {ta} {cs} is = by (isSound t) refl
+    where
+      by : (q : Bool) → isSound t ≡ q → true ≡ q
+      by true e = refl
+      by false e =
+          let other : counted.Counted.Sound us rs ts ua ra ta cs ≡ counted.Counted.Unsound = sym is ∙ h .refuses e in
+          let z : _≡_ {A = ℕ} 0 1 = cc in
+          absurd (omega arith)
+
+  pub unsound-by : r ≡ counted.Counted.Unsound → false ≡ isSound t
+  unfolding isSound
+  unsound-by is = by (isSound t) refl
+    where
+      by : (q : Bool) → isSound t ≡ q → false ≡ q
+      by false e = refl
+      by true e = sym (names-not-sound t (answered-unsound (soundNames (part t 68 (lengthIn t 0))) (sym is ∙ h .counts e .0))) ∙ e
 
 -- the layout refuses
 pub unlaid : (t : List ℕ) → isSome (bodiesIn t) ≡ false → false ≡ isSound t
@@ -84,3 +109,10 @@ module _ (t : List ℕ) {n : ℕ} (long : n ≡ lengthIn t 0) {r : counted.Count
       pub decided : isSome (bodiesIn t) ≡ true → {c : Counts} → Holds us rs ts ua ra ta cs c → {b : Bool} → b ≡ bodiesSound (totalsIn c ps) t → b ≡ isSound t
       unfolding isSound
       decided laid {c} h e = e ∙ sym (bodies-decide t laid (named .are) (are-counted c h))
+
+      -- then the count tells what body 1 declares
+      pub tells-so : true ≡ isSound t → Tells t r ps
+      tells-so h = record {
+        refuses = λ f. absurd (false≢true (sym f ∙ sym h));
+        counts = λ f. (answer-here, permissions-counted ∙ sym (ap (λ (o : Option (List Declaration)). permissionsAfter o []) (named .are)));
+      }

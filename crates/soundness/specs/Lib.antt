@@ -1,2 +1,3 @@
 pub mod IsSound
 pub mod SmallCounts
+pub mod Telling

@@ -4,6 +4,7 @@ use name_section::Counted;
 ghost use mathlib.Core.Path.{_≡_};
 ghost use Rattle.soundness.specs.IsSound.{isSound};
 ghost use Rattle.soundness.specs.SmallCounts.{Small, Holds};
+ghost use Rattle.soundness.specs.Telling.{Tells};
 
 // Where body 1 starts.
 const FIRST_BODY: usize = 68;
@@ -32,37 +33,60 @@ fn counts(
     }
 }
 
+// How many things of each sort a sound table names; the lent numbers are then how many permissions each class has.
+pub fn count(table: &[u8], permissions: &mut [usize; policy::Class::MAX]) -> Counted
+    ensures { λ r. ⌜ Tells (now (table .entry)) r (now (permissions .exit)) ⌝ }
+{
+    if !image::is_laid_out(table) {
+        return Counted::Unsound;
+    }
+    let mut found = [0usize; policy::Class::MAX];
+    let end = FIRST_BODY + table_reader::body_length(table, 0) as usize;
+    let counted = name_section::check_names(table, FIRST_BODY, end, &mut found);
+    let Counted::Sound {
+        users,
+        roles,
+        types,
+        user_attributes,
+        role_attributes,
+        type_attributes,
+        classes,
+    } = counted
+    else {
+        return Counted::Unsound;
+    };
+    let declared = counts(
+        users,
+        roles,
+        types,
+        user_attributes,
+        role_attributes,
+        type_attributes,
+        classes,
+    );
+    if !image::bodies_sound(table, declared, &found) {
+        return Counted::Unsound;
+    }
+    *permissions = found;
+    counted
+}
+
 // Whether the bytes are a sound table: fault 11 where they are not.
 pub fn sound(table: &[u8]) -> bool
     ensures { λ r. ⌜ r ≡ isSound (now (table .entry)) ⌝ }
 {
-    if !image::is_laid_out(table) {
-        return false;
-    }
     let mut permissions = [0usize; policy::Class::MAX];
-    let end = FIRST_BODY + table_reader::body_length(table, 0) as usize;
-    let counted = name_section::check_names(table, FIRST_BODY, end, &mut permissions);
+    let counted = count(table, &mut permissions);
     match counted {
         Counted::Sound {
-            users,
-            roles,
-            types,
-            user_attributes,
-            role_attributes,
-            type_attributes,
-            classes,
-        } => {
-            let declared = counts(
-                users,
-                roles,
-                types,
-                user_attributes,
-                role_attributes,
-                type_attributes,
-                classes,
-            );
-            image::bodies_sound(table, declared, &permissions)
-        }
+            users: _u,
+            roles: _r,
+            types: _t,
+            user_attributes: _ua,
+            role_attributes: _ra,
+            type_attributes: _ta,
+            classes: _c,
+        } => true,
         Counted::Unsound => false,
     }
 }

@@ -6,30 +6,35 @@ use borrow.Author.Needs.{needs}
 use Rattle.decisions.proofs.declares_question.Statement.{statement}
 use Rattle.decisions.proofs.declares_question.Tie as tie
 
+declares-context-requires : tie.Need-declares-context-requires
+declares-context-requires c κs = search needs
+
 returns : tie.Need-returns
 unfolding declaresQuestion
-returns c = rw (sym (c .before .declares-context .ensures) ∙ not-true _ (c .if1 .taken))
+returns c = λ t permission h. rw (sym (c .before .declares-context .ensures) ∙ not-true _ (c .if1 .taken))
+
+declares-context-requires-2 : tie.Need-declares-context-requires-2
+declares-context-requires-2 c κs = search needs
 
 returns-2 : tie.Need-returns-2
 unfolding declaresQuestion
-returns-2 c = rw (sym (c .before .before .before .declares-context .ensures) ∙ not-false _ (c .before .before .if1 .left), sym (c .before .declares-context2 .ensures) ∙ not-true _ (c .if2 .taken))
+returns-2 c = λ t permission h. rw (sym (c .before .before .before .declares-context .ensures) ∙ not-false _ (c .before .before .if1 .left), sym (c .before .declares-context2 .ensures) ∙ not-true _ (c .if2 .taken))
 
 returns-3 : tie.Need-returns-3
 unfolding declaresQuestion
-returns-3 c = rw (sym (c .before .before .before .before .before .declares-context .ensures) ∙ not-false _ (c .before .before .before .before .if1 .left), sym (c .before .before .before .declares-context2 .ensures) ∙ not-false _ (c .before .before .if2 .left), le-ltb _ _ (c .if3 .taken))
+returns-3 c = λ t permission h. rw (sym (c .before .before .before .before .before .declares-context .ensures) ∙ not-false _ (c .before .before .before .before .if1 .left), sym (c .before .before .before .declares-context2 .ensures) ∙ not-false _ (c .before .before .if2 .left), le-ltb _ _ (c .if3 .taken))
 
 returns-4 : tie.Need-returns-4
 unfolding declaresQuestion
-returns-4 c = rw (sym (c .before .before .before .before .before .before .declares-context .ensures) ∙ not-false _ (c .before .before .before .before .before .if1 .left), sym (c .before .before .before .before .declares-context2 .ensures) ∙ not-false _ (c .before .before .before .if2 .left), lt-ltb _ _ (c .before .if3 .left)) (c .declares-permission .ensures)
+returns-4 c = λ t permission h. rw (sym (c .before .before .before .before .before .declares-context .ensures) ∙ not-false _ (c .before .before .before .before .if1 .left), sym (c .before .before .before .declares-context2 .ensures) ∙ not-false _ (c .before .before .if2 .left), lt-ltb _ _ (c .if3 .left)) (h (c .if3 .left))
 
 pub declares-question-spec : {M : Type 1} → statement M
 declares-question-spec =
     tie.close
     (tie.spec
-    (λ c κs. search needs)
+    declares-context-requires
     returns
-    (λ c κs. search needs)
+    declares-context-requires-2
     returns-2
     returns-3
-    (λ c κs. search needs)
     returns-4)

@@ -6,7 +6,7 @@ use mathlib.Core.Path.{sym, _∙_}
 use borrow.Author.Needs.{needs}
 use lib.ListN.{length}
 use Rattle.declarations.proofs.Rows.{told}
-use Rattle.declarations.proofs.Repeating.{Passed, passed-none, passed-more, none-twice, stands-twice, hash-here}
+use Rattle.declarations.proofs.Repeating.{Passed, passed-none, passed-more, none-twice, stands-twice, not-among, hash-here}
 use Rattle.declarations.proofs.repeats.Statement.{statement}
 use Rattle.declarations.proofs.repeats.Tie as tie
 
@@ -39,46 +39,45 @@ add-hash-of c =
 hash-of-requires : tie.Need-hash-of-requires Inv-loop μ-loop
 hash-of-requires c κs = told (c .before .before .before .word-at .ensures) (c .before .name .given .1) .is .within
 
-slice-aggregate-is-repeated : tie.Need-slice-aggregate-is-repeated Inv-loop μ-loop
-slice-aggregate-is-repeated c = sym (c .before .before .before .before .before .before .loop .inv .covers .long)
+slice-aggregate-mark : tie.Need-slice-aggregate-mark Inv-loop μ-loop
+slice-aggregate-mark c = sym (c .before .before .before .before .before .before .loop .inv .long)
+
+mark-requires : tie.Need-mark-requires Inv-loop μ-loop
+mark-requires c κs = (c .before .before .before .before .before .before .loop .inv .covers .some-words, c .before .hash-of .ensures .1)
 
 is-repeated-requires : tie.Need-is-repeated-requires Inv-loop μ-loop
 is-repeated-requires c κs =
-    let w = told (c .before .before .before .before .before .word-at .ensures) (c .before .before .before .name .given .1) in
-    (w .is .within, c .before .before .before .before .before .before .loop .inv .covers, hash-here _ _ _ _ (c .before .hash-of .ensures))
+    let w = told (c .before .before .before .before .before .before .before .word-at .ensures) (c .before .before .before .before .before .name .given .1) in (
+      w .is .within,
+      not-among _ _ _ _ _ (c .before .before .before .before .before .before .before .before .loop .inv) _ _ (w .is) _ _ (hash-here _ _ _ _ (c .before .before .before .hash-of .ensures .0)) (c .before .mark .ensures .0),
+    )
 
 returns-2 : tie.Need-returns-2 Inv-loop μ-loop
 returns-2 c =
-    let w = told (c .before .before .before .before .before .before .before .word-at .ensures) (c .before .before .before .before .before .name .given .1) in
-    stands-twice _ _ _ _ _ (c .before .before .before .before .before .before .before .before .loop .inv) _ _ (w .is) (sym (c .before .is-repeated .ensures) ∙ c .if1 .taken)
-
-slice-aggregate-mark : tie.Need-slice-aggregate-mark Inv-loop μ-loop
-slice-aggregate-mark c = sym (c .before .before .before .before .before .before .before .before .before .loop .inv .covers .long)
-
-mark-requires : tie.Need-mark-requires Inv-loop μ-loop
-mark-requires c κs = search needs
+    let w = told (c .before .before .before .before .before .before .before .before .before .word-at .ensures) (c .before .before .before .before .before .before .before .name .given .1) in
+    stands-twice _ _ _ _ _ (c .before .before .before .before .before .before .before .before .before .before .loop .inv) _ _ (w .is) (sym (c .before .is-repeated .ensures) ∙ c .if1 .taken)
 
 add-count : tie.Need-add-count Inv-loop μ-loop
 add-count c =
-    let w = told (c .before .before .before .before .before .before .before .before .before .before .word-at .ensures) (c .before .before .before .before .before .before .before .before .name .given .1) in
-    omega (arith, w .is .within, w .is .ahead, c .before .before .before .before .before .before .before .before .before .before .before .loop .inv .few)
+    let w = told (c .before .before .before .before .before .before .before .before .before .word-at .ensures) (c .before .before .before .before .before .before .before .name .given .1) in
+    omega (arith, w .is .within, w .is .ahead, c .before .before .before .before .before .before .before .before .before .before .loop .inv .few)
 
 add-i : tie.Need-add-i Inv-loop μ-loop
 add-i c =
-    let w = told (c .before .before .before .before .before .before .before .before .before .before .word-at .ensures) (c .before .before .before .before .before .before .before .before .name .given .1) in
+    let w = told (c .before .before .before .before .before .before .before .before .before .word-at .ensures) (c .before .before .before .before .before .before .before .name .given .1) in
     omega (arith, w .is .within)
 
 loop-less : tie.Need-loop-less Inv-loop μ-loop
 loop-less c =
-    let w = told (c .before .before .before .before .before .before .before .before .before .before .word-at .ensures) (c .before .before .before .before .before .before .before .before .name .given .1) in
+    let w = told (c .before .before .before .before .before .before .before .before .before .word-at .ensures) (c .before .before .before .before .before .before .before .name .given .1) in
     omega (arith, w .is .within, w .is .ahead)
 
 loop-again : tie.Need-loop-again Inv-loop μ-loop
 loop-again c =
-    let w = told (c .before .before .before .before .before .before .before .before .before .before .word-at .ensures) (c .before .before .before .before .before .before .before .before .name .given .1) in
-    rw (c .before .mark .ensures, hash-here _ _ _ _ (c .before .before .before .before .before .before .hash-of .ensures))
-    (passed-more _ _ _ _ _ (c .before .before .before .before .before .before .before .before .before .before .before .loop .inv) _ _ (w .is)
-    (sym (c .before .before .before .before .is-repeated .ensures) ∙ c .before .before .before .if1 .left))
+    let w = told (c .before .before .before .before .before .before .before .before .before .word-at .ensures) (c .before .before .before .before .before .before .before .name .given .1) in
+    rw (c .before .before .before .mark .ensures .1, hash-here _ _ _ _ (c .before .before .before .before .before .hash-of .ensures .0))
+    (passed-more _ _ _ _ _ (c .before .before .before .before .before .before .before .before .before .before .loop .inv) _ _ (w .is)
+    (sym (c .before .is-repeated .ensures) ∙ c .if1 .left))
 
 pub repeats-spec : {M : Type 1} → statement M
 repeats-spec =
@@ -93,11 +92,10 @@ repeats-spec =
     returns
     add-hash-of
     hash-of-requires
-    slice-aggregate-is-repeated
-    is-repeated-requires
-    returns-2
     slice-aggregate-mark
     mark-requires
+    is-repeated-requires
+    returns-2
     add-count
     add-i
     loop-less

@@ -40,31 +40,31 @@ same-length-2 : tie.Need-same-length-2 Inv-loop μ-loop
 same-length-2 c = c .before .before .loop .inv .0
 
 returns-2 : tie.Need-returns-2 Inv-loop μ-loop
-returns-2 c = record { long = c .before .before .loop .inv .0; reads = λ clean index wide. finishes (c .before .before .loop .inv .1 clean index wide) _ (c .before .look .ensures) (c .match .keys2) }
+returns-2 c = record { long = c .before .before .loop .inv .0; reads = λ clean index wide. finishes (c .before .before .loop .inv .1 clean index wide) _ (c .before .look-line .ensures) (c .match .keys2) }
 
 loop-less : tie.Need-loop-less Inv-loop μ-loop
-loop-less c = further _ (c .before .before .before .before .before .before .before .before .before .before .before .before .before .before .before .before .loop .at) (c .before .before .before .before .before .before .before .before .before .before .before .before .before .before .before .look .ensures) (c .before .before .before .before .before .before .before .before .before .before .before .before .before .item .given .1) (c .before .before .before .before .before .statement .ensures _ (c .before .before .before .before .before .before .before .before .before .before .before .look2 .ensures) .form) (c .before .step .given .1)
+loop-less c = further _ (c .before .before .before .before .before .before .before .before .before .before .before .before .before .before .before .before .loop .at) (c .before .before .before .before .before .before .before .before .before .before .before .before .before .before .before .look-line .ensures) (c .before .before .before .before .before .before .before .before .before .before .before .before .before .item .given .1) (c .before .before .before .before .before .statement .ensures _ (c .before .before .before .before .before .before .before .before .before .before .before .look-keyword .ensures) .form) (c .before .step .given .1)
 
 loop-again : tie.Need-loop-again Inv-loop μ-loop
 loop-again c =
-    let y = c .before .before .before .before .before .statement .ensures _ (c .before .before .before .before .before .before .before .before .before .before .before .look2 .ensures) in (
+    let y = c .before .before .before .before .before .statement .ensures _ (c .before .before .before .before .before .before .before .before .before .before .before .look-keyword .ensures) in (
       y .long ∙ c .before .before .before .before .before .before .before .before .before .before .before .before .before .before .before .before .loop .inv .0,
       λ clean index wide.
-          goes-on (c .before .before .before .before .before .before .before .before .before .before .before .before .before .before .before .before .loop .inv .1 clean index wide) (opens clean (c .before .before .before .before .before .before .before .before .before .before .before .before .before .before .before .look .ensures) (c .before .before .before .before .before .before .before .before .before .before .before .before .before .item .given .1)) wide (omega (arith, c .before .before .before .before .before .before .before .before .before .before .before .before .before .before .before .before .before .before .before .before .before .before .has-room-arg3 .given .0)) (omega (arith, c .before .before .before .before .before .before .before .before .before .before .before .before .before .before .before .before .before .before .before .before .has-room-arg5 .given .0))
+          goes-on (c .before .before .before .before .before .before .before .before .before .before .before .before .before .before .before .before .loop .inv .1 clean index wide) (opens clean (c .before .before .before .before .before .before .before .before .before .before .before .before .before .before .before .look-line .ensures) (c .before .before .before .before .before .before .before .before .before .before .before .before .before .item .given .1)) wide (omega (arith, c .before .before .before .before .before .before .before .before .before .before .before .before .before .before .before .before .before .before .before .before .before .before .has-room-arg3 .given .0)) (omega (arith, c .before .before .before .before .before .before .before .before .before .before .before .before .before .before .before .before .before .before .before .before .has-room-arg5 .given .0))
           (c .before .before .before .before .before .before .before .before .before .before .place-unit .ensures) y (c .before .step .given .1),
     )
 
 same-length-3 : tie.Need-same-length-3 Inv-loop μ-loop
-same-length-3 c = c .before .before .before .before .before .before .statement .ensures _ (c .before .before .before .before .before .before .before .before .before .before .before .before .look2 .ensures) .long ∙ c .before .before .before .before .before .before .before .before .before .before .before .before .before .before .before .before .before .loop .inv .0
+same-length-3 c = c .before .before .before .before .before .before .statement .ensures _ (c .before .before .before .before .before .before .before .before .before .before .before .before .look-keyword .ensures) .long ∙ c .before .before .before .before .before .before .before .before .before .before .before .before .before .before .before .before .before .loop .inv .0
 
 returns-3 : tie.Need-returns-3 Inv-loop μ-loop
 returns-3 c =
-    let y = c .before .before .before .before .before .before .statement .ensures _ (c .before .before .before .before .before .before .before .before .before .before .before .before .look2 .ensures) in
+    let y = c .before .before .before .before .before .before .statement .ensures _ (c .before .before .before .before .before .before .before .before .before .before .before .before .look-keyword .ensures) in
     record {
       long = y .long ∙ c .before .before .before .before .before .before .before .before .before .before .before .before .before .before .before .before .before .loop .inv .0;
       reads = λ clean index wide.
-          stops (c .before .before .before .before .before .before .before .before .before .before .before .before .before .before .before .before .before .loop .inv .1 clean index wide) (opens clean (c .before .before .before .before .before .before .before .before .before .before .before .before .before .before .before .before .look .ensures) (c .before .before .before .before .before .before .before .before .before .before .before .before .before .before .item .given .1)) wide (omega (arith, c .before .before .before .before .before .before .before .before .before .before .before .before .before .before .before .before .before .before .before .before .before .before .before .has-room-arg3 .given .0)) (omega (arith, c .before .before .before .before .before .before .before .before .before .before .before .before .before .before .before .before .before .before .before .before .before .has-room-arg5 .given .0))
-          (c .before .before .before .before .before .before .before .before .before .before .before .place-unit .ensures) y (c .before .before .step2 .given .1) (c .fault-number .ensures _ (c .before .before .before .before .before .before .before .before .before .before .before .before .look2 .ensures));
+          stops (c .before .before .before .before .before .before .before .before .before .before .before .before .before .before .before .before .before .loop .inv .1 clean index wide) (opens clean (c .before .before .before .before .before .before .before .before .before .before .before .before .before .before .before .before .look-line .ensures) (c .before .before .before .before .before .before .before .before .before .before .before .before .before .before .item .given .1)) wide (omega (arith, c .before .before .before .before .before .before .before .before .before .before .before .before .before .before .before .before .before .before .before .before .before .before .before .has-room-arg3 .given .0)) (omega (arith, c .before .before .before .before .before .before .before .before .before .before .before .before .before .before .before .before .before .before .before .before .before .has-room-arg5 .given .0))
+          (c .before .before .before .before .before .before .before .before .before .before .before .place-unit .ensures) y (c .before .before .step2 .given .1) (c .fault-number .ensures _ (c .before .before .before .before .before .before .before .before .before .before .before .before .look-keyword .ensures));
     }
 
 pub parse-spec : {M : Type 1} → statement M

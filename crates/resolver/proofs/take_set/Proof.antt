@@ -32,4 +32,4 @@ returns-2 c = record {
 pub take-set-spec : {M : Type 1} → statement M
 take-set-spec =
     tie.close
-    (tie.spec (λ c. search needs) returns (λ c. search needs) (λ c κs. search needs) (λ c. search needs) (λ c. search needs) (λ c. search needs) (λ c κs. search needs) (λ c κs. search needs) (λ c. search needs) sub-joined part-joined-start (λ c. search needs) (λ c κs. search needs) returns-2)
+    (tie.spec (λ c. search needs) returns (λ c κs. search needs) (λ c. search needs) (λ c. search needs) (λ c. search needs) (λ c κs. search needs) (λ c κs. search needs) (λ c. search needs) sub-joined part-joined-start (λ c. search needs) (λ c κs. search needs) returns-2)

@@ -1,0 +1,81 @@
+-- `decisions::change_in_counted` meets its contract: the denials in their order, then the constraints. Assumes nothing.
+use Prim.Native.Nat.{_<_}
+use Rattle.table_laws.proofs.ListLaws.{all-places}
+use mathlib.Core.Path.{sym, _∙_}
+use borrow.Author.Tests.{not-true, not-false}
+use Rattle.policy.specs.Answer.{decide}
+use Rattle.decisions.proofs.SoundLaws.{sound-table}
+use Rattle.decisions.proofs.ChangeLaws.{change-of}
+use borrow.Author.Needs.{needs}
+use Rattle.decisions.proofs.change_in_counted.Statement.{statement}
+use Rattle.decisions.proofs.change_in_counted.Tie as tie
+
+declares-question-requires : tie.Need-declares-question-requires
+declares-question-requires c κs = search needs
+
+returns : tie.Need-returns
+unfolding decide
+returns c =
+    let start = c .before .before .before in
+    let t = start .args .table .now in
+    let s = sound-table t (all-places (λ k. k < 256) t 0 (λ i l. c .before .before .shared-slice-known .given i .fits)) (start .pre .0) in
+    sym (change-of t s _ ∙ rw (← start .pre .1, sym (c .before .declares-question .ensures t (start .args .permission) (start .pre .2)) ∙ not-true _ (c .if1 .taken)))
+
+is-valid-requires : tie.Need-is-valid-requires
+is-valid-requires c κs = search needs
+
+returns-2 : tie.Need-returns-2
+unfolding decide
+returns-2 c =
+    let start = c .before .before .before .before .before in
+    let t = start .args .table .now in
+    let s = sound-table t (all-places (λ k. k < 256) t 0 (λ i l. c .before .before .before .before .shared-slice-known .given i .fits)) (start .pre .0) in
+    sym (change-of t s _ ∙ rw (← start .pre .1, sym (c .before .before .before .declares-question .ensures t (start .args .permission) (start .pre .2)) ∙ not-false _ (c .before .before .if1 .left), sym (c .before .is-valid .ensures) ∙ not-true _ (c .if2 .taken)))
+
+is-valid-requires-2 : tie.Need-is-valid-requires-2
+is-valid-requires-2 c κs = search needs
+
+returns-3 : tie.Need-returns-3
+unfolding decide
+returns-3 c =
+    let start = c .before .before .before .before .before .before .before in
+    let t = start .args .table .now in
+    let s = sound-table t (all-places (λ k. k < 256) t 0 (λ i l. c .before .before .before .before .before .before .shared-slice-known .given i .fits)) (start .pre .0) in
+    sym (change-of t s _ ∙ rw (← start .pre .1, sym (c .before .before .before .before .before .declares-question .ensures t (start .args .permission) (start .pre .2)) ∙ not-false _ (c .before .before .before .before .if1 .left), sym (c .before .before .before .is-valid .ensures) ∙ not-false _ (c .before .before .if2 .left), sym (c .before .is-valid2 .ensures) ∙ not-true _ (c .if3 .taken)))
+
+role-may-requires : tie.Need-role-may-requires
+role-may-requires c κs = search needs
+
+returns-4 : tie.Need-returns-4
+unfolding decide
+returns-4 c =
+    let start = c .before .before .before .before .before .before .before .before .before in
+    let t = start .args .table .now in
+    let s = sound-table t (all-places (λ k. k < 256) t 0 (λ i l. c .before .before .before .before .before .before .before .before .shared-slice-known .given i .fits)) (start .pre .0) in
+    sym (change-of t s _ ∙ rw (← start .pre .1, sym (c .before .before .before .before .before .before .before .declares-question .ensures t (start .args .permission) (start .pre .2)) ∙ not-false _ (c .before .before .before .before .before .before .if1 .left), sym (c .before .before .before .before .before .is-valid .ensures) ∙ not-false _ (c .before .before .before .before .if2 .left), sym (c .before .before .before .is-valid2 .ensures) ∙ not-false _ (c .before .before .if3 .left), sym (c .before .role-may .ensures) ∙ not-true _ (c .if4 .taken)))
+
+ask-constraints-requires : tie.Need-ask-constraints-requires
+ask-constraints-requires c κs = search needs
+
+returns-5 : tie.Need-returns-5
+unfolding decide
+returns-5 c =
+    let start = c .before .before .before .before .before .before .before .before .before .before in
+    let t = start .args .table .now in
+    let s = sound-table t (all-places (λ k. k < 256) t 0 (λ i l. c .before .before .before .before .before .before .before .before .before .shared-slice-known .given i .fits)) (start .pre .0) in
+    sym (change-of t s _ ∙ rw (← start .pre .1, sym (c .before .before .before .before .before .before .before .before .declares-question .ensures t (start .args .permission) (start .pre .2)) ∙ not-false _ (c .before .before .before .before .before .before .before .if1 .left), sym (c .before .before .before .before .before .before .is-valid .ensures) ∙ not-false _ (c .before .before .before .before .before .if2 .left), sym (c .before .before .before .before .is-valid2 .ensures) ∙ not-false _ (c .before .before .before .if3 .left), sym (c .before .before .role-may .ensures) ∙ not-false _ (c .before .if4 .left)) (sym (c .ask-constraints .ensures s (start .pre .1))))
+
+pub change-in-counted-spec : {M : Type 1} → statement M
+change-in-counted-spec =
+    tie.close
+    (tie.spec
+    declares-question-requires
+    returns
+    is-valid-requires
+    returns-2
+    is-valid-requires-2
+    returns-3
+    role-may-requires
+    returns-4
+    ask-constraints-requires
+    returns-5)

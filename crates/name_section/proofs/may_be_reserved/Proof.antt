@@ -1,0 +1,15 @@
+-- `name_section::may_be_reserved` meets its contract. Assumes nothing.
+use borrow.Author.Needs.{needs}
+use Rattle.name_section.specs.Spelling.{mayBeReserved}
+use Rattle.name_section.proofs.may_be_reserved.Statement.{statement}
+use Rattle.name_section.proofs.may_be_reserved.Tie as tie
+
+spelling-in-requires : tie.Need-spelling-in-requires
+spelling-in-requires c κs = search needs
+
+returns : tie.Need-returns
+unfolding mayBeReserved
+returns c = rw (c .spelling-in .ensures)
+
+pub may-be-reserved-spec : {M : Type 1} → statement M
+may-be-reserved-spec = tie.close (tie.spec spelling-in-requires (λ c. search needs) (λ c. search needs) (λ c. search needs) returns)
