@@ -19,7 +19,6 @@ use Rattle.policy.specs.Encode.{encode}
 use Rattle.policy.specs.Outcome.{accept, policyOf, Compiled, refuses, fitted, compiled, outcome, after}
 use Rattle.resolver.specs.declared.Resolved.{Resolved}
 use Rattle.resolver.specs.Resolving.{readOf, Resolves}
-use Rattle.symbols.specs.Index.{Indexed}
 use Rattle.parser.specs.declared.Progress.{Progress}
 use Rattle.parser.specs.declared.Parsed.{Parsed}
 use Rattle.parser.specs.Memory.{Memory, Holds, Reads, Parses}
@@ -87,17 +86,16 @@ unfolding readPolicy
 read-scanned text s e = ap (λ (x : Scanned). afterScan x (readFrom (formsOf text) [])) (sym e)
 
 -- what the parser finds
-module _ {text : List ℕ} {lent now : Memory} {r : Parsed} (parses : Parses text lent now r) (clean : scan text ≡ Scanned.Clean) (empty : Indexed (lent .symbols) 0 [])
-    (wide : length text ≤ length (lent .code)) where
+module _ {text : List ℕ} {lent now : Memory} {r : Parsed} (parses : Parses text lent now r) (clean : scan text ≡ Scanned.Clean) where
   pub refused-read : (n at : ℕ) → r ≡ Parsed.Refused n at → readPolicy text ≡ refused n at
-  refused-read n at e = read-scanned text Scanned.Clean (sym clean) ∙ by (readFrom (formsOf text) []) (subst (λ (x : Parsed). Reads (readFrom (formsOf text) []) lent now x) e (parses .reads clean empty wide))
+  refused-read n at e = read-scanned text Scanned.Clean (sym clean) ∙ by (readFrom (formsOf text) []) (subst (λ (x : Parsed). Reads (readFrom (formsOf text) []) lent now x) e (parses .reads clean))
     where
       by : (x : Read) → Reads x lent now (Parsed.Refused n at) → x ≡ refused n at
       by (policy p) h = absurd h
       by (refused m q) h = ap₂ {C = Read} (λ (i j : ℕ). refused i j) (sym (h .0)) (sym (h .1))
 
   pub accepted-read : (s : Progress) → r ≡ Parsed.Accepted s → (p : Policy) × (readPolicy text ≡ policy p) × Holds p lent now s
-  accepted-read s e = by (readFrom (formsOf text) []) refl (subst (λ (x : Parsed). Reads (readFrom (formsOf text) []) lent now x) e (parses .reads clean empty wide))
+  accepted-read s e = by (readFrom (formsOf text) []) refl (subst (λ (x : Parsed). Reads (readFrom (formsOf text) []) lent now x) e (parses .reads clean))
     where
       by : (x : Read) → readFrom (formsOf text) [] ≡ x → Reads x lent now (Parsed.Accepted s) → (p : Policy) × (readPolicy text ≡ policy p) × Holds p lent now s
       by (policy p) i h = (p, read-scanned text Scanned.Clean (sym clean) ∙ i, h)

@@ -1,8 +1,7 @@
 // The passes in their order: text and lent memory in, the answer out. What one pass leaves for the next stands in local arrays, and the lent memory is
 // written to only when all refusals are past.
 ghost use mathlib.Core.Path.{_≡_};
-ghost use Prim.Native.Nat.{_≤_};
-ghost use lib.ListN.{length, take};
+ghost use lib.ListN.{take};
 ghost use Rattle.compiler.specs.Passes.{Measures, Fits, ResolvesAndWrites, CompilesStatements, CompilesClean};
 ghost use Rattle.compiler.specs.Promise.{Compiles};
 use constrain_statement::CONSTRAINT_BYTES;
@@ -10,6 +9,7 @@ use constrain_statement::ROW_BYTES;
 use declarations::SYMBOL_BYTES;
 use lexer::Scanned;
 use lexer::Text;
+use parser::CODE_UNITS;
 use parser::Parsed;
 use parser::Progress;
 use policy::Compiling;
@@ -162,7 +162,7 @@ fn resolve_and_write(
 fn compile_statements(
     progress: Progress,
     symbols: &[u8; SYMBOL_BYTES],
-    code: &[u16],
+    code: &[u16; CODE_UNITS],
     constraints: &[u8; CONSTRAINT_BYTES],
     rows: &[u8; ROW_BYTES],
     table: &mut [u8],
@@ -176,37 +176,21 @@ fn compile_statements(
     resolve_and_write(sizes, types, symbols, used, constraints, rows, table)
 }
 
-// A text without fault 1 or 2: its statements are read, with faults 3 to 7. The memory for their code is as long as the text.
-fn compile_within(text: &[u8], code: &mut [u16], table: &mut [u8]) -> Compiling
-    ensures { λ r. ⌜ (length (now (text .entry)) ≤ length (now (code .entry)) → CompilesClean (now (text .entry)) (now (table .entry)) (now (table .exit)) r) ⌝ }
-{
-    let mut symbols = [0u8; SYMBOL_BYTES];
-    let mut constraints = [0u8; CONSTRAINT_BYTES];
-    let mut rows = [0u8; ROW_BYTES];
-    let parsed = parser::parse(text, &mut symbols, code, &mut constraints, &mut rows);
-    match parsed {
-        Parsed::Accepted(progress) => {
-            compile_statements(progress, &symbols, code, &constraints, &rows, table)
-        }
-        Parsed::Refused { number, place } => refusal(number, place),
-    }
-}
-
-// Memory for the code of a text of any length, and for that of a short one, of which it would be the most that a compile costs to clear the other.
-const CODE_UNITS: usize = 65_536;
-
-const SHORT_UNITS: usize = 4_096;
-
-// A text without fault 1 or 2, with memory for its code by its length: no statement has more units than bytes.
+// A text without fault 1 or 2: its statements are read, with faults 3 to 7.
 fn compile_clean(text: &[u8], table: &mut [u8]) -> Compiling
     ensures { λ r. ⌜ CompilesClean (now (text .entry)) (now (table .entry)) (now (table .exit)) r ⌝ }
 {
-    if text.len() <= SHORT_UNITS {
-        let mut code = [0u16; SHORT_UNITS];
-        return compile_within(text, &mut code, table);
-    }
+    let mut symbols = [0u8; SYMBOL_BYTES];
     let mut code = [0u16; CODE_UNITS];
-    compile_within(text, &mut code, table)
+    let mut constraints = [0u8; CONSTRAINT_BYTES];
+    let mut rows = [0u8; ROW_BYTES];
+    let parsed = parser::parse(text, &mut symbols, &mut code, &mut constraints, &mut rows);
+    match parsed {
+        Parsed::Accepted(progress) => {
+            compile_statements(progress, &symbols, &code, &constraints, &rows, table)
+        }
+        Parsed::Refused { number, place } => refusal(number, place),
+    }
 }
 
 // Compiles a text: its table stands at the start of the lent memory, or a refusal 1 to 10 is answered and the lent memory is as it was.

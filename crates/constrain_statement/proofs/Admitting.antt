@@ -1,5 +1,5 @@
 -- Whether the maxima and the stack need allow a constraint. Assumes nothing.
-use mathlib.Core.Path.{_≡_, sym, ap, _∙_}
+use mathlib.Core.Path.{_≡_, refl, sym, ap, _∙_}
 use mathlib.Core.Bool.{Bool, true, false, not, and-false}
 use mathlib.Core.List.{List}
 use mathlib.Core.Option.{Option, none, some, Option·none-ne-some}
@@ -14,7 +14,7 @@ use Rattle.policy.specs.Statements.{Constraint, sidesE, nameE, notE, andE, orE,
 use Rattle.policy.specs.Encode.{headBytes}
 use Rattle.constraint_grammar.specs.Measures.{measure, measureOf}
 use Rattle.constrain_statement.specs.Constraining.{headWith, fitsBefore, Needs, Deepens, Admits}
-use Rattle.constrain_statement.specs.declared.Admitted.{Admitted}
+use Rattle.constrain_statement.specs.declared.Constrained.{Constrained}
 
 -- an expression has a measure
 pub no-measure : {X : Type 0} (m : Option (Constraint Name)) (e : Constraint Name) → measureOf m ≡ none → m ≡ some e → X
@@ -57,16 +57,16 @@ module _ {t : List ℕ} {at rows : ℕ} where
 -- ---- the answer
 
 module _ {t : List ℕ} {at : ℕ} {before : List ℕ} {count class mask row next : ℕ} where
-  pub many-constraints : 128 ≤ count → Admits t at before before count class mask row next Admitted.Full
+  pub many-constraints : 128 ≤ count → Admits t at before before count class mask row next Constrained.Full
   many-constraints h = record { says = λ e g w. rw (le-ltb count 128 h) }
 
-  pub many-rows : 2048 < next → Admits t at before before count class mask row next Admitted.Full
+  pub many-rows : 2048 < next → Admits t at before before count class mask row next Constrained.Full
   many-rows h = record { says = λ e g w. rw (lt-leb next 2048 h) (and-false (ltb count 128)) }
 
   module _ (h : count < 128) (k : next ≤ 2048) where
-    pub deep : {r : Bool} → Deepens t at (next - row) r → r ≡ true → Admits t at before before count class mask row next Admitted.Deep
+    pub deep : {r : Bool} → Deepens t at (next - row) r → r ≡ true → Admits t at before before count class mask row next Constrained.Deep
     deep d g = record { says = λ e x w. (both-fit count next h k, d .says e x w ∙ ap not g) }
 
     pub admitted : {r : Bool} → Deepens t at (next - row) r → r ≡ false → {after : List ℕ} → after ≡ put before (10 * count) (headBytes (headWith class mask row (next - row)))
-        → Admits t at before after count class mask row next Admitted.Written
-    admitted d g s = record { says = λ e x w. (both-fit count next h k, d .says e x w ∙ ap not g, s) }
+        → Admits t at before after count class mask row next (Constrained.Next next)
+    admitted d g s = record { says = λ e x w. (both-fit count next h k, d .says e x w ∙ ap not g, s, refl) }

@@ -1,6 +1,6 @@
--- What the parts of a constrain say together: the first of 5, 6 and 7, or its record and its rows, and then that its form is good. Assumes nothing.
+-- What the parts of a constrain of good form say together: the first of 5, 6 and 7, or its record and its rows. Assumes nothing.
 use mathlib.Core.Path.{_≡_, refl, sym, ap, subst, _∙_}
-use mathlib.Core.Bool.{Bool, true, false}
+use mathlib.Core.Bool.{Bool, true}
 use mathlib.Core.List.{List, [], _∷_}
 use mathlib.Core.Option.{Option, none, some, Option·some-injective}
 use Prim.Native.Nat.{ℕ, _+_, _-_, _*_, _≤_, _<_}
@@ -15,9 +15,8 @@ use Rattle.lexer.specs.Scan.{maxLevel}
 use Rattle.lexer.specs.Forms.{Forms, closed, part, framesAt, trim}
 use Rattle.policy.specs.Basics.{Name, _>>=_, each, indexOf}
 use Rattle.policy.specs.Statements.{Declaration, Reference, Constraint, sidesE, nameE, notE, andE, orE, Written, Statement, constrain, classNames, size, need}
-use Rattle.policy.specs.Words.{classK, constrainK}
 use Rattle.policy.specs.Maxima.{maxConstraints, maxRows, maxStack}
-use Rattle.policy.specs.Grammar.{expressionIn, formed}
+use Rattle.policy.specs.Grammar.{expressionIn}
 use Rattle.policy.specs.Reading.{refer, referE, resolved}
 use Rattle.policy.specs.Image.{maskOf}
 use Rattle.policy.specs.Encode.{headBytes, rowBytes}
@@ -26,23 +25,19 @@ use Rattle.policy.proofs.Lists.{both-true}
 use Rattle.table_laws.proofs.ListLaws.{bound-then}
 use Rattle.symbols.specs.Symbols.{Symbols}
 use Rattle.items.specs.Looks.{itemAt, rowEnd}
-use Rattle.items.specs.Reads.{Reads, isSome, isClosed}
 use Rattle.items.specs.declared.Item.{Item}
-use Rattle.items.specs.declared.Parsed.{Parsed}
 use Rattle.items.proofs.Items.{Looked, by-part}
-use Rattle.items.proofs.Rows as rows
 use Rattle.constraint_writer.specs.Writing.{Writes}
 use Rattle.constraint_writer.specs.declared.RowsWritten.{RowsWritten}
 use Rattle.constraint_writer.proofs.Answers.{undeclared, declared}
 use Rattle.constraint_writer.proofs.Resolving.{told}
 use Rattle.constrain_statement.specs.Scopes.{numbersOf, ScopeForm, Scoped, Scopes}
-use Rattle.constrain_statement.specs.Constraining.{headWith, fitsBefore, Answers, FormBy, WritesConstrain, AdmitsBy, Admits}
+use Rattle.constrain_statement.specs.Constraining.{headWith, fitsBefore, Answers, WritesConstrain, AdmitsBy, Admits}
 use Rattle.constrain_statement.specs.declared.Constrained.{Constrained}
-use Rattle.constrain_statement.specs.declared.Admitted.{Admitted}
 use Rattle.constrain_statement.specs.declared.Scope.{Scope}
 use Rattle.constrain_statement.proofs.Admitting.{half-waits}
 use Rattle.constrain_statement.proofs.Masking.{tag}
-use Rattle.constrain_statement.proofs.Shapes.{Shape, shape, constrain-row}
+use Rattle.constrain_statement.proofs.Shapes.{Shape, shape}
 use Rattle.constrain_statement.proofs.Scoping.{startsPart, not-there, no-part, same-parts}
 
 -- ---- the stack need of an expression does not change where its names are resolved
@@ -102,19 +97,12 @@ as-shallow n m p e = ap (λ (k : ℕ). leb k maxStack) p ∙ e
 room : (count n : ℕ) → fitsBefore count n ≡ true → 6 * n ≤ 12288
 room count n e = let few = leb-true n maxRows (both-true (ltb count maxConstraints) (leb n maxRows) e .1) in omega arith
 
--- the answer, where n is the row behind the rows and q the place behind the close
-abbrev pub answerBy : Admitted → ℕ → ℕ → Constrained
-answerBy Admitted.Written n q = Constrained.Next n q
-answerBy Admitted.Full n q = Constrained.Full
-answerBy Admitted.Deep n q = Constrained.Deep
-
 -- x is the expression with its names resolved, ns are the numbers of the permissions
 module _ (before after rowsBefore rowsAfter : List ℕ) (count class mask row n deep : ℕ) (x : Constraint Reference) (ns : List ℕ) (p : need x ≡ deep) (q : n ≡ row + size x)
     (u : mask ≡ maskOf ns) (long : length rowsBefore ≡ 12288)
     (v : 6 * (row + size x) ≤ length rowsBefore → rowsAfter ≡ put rowsBefore (6 * row) (joined (each rowBytes (rowsOf x)))) where
-  by-answer : (past : ℕ) (b : Admitted) → AdmitsBy deep before after count class mask row n b
-      → Answers (some (constrain class ns x)) before after count rowsBefore rowsAfter row (answerBy b n past)
-  by-answer past Admitted.Written g =
+  by-answer : (b : Constrained) → AdmitsBy deep before after count class mask row n b → Answers (some (constrain class ns x)) before after count rowsBefore rowsAfter row b
+  by-answer (Constrained.Next o) g =
       let counted : n - row ≡ size x = omega arith in
       record {
         fits = as-fits count n (row + size x) q (g .0);
@@ -123,10 +111,11 @@ module _ (before after rowsBefore rowsAfter : List ℕ) (count class mask row n 
             ∙ ap (λ (k : ℕ). put before (10 * count) (headBytes (headWith class mask row k))) counted
             ∙ ap (λ (k : ℕ). put before (10 * count) (headBytes (headWith class k row (size x)))) u;
         rows = v (omega (arith, room count n (g .0)));
-        next-row = q;
+        next-row = g .3 ∙ q;
       }
-  by-answer past Admitted.Full g = as-fits count n (row + size x) q g
-  by-answer past Admitted.Deep g = (as-fits count n (row + size x) q (g .0), as-shallow (need x) deep p (g .1))
+  by-answer Constrained.Undeclared g = g
+  by-answer Constrained.Full g = as-fits count n (row + size x) q g
+  by-answer Constrained.Deep g = (as-fits count n (row + size x) q (g .0), as-shallow (need x) deep p (g .1))
 
 -- ---- what stands where, by the form
 
@@ -155,31 +144,6 @@ module _ {t : List ℕ} {at p j : ℕ} (l : Looked t at (Item.Open p j)) {w : Wr
 scope-told : {t : List ℕ} {at : ℕ} {table : List ℕ} {end : ℕ} {r k : Scope} → Scopes t at table end r → r ≡ k → Scopes t at table end k
 scope-told {t} {at} {table} {end} u e = subst (Scopes t at table end) e u
 
--- ---- where the parts end, and the form
-
-module _ {t : List ℕ} {j : ℕ} {table : List ℕ} {end : ℕ} {r : Scope} (u : Scopes t j table end r) {class mask q : ℕ} (e : r ≡ Scope.Of class mask q) where
-  scope-end : rows.Past t j (isSome (formed classK (trim (framesAt t j .here) (maxLevel - 2)))) q
-  scope-end = rows.told (scope-told u e .form) refl
-
-  module _ {z : ℕ} {rowsBefore rowsAfter : List ℕ} {row : ℕ} {k : RowsWritten}
-      (v : Writes t z (expressionIn (trim (framesAt t z .here) (maxLevel - 2))) table end rowsBefore rowsAfter row k) {a n : ℕ} (d : k ≡ RowsWritten.Next a n) where
-    expression-end : rows.Past t z (isSome (expressionIn (trim (framesAt t z .here) (maxLevel - 2)))) a
-    expression-end =
-        let w = told v d .reads in
-        record { good = w .good; end = w .end; less = w .less; fits = w .fits }
-
-    -- behind the expression the close decides whether the statement is of the form
-    statement-end : {at p : ℕ} → Looked t at (Item.Open p j) → {x : ℕ} → Looked t q (Item.Open x z) → {c : Parsed} → Reads t a (isClosed (framesAt t a .here)) c
-        → Reads t at (isSome (formed constrainK (trim (framesAt t at .here) levels))) c
-    statement-end {at} {p} l {x} l2 g =
-        let i = trim (framesAt t j .here) (levels - 1) in
-        rows.after-part l scope-end
-        (by-part (λ f. isSome (formed constrainK f)) levels q l (scope-end .end) (λ z. omega arith)
-        ∙ by-part (λ f. isSome (formed constrainK (part p i f))) levels a l2 (expression-end .end) (λ z. omega arith)
-        ∙ constrain-row p x i (trim (framesAt t z .here) (levels - 1)) (trim (framesAt t a .here) levels) (scope-end .good) (expression-end .good)
-        ∙ rows.trim-closed (framesAt t a .here) levels)
-        (rows.after-part l2 expression-end refl g)
-
 -- ---- the answers
 
 module _ {t : List ℕ} {at : ℕ} {table : List ℕ} {end : ℕ} {before : List ℕ} {count : ℕ} {rowsBefore : List ℕ} {row : ℕ} where
@@ -187,13 +151,12 @@ module _ {t : List ℕ} {at : ℕ} {table : List ℕ} {end : ℕ} {before : List
   undeclared-by : {after rowsAfter : List ℕ} → ((ds : List Declaration) (w : Written) → Symbols table end ds → ShapeAt t at w → resolved ds w ≡ none)
       → WritesConstrain t at table end before after count rowsBefore rowsAfter row Constrained.Undeclared
   undeclared-by {after} {rowsAfter} h = record {
-    form = tt;
     says = λ ds w y a f.
         subst (λ (o : Option Statement). Answers o before after count rowsBefore rowsAfter row Constrained.Undeclared) (sym (h ds w y (shape (trim (framesAt t at .here) levels) w f))) tt;
   }
 
-  pub past-rows : {after rowsAfter : List ℕ} → 2048 < row → WritesConstrain t at table end before after count rowsBefore rowsAfter row Constrained.Full
-  past-rows h = record { form = tt; says = λ ds w y a f. absurd (omega (arith, h, a)) }
+  pub past-rows : {after rowsAfter : List ℕ} {r : Constrained} → 2048 < row → WritesConstrain t at table end before after count rowsBefore rowsAfter row r
+  past-rows h = record { says = λ ds w y a f. absurd (omega (arith, h, a)) }
 
   pub scope-missing : {k : Item} → k ≡ itemAt t at → OneOf (0 ∷ 2 ∷ 3 ∷ []) (tag k) → WritesConstrain t at table end before before count rowsBefore rowsBefore row Constrained.Undeclared
   scope-missing e o = undeclared-by (λ ds w y s. not-there startsPart t at levels _ (s .row) refl (0 ∷ 2 ∷ 3 ∷ []) no-part e o)
@@ -208,44 +171,29 @@ module _ {t : List ℕ} {at : ℕ} {table : List ℕ} {end : ℕ} {before : List
       pub expression-missing : {k : Item} → k ≡ itemAt t q → OneOf (0 ∷ 2 ∷ 3 ∷ []) (tag k)
           → WritesConstrain t at table end before before count rowsBefore rowsBefore row Constrained.Undeclared
       expression-missing d o = undeclared-by (λ ds w y s.
-          not-there startsPart t q levels _ (part-behind l s q (scope-end u e .end)) refl (0 ∷ 2 ∷ 3 ∷ []) no-part d o)
+          not-there startsPart t q levels _ (part-behind l s q (scope-told u e .place)) refl (0 ∷ 2 ∷ 3 ∷ []) no-part d o)
 
       module _ {x z : ℕ} (l2 : Looked t q (Item.Open x z)) {rowsAfter : List ℕ} {k : RowsWritten}
           (v : Writes t z (expressionIn (trim (framesAt t z .here) (maxLevel - 2))) table end rowsBefore rowsAfter row k) where
         pub name-undeclared : k ≡ RowsWritten.Undeclared → WritesConstrain t at table end before before count rowsBefore rowsAfter row Constrained.Undeclared
         name-undeclared d = undeclared-by (λ ds w y s.
+            let o = scope-told u e in
             ap (resolved ds) (s .written)
-            ∙ expression-none ds (s .class) (s .permissions) (s .body) (scope-told u e .says ds (s .class) (s .permissions) y (scope-there l s))
-            (undeclared y (expression-there l s (scope-end u e .end) l2) (told v d)))
+            ∙ expression-none ds (s .class) (s .permissions) (s .body) (o .says ds (s .class) (s .permissions) y (scope-there l s))
+            (undeclared y (expression-there l s (o .place) l2) (told v d)))
 
-        module _ {a n : ℕ} (d : k ≡ RowsWritten.Next a n) {c : Parsed} (g : Reads t a (isClosed (framesAt t a .here)) c) where
-          pub close-missing : c ≡ Parsed.Bad → WritesConstrain t at table end before before count rowsBefore rowsAfter row Constrained.Undeclared
-          close-missing o = record {
-            form = tt;
-            says = λ ds w y b f.
-                let z : false ≡ true = sym (rows.told (statement-end u e v d l l2 g) o) ∙ ap isSome f in
-                absurd (let z : _≡_ {A = ℕ} 0 1 = cc in omega arith);
-          }
-
-          -- 6 and 7, and what is written, by what the maxima and the stack need allow
-          pub answered : {past : ℕ} → c ≡ Parsed.Next past → length rowsBefore ≡ 12288 → {after : List ℕ} {x : Admitted} → Admits t z before after count class mask row n x
-              → (b : Admitted) → x ≡ b → WritesConstrain t at table end before after count rowsBefore rowsAfter row (answerBy b n past)
-          answered {past} o long {after} {x} m b h = record {
-            form = form-by b;
-            says = λ ds w y g f.
-                let s = shape (trim (framesAt t at .here) levels) w f in
-                let i = scope-told u e .says ds (s .class) (s .permissions) y (scope-there l s) in
-                let there = expression-there l s (scope-end u e .end) l2 in
-                let r = declared y there (told v d) in
-                let needs-same = need-kept ds (s .body) (r .expression) (r .refers) in
-                subst (λ (o : Option Statement). Answers o before after count rowsBefore rowsAfter row (answerBy b n past))
-                (sym (ap (resolved ds) (s .written) ∙ resolves ds (s .class) (s .permissions) (s .body) i (r .expression) (r .refers)))
-                (by-answer before after rowsBefore rowsAfter count class mask row n (need (s .body)) (r .expression) (i .numbers) needs-same (r .count) (i .mask-is) long (r .bytes) past b
-                (subst (AdmitsBy (need (s .body)) before after count class mask row n) h
-                (m .says (s .body) there (omega (arith, r .count, half-waits (r .expression) .0, needs-same)))));
-          }
-            where
-              form-by : (b : Admitted) → FormBy t at (answerBy b n past)
-              form-by Admitted.Written = subst (Reads t at (isSome (formed constrainK (trim (framesAt t at .here) levels)))) o (statement-end u e v d l l2 g)
-              form-by Admitted.Full = tt
-              form-by Admitted.Deep = tt
+        -- 6 and 7, and what is written, by what the maxima and the stack need allow
+        pub answered : {a n : ℕ} → k ≡ RowsWritten.Next a n → length rowsBefore ≡ 12288 → {after : List ℕ} {b : Constrained} → Admits t z before after count class mask row n b
+            → WritesConstrain t at table end before after count rowsBefore rowsAfter row b
+        answered {a} {n} d long {after} {b} m = record {
+          says = λ ds w y g f.
+              let s = shape (trim (framesAt t at .here) levels) w f in
+              let o = scope-told u e in
+              let c = o .says ds (s .class) (s .permissions) y (scope-there l s) in
+              let there = expression-there l s (o .place) l2 in
+              let i = declared y there (told v d) in
+              subst (λ (o : Option Statement). Answers o before after count rowsBefore rowsAfter row b)
+              (sym (ap (resolved ds) (s .written) ∙ resolves ds (s .class) (s .permissions) (s .body) c (i .expression) (i .refers)))
+              (by-answer before after rowsBefore rowsAfter count class mask row n (need (s .body)) (i .expression) (c .numbers) (need-kept ds (s .body) (i .expression) (i .refers)) (i .count) (c .mask-is) long (i .bytes) b
+              (m .says (s .body) there (omega (arith, i .count, half-waits (i .expression) .0, need-kept ds (s .body) (i .expression) (i .refers)))));
+        }

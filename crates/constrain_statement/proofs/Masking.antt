@@ -1,13 +1,12 @@
 -- A row of permissions of a class as a mask: what is left of the row adds to the mask so far what the whole row adds to none. Assumes nothing.
 use mathlib.Core.Path.{_≡_, refl, sym, ap, subst, _∙_}
-use mathlib.Core.Bool.{Bool, true, false, not, _||_}
+use mathlib.Core.Bool.{not, _||_}
 use mathlib.Core.List.{List, [], _∷_}
 use mathlib.Core.Option.{Option, none, some, Option·some-injective}
-use Prim.Native.Nat.{ℕ, _+_, _-_, _*_, _%_, _^_, _<_, _≤_}
+use Prim.Native.Nat.{ℕ, _+_, _*_, _%_, _^_, _<_}
 use native.Mathlib.Omega.{arith}
-use borrow.Author.Tests.{lt-ltb}
 use lib.Dec.{eqb}
-use lib.ListN.{length, take, drop}
+use lib.ListN.{take, drop}
 use types.Run.{OneOf}
 use denote.Enum.Declared.{tagOf}
 use Rattle.bitset.specs.Sets.{bit, fromBits}
@@ -23,20 +22,15 @@ use Rattle.policy.specs.Image.{maskOf}
 use Rattle.policy.proofs.Counts.{few-permissions-of}
 use Rattle.table_laws.proofs.ListLaws.{given-some, more-some}
 use Rattle.reading_laws.proofs.Resolving.{index-below}
-use Rattle.words.specs.Numbers.{wordOf}
 use Rattle.symbols.specs.Lookup.{firstNamed}
 use Rattle.symbols.specs.Resolving.{foundPermission}
 use Rattle.symbols.specs.Symbols.{Symbols, Looks}
 use Rattle.symbols.specs.declared.Found.{Found}
 use Rattle.symbols.proofs.ClassesFound.{find-permission, few-permissions}
 use Rattle.items.specs.Looks.{itemAt, rowEnd}
-use Rattle.items.specs.Reads.{counted}
 use Rattle.items.specs.declared.Item.{Item}
-use Rattle.items.specs.declared.Wanted.{Wanted}
 use Rattle.items.proofs.Items.{Looked, alike-here}
 use Rattle.items.proofs.Item.{the-type}
-use Rattle.items.proofs.Rows.{give}
-use Rattle.items.proofs.Counts.{is-name, word-name, close-name}
 use Rattle.constraint_writer.proofs.Resolving.{never}
 use Rattle.constrain_statement.specs.Scopes.{numbersOf, Masks}
 use Rattle.constrain_statement.specs.declared.Masked.{Masked}
@@ -60,27 +54,15 @@ pub record Left (ds : List Declaration) (c : ℕ) (ps : List Name) (f : Forms) (
   pub names : namesIn f ≡ some rest
   pub total : added m (numbersOf ds c rest) ≡ added 0 (numbersOf ds c ps)
 
--- the row f is of names, and with those in the n bytes read before it there is at least one
-abbrev someNames : ℕ → Forms → Bool
-someNames n f = counted Wanted.OneOrMore n (namesIn f)
-
 -- the row at the place at is read up to the place i
 pub record Going (t : List ℕ) (at : ℕ) (table : List ℕ) (end family i m : ℕ) : Type 0 where
-  pub further : at ≤ i
   pub same-row : rowEnd t i ≡ rowEnd t at
-  pub form : someNames (i - at) (framesAt t i .here) ≡ someNames 0 (framesAt t at .here)
   pub small : m < 2 ^ 32
   pub left : (ds : List Declaration) (c : ℕ) (ps : List Name) → Symbols table end ds → family ≡ 4 + c → namesIn (framesAt t at .here) ≡ some ps
       → Left ds c ps (framesAt t i .here) m
 
 pub begun : {t : List ℕ} {at : ℕ} {table : List ℕ} {end family : ℕ} → Going t at table end family at 0
-begun {t} {at} = record {
-  further = omega arith;
-  same-row = refl;
-  form = ap (λ (n : ℕ). someNames n (framesAt t at .here)) (let z : at - at ≡ 0 = omega arith in z);
-  small = omega arith;
-  left = λ ds c ps y e h. record { rest = ps; names = h; total = refl };
-}
+begun = record { same-row = refl; small = omega arith; left = λ ds c ps y e h. record { rest = ps; names = h; total = refl } }
 
 -- ---- one name
 
@@ -95,16 +77,6 @@ first-name s w f rest h =
     let p = more-some (asName w) (namesIn f) rest h in
     let same = given-some (not (isReserved w)) w (p .0) (p .2) .1 in
     record { others = p .1; row = p .4 ∙ ap (λ (v : Name). v ∷ p .1) (sym same); names = p .3 }
-
-reserved-none : (s : ℕ) (w : Name) (f : Forms) → not (isReserved w) ≡ false → namesIn (word s w f) ≡ none
-unfolding namesIn
-reserved-none s w f e = rw e
-
--- with some names before it any row of names is one or more
-some-before : (n m : ℕ) (ws : Option (List Name)) → 0 < n → 0 < m → counted Wanted.OneOrMore n ws ≡ counted Wanted.OneOrMore m ws
-unfolding counted
-some-before n m none h k = refl
-some-before n m (some ws) h k = lt-ltb 0 (n + length ws) (omega arith) ∙ sym (lt-ltb 0 (m + length ws) (omega arith))
 
 -- what a permission's name is found as is its place in the class
 pub record Numbered (ds : List Declaration) (c : ℕ) (w : Name) (number : ℕ) : Type 0 where
@@ -146,33 +118,14 @@ abbrev pub tag : Item → ℕ
 tag k = tagOf the-type k
 
 module _ {t : List ℕ} {at : ℕ} {table : List ℕ} {end family i m : ℕ} (g : Going t at table end family i m) where
-  pub no-name : {s n k q : ℕ} → Looked t i (Item.Word s n k q) → false ≡ not (isReserved (wordOf k)) → Masks t at table end family Masked.Undeclared
-  no-name {s} {n} {k} {q} l a = record {
-    form = tt;
-    says = λ ds c ps y f b h.
-        let w = take n (drop s t) in
-        never (sym (ap namesIn (l .here) ∙ reserved-none s w (framesAt t q .here) (is-name w k false (l .ahead .2) a)) ∙ g .left ds c ps y f b .names);
-  }
-
   module _ {s n k q : ℕ} (l : Looked t i (Item.Word s n k q)) {r : Found} (h : Looks table end family (parts.part t s n) r) where
     name-first : {ds : List Declaration} {c : ℕ} {ps : List Name} (x : Left ds c ps (framesAt t i .here) m) → FirstName (take n (drop s t)) (framesAt t q .here) (x .rest)
     name-first x = first-name s (take n (drop s t)) (framesAt t q .here) (x .rest) (sym (ap namesIn (l .here)) ∙ x .names)
 
-    -- the name is read
-    with-name : true ≡ not (isReserved (wordOf k)) → someNames (q - at) (framesAt t q .here) ≡ someNames 0 (framesAt t at .here)
-    with-name a =
-        sym
-        (ap (someNames (i - at)) (l .here)
-        ∙ word-name Wanted.OneOrMore (i - at) (take n (drop s t)) s k (framesAt t q .here) true (l .ahead .2) a
-        ∙ some-before (i - at + 1) (q - at) (namesIn (framesAt t q .here)) (omega arith) (omega (arith, g .further, l .ahead .0)))
-        ∙ g .form
-
-    pub one-more : {sort number v : ℕ} → true ≡ not (isReserved (wordOf k)) → r ≡ Found.At sort number → v ≡ fromBits 32 (λ j. bit m j || eqb j (number % 32)) → Going t at table end family q v
+    pub one-more : {sort number v : ℕ} → r ≡ Found.At sort number → v ≡ fromBits 32 (λ j. bit m j || eqb j (number % 32)) → Going t at table end family q v
     unfolding parts.part eachOf
-    one-more {sort} {number} {v} o d e = record {
-      further = omega (arith, g .further, l .ahead .0);
+    one-more {sort} {number} {v} d e = record {
       same-row = sym (l .end) ∙ g .same-row;
-      form = with-name o;
       small = subst (λ (x : ℕ). x < 2 ^ 32) (sym e) (fromBits-lt 32 (λ j. bit m j || eqb j (number % 32)));
       left = λ ds c ps y f b.
           let x = g .left ds c ps y f b in
@@ -194,8 +147,8 @@ module _ {t : List ℕ} {at : ℕ} {table : List ℕ} {end family i m : ℕ} (g 
     pub not-of-class : r ≡ Found.Missing → Masks t at table end family Masked.Undeclared
     unfolding parts.part eachOf
     not-of-class d = record {
-      form = tt;
-      says = λ ds c ps y f b o.
+      place = tt;
+      says = λ ds c ps y f b.
           let x = g .left ds c ps y f b in
           let a = name-first x in
           let w = take n (drop s t) in
@@ -206,28 +159,15 @@ module _ {t : List ℕ} {at : ℕ} {table : List ℕ} {end family i m : ℕ} (g 
           ∙ from-none (numbersOf ds c ps);
     }
 
-  -- at the close no name is left
-  none-left : {q : ℕ} → Looked t i (Item.Close q) → {ws : List Name} → namesIn (framesAt t i .here) ≡ some ws → [] ≡ ws
-  unfolding namesIn
-  none-left l {ws} e = Option·some-injective [] ws (sym (ap namesIn (l .here)) ∙ e)
-
-  pub nothing-read : {q : ℕ} → Looked t i (Item.Close q) → i ≡ at → Masks t at table end family Masked.Undeclared
-  nothing-read l e = record {
-    form = tt;
-    says = λ ds c ps y f b o. absurd (omega (arith, o, ap length (none-left l (ap (λ (j : ℕ). namesIn (framesAt t j .here)) e ∙ b))));
-  }
-
-  pub finished : {q : ℕ} → Looked t i (Item.Close q) → (i ≡ at → ⊥) → Masks t at table end family (Masked.Mask m q)
-  unfolding eachOf
-  finished {q} l d = record {
-    form =
-        give
-        (sym (g .form) ∙ ap (someNames (i - at)) (l .here) ∙ close-name Wanted.OneOrMore (i - at) ∙ lt-ltb 0 (i - at) (omega (arith, g .further, d)))
-        (sym (g .same-row) ∙ l .end) (omega (arith, g .further, l .ahead .0)) (l .ahead .1);
-    says = λ ds c ps y f b o.
+  pub finished : {q : ℕ} → Looked t i (Item.Close q) → Masks t at table end family (Masked.Mask m q)
+  unfolding namesIn eachOf
+  finished l = record {
+    place = sym (g .same-row) ∙ l .end;
+    says = λ ds c ps y f b.
         let x = g .left ds c ps y f b in
+        let none-left : [] ≡ x .rest = Option·some-injective [] (x .rest) (sym (ap namesIn (l .here)) ∙ x .names) in
         sym (ap some (gained-nothing m (g .small)))
-        ∙ ap (λ (z : List Name). added m (numbersOf ds c z)) (none-left l (x .names))
+        ∙ ap (λ (z : List Name). added m (numbersOf ds c z)) none-left
         ∙ x .total
         ∙ from-none (numbersOf ds c ps);
   }
@@ -235,7 +175,7 @@ module _ {t : List ℕ} {at : ℕ} {table : List ℕ} {end family i m : ℕ} (g 
   pub no-names : {k : Item} → k ≡ itemAt t i → OneOf (1 ∷ 3 ∷ []) (tag k) → Masks t at table end family Masked.Undeclared
   unfolding namesIn
   no-names {k} e o = record {
-    form = tt;
-    says = λ ds c ps y f b h.
+    place = tt;
+    says = λ ds c ps y f b.
         never (sym (alike-here namesIn (λ f. none) t i k (1 ∷ 3 ∷ []) (tt, λ x u v. refl, tt, refl) e o) ∙ g .left ds c ps y f b .names);
   }

@@ -1,6 +1,6 @@
--- The class and the permissions of a constrain, item by item. Assumes nothing.
+-- The class and the permissions of a constrain of good form, item by item. Assumes nothing.
 use mathlib.Core.Path.{_≡_, refl, sym, ap, subst, _∙_}
-use mathlib.Core.Bool.{Bool, true, false, not}
+use mathlib.Core.Bool.{Bool, true, false}
 use mathlib.Core.List.{List, [], _∷_}
 use mathlib.Core.Option.{Option, none, some, Option·some-injective}
 use Prim.Native.Nat.{ℕ, _+_, _-_, _≤_, _<_}
@@ -12,30 +12,25 @@ use Rattle.bitset.specs.Parts as parts
 use Rattle.lexer.specs.Scan.{maxLevel}
 use Rattle.lexer.specs.Forms.{Forms, closed, ended, word, part, framesAt, trim}
 use Rattle.policy.specs.Basics.{Name, _>>=_, indexOf}
-use Rattle.policy.specs.Words.{isReserved, classK}
 use Rattle.policy.specs.Statements.{Declaration, classNames}
-use Rattle.policy.specs.Grammar.{namesIn, formed}
+use Rattle.policy.specs.Grammar.{namesIn}
 use Rattle.policy.specs.Image.{maskOf}
 use Rattle.policy.proofs.Counts.{few-classes}
 use Rattle.table_laws.proofs.ListLaws.{bound-then}
 use Rattle.reading_laws.proofs.Resolving.{index-below}
-use Rattle.words.specs.Numbers.{wordOf}
 use Rattle.symbols.specs.Resolving.{foundClass}
 use Rattle.symbols.specs.Symbols.{Symbols, Looks}
 use Rattle.symbols.specs.declared.Found.{Found}
 use Rattle.symbols.proofs.ClassesFound.{find-class}
 use Rattle.items.specs.Looks.{itemAt, rowEnd}
-use Rattle.items.specs.Reads.{isSome, isClosed, counted}
+use Rattle.items.specs.Reads.{isClosed}
 use Rattle.items.specs.declared.Item.{Item}
-use Rattle.items.specs.declared.Wanted.{Wanted}
 use Rattle.items.proofs.Items.{Looked, Alike, alike, by-word, by-part}
-use Rattle.items.proofs.Counts.{is-name, trim-names}
-use Rattle.items.proofs.Rows as rows
+use Rattle.items.proofs.Counts.{trim-names}
 use Rattle.constrain_statement.specs.Scopes.{numbersOf, maskIn, Masks, ScopeForm, Scopes}
 use Rattle.constrain_statement.specs.declared.Masked.{Masked}
 use Rattle.constrain_statement.specs.declared.Scope.{Scope}
 use Rattle.constrain_statement.proofs.Masking.{tag}
-use Rattle.constrain_statement.proofs.Shapes.{class-row}
 
 -- ---- what a row starts with
 
@@ -126,23 +121,15 @@ no-mask (some ns) e = absurd (let z : _≡_ {A = ℕ} 0 1 = cc in omega arith)
 module _ {t : List ℕ} {at : ℕ} {table : List ℕ} {end : ℕ} where
   pub word-missing : {k : Item} → k ≡ itemAt t at → OneOf (1 ∷ 2 ∷ 3 ∷ []) (tag k) → Scopes t at table end Scope.Undeclared
   word-missing e o = record {
-    form = tt;
+    place = tt;
     says = λ ds c ps y h. not-there startsWord t at levels _ (h .row) refl (1 ∷ 2 ∷ 3 ∷ []) no-word e o;
-  }
-
-  pub word-reserved : {s n k q : ℕ} → Looked t at (Item.Word s n k q) → false ≡ not (isReserved (wordOf k)) → Scopes t at table end Scope.Undeclared
-  word-reserved {s} {n} {k} l a = record {
-    form = tt;
-    says = λ ds c ps y h.
-        let z = sym (h .name) ∙ ap (λ (w : Name). not (isReserved w)) (sym (behind-word l h .0)) ∙ is-name (take n (drop s t)) k false (l .ahead .2) a in
-        absurd (let z : _≡_ {A = ℕ} 0 1 = cc in omega arith);
   }
 
   module _ {s n k q : ℕ} (l : Looked t at (Item.Word s n k q)) {r : Found} (f : Looks table end 3 (parts.part t s n) r) where
     pub class-undeclared : r ≡ Found.Missing → Scopes t at table end Scope.Undeclared
     unfolding parts.part
     class-undeclared d = record {
-      form = tt;
+      place = tt;
       says = λ ds c ps y h.
           let none-such = class-missing y (take n (drop s t)) f d in
           ap (λ (w : Name). indexOf w (classNames ds) >>= λ n. numbersOf ds n ps) (sym (behind-word l h .0))
@@ -157,25 +144,25 @@ module _ {t : List ℕ} {at : ℕ} {table : List ℕ} {end : ℕ} where
       pub class-too-far : 32 ≤ number → Scopes t at table end Scope.Undeclared
       unfolding parts.part
       class-too-far g = record {
-        form = tt;
+        place = tt;
         says = λ ds c ps y h.
             absurd (omega (arith, g, class-below y (take n (drop s t)) f number (class-number y (take n (drop s t)) f d)));
       }
 
       pub part-missing : {k : Item} → k ≡ itemAt t q → OneOf (0 ∷ 2 ∷ 3 ∷ []) (tag k) → Scopes t at table end Scope.Undeclared
       part-missing e o = record {
-        form = tt;
+        place = tt;
         says = λ ds c ps y h. not-there startsPart t q levels _ (behind-word l h .1) refl (0 ∷ 2 ∷ 3 ∷ []) no-part e o;
       }
 
       module _ {p j : ℕ} (l2 : Looked t q (Item.Open p j)) where
         numbers-there : {m : Masked} → Masks t j table end (4 + number) m → {ds : List Declaration} {c : Name} {ps : List Name} → Symbols table end ds
             → ScopeForm (trim (framesAt t at .here) levels) c ps → maskIn m ≡ (numbersOf ds number ps >>= λ ns. some (maskOf ns))
-        numbers-there m {ds} {c} {ps} y h = m .says ds number ps y refl (names-there l h l2) (h .some-name)
+        numbers-there m {ds} {c} {ps} y h = m .says ds number ps y refl (names-there l h l2)
 
         pub permission-undeclared : {x : Masked} → Masks t j table end (4 + number) x → x ≡ Masked.Undeclared → Scopes t at table end Scope.Undeclared
         permission-undeclared m e = record {
-          form = tt;
+          place = tt;
           says = λ ds c ps y h.
               ap (λ (o : Option ℕ). o >>= λ n. numbersOf ds n ps) (class-is y h)
               ∙ no-mask (numbersOf ds number ps) (sym (ap maskIn e) ∙ numbers-there m y h);
@@ -185,30 +172,15 @@ module _ {t : List ℕ} {at : ℕ} {table : List ℕ} {end : ℕ} where
           told : Masks t j table end (4 + number) (Masked.Mask mask o)
           told = subst (Masks t j table end (4 + number)) e m
 
-          permissions-end : rows.Past t j (counted Wanted.OneOrMore 0 (namesIn (framesAt t j .here))) o
-          permissions-end = rows.told (told .form) refl
-
           pub close-missing : {k : Item} → k ≡ itemAt t o → OneOf (0 ∷ 1 ∷ 3 ∷ []) (tag k) → Scopes t at table end Scope.Undeclared
           close-missing d i = record {
-            form = tt;
-            says = λ ds c ps y h. not-there isClosed t o levels _ (close-there l h l2 o (permissions-end .end)) refl (0 ∷ 1 ∷ 3 ∷ []) no-close d i;
+            place = tt;
+            says = λ ds c ps y h. not-there isClosed t o levels _ (close-there l h l2 o (told .place)) refl (0 ∷ 1 ∷ 3 ∷ []) no-close d i;
           }
 
-          -- behind the permissions the close decides
-          form-is : true ≡ not (isReserved (wordOf k)) → isSome (formed classK (trim (framesAt t at .here) levels)) ≡ isClosed (framesAt t o .here)
-          form-is g =
-              let w = take n (drop s t) in
-              by-word (λ f. isSome (formed classK f)) levels l
-              ∙ by-part (λ f. isSome (formed classK (word s w f))) levels o l2 (permissions-end .end) (λ z. omega arith)
-              ∙ class-row s p w (trim (framesAt t j .here) (levels - 1)) (trim (framesAt t o .here) levels) (is-name w k true (l .ahead .2) g)
-              (ap (counted Wanted.OneOrMore 0) (trim-names (framesAt t j .here) (levels - 1)) ∙ permissions-end .good)
-              ∙ rows.trim-closed (framesAt t o .here) levels
-
-          pub scoped : {z : ℕ} → true ≡ not (isReserved (wordOf k)) → Looked t o (Item.Close z) → Scopes t at table end (Scope.Of number mask z)
-          scoped g l3 = record {
-            form =
-                rows.after-word l (form-is g)
-                (rows.after-part l2 permissions-end refl (rows.give (ap isClosed (l3 .here)) (l3 .end) (l3 .ahead .0) (l3 .ahead .1)));
+          pub scoped : {z : ℕ} → Looked t o (Item.Close z) → Scopes t at table end (Scope.Of number mask z)
+          scoped l3 = record {
+            place = l .end ∙ l2 .end ∙ ap (rowEnd t) (told .place) ∙ l3 .end;
             says = λ ds c ps y h.
                 bound-then (numbersOf ds number ps) (λ ns. some (maskOf ns)) mask (sym (numbers-there told y h)) λ ns a b.
                 record { numbers = ns; class-is = class-is y h; permissions-are = a; mask-is = sym (Option·some-injective (maskOf ns) mask b) };

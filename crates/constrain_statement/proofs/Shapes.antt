@@ -1,20 +1,15 @@
--- What a constrain of good form consists of, and that its form is good where its parts are. Assumes nothing.
+-- What a constrain of good form consists of. Assumes nothing.
 use mathlib.Core.Path.{_≡_, refl, sym, ap, _∙_}
-use mathlib.Core.Bool.{true, not}
+use mathlib.Core.Bool.{not}
 use mathlib.Core.List.{List, [], _∷_}
 use mathlib.Core.Option.{Option, none, some, Option·some-injective}
-use Prim.Native.Nat.{ℕ, _<_}
-use native.Mathlib.Omega.{arith}
-use lib.ListN.{length}
+use Prim.Native.Nat.{ℕ}
 use Rattle.lexer.specs.Forms.{Forms, closed, ended, word, part}
 use Rattle.policy.specs.Basics.{Name, _>>=_}
-use Rattle.policy.specs.Words.{isReserved, asName, classK, constrainK}
+use Rattle.policy.specs.Words.{isReserved, asName, constrainK}
 use Rattle.policy.specs.Statements.{Constraint, Written, constrain}
 use Rattle.policy.specs.Grammar.{namesIn, oneOrMore, classIn, expressionIn, formed}
 use Rattle.table_laws.proofs.ListLaws.{bound-then, given-some}
-use Rattle.items.specs.Reads.{isSome, isClosed, counted}
-use Rattle.items.specs.declared.Wanted.{Wanted}
-use Rattle.grammar.proofs.Statements.{formed-is}
 use Rattle.constraint_writer.proofs.Resolving.{never}
 use Rattle.constrain_statement.specs.Scopes.{ScopeForm}
 
@@ -26,9 +21,9 @@ record Classed {A : Type 0} (f : Forms) (g : Name → List Name → Option A) (a
   pub form : ScopeForm f class permissions
   pub then : g class permissions ≡ some a
 
-one-or-more : (ps qs : List Name) → oneOrMore ps ≡ some qs → (ps ≡ qs) × (0 < length qs)
+one-or-more : (ps qs : List Name) → oneOrMore ps ≡ some qs → ps ≡ qs
 one-or-more [] qs h = never h
-one-or-more (p ∷ ps) qs h = let e = Option·some-injective (p ∷ ps) qs h in (e, omega (arith, ap length e))
+one-or-more (p ∷ ps) qs h = Option·some-injective (p ∷ ps) qs h
 
 module _ {A : Type 0} (g : Name → List Name → Option A) (a : A) where
   named : (s r : ℕ) (v : Name) (k : Forms) → (asName v >>= λ c. namesIn k >>= λ ps. oneOrMore ps >>= λ ps. g c ps) ≡ some a → Classed (word s v (part r k closed)) g a
@@ -36,8 +31,6 @@ module _ {A : Type 0} (g : Name → List Name → Option A) (a : A) where
       bound-then (asName v) (λ c. namesIn k >>= λ ps. oneOrMore ps >>= λ ps. g c ps) a e λ c d e.
       bound-then (namesIn k) (λ ps. oneOrMore ps >>= λ ps. g c ps) a e λ ps n e.
       bound-then (oneOrMore ps) (λ ps. g c ps) a e λ qs m e.
-      let v-is = given-some (not (isReserved v)) v c d in
-      let ps-are = one-or-more ps qs m in
       record {
         class = c;
         permissions = qs;
@@ -45,10 +38,8 @@ module _ {A : Type 0} (g : Name → List Name → Option A) (a : A) where
           start = s;
           place = r;
           inner = k;
-          row = ap (λ (w : Name). word s w (part r k closed)) (v-is .1);
-          name = ap (λ (w : Name). not (isReserved w)) (sym (v-is .1)) ∙ v-is .0;
-          names = n ∙ ap some (ps-are .0);
-          some-name = ps-are .1;
+          row = ap (λ (w : Name). word s w (part r k closed)) (given-some (not (isReserved v)) v c d .1);
+          names = n ∙ ap some (one-or-more ps qs m);
         };
         then = e;
       }
@@ -106,13 +97,3 @@ shape (part p i (part q j closed)) w e =
       expressed = d;
       written = sym (Option·some-injective (constrain (c .class) (c .permissions) b) w e);
     }
-
--- ---- where the parts are of their forms, the close decides
-
-pub class-row : (s r : ℕ) (w : Name) (i g : Forms) → not (isReserved w) ≡ true → counted Wanted.OneOrMore 0 (namesIn i) ≡ true
-    → isSome (formed classK (word s w (part r i g))) ≡ isClosed g
-class-row s r w i g a b = formed-is classK (word s w (part r i g)) ∙ rw (a, b)
-
-pub constrain-row : (p q : ℕ) (i j g : Forms) → isSome (formed classK i) ≡ true → isSome (expressionIn j) ≡ true
-    → isSome (formed constrainK (part p i (part q j g))) ≡ isClosed g
-constrain-row p q i j g a b = formed-is constrainK (part p i (part q j g)) ∙ rw (sym (formed-is classK i) ∙ a, b)

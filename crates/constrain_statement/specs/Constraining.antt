@@ -20,9 +20,7 @@ use Rattle.policy.specs.Image.{maskOf}
 use Rattle.policy.specs.Rows.{rowsOf}
 use Rattle.policy.specs.Encode.{ConstraintHead, headBytes, rowBytes}
 use Rattle.symbols.specs.Symbols.{Symbols}
-use Rattle.items.specs.Reads.{StatementTo}
 use Rattle.constrain_statement.specs.declared.Constrained.{Constrained}
-use Rattle.constrain_statement.specs.declared.Admitted.{Admitted}
 
 -- "class 2, permission mask 4, first row 2, row count 2"
 abbrev pub headWith : ℕ → ℕ → ℕ → ℕ → ConstraintHead
@@ -46,11 +44,11 @@ pub record Adds (c : ℕ) (ps : List ℕ) (e : Constraint Reference) (before aft
 
 -- by the statement with its names resolved: 5, then 6, then 7; "each tried for 3, 4, 5, 6, 7"
 abbrev pub Answers : Option Statement → List ℕ → List ℕ → ℕ → List ℕ → List ℕ → ℕ → Constrained → Type 0
-Answers none before after count rowsBefore rowsAfter row (Constrained.Next n q) = ⊥
+Answers none before after count rowsBefore rowsAfter row (Constrained.Next n) = ⊥
 Answers none before after count rowsBefore rowsAfter row Constrained.Undeclared = Unit {0}
 Answers none before after count rowsBefore rowsAfter row Constrained.Full = ⊥
 Answers none before after count rowsBefore rowsAfter row Constrained.Deep = ⊥
-Answers (some (constrain c ps e)) before after count rowsBefore rowsAfter row (Constrained.Next n q) = Adds c ps e before after count rowsBefore rowsAfter row n
+Answers (some (constrain c ps e)) before after count rowsBefore rowsAfter row (Constrained.Next n) = Adds c ps e before after count rowsBefore rowsAfter row n
 Answers (some (constrain c ps e)) before after count rowsBefore rowsAfter row Constrained.Undeclared = ⊥
 Answers (some (constrain c ps e)) before after count rowsBefore rowsAfter row Constrained.Full = fitsBefore count (row + size e) ≡ false
 Answers (some (constrain c ps e)) before after count rowsBefore rowsAfter row Constrained.Deep =
@@ -60,16 +58,8 @@ Answers (some (attributeset f a s)) before after count rowsBefore rowsAfter row 
 Answers (some (gives k x y)) before after count rowsBefore rowsAfter row r = Unit {0}
 Answers (some (roletransition x y c n)) before after count rowsBefore rowsAfter row r = Unit {0}
 
--- where there is a place behind its close, the statement is of the form of a constrain
-abbrev pub FormBy : List ℕ → ℕ → Constrained → Type 0
-FormBy t at (Constrained.Next n q) = StatementTo t at constrainK q
-FormBy t at Constrained.Undeclared = Unit {0}
-FormBy t at Constrained.Full = Unit {0}
-FormBy t at Constrained.Deep = Unit {0}
-
 -- of the statement whose keyword is before the place at, where the symbol table holds the declarations before it
 pub record WritesConstrain (t : List ℕ) (at : ℕ) (table : List ℕ) (end : ℕ) (before after : List ℕ) (count : ℕ) (rowsBefore rowsAfter : List ℕ) (row : ℕ) (r : Constrained) : Type 0 where
-  pub form : FormBy t at r
   pub says : (ds : List Declaration) (w : Written) → Symbols table end ds → row ≤ maxRows
       → formed constrainK (trim (framesAt t at .here) (maxLevel - 1)) ≡ some w
       → Answers (resolved ds w) before after count rowsBefore rowsAfter row r
@@ -83,12 +73,13 @@ pub record Deepens (t : List ℕ) (at rows : ℕ) (r : Bool) : Type 0 where
   pub says : (e : Constraint Name) → expressionIn (trim (framesAt t at .here) (maxLevel - 2)) ≡ some e → 2 * need e ≤ rows + 1 → leb (need e) maxStack ≡ not r
 
 -- the maxima and the stack need allow it, and its record is written; or the first of 6 and 7
-abbrev pub AdmitsBy : ℕ → List ℕ → List ℕ → ℕ → ℕ → ℕ → ℕ → ℕ → Admitted → Type 0
-AdmitsBy deep before after count class mask row next Admitted.Written =
-    (fitsBefore count next ≡ true) × (leb deep maxStack ≡ true) × (after ≡ put before (10 * count) (headBytes (headWith class mask row (next - row))))
-AdmitsBy deep before after count class mask row next Admitted.Full = fitsBefore count next ≡ false
-AdmitsBy deep before after count class mask row next Admitted.Deep = (fitsBefore count next ≡ true) × (leb deep maxStack ≡ false)
+abbrev pub AdmitsBy : ℕ → List ℕ → List ℕ → ℕ → ℕ → ℕ → ℕ → ℕ → Constrained → Type 0
+AdmitsBy deep before after count class mask row next (Constrained.Next n) =
+    (fitsBefore count next ≡ true) × (leb deep maxStack ≡ true) × (after ≡ put before (10 * count) (headBytes (headWith class mask row (next - row)))) × (n ≡ next)
+AdmitsBy deep before after count class mask row next Constrained.Undeclared = ⊥
+AdmitsBy deep before after count class mask row next Constrained.Full = fitsBefore count next ≡ false
+AdmitsBy deep before after count class mask row next Constrained.Deep = (fitsBefore count next ≡ true) × (leb deep maxStack ≡ false)
 
-pub record Admits (t : List ℕ) (at : ℕ) (before after : List ℕ) (count class mask row next : ℕ) (r : Admitted) : Type 0 where
+pub record Admits (t : List ℕ) (at : ℕ) (before after : List ℕ) (count class mask row next : ℕ) (r : Constrained) : Type 0 where
   pub says : (e : Constraint Name) → expressionIn (trim (framesAt t at .here) (maxLevel - 2)) ≡ some e → 2 * need e ≤ next - row + 1
       → AdmitsBy (need e) before after count class mask row next r

@@ -1,21 +1,16 @@
 -- The class and the permissions of a constrain, "`(constrain (C (P ...)) E)`", with their names resolved. Assumes nothing.
-use Prim.Native.Nat.{ℕ, _+_, _-_, _<_}
+use Prim.Native.Nat.{ℕ, _+_, _-_}
 use mathlib.Core.Path.{_≡_}
-use mathlib.Core.Bool.{true, not}
 use mathlib.Core.List.{List}
 use mathlib.Core.Option.{Option, none, some}
-use lib.ListN.{length}
 use Rattle.lexer.specs.Scan.{maxLevel}
 use Rattle.lexer.specs.Forms.{Forms, closed, word, part, framesAt, trim}
 use Rattle.policy.specs.Basics.{Name, _>>=_, eachOf, indexOf}
-use Rattle.policy.specs.Words.{isReserved, classK}
 use Rattle.policy.specs.Statements.{Declaration, classNames, permissions}
-use Rattle.policy.specs.Grammar.{namesIn, formed}
+use Rattle.policy.specs.Grammar.{namesIn}
 use Rattle.policy.specs.Image.{maskOf}
 use Rattle.symbols.specs.Symbols.{Symbols}
-use Rattle.items.specs.Reads.{isSome, Reads, counted}
-use Rattle.items.specs.declared.Parsed.{Parsed}
-use Rattle.items.specs.declared.Wanted.{Wanted}
+use Rattle.items.specs.Looks.{rowEnd}
 use Rattle.constrain_statement.specs.declared.Masked.{Masked}
 use Rattle.constrain_statement.specs.declared.Scope.{Scope}
 
@@ -28,26 +23,24 @@ abbrev pub maskIn : Masked → Option ℕ
 maskIn (Masked.Mask m q) = some m
 maskIn Masked.Undeclared = none
 
--- the row at the place at is one or more names, and the place that is answered is behind its close
-abbrev pub MaskForm : List ℕ → ℕ → Masked → Type 0
-MaskForm t at (Masked.Mask m q) = Reads t at (counted Wanted.OneOrMore 0 (namesIn (framesAt t at .here))) (Parsed.Next q)
-MaskForm t at Masked.Undeclared = Unit {0}
+-- the place that is answered is behind the close of the row at the place at
+abbrev pub MaskPlace : List ℕ → ℕ → Masked → Type 0
+MaskPlace t at (Masked.Mask m q) = rowEnd t at ≡ q
+MaskPlace t at Masked.Undeclared = Unit {0}
 
 -- "repeats of P are harmless": the mask of a row of permissions of class c, whose names are the family 4 + c
 pub record Masks (t : List ℕ) (at : ℕ) (table : List ℕ) (end family : ℕ) (r : Masked) : Type 0 where
-  pub form : MaskForm t at r
+  pub place : MaskPlace t at r
   pub says : (ds : List Declaration) (c : ℕ) (ps : List Name) → Symbols table end ds → family ≡ 4 + c → namesIn (framesAt t at .here) ≡ some ps
-      → 0 < length ps → maskIn r ≡ (numbersOf ds c ps >>= λ ns. some (maskOf ns))
+      → maskIn r ≡ (numbersOf ds c ps >>= λ ns. some (maskOf ns))
 
--- "C (P ...)", "at least one permission", and the close
+-- "C (P ...)", and the close
 pub record ScopeForm (f : Forms) (c : Name) (ps : List Name) : Type 0 where
   pub start : ℕ
   pub place : ℕ
   pub inner : Forms
   pub row : f ≡ word start c (part place inner closed)
-  pub name : not (isReserved c) ≡ true
   pub names : namesIn inner ≡ some ps
-  pub some-name : 0 < length ps
 
 -- the names are declared: the class is of this number, and the mask has a bit for each of the permissions and no other
 pub record Scoped (ds : List Declaration) (c : Name) (ps : List Name) (class mask : ℕ) : Type 0 where
@@ -61,13 +54,12 @@ abbrev pub ScopeAnswers : List Declaration → Name → List Name → Scope → 
 ScopeAnswers ds c ps (Scope.Of class mask q) = Scoped ds c ps class mask
 ScopeAnswers ds c ps Scope.Undeclared = (indexOf c (classNames ds) >>= λ n. numbersOf ds n ps) ≡ none
 
--- the row at the place at is of that form, which is that of a class behind its keyword, and the place that is answered is behind its close
-abbrev pub ScopeReads : List ℕ → ℕ → Scope → Type 0
-ScopeReads t at (Scope.Of class mask q) = Reads t at (isSome (formed classK (trim (framesAt t at .here) (maxLevel - 2)))) (Parsed.Next q)
-ScopeReads t at Scope.Undeclared = Unit {0}
+abbrev pub ScopePlace : List ℕ → ℕ → Scope → Type 0
+ScopePlace t at (Scope.Of class mask q) = rowEnd t at ≡ q
+ScopePlace t at Scope.Undeclared = Unit {0}
 
 -- of the row at the place at, where the symbol table holds the declarations before it
 pub record Scopes (t : List ℕ) (at : ℕ) (table : List ℕ) (end : ℕ) (r : Scope) : Type 0 where
-  pub form : ScopeReads t at r
+  pub place : ScopePlace t at r
   pub says : (ds : List Declaration) (c : Name) (ps : List Name) → Symbols table end ds → ScopeForm (trim (framesAt t at .here) (maxLevel - 2)) c ps
       → ScopeAnswers ds c ps r

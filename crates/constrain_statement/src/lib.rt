@@ -1,5 +1,5 @@
 // `(constrain (C (P ...)) E)` with its names resolved: the record of body 6 and the rows of body 7 as they will stand in the table; faults 5, 6
-// and 7. Its form is tested on the way: where that is wrong, there is a refusal, and which one says nothing.
+// and 7. Its form is known to be good where this is called.
 ghost use mathlib.Core.Path.{_≡_};
 ghost use mathlib.Core.Bool.{_||_};
 ghost use Prim.Native.Nat.{_+_, _*_, _%_, _≤_};
@@ -13,7 +13,6 @@ ghost use Rattle.constrain_statement.specs.Constraining.{headWith, Needs
 use constraint_grammar::Measured;
 use constraint_writer::RowsWritten;
 use items::Item;
-use items::Parsed;
 use lexer::Level;
 use policy::Class;
 use policy::Constraint;
@@ -26,24 +25,15 @@ pub const CONSTRAINT_BYTES: usize = Constraint::MAX * 10;
 
 pub const ROW_BYTES: usize = Row::MAX * 6;
 
-// The number of the row behind the statement's rows and the place behind its close; or the fault: a name is not declared, 5; a maximum is passed,
-// 6; the stack need is, 7.
+// The number of the row behind the statement's rows; or the fault: a name is not declared, 5; a maximum is passed, 6; the stack need is, 7.
 pub enum Constrained {
-    Next { row: usize, past: usize },
+    Next(usize),
     Undeclared,
     Full,
     Deep,
 }
 
-// The record of a constraint is written; or the fault: a maximum is passed, 6; the stack need is, 7.
-enum Admitted {
-    Written,
-    Full,
-    Deep,
-}
-
-// A bit for each permission of a row of them, and the place behind the row's close; or one of them is not a permission of the class, or there is
-// none.
+// A bit for each permission of a row of them, and the place behind the row's close; or one of them is not a permission of the class.
 enum Masked {
     Mask { mask: u32, next: usize },
     Undeclared,
@@ -74,7 +64,7 @@ fn with_permission(mask: u32, number: usize) -> u32
     mask | (1u32 << (number % Permission::MAX))
 }
 
-// The permissions of a row of names, one or more of one family, as a mask. A name that stands there again changes nothing.
+// The permissions of a row of names, of one family, as a mask. A name that stands there again changes nothing.
 fn permission_mask(text: &[u8], at: usize, symbols: &[u8], end: usize, family: usize) -> Masked
     ensures { λ r. ⌜ Masks (now (text .entry)) at (now (symbols .entry)) end family r ⌝ }
 {
@@ -86,12 +76,9 @@ fn permission_mask(text: &[u8], at: usize, symbols: &[u8], end: usize, family: u
             Item::Word {
                 start,
                 len,
-                number: word,
                 next,
+                ..
             } => {
-                if !words::is_name(word) {
-                    return Masked::Undeclared;
-                }
                 let found = symbols::lookup(symbols, end, family, text, start, len);
                 let Found::At { number, .. } = found else {
                     return Masked::Undeclared;
@@ -99,13 +86,7 @@ fn permission_mask(text: &[u8], at: usize, symbols: &[u8], end: usize, family: u
                 mask = with_permission(mask, number);
                 i = next;
             }
-            Item::Close { next } => {
-                // No name was read.
-                if i == at {
-                    return Masked::Undeclared;
-                }
-                return Masked::Mask { mask, next };
-            }
+            Item::Close { next } => return Masked::Mask { mask, next },
             Item::Open { .. } | Item::End => return Masked::Undeclared,
         }
     }
@@ -119,15 +100,12 @@ fn scope_of(text: &[u8], at: usize, symbols: &[u8], end: usize) -> Scope
     let Item::Word {
         start,
         len,
-        number: word,
         next,
+        ..
     } = first
     else {
         return Scope::Undeclared;
     };
-    if !words::is_name(word) {
-        return Scope::Undeclared;
-    }
     let found = symbols::lookup(symbols, end, CLASSES, text, start, len);
     let Found::At { number, .. } = found else {
         return Scope::Undeclared;
@@ -214,21 +192,21 @@ fn admit(
     mask: u32,
     row: usize,
     next: usize,
-) -> Admitted
+) -> Constrained
     requires { ⌜ row ≤ next ⌝ }
     ensures { λ r. ⌜ Admits (now (text .entry)) at (now (constraints .entry)) (now (constraints .exit)) count class mask row next r ⌝ }
 {
     if Constraint::MAX <= count {
-        return Admitted::Full;
+        return Constrained::Full;
     }
     if Row::MAX < next {
-        return Admitted::Full;
+        return Constrained::Full;
     }
     if is_deep(text, at, next - row) {
-        return Admitted::Deep;
+        return Constrained::Deep;
     }
     put_head(constraints, count, class, mask, row, next - row);
-    Admitted::Written
+    Constrained::Next(next)
 }
 
 // Resolves what follows the keyword, writes the rows of the expression from a row on, and the record of that number.
@@ -260,21 +238,8 @@ pub fn write_constrain(
         return Constrained::Undeclared;
     };
     let written = constraint_writer::write_constraint(text, next, LEVELS, symbols, end, rows, row);
-    let RowsWritten::Next {
-        at: behind,
-        row: after,
-    } = written
-    else {
+    let RowsWritten::Next { row: past, .. } = written else {
         return Constrained::Undeclared;
     };
-    let closed = items::close_form(text, behind);
-    let Parsed::Next(past) = closed else {
-        return Constrained::Undeclared;
-    };
-    let admitted = admit(text, next, constraints, count, class, mask, row, after);
-    match admitted {
-        Admitted::Written => Constrained::Next { row: after, past },
-        Admitted::Full => Constrained::Full,
-        Admitted::Deep => Constrained::Deep,
-    }
+    admit(text, next, constraints, count, class, mask, row, past)
 }

@@ -219,15 +219,12 @@ by-last o v w = go (isReserved w) refl
         let n = named (numberOf w) (sym (reserved-number w) ∙ e) in
         by-name o v w e (component-number w ∙ n) ∙ sym (by-name o v (wordOf (numberOf w)) (sym (reserved-number w) ∙ e) n)
 
--- both words behind an operator's number
-pub by-sides-numbers : (op : ℕ) (v w : Name) → isSome (comparisonOf (opOf (wordOf op)) (componentOf v) w) ≡ comparing op (numberOf v) (numberOf w)
-unfolding comparing
-by-sides-numbers op v w =
-    by-last (opOf (wordOf op)) (componentOf v) w
-    ∙ ap (λ (x : Option Component). isSome (comparisonOf (opOf (wordOf op)) x (wordOf (numberOf w)))) (component-number v)
-
 by-numbers : (o v w : Name) → isSome (comparisonOf (opOf o) (componentOf v) w) ≡ comparing (numberOf o) (numberOf v) (numberOf w)
-by-numbers o v w = ap (λ (x : Option Op). isSome (comparisonOf x (componentOf v) w)) (op-number o) ∙ by-sides-numbers (numberOf o) v w
+unfolding comparing
+by-numbers o v w =
+    by-last (opOf o) (componentOf v) w
+    ∙ ap (λ (x : Option Op). isSome (comparisonOf x (componentOf v) (wordOf (numberOf w)))) (op-number o)
+    ∙ ap (λ (x : Option Component). isSome (comparisonOf (opOf (wordOf (numberOf o))) x (wordOf (numberOf w)))) (component-number v)
 
 -- ---- "a comparison 1"; "one per operator and comparison"
 

@@ -161,7 +161,7 @@ two-measure join h (some (a ∷ b ∷ [])) =
 two-measure join h (some (a ∷ b ∷ c ∷ es)) = too-many es 2 3 _ _ (omega arith)
 
 -- with a comparison's word, or with an operator
-pub joins-by : (w : Name) (f : Forms) → joinsOf (expressionWord w) ≡ 0 → connected w f (expressionWord w) (expressions f) ≡ comparison w f
+joins-by : (w : Name) (f : Forms) → joinsOf (expressionWord w) ≡ 0 → connected w f (expressionWord w) (expressions f) ≡ comparison w f
 joins-by w f =
     by-operator (λ o. joinsOf o ≡ 0 → connected w f o (expressions f) ≡ comparison w f) (λ e. refl) (λ e. absurd (omega arith)) (λ e. absurd (omega arith))
     (λ e. absurd (omega arith)) w

@@ -34,7 +34,7 @@ struct Head {
 }
 
 // How many constraint expressions an operator joins, 0 for no operator.
-pub fn joins(number: usize) -> usize
+fn joins(number: usize) -> usize
     ensures { λ r. ⌜ r ≡ joinsOf (expressionWord (wordOf number)) ⌝ }
 {
     if number == Word::NOT {
@@ -102,7 +102,7 @@ fn are_sides(x: usize, y: usize) -> bool
 }
 
 // Whether a comparison may have these three words: (op x name), (op u1 u2), (op t1 t2), (rop r1 r2).
-pub fn compares(op: usize, x: usize, y: usize) -> bool
+fn compares(op: usize, x: usize, y: usize) -> bool
     ensures { λ r. ⌜ r ≡ comparing op x y ⌝ }
 {
     if words::is_name(y) {

@@ -1,5 +1,5 @@
 -- The row of a comparison, by its three words. Assumes nothing.
-use mathlib.Core.Path.{_≡_, refl, sym, ap, ap₂, _∙_}
+use mathlib.Core.Path.{_≡_, refl, sym, ap, _∙_}
 use mathlib.Core.Bool.{Bool, true, false, not, _&&_, _||_}
 use mathlib.Core.List.{List, [], _∷_}
 use mathlib.Core.Option.{Option, none, some, Option·some-injective}
@@ -18,14 +18,13 @@ use Rattle.policy.specs.Reading.{refer, referE}
 use Rattle.policy.specs.Rows.{Row, row, compCode, opCode, rowsOf}
 use Rattle.words.specs.Numbers.{wordOf}
 use Rattle.words.proofs.Meaning.{component-number}
+use Rattle.items.proofs.Frames.{Looked}
 use Rattle.items.specs.Looks.{itemAt}
-use Rattle.items.specs.Reads.{isSome}
 use Rattle.items.specs.declared.Item.{Item}
-use Rattle.items.proofs.Items.{Looked, Alike, alike-here}
+use Rattle.items.proofs.Frames.{here-of, around-of, closes}
+use Rattle.items.proofs.Items.{Alike, alike-here}
 use Rattle.items.proofs.Item.{the-type}
 use Rattle.symbols.specs.Symbols.{Symbols}
-use Rattle.constraint_grammar.specs.Comparisons.{comparing}
-use Rattle.constraint_grammar.proofs.Comparing.{none-of, by-sides-numbers}
 use Rattle.constraint_writer.specs.Writing.{Wrote, Writes}
 use Rattle.constraint_writer.specs.Comparing.{codeOf, operatorOf, operandOf, Compares}
 use Rattle.constraint_writer.specs.declared.Operand.{Operand}
@@ -119,13 +118,13 @@ module _ {t : List ℕ} {at : ℕ} (w : Name) where
     pub second-missing : {i : Item} → i ≡ itemAt t p → OneOf (1 ∷ 2 ∷ 3 ∷ []) (tag i) → comparison w (framesAt t at .here) ≡ none
     second-missing {i} d h =
         let v = take n (drop s t) in
-        ap (comparison w) (l .here) ∙ alike-here (λ f. comparison w (word s v f)) (λ f. none) t p i (1 ∷ 2 ∷ 3 ∷ []) (no-second w s v) d h
+        ap (comparison w) (here-of l) ∙ alike-here (λ f. comparison w (word s v f)) (λ f. none) t p i (1 ∷ 2 ∷ 3 ∷ []) (no-second w s v) d h
 
     pub close-missing : {r k y q : ℕ} → Looked t p (Item.Word r k y q) → {i : Item} → i ≡ itemAt t q → OneOf (0 ∷ 1 ∷ 3 ∷ []) (tag i) → comparison w (framesAt t at .here) ≡ none
     close-missing {r} {k} {y} {q} l2 {i} d h =
         let v = take n (drop s t) in
         let u = take k (drop r t) in
-        ap (comparison w) (l .here ∙ ap (word s v) (l2 .here))
+        ap (comparison w) (here-of l ∙ ap (word s v) (here-of l2))
         ∙ alike-here (λ f. comparison w (word s v (word r u f))) (λ f. none) t q i (0 ∷ 1 ∷ 3 ∷ []) (no-close w s v r u) d h
 
 -- ---- a cut changes nothing in a comparison
@@ -154,19 +153,9 @@ cut-comparison w (word s v (word r u (part x f g))) n =
 
 -- ---- two words and a close
 
-module _ {t : List ℕ} {at s n x p r k y q j : ℕ} (l : Looked t at (Item.Word s n x p)) (l2 : Looked t p (Item.Word r k y q)) (l3 : Looked t q (Item.Close j)) (op : ℕ) where
-  abbrev w : Name
-  w = wordOf op
-
+module _ {t : List ℕ} {at s n x p r k y q j : ℕ} (l : Looked t at (Item.Word s n x p)) (l2 : Looked t p (Item.Word r k y q)) (l3 : Looked t q (Item.Close j)) (w : Name) where
   in-words : comparison w (framesAt t at .here) ≡ byWords (opOf w) (componentOf (take n (drop s t))) (take k (drop r t)) (componentOf (take k (drop r t)))
-  in-words = ap (comparison w) (l .here ∙ ap (word s (take n (drop s t))) (l2 .here ∙ ap (word r (take k (drop r t))) (l3 .here)))
-
-  -- by the numbers of the words
-  form-is : isSome (comparison w (framesAt t at .here)) ≡ comparing op x y
-  form-is = ap isSome in-words ∙ by-sides-numbers op (take n (drop s t)) (take k (drop r t)) ∙ ap₂ (λ (i j : ℕ). comparing op i j) (l .ahead .2) (l2 .ahead .2)
-
-  pub not-compared : comparing op x y ≡ false → comparison w (framesAt t at .here) ≡ none
-  not-compared h = none-of (comparison w (framesAt t at .here)) (form-is ∙ h)
+  in-words = ap (comparison w) (here-of l ∙ ap (word s (take n (drop s t))) (here-of l2 ∙ ap (word r (take k (drop r t))) (here-of l3)))
 
   component-is : componentOf (take n (drop s t)) ≡ componentOf (wordOf x)
   component-is = component-number (take n (drop s t)) ∙ ap (λ (i : ℕ). componentOf (wordOf i)) (l .ahead .2)
@@ -190,14 +179,13 @@ module _ {t : List ℕ} {at s n x p r k y q j : ℕ} (l : Looked t at (Item.Word
       rows = λ ds e h g. unsettled ds e before before first (one-row c ds e h g);
     }
 
-    pub compared-row : {before after : List ℕ} {first kind number operator : ℕ} → Compares t r k y side symbols end (Operand.Is kind number) → comparing op x y ≡ true
-        → operator ≡ operatorOf (opOf w) → Wrote before after first (row kind side operator number ∷ [])
+    pub compared-row : {before after : List ℕ} {first kind number operator : ℕ} → Compares t r k y side symbols end (Operand.Is kind number) → operator ≡ operatorOf (opOf w)
+        → Wrote before after first (row kind side operator number ∷ [])
         → Writes t at (comparison w (framesAt t at .here)) symbols end before after first (RowsWritten.Next j (first + 1))
-    compared-row {before} {after} {first} {kind} {number} {operator} c d b u = record {
+    compared-row {before} {after} {first} {kind} {number} {operator} c b u = record {
       kept = u .kept;
       reads = record {
-        good = form-is ∙ d;
-        end = l .end ∙ l2 .end ∙ l3 .end;
+        rest = sym (closes at l3 (sym (around-of l ∙ around-of l2)));
         less = omega (arith, l .ahead .0, l2 .ahead .0, l3 .ahead .0);
         fits = l3 .ahead .1;
         some-row = omega arith;

@@ -1,15 +1,12 @@
 -- The rows of an operator's expression, operand by operand: those of the operands so far are written, those of the operands left follow, and then
--- the operator's own row. Their number and the form of those left say whether the form is good. Assumes nothing.
+-- the operator's own row. Assumes nothing.
 use mathlib.Core.Path.{_≡_, refl, sym, ap, subst, _∙_}
-use mathlib.Core.Bool.{Bool, true}
 use mathlib.Core.List.{List, [], _∷_, _++_, append-assoc}
 use mathlib.Core.Option.{Option, none, some, Option·some-injective}
 use Prim.Native.Nat.{ℕ, _+_, _-_, _<_, _≤_}
 use native.Mathlib.Omega.{arith}
-use borrow.Author.Tests.{eq-eqb, ne-eqb}
-use lib.Dec.{eqb}
 use lib.ListN.{length, take, drop, length-append}
-use Rattle.lexer.specs.Forms.{Forms, closed, ended, word, part, framesAt, trim}
+use Rattle.lexer.specs.Forms.{Forms, Frames, closed, ended, word, part, framesAt, trim}
 use Rattle.policy.specs.Basics.{Name, _>>=_, more}
 use Rattle.policy.specs.Words.{Connective, allC, notC, andC, orC, xorC, expressionWord, opOf}
 use Rattle.policy.specs.Statements.{Declaration, Reference, Constraint, notE, andE, orE}
@@ -18,22 +15,16 @@ use Rattle.policy.specs.Reading.{referE}
 use Rattle.policy.specs.Rows.{Row, row, rowsOf}
 use Rattle.words.specs.Numbers.{wordOf}
 use Rattle.words.proofs.Meaning.{expression-number, op-number}
-use Rattle.items.specs.Looks.{rowEnd}
-use Rattle.items.specs.Reads.{isSome, counted}
+use Rattle.items.proofs.Frames.{Looked}
 use Rattle.items.specs.declared.Item.{Item}
-use Rattle.items.specs.declared.Wanted.{Wanted}
-use Rattle.items.proofs.Items.{Looked, Alike, by-word, by-part, by-close}
-use Rattle.items.proofs.Rows.{beyond}
-use Rattle.items.proofs.Counts as counts
-use Rattle.constraint_grammar.specs.Measures.{joinsOf}
-use Rattle.constraint_grammar.proofs.Comparing.{none-of}
-use Rattle.constraint_grammar.proofs.Measuring.{joins-by}
+use Rattle.items.proofs.Frames.{around-of, closes, by-word, by-part, by-close}
+use Rattle.items.proofs.Items.{Alike}
 use Rattle.symbols.specs.Symbols.{Symbols}
 use Rattle.constraint_writer.specs.Writing.{Kept, Wrote, Writes}
 use Rattle.constraint_writer.specs.Comparing.{kindOf}
 use Rattle.constraint_writer.specs.declared.RowsWritten.{RowsWritten}
 use Rattle.constraint_writer.proofs.Putting.{all-kept, kept-on, none-wrote, wrote-on}
-use Rattle.constraint_writer.proofs.Resolving.{rowsNamed, never, settled, unsettled, Settled, settles, unsettles, no-form}
+use Rattle.constraint_writer.proofs.Resolving.{rowsNamed, never, settled, unsettled, Settled, settles, unsettles}
 use Rattle.constraint_writer.proofs.Comparisons.{cut-comparison}
 
 -- ---- the rows left
@@ -88,38 +79,6 @@ module _ (ds : List Declaration) where
       ap (rowsNamed ds) (sym (Option·some-injective (orE a b) e h)) ∙ two-operands orE (row 2 0 0 0) (λ x y. refl) (referE ds a) (referE ds b)
   by-form orC (a ∷ b ∷ c ∷ es) e h = never h
 
--- ---- the form
-
--- the row f is of expressions, and with so many before it they are as many as the operator joins
-abbrev pub joined : Option Connective → ℕ → Forms → Bool
-joined c count f = counted (Wanted.Exactly (joinsOf c)) count (expressions f)
-
--- with an operator the number of operands decides the form; without one none are joined
-joins-all : (w : Name) (f : Forms) (c : Option Connective) (es : Option (List (Constraint Name))) → (kindOf c ≡ 3 → ⊥) → counted (Wanted.Exactly (joinsOf c)) 0 es ≡ isSome (connected w f c es)
-joins-all w f none es h = absurd (h refl)
-joins-all w f (some allC) es h = absurd (h refl)
-joins-all w f (some notC) es h = counts.of-one notE es
-joins-all w f (some andC) es h = counts.of-two andE es
-joins-all w f (some orC) es h = counts.of-two orE es
-joins-all w f (some xorC) es h = absurd (h refl)
-
-joins-none : (c : Option Connective) → kindOf c ≡ 3 → joinsOf c ≡ 0
-joins-none none e = refl
-joins-none (some allC) e = refl
-joins-none (some notC) e = absurd (omega arith)
-joins-none (some andC) e = absurd (omega arith)
-joins-none (some orC) e = absurd (omega arith)
-joins-none (some xorC) e = refl
-
-module _ (c : Option Connective) (count : ℕ) where
-  part-joined : (p : ℕ) (f g : Forms) → isSome (expressionIn f) ≡ true → joined c count (part p f g) ≡ joined c (count + 1) g
-  unfolding expressions
-  part-joined p f g e = counts.one-more (Wanted.Exactly (joinsOf c)) count (expressionIn f) (expressions g) e
-
-  close-joined : joined c count closed ≡ eqb count (joinsOf c)
-  unfolding expressions
-  close-joined = counts.no-more (Constraint Name) (Wanted.Exactly (joinsOf c)) count
-
 -- ---- so far
 
 -- the operands before the row f are written as the rows done, and those of f are left
@@ -132,12 +91,11 @@ pub record SoFar (ds : List Declaration) (e : Constraint Name) (f : Forms) (kind
   pub wrote : Wrote before now first done
 
 -- what holds before each operand and before the close
-pub record Loop (t : List ℕ) (at levels : ℕ) (symbols : List ℕ) (end number kind first : ℕ) (before : List ℕ) (i n count : ℕ) (now : List ℕ) : Type 0 where
-  pub ahead : at + count < i
+pub record Loop (t : List ℕ) (at levels : ℕ) (symbols : List ℕ) (end kind first : ℕ) (before : List ℕ) (i n : ℕ) (now : List ℕ) : Type 0 where
+  pub ahead : at < i
   pub rises : first ≤ n
   pub few : at + n ≤ i + first
-  pub same-row : rowEnd t i ≡ rowEnd t at
-  pub form : joined (expressionWord (wordOf number)) count (trim (framesAt t i .here) levels) ≡ isSome (expressionIn (trim (framesAt t at .here) levels))
+  pub around : framesAt t i .around ≡ framesAt t at .around
   pub kept : Kept before now first
   pub so-far : (ds : List Declaration) (e : Constraint Name) → Symbols symbols end ds → expressionIn (trim (framesAt t at .here) levels) ≡ some e
       → SoFar ds e (trim (framesAt t i .here) levels) kind first n before now
@@ -171,18 +129,13 @@ module _ {t : List ℕ} {at s k number q : ℕ} (l : Looked t at (Item.Word s k 
         unprefixed none = refl
         unprefixed (some rs) = refl
 
-    pub begun : (kind ≡ 3 → ⊥) → {symbols before : List ℕ} {end first : ℕ} → Loop t at levels symbols end number kind first before q first 0 before
+    pub begun : (kind ≡ 3 → ⊥) → {symbols before : List ℕ} {end first : ℕ} → Loop t at levels symbols end kind first before q first before
     unfolding expressionIn
     begun h {symbols} {before} {end} {first} = record {
-      ahead = omega (arith, l .ahead .0);
+      ahead = l .ahead .0;
       rises = omega arith;
       few = omega (arith, l .ahead .0);
-      same-row = sym (l .end);
-      form =
-          ap (λ (c : Option Connective). joined c 0 (trim (framesAt t q .here) levels)) (sym number-is)
-          ∙ joins-all (take k (drop s t)) (trim (framesAt t q .here) levels) (expressionWord (take k (drop s t))) (expressions (trim (framesAt t q .here) levels))
-          (λ z. h (is ∙ ap kindOf (sym number-is) ∙ z))
-          ∙ sym (by-word (λ f. isSome (expressionIn f)) levels l);
+      around = sym (around-of l);
       kept = all-kept before first;
       so-far = λ ds e y g.
           let kind-is : kind ≡ kindOf (expressionWord (take k (drop s t))) = is ∙ ap kindOf (sym number-is) in
@@ -192,15 +145,23 @@ module _ {t : List ℕ} {at s k number q : ℕ} (l : Looked t at (Item.Word s k 
     }
 
     -- with a comparison's word
-    pub compares : kind ≡ 3 → expressionIn (trim (framesAt t at .here) levels) ≡ comparison (wordOf number) (framesAt t q .here)
+    by-comparison : (w : Name) (f : Forms) (c : Option Connective) (es : Option (List (Constraint Name))) (e : Constraint Name) → kindOf c ≡ 3 → connected w f c es ≡ some e → comparison w f ≡ some e
+    by-comparison w f none es e h g = g
+    by-comparison w f (some c) none e h g = never g
+    by-comparison w f (some allC) (some xs) e h g = never g
+    by-comparison w f (some xorC) (some xs) e h g = never g
+    by-comparison w f (some notC) (some xs) e h g = absurd (omega arith)
+    by-comparison w f (some andC) (some xs) e h g = absurd (omega arith)
+    by-comparison w f (some orC) (some xs) e h g = absurd (omega arith)
+
+    pub compares : kind ≡ 3 → (e : Constraint Name) → expressionIn (trim (framesAt t at .here) levels) ≡ some e → comparison (wordOf number) (framesAt t q .here) ≡ some e
     unfolding expressionIn
-    compares h =
+    compares h e g =
         let w = take k (drop s t) in
         let f = framesAt t q .here in
         let op-is : opOf (wordOf number) ≡ opOf w = sym (op-number w ∙ ap (λ (n : ℕ). opOf (wordOf n)) (l .ahead .2)) in
-        rw op-is (by-word expressionIn levels l
-        ∙ joins-by w (trim f levels) (joins-none (expressionWord w) (ap kindOf number-is ∙ sym is ∙ h))
-        ∙ cut-comparison w f levels)
+        rw op-is (sym (cut-comparison w f levels)
+        ∙ by-comparison w (trim f levels) (expressionWord w) (expressions (trim f levels)) e (ap kindOf number-is ∙ sym is ∙ h) (sym (by-word expressionIn levels l) ∙ g))
 
 -- ---- an operand, and the close
 
@@ -271,7 +232,7 @@ module _ {ds : List Declaration} {e : Constraint Name} {f : Forms} {kind first n
 
 -- ---- the turns of the loop
 
-module _ {t symbols before now : List ℕ} {at levels end number kind first i n count : ℕ} (g : Loop t at levels symbols end number kind first before i n count now) where
+module _ {t symbols before now : List ℕ} {at levels end kind first i n : ℕ} (g : Loop t at levels symbols end kind first before i n now) where
   -- what stands at the place is no operand
   pub no-operand : expressions (trim (framesAt t i .here) levels) ≡ none
       → Writes t at (expressionIn (trim (framesAt t at .here) levels)) symbols end before now first RowsWritten.Undeclared
@@ -279,20 +240,16 @@ module _ {t symbols before now : List ℕ} {at levels end number kind first i n 
 
   module _ {p q : ℕ} {new : List ℕ} (l : Looked t i (Item.Open p q)) (deep : levels ≡ 0 → ⊥) where
     pub operand-done : {past m : ℕ} → Writes t q (expressionIn (trim (framesAt t q .here) (levels - 1))) symbols end now new n (RowsWritten.Next past m)
-        → Loop t at levels symbols end number kind first before past m (count + 1) new
+        → Loop t at levels symbols end kind first before past m new
     operand-done {past} {m} w = record {
       ahead = omega (arith, g .ahead, l .ahead .0, w .reads .less);
       rises = omega (arith, g .rises, w .reads .some-row);
       few = omega (arith, g .few, l .ahead .0, w .reads .few-rows);
-      same-row = sym (beyond past l (w .reads .end)) ∙ g .same-row;
-      form =
-          sym
-          (by-part (joined (expressionWord (wordOf number)) count) levels past l (w .reads .end) deep
-          ∙ part-joined (expressionWord (wordOf number)) count p (trim (framesAt t q .here) (levels - 1)) (trim (framesAt t past .here) levels) (w .reads .good))
-          ∙ g .form;
+      around = ap (λ (x : Frames). x .around) (w .reads .rest) ∙ sym (around-of l) ∙ g .around;
       kept = kept-on (g .rises) (g .kept) (w .kept);
       so-far = λ ds e y h.
-          one-more (g .so-far ds e y h) p _ _ (by-part expressions levels past l (w .reads .end) deep) (λ x d. settles ds x now new n (w .rows ds x y d));
+          subst (λ (x : Frames). SoFar ds e (trim (x .here) levels) kind first m before new) (sym (w .reads .rest))
+          (one-more (g .so-far ds e y h) p _ _ (by-part expressions levels l deep) (λ x d. settles ds x now new n (w .rows ds x y d)));
     }
 
     pub operand-undeclared : Writes t q (expressionIn (trim (framesAt t q .here) (levels - 1))) symbols end now new n RowsWritten.Undeclared
@@ -302,28 +259,15 @@ module _ {t symbols before now : List ℕ} {at levels end number kind first i n 
       reads = tt;
       rows = λ ds e y h.
           unsettled ds e before new first
-          (none-more (g .so-far ds e y h) p _ _ (by-part expressions levels _ l refl deep) (λ x d. unsettles ds x now new n (w .rows ds x y d)));
+          (none-more (g .so-far ds e y h) p _ _ (by-part expressions levels l deep) (λ x d. unsettles ds x now new n (w .rows ds x y d)));
     }
 
-  -- at the close as many operands are done as the operator joins, or the form is not good
-  at-close : {j : ℕ} → Looked t i (Item.Close j) → isSome (expressionIn (trim (framesAt t at .here) levels)) ≡ eqb count (joinsOf (expressionWord (wordOf number)))
-  at-close l =
-      sym (g .form)
-      ∙ by-close (joined (expressionWord (wordOf number)) count) levels l
-      ∙ close-joined (expressionWord (wordOf number)) count
-
-  pub other-count : {j wanted : ℕ} → Looked t i (Item.Close j) → wanted ≡ joinsOf (expressionWord (wordOf number)) → (count ≡ wanted → ⊥)
-      → Writes t at (expressionIn (trim (framesAt t at .here) levels)) symbols end before now first RowsWritten.Undeclared
-  other-count l e h = no-form (g .kept) (none-of _ (at-close l ∙ ne-eqb count _ (λ z. h (z ∙ sym e))))
-
-  pub finished : {j wanted : ℕ} {new : List ℕ} → Looked t i (Item.Close j) → wanted ≡ joinsOf (expressionWord (wordOf number)) → count ≡ wanted
-      → Wrote now new n (row kind 0 0 0 ∷ [])
+  pub finished : {j : ℕ} {new : List ℕ} → Looked t i (Item.Close j) → Wrote now new n (row kind 0 0 0 ∷ [])
       → Writes t at (expressionIn (trim (framesAt t at .here) levels)) symbols end before new first (RowsWritten.Next j (n + 1))
-  finished {j} {wanted} {new} l f h w = record {
+  finished {j} {new} l w = record {
     kept = kept-on (g .rises) (g .kept) (w .kept);
     reads = record {
-      good = at-close l ∙ eq-eqb count _ (h ∙ f);
-      end = sym (g .same-row) ∙ l .end;
+      rest = sym (closes at l (g .around));
       less = omega (arith, g .ahead, l .ahead .0);
       fits = l .ahead .1;
       some-row = omega (arith, g .rises);

@@ -5,12 +5,11 @@ use mathlib.Core.Option.{Option, none, some, Option·some-injective}
 use Prim.Native.Nat.{ℕ, _+_, _<_}
 use native.Mathlib.Omega.{arith}
 use lib.ListN.{length, length-append}
+use Rattle.lexer.specs.Forms.{Forms, head, tail, framesAt}
 use Rattle.policy.specs.Basics.{Name, _>>=_}
 use Rattle.policy.specs.Statements.{Declaration, Reference, Constraint, sidesE, nameE, notE, andE, orE, size}
 use Rattle.policy.specs.Reading.{referE}
 use Rattle.policy.specs.Rows.{Row, rowsOf}
-use Rattle.items.specs.Looks.{rowEnd}
-use Rattle.items.specs.Reads.{isSome}
 use Rattle.constraint_writer.specs.Writing.{Kept, Wrote, Resolves, Reads, Writes}
 use Rattle.constraint_writer.specs.declared.RowsWritten.{RowsWritten}
 
@@ -104,16 +103,15 @@ module _ {t symbols before after : List ℕ} {at end first : ℕ} where
   pub no-form : {m : Option (Constraint Name)} → Kept before after first → m ≡ none → Writes t at m symbols end before after first RowsWritten.Undeclared
   no-form k e = record { kept = k; reads = tt; rows = λ ds x y h. never (sym e ∙ h) }
 
-  -- what is said of an expression at a place behind another where the row ends at the same place
-  pub moved : {q : ℕ} {m o : Option (Constraint Name)} {r : RowsWritten} → rowEnd t at ≡ rowEnd t q → at < q → m ≡ o → Writes t q o symbols end before after first r
-      → Writes t at m symbols end before after first r
-  moved {q} {m} {o} {r} a h f w = record { kept = w .kept; reads = go r (w .reads); rows = λ ds e y g. w .rows ds e y (sym f ∙ g) }
+  -- what is said of an expression at a place behind another where the rows around are the same
+  pub moved : {q : ℕ} {m o : Option (Constraint Name)} {r : RowsWritten} → framesAt t q .around ≡ framesAt t at .around → at < q
+      → ((e : Constraint Name) → m ≡ some e → o ≡ some e) → Writes t q o symbols end before after first r → Writes t at m symbols end before after first r
+  moved {q} {m} {o} {r} a h f w = record { kept = w .kept; reads = go r (w .reads); rows = λ ds e y g. w .rows ds e y (f e g) }
     where
-      go : (r : RowsWritten) → Reads t q o first r → Reads t at m first r
+      go : (r : RowsWritten) → Reads t q first r → Reads t at first r
       go RowsWritten.Undeclared g = tt
       go (RowsWritten.Next p n) g = record {
-        good = ap isSome f ∙ g .good;
-        end = a ∙ g .end;
+        rest = g .rest ∙ ap (λ (x : List Forms). record { here = head x; around = tail x }) a;
         less = omega (arith, g .less);
         fits = g .fits;
         some-row = g .some-row;

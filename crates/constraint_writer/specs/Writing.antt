@@ -2,19 +2,20 @@
 -- operands before operators, left first", or a name of it is not declared, fault 5. Assumes nothing.
 use Prim.Native.Nat.{ℕ, _+_, _-_, _*_, _<_, _≤_}
 use mathlib.Core.Path.{_≡_}
-use mathlib.Core.List.{List}
+use mathlib.Core.List.{List, []}
 use mathlib.Core.Bool.{true}
 use mathlib.Core.Option.{Option, none, some}
 use lib.ListN.{length, take}
 use Rattle.bitset.specs.Parts.{put}
 use Rattle.bitset.specs.Relations.{joined}
+use Rattle.lexer.specs.Forms.{out, framesAt}
 use Rattle.policy.specs.Basics.{Name, each, _>>=_}
 use Rattle.policy.specs.Statements.{Declaration, Reference, Constraint, size}
 use Rattle.policy.specs.Reading.{referE}
 use Rattle.policy.specs.Rows.{Row, rowsOf}
-use Rattle.policy.specs.Encode.{rowBytes}
-use Rattle.items.specs.Looks.{rowEnd}
-use Rattle.items.specs.Reads.{isSome}
+use Rattle.policy.specs.Encode.{rowBytes, entries}
+use Rattle.policy.specs.Sound.{goodFrom}
+use Rattle.symbols.specs.Section.{entriesAt}
 use Rattle.symbols.specs.Symbols.{Symbols}
 use Rattle.constraint_writer.specs.declared.RowsWritten.{RowsWritten}
 
@@ -43,21 +44,21 @@ pub record Resolves (ds : List Declaration) (e : Constraint Name) (before after 
   pub answer : nextRow r ≡ (referE ds e >>= λ x. some (row + size x))
   pub wrote : (x : Constraint Reference) → referE ds e ≡ some x → Wrote before after row (rowsOf x)
 
--- m stands at the place at, q is past the close of the row there, and each row that was written has a byte of its own there
-pub record Past (t : List ℕ) (at : ℕ) (m : Option (Constraint Name)) (row q n : ℕ) : Type 0 where
-  pub good : isSome m ≡ true
-  pub end : rowEnd t at ≡ q
+-- q is past the close of the row of the text at the place at, and each row that was written has a byte of its own there
+pub record Past (t : List ℕ) (at row q n : ℕ) : Type 0 where
+  pub rest : framesAt t q ≡ out (framesAt t at)
   pub less : at < q
   pub fits : q ≤ length t
   pub some-row : row < n
   pub few-rows : at + n ≤ q + row
 
-abbrev pub Reads : List ℕ → ℕ → Option (Constraint Name) → ℕ → RowsWritten → Type 0
-Reads t at m row (RowsWritten.Next q n) = Past t at m row q n
-Reads t at m row RowsWritten.Undeclared = Unit {0}
+abbrev pub Reads : List ℕ → ℕ → ℕ → RowsWritten → Type 0
+Reads t at row (RowsWritten.Next q n) = Past t at row q n
+Reads t at row RowsWritten.Undeclared = Unit {0}
 
--- m is the expression that stands at the place at, if its form is good. If it is not, no place is answered, and promised is only what is kept
+-- m is the expression that stands at the place at, if its form is good. If it is not, the answer is free: promised is only what is kept, and that a
+-- place that is answered is past the close
 pub record Writes (t : List ℕ) (at : ℕ) (m : Option (Constraint Name)) (symbols : List ℕ) (end : ℕ) (before after : List ℕ) (row : ℕ) (r : RowsWritten) : Type 0 where
   pub kept : Kept before after row
-  pub reads : Reads t at m row r
+  pub reads : Reads t at row r
   pub rows : (ds : List Declaration) (e : Constraint Name) → Symbols symbols end ds → m ≡ some e → Resolves ds e before after row r

@@ -1,4 +1,4 @@
-// Writes the rows of a constraint expression, with its names resolved, and tests its form on the way.
+// Writes the rows of a constraint expression, with its names resolved.
 ghost use mathlib.Core.Path.{_≡_};
 ghost use mathlib.Core.List.{[], _∷_};
 ghost use Rattle.lexer.specs.Forms.{framesAt, trim};
@@ -12,7 +12,7 @@ use items::Item;
 use symbols::Found;
 use words::Word;
 
-// The place past the close of the expression and the number of the row after its rows. Or a name of it is not declared, or its form is wrong.
+// The place past the close of the expression and the number of the row after its rows, or that a name of it is not declared.
 pub enum RowsWritten {
     Next { at: usize, row: usize },
     Undeclared,
@@ -215,15 +215,10 @@ fn comparison(
     ensures { λ r. ⌜ Writes (now (text .entry)) at (grammar.comparison (wordOf operator) (framesAt (now (text .entry)) at .here)) (now (symbols .entry)) end (now (rows .entry)) (now (rows .exit)) row r ⌝ }
 {
     let first = items::look(text, at);
-    let Item::Word {
-        number: component,
-        next,
-        ..
-    } = first
-    else {
+    let Item::Word { number, next, .. } = first else {
         return RowsWritten::Undeclared;
     };
-    let side = component_of(component);
+    let side = component_of(number);
     let second = items::look(text, next);
     let Item::Word {
         start,
@@ -238,9 +233,6 @@ fn comparison(
     let Item::Close { next } = last else {
         return RowsWritten::Undeclared;
     };
-    if !constraint_grammar::compares(operator, component, number) {
-        return RowsWritten::Undeclared;
-    }
     let operand = operand_of(text, start, len, number, side, symbols, end);
     let Operand::Is { kind, number } = operand else {
         return RowsWritten::Undeclared;
@@ -274,7 +266,6 @@ pub fn write_constraint(
     }
     let mut i = next;
     let mut n = row;
-    let mut count: usize = 0;
     loop {
         let item = items::look(text, i);
         match item {
@@ -288,12 +279,8 @@ pub fn write_constraint(
                 };
                 i = past;
                 n = m;
-                count += 1;
             }
             Item::Close { next: past } => {
-                if count != constraint_grammar::joins(number) {
-                    return RowsWritten::Undeclared;
-                }
                 put_row(rows, n, kind, 0, 0, 0);
                 let m = n + 1;
                 return RowsWritten::Next { at: past, row: m };

@@ -9,14 +9,16 @@ use lib.Seq.{sets, length-take-le}
 use Rattle.bitset.specs.Parts.{part, put}
 use Rattle.bitset.specs.Relations.{joined}
 use Rattle.bitset.proofs.PartLaws.{length-part, put-none}
-use Rattle.policy.specs.Basics.{each}
-use Rattle.policy.specs.Encode.{NameEntry, nameEntry, entryBytes}
-use Rattle.policy.proofs.Lists.{each-append, joined-append}
+use Rattle.policy.specs.Basics.{Name, each}
+use Rattle.policy.specs.Accepted.{All}
+use Rattle.policy.specs.Encode.{NameEntry, nameEntry, entryBytes, permissionEntries}
+use Rattle.policy.proofs.Lists.{each-append, joined-append, all-right}
 use Rattle.symbols.specs.Index as symbol
 use Rattle.symbols.specs.Index.{Indexed}
 use Rattle.symbols.proofs.AppendLaws.{put-sets, length-put}
 use Rattle.symbols.proofs.Appending.{entry-length}
-use Rattle.declarations.specs.Entering.{AllNew, Entered, Enters}
+use Rattle.symbols.proofs.Declaring.{permission-more}
+use Rattle.declarations.specs.Entering.{AllNew, Entered, Fitting, Enters, EntersRow}
 use Rattle.declarations.specs.declared.Added.{Added}
 
 -- the bytes of entries
@@ -122,3 +124,87 @@ module _ (t x : List ℕ) (end s n from len : ℕ) (present : from + len ≤ len
 -- what a caller of `add` knows of the answer k
 pub enters-told : {a b : List ℕ} {end : ℕ} {es : List NameEntry} {r k : Added} → Enters a b end es r → r ≡ k → Enters a b end es k
 enters-told {a} {b} {end} {es} h e = subst (Enters a b end es) e h
+
+-- ---- the permissions of a class
+
+permission-append : (n : ℕ) (ps qs : List Name) → permissionEntries n (ps ++ qs) ≡ permissionEntries n ps ++ permissionEntries (n + length ps) qs
+unfolding permissionEntries
+permission-append n [] qs = ap (λ (k : ℕ). permissionEntries k qs) (sym (add-zero n))
+permission-append n (p ∷ ps) qs =
+    ap (λ (r : List NameEntry). nameEntry 7 n p ∷ r)
+    (permission-append (n + 1) ps qs ∙ ap (λ (k : ℕ). permissionEntries (n + 1) ps ++ permissionEntries k qs) (omega arith))
+
+-- the first of the names ws are written; the others are left
+pub record SoFar (before now : List ℕ) (end first : ℕ) (ws left : List Name) (past place : ℕ) : Type 0 where
+  pub done : List Name
+  pub whole : ws ≡ done ++ left
+  pub many : length done ≡ place
+  pub few : place ≤ 32
+  pub entered : Entered before now end (permissionEntries first done) past
+
+pub so-far-none : (a : List ℕ) (end first : ℕ) (ws : List Name) → end ≤ 137088 → 186264 ≤ length a → SoFar a a end first ws ws end 0
+unfolding permissionEntries
+so-far-none a end first ws h room = record { done = []; whole = refl; many = refl; few = omega arith; entered = entered-none a end h room }
+
+module _ {a b : List ℕ} {end first : ℕ} {ws left : List Name} {past place : ℕ} (h : SoFar a b end first ws left past place) where
+  pub so-far-long : length b ≡ length a
+  so-far-long = h .entered .long
+
+  -- none is left
+  pub all-written : left ≡ [] → EntersRow a b end first ws (Added.Past past)
+  all-written e =
+      let all : ws ≡ h .done = h .whole ∙ ap (λ (l : List Name). h .done ++ l) e ∙ append-nil (h .done) in
+      record {
+        is = (
+          subst (λ (l : List Name). Entered a b end (permissionEntries first l) past) (sym all) (h .entered),
+          (let n : length ws ≡ length (h .done) = ap length all in omega (arith, h .many, h .few)),
+        );
+      }
+
+  module _ (w : Name) (rest : List Name) (next : left ≡ w ∷ rest) where
+    split : ws ≡ h .done ++ (w ∷ rest)
+    split = h .whole ∙ ap (λ (l : List Name). h .done ++ l) next
+
+    -- "permissions 32 per class"
+    pub too-many : (c : List ℕ) → 32 ≤ place → EntersRow a c end first ws Added.NoRoom
+    too-many c l = record {
+      is = λ f k.
+          let n : length ws ≡ length (h .done) + suc (length rest) = ap length split ∙ length-append (h .done) (w ∷ rest) in
+          omega (arith, h .many);
+    }
+
+    -- the entries of all of them: those that are written, the next one, and the others
+    parted : permissionEntries first ws ≡ permissionEntries first (h .done) ++ ((nameEntry 7 (first + place) w ∷ []) ++ permissionEntries (first + place + 1) rest)
+    unfolding permissionEntries
+    parted = ap (permissionEntries first) split ∙ permission-append first (h .done) (w ∷ rest) ∙ rw (h .many)
+
+    next-fits : Fitting end (permissionEntries first ws) → Fitting past (nameEntry 7 (first + place) w ∷ [])
+    next-fits f =
+        let one = nameEntry 7 (first + place) w ∷ [] in
+        let others = permissionEntries (first + place + 1) rest in
+        let n : length (bytesOf (permissionEntries first ws)) ≡ length (bytesOf (permissionEntries first (h .done))) + (length (bytesOf one) + length (bytesOf others)) =
+        ap (λ (es : List NameEntry). length (bytesOf es)) parted ∙ ap length (bytes-append (permissionEntries first (h .done)) (one ++ others))
+        ∙ length-append (bytesOf (permissionEntries first (h .done))) (bytesOf (one ++ others))
+        ∙ ap (λ (k : ℕ). length (bytesOf (permissionEntries first (h .done))) + k) (ap length (bytes-append one others) ∙ length-append (bytesOf one) (bytesOf others)) in
+        let each = all-right (λ (e : NameEntry). length (e .name) ≤ 64) (permissionEntries first (h .done)) (one ++ others)
+        (subst (All (λ (e : NameEntry). length (e .name) ≤ 64)) parted (f .short)) in
+        record {
+          room = omega (arith, f .room, n, h .entered .moved);
+          short = (each .0, tt);
+        }
+
+    pub next-no-room : (c : List ℕ) → Enters b c past (nameEntry 7 (first + place) w ∷ []) Added.NoRoom → EntersRow a c end first ws Added.NoRoom
+    next-no-room c g = record { is = λ f k. g .is (next-fits f) }
+
+    pub next-written : (c : List ℕ) (q : ℕ) → place < 32 → Enters b c past (nameEntry 7 (first + place) w ∷ []) (Added.Past q)
+        → SoFar a c end first ws rest q (place + 1)
+    next-written c q l g = record {
+      done = h .done ++ (w ∷ []);
+      whole = split ∙ sym (append-assoc (h .done) (w ∷ []) rest);
+      many = length-append (h .done) (w ∷ []) ∙ omega (arith, h .many);
+      few = omega arith;
+      entered =
+          subst (λ (es : List NameEntry). Entered a c end es q)
+          (sym (permission-more first (h .done) w ∙ ap (λ (k : ℕ). permissionEntries first (h .done) ++ (nameEntry 7 (first + k) w ∷ [])) (h .many)))
+          (entered-then (h .entered) (g .is));
+    }

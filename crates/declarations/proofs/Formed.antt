@@ -4,6 +4,7 @@ use mathlib.Core.Bool.{true, not, _&&_}
 use mathlib.Core.List.{List, [], _∷_}
 use mathlib.Core.Option.{Option, none, some, Option·none-ne-some, Option·some-injective}
 use Prim.Native.Nat.{ℕ, _+_}
+use native.Mathlib.Omega.{arith}
 use Rattle.bitset.specs.Parts as parts
 use Rattle.lexer.specs.Class.{isName}
 use Rattle.lexer.specs.Forms.{Forms, closed, ended, word, part, framesAt, namesGood}
@@ -14,8 +15,8 @@ use Rattle.policy.specs.Grammar.{namesIn, oneOrMore, formed}
 use Rattle.policy.specs.Sound.{isGood, someGood, goodNames}
 use Rattle.policy.proofs.Lists.{both-true, true-both}
 use Rattle.table_laws.proofs.ListLaws.{bound-then, given-some, more-some}
-use Rattle.items.specs.Looks.{rowEnd}
-use Rattle.declarations.specs.WordRows.{wordsIn, WordHere, HeadHere}
+use Rattle.declarations.specs.WordRows.{wordsIn, WordHere, WordIs, Inside}
+use Rattle.declarations.specs.declared.NextWord.{NextWord}
 use Rattle.declarations.proofs.Rows.{words-here}
 
 -- ---- rows of names
@@ -67,6 +68,14 @@ plain-row s f d h = by (namesIn f) refl h
     by (some (w ∷ [])) e q =
         record { name = w; row = e; is = sym (declared-same (plain s w) d (Option·some-injective (declare (plain s w)) (declare d) q)) }
     by (some (w ∷ v ∷ ws)) e q = absurd (Option·none-ne-some (declare d) q)
+
+pub plain-has-word : {t : List ℕ} {at : ℕ} (s : Sort) (d : Declaration) → WordIs t at NextWord.Missing → formed (declareK s) (framesAt t at .here) ≡ some (declare d) → ⊥
+plain-has-word {t} {at} s d h f =
+    let p = plain-row s (framesAt t at .here) d f in
+    no-first (p .name) (sym (h .is) ∙ names-words (framesAt t at .here) (p .name ∷ []) (p .row))
+  where
+    no-first : (w : Name) → [] ≡ w ∷ [] → ⊥
+    no-first w e = let z : _≡_ {A = ℕ} 0 1 = cc in omega arith
 
 pub plain-here : {t : List ℕ} {at start len : ℕ} → WordHere t at start len → (s : Sort) (d : Declaration) → namesGood (framesAt t at .here) ≡ true
     → formed (declareK s) (framesAt t at .here) ≡ some (declare d) → (d ≡ plain s (parts.part t start len)) × (isGood (parts.part t start len) ≡ true)
@@ -128,22 +137,26 @@ class-row (word at w (part p i closed)) d h =
           (many .1 (names-good i ps (both-true (namesGood i) true (b .1) .0) names));
     }
 
+pub class-has-word : {t : List ℕ} {at : ℕ} (d : Declaration) → WordIs t at NextWord.Missing → formed classK (framesAt t at .here) ≡ some (declare d) → ⊥
+unfolding wordsIn
+class-has-word {t} {at} d h f =
+    let c = class-row (framesAt t at .here) d f in
+    no-first (c .name) (wordsIn (part (c .opening) (c .row) closed)) (sym (h .is) ∙ ap wordsIn (c .form))
+  where
+    no-first : (w : Name) (ws : List Name) → [] ≡ w ∷ ws → ⊥
+    no-first w ws e = let z : _≡_ {A = ℕ} 0 1 = cc in omega arith
+
 word-parts : (p q : ℕ) (v w : Name) (f g : Forms) → word p v f ≡ word q w g → (v ≡ w) × (f ≡ g)
 word-parts p q v w f g h = (cc, cc)
 
-part-row : (p q : ℕ) (f g h i : Forms) → part p f g ≡ part q h i → f ≡ h
-part-row p q f g h i e = cc
-
-pub class-here : {t : List ℕ} {at start len row : ℕ} → HeadHere t at start len row → (d : Declaration) → namesGood (framesAt t at .here) ≡ true
+pub class-here : {t : List ℕ} {at start len row : ℕ} → WordHere t at start len → Inside t (start + len) row → (d : Declaration) → namesGood (framesAt t at .here) ≡ true
     → formed classK (framesAt t at .here) ≡ some (declare d)
     → (d ≡ class (parts.part t start len) (wordsIn (framesAt t row .here))) × (goodNames (class (parts.part t start len) (wordsIn (framesAt t row .here))) ≡ true)
-class-here {t} {at} {start} {len} {row} h d g f =
+class-here {t} {at} {start} {len} {row} h i d g f =
     let c = class-row (framesAt t at .here) d f in
-    let same = word-parts (c .place) start (c .name) (parts.part t start len) (part (c .opening) (c .row) closed) (framesAt t (start + len) .here)
-    (sym (c .form) ∙ h .name .word .here) in
-    let inner : c .row ≡ framesAt t row .here =
-    part-row (c .opening) (h .opening) (c .row) closed (framesAt t row .here) (framesAt t (rowEnd t row) .here) (same .1 ∙ h .inner) in
-    let perms : c .perms ≡ wordsIn (framesAt t row .here) = sym (names-words (c .row) (c .perms) (c .names)) ∙ ap wordsIn inner in
+    let same = word-parts (c .place) start (c .name) (parts.part t start len) (part (c .opening) (c .row) closed) (framesAt t (start + len) .here) (sym (c .form) ∙ h .here) in
+    let inner : framesAt t row .here ≡ c .row = i .row (c .opening) (c .row) closed (sym (same .1)) in
+    let perms : c .perms ≡ wordsIn (framesAt t row .here) = sym (ap wordsIn inner ∙ names-words (c .row) (c .perms) (c .names)) in
     let is : class (c .name) (c .perms) ≡ class (parts.part t start len) (wordsIn (framesAt t row .here)) = ap₂ class (same .0) perms in
     (c .is ∙ is, subst (λ (x : Declaration). goodNames x ≡ true) is (c .good g))
 
@@ -157,3 +170,11 @@ plain-good s f d g h =
 
 pub class-good : (f : Forms) (d : Declaration) → namesGood f ≡ true → formed classK f ≡ some (declare d) → goodNames d ≡ true
 class-good f d g h = let c = class-row f d h in subst (λ (x : Declaration). goodNames x ≡ true) (sym (c .is)) (c .good g)
+
+-- the name of a class alone, before its permissions are looked at
+pub class-named : {t : List ℕ} {at start len : ℕ} → WordHere t at start len → (d : Declaration) → formed classK (framesAt t at .here) ≡ some (declare d)
+    → (ps : List Name) × (d ≡ class (parts.part t start len) ps)
+class-named {t} {at} {start} {len} h d f =
+    let c = class-row (framesAt t at .here) d f in
+    let same = word-parts (c .place) start (c .name) (parts.part t start len) (part (c .opening) (c .row) closed) (framesAt t (start + len) .here) (sym (c .form) ∙ h .here) in
+    (c .perms, c .is ∙ ap (λ (w : Name). class w (c .perms)) (same .0))

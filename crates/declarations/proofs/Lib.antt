@@ -1,6 +1,5 @@
 pub mod Standings
 pub mod Rows
-pub mod Heads
 pub mod Repeating
 pub mod EnteringLaws
 pub mod Holding
@@ -8,6 +7,4 @@ pub mod Maxima
 pub mod Formed
 pub mod NewPermissions
 pub mod NameAnswers
-pub mod Permissions
-pub mod PermitRows
 pub mod ClassAnswers

@@ -8,17 +8,14 @@ use native.Mathlib.Omega.{arith}
 use borrow.Author.Tests.{lt-ltb, le-ltb}
 use Rattle.bitset.specs.Parts.{part}
 use Rattle.lexer.specs.Class.{isName}
-use Rattle.lexer.specs.Forms.{framesAt}
 use Rattle.policy.specs.Basics.{Name, isIn}
 use Rattle.policy.specs.Statements.{users, roles, types, Sort, thingOf, attributeOf, Declaration, plain, familyOf, familyNames, count}
 use Rattle.policy.specs.Maxima.{maxOf}
-use Rattle.policy.specs.Words.{isReserved, Keyword, declareK}
-use Rattle.policy.specs.Grammar.{formed}
+use Rattle.policy.specs.Words.{isReserved}
 use Rattle.policy.specs.Reading.{isNew, hasRoom}
 use Rattle.policy.specs.Encode.{NameEntry, nameEntry, sortCode, entriesOf, entries}
 use Rattle.policy.specs.Sound.{isGood}
 use Rattle.policy.proofs.Lists.{both-true}
-use Rattle.items.specs.Reads.{isSome, StatementTo}
 use Rattle.symbols.specs.Lookup.{familyNumber, firstNamed}
 use Rattle.symbols.specs.Resolving.{familyCode, isFound}
 use Rattle.symbols.specs.Symbols.{Symbols}
@@ -29,16 +26,16 @@ use Rattle.symbols.proofs.Declaring.{entries-more}
 use Rattle.table_laws.proofs.NamesFit.{code-below}
 use Rattle.table_laws.proofs.NamesRoom.{name-short}
 use Rattle.declarations.specs.Counting.{standing, MostIs, Stands}
-use Rattle.declarations.specs.WordRows.{NameHere}
+use Rattle.declarations.specs.WordRows.{WordHere, WordIs}
 use Rattle.declarations.specs.Entering.{AllNew, Entered, Enters, answerOf}
-use Rattle.declarations.specs.Declaring.{Holds, Declares, FormBy, DeclaresName}
+use Rattle.declarations.specs.Declaring.{Holds, Declares, DeclaresName}
 use Rattle.declarations.specs.declared.Declared.{Declared}
 use Rattle.declarations.specs.declared.Added.{Added}
 use Rattle.declarations.specs.declared.Standing.{Standing}
+use Rattle.declarations.specs.declared.NextWord.{NextWord}
 use Rattle.declarations.proofs.Standings.{not-found, family-alone}
 use Rattle.declarations.proofs.Holding.{holds-symbols, room-for}
-use Rattle.declarations.proofs.Heads.{not-formed}
-use Rattle.declarations.proofs.Formed.{plain-here}
+use Rattle.declarations.proofs.Formed.{plain-has-word, plain-here}
 
 -- ---- what the walk said
 
@@ -57,14 +54,6 @@ full ds d n r = (n, by (hasRoom ds d) refl)
     by : (q : Bool) → hasRoom ds d ≡ q → q ≡ false
     by true e = absurd (r e)
     by false e = refl
-
--- the form where the last entries are written: that of the statement
-pub form-of : {t : List ℕ} {at q : ℕ} (k : Keyword) → StatementTo t at k q → (a : Added) (r : Declared) → r ≡ answerOf a q → FormBy t at k r
-form-of {t} {at} {q} k f a r e = subst (FormBy t at k) (sym e) (by a)
-  where
-    by : (a : Added) → FormBy t at k (answerOf a q)
-    by (Added.Past past) = f
-    by Added.NoRoom = tt
 
 -- ---- names
 
@@ -85,14 +74,14 @@ code-of (attributeOf roles) = refl
 code-of (attributeOf types) = refl
 
 module _ (t : List ℕ) (at sort : ℕ) (before : List ℕ) (end : ℕ) where
-  -- no sort of things or attributes has such a number; the form is wrong
+  -- no sort of things or attributes has such a number; no name stands there
   pub no-sort : (after : List ℕ) (r : Declared) → 6 ≤ sort → DeclaresName t at sort before after end r
   no-sort after r h = record { of = λ s e. absurd (omega (arith, code-below s)) }
 
-  pub name-wrong : (after : List ℕ) → ((s : Sort) → isSome (formed (declareK s) (framesAt t at .here)) ≡ false) → DeclaresName t at sort before after end Declared.Full
-  name-wrong after h = record { of = λ s e. record { says = λ ds d y g f. absurd (not-formed (declareK s) (framesAt t at .here) (h s) f); form = tt } }
+  pub no-name : (after : List ℕ) (r : Declared) → WordIs t at NextWord.Missing → DeclaresName t at sort before after end r
+  no-name after r h = record { of = λ s e. record { says = λ ds d y g f. absurd (plain-has-word s d h f) } }
 
-  module _ (start len : ℕ) (h : NameHere t at start len) where
+  module _ (start len : ℕ) (h : WordHere t at start len) where
     abbrev w : Name
     w = part t start len
 
@@ -107,9 +96,8 @@ module _ (t : List ℕ) (at sort : ℕ) (before : List ℕ) (end : ℕ) where
     name-taken after q = record {
       of = λ s e. record {
         says = λ ds d y g f.
-            subst (λ (x : Declaration). isNew ds x ≡ false) (sym (plain-here (h .word) s d g f .0))
+            subst (λ (x : Declaration). isNew ds x ≡ false) (sym (plain-here h s d g f .0))
             (ap not (sym (is-in s e ds) ∙ taken-found (found ds) (count s ds) (q .names ds s (holds-symbols y) e)));
-        form = tt;
       };
     }
 
@@ -128,13 +116,12 @@ module _ (t : List ℕ) (at sort : ℕ) (before : List ℕ) (end : ℕ) where
       name-full after l = record {
         of = λ s e. record {
           says = λ ds d y g f.
-              subst (λ (x : Declaration). (isNew ds x ≡ true) × (hasRoom ds x ≡ false)) (sym (plain-here (h .word) s d g f .0))
+              subst (λ (x : Declaration). (isNew ds x ≡ true) × (hasRoom ds x ≡ false)) (sym (plain-here h s d g f .0))
               (is-new s e (holds-symbols y), le-ltb (count s ds) (maxOf s) (omega (arith, count-is s e (holds-symbols y), m .is s e)));
-          form = tt;
         };
       }
 
-      module _ (after : List ℕ) (l : number < most) (past : ℕ) (closed : (s : Sort) → StatementTo t at (declareK s) past) where
+      module _ (after : List ℕ) (l : number < most) where
         has-room : (s : Sort) → sort ≡ sortCode s → {ds : List Declaration} → Symbols before end ds → hasRoom ds (plain s w) ≡ true
         has-room s e {ds} y = lt-ltb (count s ds) (maxOf s) (omega (arith, count-is s e y, m .is s e))
 
@@ -151,9 +138,9 @@ module _ (t : List ℕ) (at sort : ℕ) (before : List ℕ) (end : ℕ) where
         )
 
         added : (a : Added) → Enters before after end (nameEntry sort number w ∷ []) a → (s : Sort) → sort ≡ sortCode s → (ds : List Declaration) → Holds before end ds
-            → isGood w ≡ true → Declares before after end ds (plain s w) (answerOf a past)
-        added (Added.Past next) n s e ds y good =
-            let x = subst (λ (es : List NameEntry). Entered before after end es next) (entries-are s e (holds-symbols y)) (n .is) in
+            → isGood w ≡ true → Declares before after end ds (plain s w) (answerOf a)
+        added (Added.Past past) n s e ds y good =
+            let x = subst (λ (es : List NameEntry). Entered before after end es past) (entries-are s e (holds-symbols y)) (n .is) in
             record {
               new = is-new s e (holds-symbols y);
               room = has-room s e (holds-symbols y);
@@ -162,7 +149,7 @@ module _ (t : List ℕ) (at sort : ℕ) (before : List ℕ) (end : ℕ) where
               moved = x .moved;
               fits = x .fits;
               indexed =
-                  subst (Indexed after next) (ap (λ (es : List NameEntry). entries ds ++ es) (entries-are s e (holds-symbols y)) ∙ sym (entries-more ds (plain s w)))
+                  subst (Indexed after past) (ap (λ (es : List NameEntry). entries ds ++ es) (entries-are s e (holds-symbols y)) ∙ sym (entries-more ds (plain s w)))
                   (n .is .indexed (entries ds) (y .indexed) (entry-new s e (holds-symbols y)));
             }
         added Added.NoRoom n s e ds y good =
@@ -172,13 +159,12 @@ module _ (t : List ℕ) (at sort : ℕ) (before : List ℕ) (end : ℕ) where
               short = (name-short w (both-true (isName w) (not (isReserved w)) good .0), tt);
             }))
 
-        pub name-added : (a : Added) (r : Declared) → Enters before after end (nameEntry sort number w ∷ []) a → r ≡ answerOf a past → DeclaresName t at sort before after end r
+        pub name-added : (a : Added) (r : Declared) → Enters before after end (nameEntry sort number w ∷ []) a → r ≡ answerOf a → DeclaresName t at sort before after end r
         name-added a r n z = record {
           of = λ s e. record {
             says = λ ds d y g f.
-                let p = plain-here (h .word) s d g f in
+                let p = plain-here h s d g f in
                 subst (λ (x : Declaration). Declares before after end ds x r) (sym (p .0))
                 (subst (Declares before after end ds (plain s w)) (sym z) (added a n s e ds y (p .1)));
-            form = form-of (declareK s) (closed s) a r z;
           };
         }

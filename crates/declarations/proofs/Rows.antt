@@ -9,11 +9,11 @@ use lib.ListN.{take}
 use lib.Seq.{take-nil}
 use Rattle.bitset.specs.Parts as parts
 use Rattle.lexer.specs.Token.{tokenAt}
-use Rattle.lexer.specs.Forms.{Frames, framesAt}
+use Rattle.lexer.specs.Forms.{Forms, part, Frames, framesAt}
 use Rattle.lexer.specs.declared.Token.{Token}
 use Rattle.lexer.proofs.Seen.{seen}
 use Rattle.policy.specs.Basics.{Name, same, any, isIn}
-use Rattle.declarations.specs.WordRows.{wordsIn, isAmongFirst, WordHere, WordIs}
+use Rattle.declarations.specs.WordRows.{wordsIn, isAmongFirst, WordHere, WordIs, Inside}
 use Rattle.declarations.specs.declared.NextWord.{NextWord}
 
 -- ---- the item at a place
@@ -36,6 +36,30 @@ module _ (t : List ℕ) (at : ℕ) (r : Token) (e : r ≡ tokenAt t at) where
   pub end-no-word : r ≡ Token.End → WordIs t at NextWord.Missing
   unfolding wordsIn
   end-no-word f = record { is = ap (λ (x : Frames). wordsIn (x .here)) (seen t at r Token.End e f .frames) }
+
+  -- ---- a part's own row
+
+  pub a-part : (p : ℕ) → r ≡ Token.Open p → Inside t at (p + 1)
+  a-part p f = record { row = λ q i after g. inner _ _ _ _ _ _ (sym (ap (λ (x : Frames). x .here) (seen t at r (Token.Open p) e f .frames)) ∙ g) }
+    where
+      inner : (p q : ℕ) (a b c d : Forms) → part p a b ≡ part q c d → a ≡ c
+      inner p q a b c d h = cc
+
+  module _ (k : Token) (f : r ≡ k) where
+    no-part : (g : Forms) → ((q : ℕ) (i after : Forms) → g ≡ part q i after → ⊥) → framesAt t at .here ≡ g → Inside t at at
+    no-part g never z = record { row = λ q i after h. absurd (never q i after (sym z ∙ h)) }
+
+  pub word-no-part : (s n : ℕ) → r ≡ Token.Word s n → Inside t at at
+  word-no-part s n f =
+      no-part (Token.Word s n) f _ (λ q i after h. let z : _≡_ {A = ℕ} 0 1 = cc in omega arith) (ap (λ (x : Frames). x .here) (seen t at r (Token.Word s n) e f .frames))
+
+  pub close-no-part : (p : ℕ) → r ≡ Token.Close p → Inside t at at
+  close-no-part p f =
+      no-part (Token.Close p) f _ (λ q i after h. let z : _≡_ {A = ℕ} 0 1 = cc in omega arith) (ap (λ (x : Frames). x .here) (seen t at r (Token.Close p) e f .frames))
+
+  pub end-no-part : r ≡ Token.End → Inside t at at
+  end-no-part f =
+      no-part Token.End f _ (λ q i after h. let z : _≡_ {A = ℕ} 0 1 = cc in omega arith) (ap (λ (x : Frames). x .here) (seen t at r Token.End e f .frames))
 
 -- what a caller of `word_at` knows of the word k that it answered
 pub told : {t : List ℕ} {at : ℕ} {r k : NextWord} → WordIs t at r → r ≡ k → WordIs t at k

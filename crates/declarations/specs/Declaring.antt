@@ -15,7 +15,6 @@ use Rattle.policy.specs.Grammar.{formed}
 use Rattle.policy.specs.Reading.{isNew, hasRoom}
 use Rattle.policy.specs.Encode.{sortCode, entryBytes, entriesOf, entries}
 use Rattle.policy.specs.Sound.{goodFrom}
-use Rattle.items.specs.Reads.{StatementTo}
 use Rattle.symbols.specs.Index.{Indexed}
 use Rattle.declarations.specs.declared.Declared.{Declared}
 
@@ -43,21 +42,14 @@ pub record Adds (before after : List ℕ) (end past : ℕ) (ds : List Declaratio
 -- "name declared again in its family, or permission twice in a class" before "one of the other maxima passed". After a fault nothing is promised of
 -- the memory
 abbrev pub Declares : List ℕ → List ℕ → ℕ → List Declaration → Declaration → Declared → Type 0
-Declares before after end ds d (Declared.Next past q) = Adds before after end past ds d
+Declares before after end ds d (Declared.Next past) = Adds before after end past ds d
 Declares before after end ds d Declared.Again = isNew ds d ≡ false
 Declares before after end ds d Declared.Full = (isNew ds d ≡ true) × (hasRoom ds d ≡ false)
-
--- where something is declared, the statement is of its form, and q is the place behind its close
-abbrev pub FormBy : List ℕ → ℕ → Keyword → Declared → Type 0
-FormBy t at k (Declared.Next past q) = StatementTo t at k q
-FormBy t at k Declared.Again = Unit {0}
-FormBy t at k Declared.Full = Unit {0}
 
 -- the declaration behind the keyword k at a place of the text
 pub record DeclaresAt (t : List ℕ) (at : ℕ) (k : Keyword) (before after : List ℕ) (end : ℕ) (r : Declared) : Type 0 where
   pub says : (ds : List Declaration) (d : Declaration) → Holds before end ds → namesGood (framesAt t at .here) ≡ true
       → formed k (framesAt t at .here) ≡ some (declare d) → Declares before after end ds d r
-  pub form : FormBy t at k r
 
 -- the same where the keyword is that of a sort, by the number of the sort: "0 user, 1 role, 2 type, 3 to 5 their attributes"
 pub record DeclaresName (t : List ℕ) (at sort : ℕ) (before after : List ℕ) (end : ℕ) (r : Declared) : Type 0 where

@@ -50,7 +50,7 @@ RowBy before after end n ws Added.NoRoom = Fitting end (permissionEntries n ws) 
 pub record EntersRow (before after : List ℕ) (end n : ℕ) (ws : List Name) (r : Added) : Type 0 where
   pub is : RowBy before after end n ws r
 
--- where there is no room for a declaration's entries, a maximum is passed; q is the place behind the statement's close
-abbrev pub answerOf : Added → ℕ → Declared
-answerOf (Added.Past past) q = Declared.Next past q
-answerOf Added.NoRoom q = Declared.Full
+-- where there is no room for a declaration's entries, a maximum is passed
+abbrev pub answerOf : Added → Declared
+answerOf (Added.Past past) = Declared.Next past
+answerOf Added.NoRoom = Declared.Full

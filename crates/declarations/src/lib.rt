@@ -1,5 +1,5 @@
-// Declarations of names and classes, put into the symbol table: faults 4 and 6. The form of a statement is tested on the way: one of a wrong form is
-// never declared, but which refusal it gets is not said here.
+// Declarations of names and classes, put into the symbol table: faults 4 and 6. The form of a statement is known to be good where it is
+// declared here, so that a row that should be of names is one.
 ghost use mathlib.Core.Path.{_≡_};
 ghost use mathlib.Core.Bool.{not, false};
 ghost use mathlib.Core.List.{[], _∷_};
@@ -12,21 +12,19 @@ ghost use Rattle.policy.specs.Basics.{differ};
 ghost use Rattle.policy.specs.Encode.{nameEntry};
 ghost use Rattle.policy.specs.Words.{classK};
 ghost use Rattle.declarations.specs.Counting.{Counts, MostIs, Stands};
-ghost use Rattle.declarations.specs.WordRows.{wordsIn, isAmongFirst, WordIs, NameIs, HeadIs};
-ghost use Rattle.declarations.specs.Entering.{Enters, answerOf};
-ghost use Rattle.declarations.specs.Permitting.{HasIs, PermitsRow, rowEnding, againOf, Closes};
+ghost use Rattle.declarations.specs.WordRows.{wordsIn, isAmongFirst, WordIs, Inside};
+ghost use Rattle.declarations.specs.Entering.{Enters, EntersRow, answerOf};
 ghost use Rattle.declarations.specs.Declaring.{DeclaresAt, DeclaresName};
-use items::Item;
-use items::Parsed;
 use lexer::Token;
 use symbols::Found;
 
-// The memory of the symbols: their entries, and behind the room for them their index. With no names it is 0.
+// The memory of the symbols: their entries, and behind the room for them their index. With no names the index is empty
+// (`symbols::clear_index`).
 pub const SYMBOL_BYTES: usize = symbols::SYMBOL_BYTES;
 
-// What declaring a name comes to: the new end of the symbols and the place past the statement's close, fault 4, or fault 6.
+// What declaring a name comes to: the new end of the symbols, fault 4, or fault 6.
 pub enum Declared {
-    Next { end: usize, past: usize },
+    Next(usize),
     Again,
     Full,
 }
@@ -43,27 +41,9 @@ enum Added {
     NoRoom,
 }
 
-// What the writing of a class's permissions comes to: the end of the symbols and the place past the row of the permissions; one of them stands
-// twice; or they are too many, or no row of names.
-enum Listed {
-    Next { end: usize, past: usize },
-    Again,
-    NoRoom,
-}
-
 // The word that stands next in a row, or that none does.
 enum NextWord {
     At { start: usize, len: usize },
-    Missing,
-}
-
-// The name of a class and where the row of its permissions starts, or that they do not stand next.
-enum ClassHead {
-    At {
-        start: usize,
-        len: usize,
-        row: usize,
-    },
     Missing,
 }
 
@@ -155,12 +135,12 @@ fn add(
     Added::Past(symbols::enter(symbols, end, sort, number, text, from, len))
 }
 
-// What the writing of a declaration's last entries comes to, where the statement's close was read.
-fn answer(added: Added, past: usize) -> Declared
-    ensures { λ r. ⌜ r ≡ answerOf added past ⌝ }
+// What the writing of a declaration's last entries comes to.
+fn answer(added: Added) -> Declared
+    ensures { λ r. ⌜ r ≡ answerOf added ⌝ }
 {
     match added {
-        Added::Past(end) => Declared::Next { end, past },
+        Added::Past(past) => Declared::Next(past),
         Added::NoRoom => Declared::Full,
     }
 }
@@ -178,42 +158,16 @@ fn word_at(text: &[u8], at: usize) -> NextWord
     }
 }
 
-// The name that stands next in the row at a place.
-fn name_at(text: &[u8], at: usize) -> NextWord
-    ensures { λ r. ⌜ NameIs (now (text .entry)) at r ⌝ }
+// The place behind the open parenthesis that stands next, or the same place where none does.
+fn inside(text: &[u8], at: usize) -> usize
+    ensures { λ r. ⌜ Inside (now (text .entry)) at r ⌝ }
 {
-    let item = items::look(text, at);
-    let Item::Word {
-        start,
-        len,
-        number,
-        ..
-    } = item
-    else {
-        return NextWord::Missing;
-    };
-    if words::is_name(number) {
-        return NextWord::At { start, len };
-    }
-    NextWord::Missing
-}
-
-// The name of a class and the open parenthesis behind it.
-fn class_head(text: &[u8], at: usize) -> ClassHead
-    ensures { λ r. ⌜ HeadIs (now (text .entry)) at r ⌝ }
-{
-    let name = name_at(text, at);
-    let NextWord::At { start, len } = name else {
-        return ClassHead::Missing;
-    };
-    let item = items::look(text, start + len);
-    let Item::Open { next, .. } = item else {
-        return ClassHead::Missing;
-    };
-    ClassHead::At {
-        start,
-        len,
-        row: next,
+    let token = lexer::next(text, at);
+    match token {
+        Token::Open(place) => place + 1,
+        Token::Word { start: _s, len: _n } => at,
+        Token::Close(_p) => at,
+        Token::End => at,
     }
 }
 
@@ -230,12 +184,8 @@ pub fn declare(
     if CLASS <= sort {
         return Declared::Full;
     }
-    let name = name_at(text, at);
+    let name = word_at(text, at);
     let NextWord::At { start, len } = name else {
-        return Declared::Full;
-    };
-    let closed = items::close_form(text, start + len);
-    let Parsed::Next(past) = closed else {
         return Declared::Full;
     };
     let known = stands(symbols, end, sort, text, start, len);
@@ -245,7 +195,7 @@ pub fn declare(
     if most(sort) <= number {
         return Declared::Full;
     }
-    answer(add(symbols, end, sort, number, text, start, len), past)
+    answer(add(symbols, end, sort, number, text, start, len))
 }
 
 // Whether the name of len bytes of the text at a start is one of the first names of the row at a place, of so many of them.
@@ -305,97 +255,29 @@ fn repeats(text: &[u8], at: usize) -> bool
     }
 }
 
-// Fault 4 where a name stands twice in the row at a place, and else fault 6.
-fn again_or_full(text: &[u8], at: usize) -> Declared
-    ensures { λ r. ⌜ r ≡ againOf (not (differ (wordsIn (framesAt (now (text .entry)) at .here)))) ⌝ }
-{
-    if repeats(text, at) {
-        return Declared::Again;
-    }
-    Declared::Full
-}
-
-// Whether the class whose entries end the symbols has a permission of this name. It has so many, which are numbered from a first number on.
-fn has_permission(
-    symbols: &[u8],
-    end: usize,
-    first: usize,
-    count: usize,
-    text: &[u8],
-    from: usize,
-    len: usize,
-) -> bool
-    ensures { λ r. ⌜ HasIs (now (symbols .entry)) end first count (part (now (text .entry)) from len) r ⌝ }
-{
-    if count == 0 {
-        return false;
-    }
-    let family = symbols::family_of(PERMISSION, first);
-    let permission = symbols::lookup(symbols, end, family, text, from, len);
-    match permission {
-        Found::At { .. } => true,
-        Found::Missing => false,
-    }
-}
-
-// The close of a row of so many permissions: there must be one.
-fn row_end(permissions: usize, end: usize, past: usize) -> Listed
-    ensures { λ r. ⌜ r ≡ rowEnding permissions end past ⌝ }
-{
-    if permissions == 0 {
-        return Listed::NoRoom;
-    }
-    Listed::Next { end, past }
-}
-
-// The statement's close, where all entries of the declaration are written.
-fn closed(text: &[u8], at: usize, end: usize) -> Declared
-    ensures { λ r. ⌜ Closes (now (text .entry)) at end r ⌝ }
-{
-    let form = items::close_form(text, at);
-    match form {
-        Parsed::Next(past) => Declared::Next { end, past },
-        Parsed::Bad => Declared::Full,
-    }
-}
-
-// Writes the entries of a class's permissions, the names in the row at a place, numbered from a first number on. The class's entry ends the symbols.
-fn add_permissions(symbols: &mut [u8], end: usize, first: usize, text: &[u8], at: usize) -> Listed
+// Writes the entries of a class's permissions, the names in the row at a place, numbered from a first number on.
+fn add_permissions(symbols: &mut [u8], end: usize, first: usize, text: &[u8], at: usize) -> Added
     requires { ⌜ (first ≤ 1024) × (end ≤ 137088) × (186264 ≤ length (now symbols)) ⌝ }
-    ensures { λ r. ⌜ PermitsRow (now (text .entry)) at (now (symbols .entry)) (now (symbols .exit)) end first r ⌝ }
+    ensures { λ r. ⌜ EntersRow (now (symbols .entry)) (now (symbols .exit)) end first (wordsIn (framesAt (now (text .entry)) at .here)) r ⌝ }
 {
     let mut i = at;
     let mut past = end;
     let mut place: usize = 0;
     loop {
-        let item = items::look(text, i);
-        match item {
-            Item::Word {
-                start,
-                len,
-                number,
-                next,
-            } => {
-                if !words::is_name(number) {
-                    return Listed::NoRoom;
-                }
-                if policy::Permission::MAX <= place {
-                    return Listed::NoRoom;
-                }
-                if has_permission(symbols, past, first, place, text, start, len) {
-                    return Listed::Again;
-                }
-                let added = add(symbols, past, PERMISSION, first + place, text, start, len);
-                let Added::Past(further) = added else {
-                    return Listed::NoRoom;
-                };
-                past = further;
-                place += 1;
-                i = next;
-            }
-            Item::Close { next } => return row_end(place, past, next),
-            Item::Open { .. } | Item::End => return Listed::NoRoom,
+        let name = word_at(text, i);
+        let NextWord::At { start, len } = name else {
+            return Added::Past(past);
+        };
+        if policy::Permission::MAX <= place {
+            return Added::NoRoom;
         }
+        let added = add(symbols, past, PERMISSION, first + place, text, start, len);
+        let Added::Past(next) = added else {
+            return Added::NoRoom;
+        };
+        past = next;
+        place += 1;
+        i = start + len;
     }
 }
 
@@ -408,25 +290,24 @@ pub fn declare_class(
 ) -> Declared
     ensures { λ r. ⌜ DeclaresAt (now (text .entry)) at classK (now (symbols .entry)) (now (symbols .exit)) end r ⌝ }
 {
-    let head = class_head(text, at);
-    let ClassHead::At { start, len, row } = head else {
+    let name = word_at(text, at);
+    let NextWord::At { start, len } = name else {
         return Declared::Full;
     };
     let known = stands(symbols, end, CLASS, text, start, len);
     let Standing::Free(number) = known else {
         return Declared::Again;
     };
+    let row = inside(text, start + len);
+    if repeats(text, row) {
+        return Declared::Again;
+    }
     if policy::Class::MAX <= number {
-        return again_or_full(text, row);
+        return Declared::Full;
     }
     let added = add(symbols, end, CLASS, number, text, start, len);
-    let Added::Past(first) = added else {
-        return again_or_full(text, row);
+    let Added::Past(past) = added else {
+        return Declared::Full;
     };
-    let listed = add_permissions(symbols, first, number * policy::Permission::MAX, text, row);
-    match listed {
-        Listed::Next { end: last, past } => closed(text, past, last),
-        Listed::Again => Declared::Again,
-        Listed::NoRoom => again_or_full(text, row),
-    }
+    answer(add_permissions(symbols, past, number * policy::Permission::MAX, text, row))
 }

@@ -110,7 +110,7 @@ four (some (r ∷ t ∷ c ∷ n ∷ [])) = refl
 four (some (r ∷ t ∷ c ∷ n ∷ x ∷ xs)) = ne-eqb (0 + suc (suc (suc (suc (suc (length xs)))))) 4 (λ z. omega arith)
 
 -- what follows a keyword
-pub formed-is : (k : Keyword) (f : Forms) → isSome (formed k f) ≡ byShape (shapeOf (some k)) f
+formed-is : (k : Keyword) (f : Forms) → isSome (formed k f) ≡ byShape (shapeOf (some k)) f
 formed-is (declareK s) f = sym (of-one (λ w. declare (plain s w)) (namesIn f))
 formed-is classK f = class-is (λ c ps. some (declare (class c ps))) true (λ c ps. refl) f ∙ and-true (nameAndPart Content.Permissions f)
 formed-is (setK a) f =

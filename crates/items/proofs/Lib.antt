@@ -3,5 +3,3 @@ pub mod Ends
 pub mod Items
 pub mod Rows
 pub mod Frames
-pub mod Keywords
-pub mod Bytes

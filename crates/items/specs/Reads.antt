@@ -1,15 +1,12 @@
 -- What a reading of a row to its close answers. Assumes nothing.
-use Prim.Native.Nat.{ℕ, _+_, _-_, _<_, _≤_}
+use Prim.Native.Nat.{ℕ, _+_, _<_, _≤_}
 use mathlib.Core.Path.{_≡_}
 use mathlib.Core.Bool.{Bool, true, false}
 use mathlib.Core.List.{List}
 use mathlib.Core.Option.{Option, none, some}
 use lib.Dec.{eqb, ltb}
 use lib.ListN.{length}
-use Rattle.lexer.specs.Scan.{maxLevel}
-use Rattle.lexer.specs.Forms.{Forms, closed, ended, word, part, framesAt, trim}
-use Rattle.policy.specs.Words.{Keyword}
-use Rattle.policy.specs.Grammar.{formed}
+use Rattle.lexer.specs.Forms.{Forms, closed, ended, word, part}
 use Rattle.items.specs.Looks.{rowEnd}
 use Rattle.items.specs.declared.Parsed.{Parsed}
 use Rattle.items.specs.declared.Wanted.{Wanted}
@@ -32,11 +29,6 @@ Ahead t at Parsed.Bad = Unit {0}
 pub record Reads (t : List ℕ) (at : ℕ) (b : Bool) (r : Parsed) : Type 0 where
   pub answer : r ≡ parsed b (rowEnd t at)
   pub ahead : Ahead t at r
-
--- what follows the keyword k at the place at is of the form of its statement, no part of it lies too deep, and q is the place behind the statement's
--- close
-abbrev pub StatementTo : List ℕ → ℕ → Keyword → ℕ → Type 0
-StatementTo t at k q = Reads t at (isSome (formed k (trim (framesAt t at .here) (maxLevel - 1)))) (Parsed.Next q)
 
 -- exactly a close
 abbrev pub isClosed : Forms → Bool

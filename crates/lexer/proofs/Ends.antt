@@ -93,14 +93,6 @@ module _ (t : List ℕ) (at : ℕ) where
   pub word-goes-on : goesOnWith (drop at t) ≡ true → firstFrom (drop at t) endsWord at ≡ firstFrom (drop (at + 1) t) endsWord (at + 1)
   word-goes-on e = further t endsWord at (ap not (byte-goes-on e)) (byte-there e)
 
--- the same by the answer to a test of a byte: the word goes on at the next place, or ends here
-module _ (t : List ℕ) (i : ℕ) {r : Bool} (e : r ≡ goesOn (classOf (getD t i 0))) (h : i < length t) where
-  pub passes : (j : ℕ) → not r ≡ false → j ≡ i + 1 → firstFrom (drop i t) endsWord i ≡ firstFrom (drop j t) endsWord j
-  passes j n f = further t endsWord i (ap not (sym e) ∙ n) h ∙ ap (λ (k : ℕ). firstFrom (drop k t) endsWord k) (sym f)
-
-  pub stays : not r ≡ true → firstFrom (drop i t) endsWord i ≡ i
-  stays n = found t endsWord i (ap not (sym e) ∙ n) h
-
 -- ---- whatever is run over the bytes of a text passes over a comment: one law for the scan and for the tokens
 
 module _ {R : Type 0} (run : List ℕ → Mode → ℕ → R)

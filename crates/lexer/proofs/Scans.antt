@@ -1,24 +1,22 @@
 -- How the scan of a text goes on by a byte, over a comment, and at its end: what the loop of `scan` does, stated once.
 -- Assumes nothing.
 use mathlib.Core.Path.{_≡_, refl, sym, ap, _∙_}
-use mathlib.Core.Bool.{Bool, true, false, cond}
+use mathlib.Core.Bool.{true, false, cond}
 use mathlib.Core.List.{List, [], _∷_}
-use Prim.Native.Nat.{ℕ, zero, suc, _+_, _-_, _≤_, _<_}
+use Prim.Native.Nat.{ℕ, _+_, _≤_, _<_}
 use native.Mathlib.Numerals.{add-one}
-use native.Mathlib.Decide.{decLt}
-use native.Mathlib.Omega.{arith}
 use borrow.Author.Tests.{lt-ltb, le-ltb}
 use lib.Dec.{eqb, ltb}
 use lib.ListN.{length, getD, drop, drop-of-length-le}
 use lib.Seq.{drop-cons}
 use Rattle.lexer.specs.Class.{classOf, endsComment, maxName}
 use Rattle.lexer.specs.Scan.{maxText, Mode, between, inComment, inName, State, going, stopped, stepBetween, step, scanFrom, scan}
-use Rattle.lexer.specs.Answers.{goesOnWith, commentEnd, endsWord, wordEnd, stateOf}
+use Rattle.lexer.specs.Answers.{goesOnWith, commentEnd, stateOf}
 use Rattle.lexer.specs.declared.ByteClass.{ByteClass}
 use Rattle.lexer.specs.declared.ByteClass.the-variants.{Blank, LineFeed, Comment, Open, Close, Letter, Digit, Wrong}
 use Rattle.lexer.specs.declared.Scanned.{Scanned}
 use Rattle.lexer.specs.declared.Step.{Step}
-use Rattle.lexer.proofs.Ends.{over-comment, byte-there, byte-goes-on, word-goes-on, word-ends, ahead}
+use Rattle.lexer.proofs.Ends.{over-comment, byte-there, byte-goes-on}
 
 -- a text that is too long is fault 1, and only such a text
 pub too-long : (t : List ℕ) → maxText < length t → scan t ≡ Scanned.TooLong
@@ -101,63 +99,3 @@ module _ (t : List ℕ) (at : ℕ) where
       over-comment (λ bs mode at. scanFrom bs (going mode level) at) (λ at. refl) (λ b bs at. refl)
       (λ b bs at e. ap (λ (s : State). scanFrom bs s (at + 1)) (blank-too level at (classOf b) e))
       t at
-
--- a name that is under way, with n bytes to come that go on it: it is left behind them, unless it gets too long
-module _ (t : List ℕ) (first level : ℕ) where
-  stops-here : (at : ℕ) (b : Bool) → goesOnWith (drop at t) ≡ b → wordEnd t at ≡ at → b ≡ false
-  stops-here at true e w = absurd (omega (arith, w, word-goes-on t at e, ahead t endsWord (at + 1)))
-  stops-here at false e w = refl
-
-  goes-on-here : (at n : ℕ) (b : Bool) → goesOnWith (drop at t) ≡ b → wordEnd t at ≡ at + suc n → b ≡ true
-  goes-on-here at n true e w = refl
-  goes-on-here at n false e w = absurd (omega (arith, w, word-ends (drop at t) at e))
-
-  one-less : (at n : ℕ) → goesOnWith (drop at t) ≡ true → wordEnd t at ≡ at + suc n → wordEnd t (at + 1) ≡ at + 1 + n
-  one-less at n e w = sym (word-goes-on t at e) ∙ w ∙ omega arith
-
-  name-left : (n at : ℕ) → wordEnd t at ≡ at + n → first < at → at + n - first ≤ maxName
-      → scanFrom (drop at t) (going (inName first (at - first)) level) at ≡ scan t → scanFrom (drop (at + n) t) (going between level) (at + n) ≡ scan t
-  name-left zero at w l h i =
-      let z : at + 0 ≡ at = omega arith in
-      rw z (sym (leave (drop at t) first (at - first) level at (stops-here at (goesOnWith (drop at t)) refl (w ∙ z))) ∙ i)
-  name-left (suc n) at w l h i =
-      let e = goes-on-here at n (goesOnWith (drop at t)) refl w in
-      let z : at + 1 - first ≡ at - first + 1 = omega arith in
-      let y : at + 1 + n ≡ at + suc n = omega arith in
-      rw (sym y) (name-left n (at + 1) (one-less at n e w) (omega arith) (omega arith) (rw z (grows t at first (at - first) level e (omega arith) i)))
-
-  name-overlong : (n at : ℕ) → wordEnd t at ≡ at + n → first < at → maxName < at + n - first → at - first ≤ maxName
-      → scanFrom (drop at t) (going (inName first (at - first)) level) at ≡ scan t → Scanned.Wrong first ≡ scan t
-  name-overlong zero at w l h m i = absurd (omega arith)
-  name-overlong (suc n) at w l h m i = go (decLt (at - first) maxName) (name-overlong n (at + 1))
-    where
-      e : goesOnWith (drop at t) ≡ true
-      e = goes-on-here at n (goesOnWith (drop at t)) refl w
-
-      go : Dec (at - first < maxName)
-          → (wordEnd t (at + 1) ≡ at + 1 + n → first < at + 1 → maxName < at + 1 + n - first → at + 1 - first ≤ maxName
-          → scanFrom (drop (at + 1) t) (going (inName first (at + 1 - first)) level) (at + 1) ≡ scan t → Scanned.Wrong first ≡ scan t)
-          → Scanned.Wrong first ≡ scan t
-      go (yes d) on =
-          let z : at + 1 - first ≡ at - first + 1 = omega arith in
-          on (one-less at n e w) (omega arith) (omega arith) (omega arith) (rw z (grows t at first (at - first) level e d i))
-      go (no d) on = overlong t at first (at - first) level e (omega (arith, d)) i
-
-  -- by the end of the word that is under way behind the first byte
-  abbrev end : ℕ
-  end = wordEnd t (first + 1)
-
-  apart : wordEnd t (first + 1) ≡ first + 1 + (end - (first + 1))
-  apart = omega (arith, ahead t endsWord (first + 1))
-
-  begun : scanFrom (drop (first + 1) t) (going (inName first 1) level) (first + 1) ≡ scan t
-      → scanFrom (drop (first + 1) t) (going (inName first (first + 1 - first)) level) (first + 1) ≡ scan t
-  begun i = let z : first + 1 - first ≡ 1 = omega arith in rw z i
-
-  pub over-name : end - first ≤ maxName → scanFrom (drop (first + 1) t) (going (inName first 1) level) (first + 1) ≡ scan t
-      → scanFrom (drop end t) (going between level) end ≡ scan t
-  over-name h i =
-      rw (sym apart) at (name-left (end - (first + 1)) (first + 1) apart (omega arith) (omega (arith, apart)) (begun i))
-
-  pub long-name : maxName < end - first → scanFrom (drop (first + 1) t) (going (inName first 1) level) (first + 1) ≡ scan t → Scanned.Wrong first ≡ scan t
-  long-name h i = name-overlong (end - (first + 1)) (first + 1) apart (omega arith) (omega (arith, apart)) (omega arith) (begun i)

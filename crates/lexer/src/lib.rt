@@ -171,47 +171,6 @@ fn name_goes_on(classes: &[u8; 256], text: &[u8], at: usize) -> bool
     is_in_name(classes, text[at])
 }
 
-// Where the name ends that is under way at a place, byte by byte.
-fn last_name_end(classes: &[u8; 256], text: &[u8], at: usize) -> usize
-    requires { ⌜ Classes (now classes) ⌝ }
-    ensures { λ r. ⌜ r ≡ wordEnd (now (text .entry)) at ⌝ }
-{
-    let mut i = at;
-    while name_goes_on(classes, text, i) {
-        i += 1;
-    }
-    i
-}
-
-// Where the name ends that is under way at a place: at the first byte with which it does not go on, or with the text. A turn tests four bytes and asks only
-// once whether they are there.
-fn name_end(classes: &[u8; 256], text: &[u8], at: usize) -> usize
-    requires { ⌜ Classes (now classes) ⌝ }
-    ensures { λ r. ⌜ r ≡ wordEnd (now (text .entry)) at ⌝ }
-{
-    if text.len() < 4 {
-        return last_name_end(classes, text, at);
-    }
-    let last = text.len() - 4;
-    let mut i = at;
-    while i <= last {
-        if !is_in_name(classes, text[i]) {
-            return i;
-        }
-        if !is_in_name(classes, text[i + 1]) {
-            return i + 1;
-        }
-        if !is_in_name(classes, text[i + 2]) {
-            return i + 2;
-        }
-        if !is_in_name(classes, text[i + 3]) {
-            return i + 3;
-        }
-        i += 4;
-    }
-    last_name_end(classes, text, i)
-}
-
 // The bytes below 64 with which a name goes on, by their bits: the digits and `-`.
 const LOW_NAME_BYTES: u64 = 0x3ff200000000000;
 
@@ -309,11 +268,14 @@ fn scan_in(classes: &[u8; 256], text: &[u8]) -> Scanned
             }
             Step::Comment => at = comment_end(classes, text, at + 1),
             Step::Name => {
-                let end = name_end(classes, text, at + 1);
-                if Name::MAX < end - at {
-                    break 'text at;
+                let start = at;
+                at += 1;
+                while name_goes_on(classes, text, at) {
+                    if Name::MAX <= at - start {
+                        break 'text start;
+                    }
+                    at += 1;
                 }
-                at = end;
             }
             Step::Fault => break 'text at,
         }

@@ -7,7 +7,7 @@ use mathlib.Core.List.{List, [], _∷_}
 use mathlib.Core.Option.{Option, none, some, Option·none-ne-some}
 use types.Run.{OneOf}
 use denote.Enum.Declared.{tagOf}
-use lib.ListN.{length, take, drop}
+use lib.ListN.{take, drop}
 use Rattle.lexer.specs.Class.{isName}
 use Rattle.lexer.specs.Scan.{maxLevel}
 use Rattle.lexer.specs.Forms.{Forms, word, framesAt, trim, namesGood}
@@ -22,11 +22,8 @@ use Rattle.items.specs.Looks.{itemAt}
 use Rattle.items.specs.declared.Item.{Item}
 use Rattle.items.proofs.Item.{the-type}
 use Rattle.items.proofs.Items.{Looked, alike-here}
-use Rattle.items.proofs.Rows.{after-word}
-use Rattle.grammar.specs.Shapes.{shapeOf}
-use Rattle.grammar.proofs.Statements.{formed-is, statement-row}
 use Rattle.parser.specs.Memory.{Memory}
-use Rattle.parser.specs.Steps.{RowIs, FormBehind, FormAt, Steps, StepsAt}
+use Rattle.parser.specs.Steps.{RowIs, Steps, StepsAt}
 use Rattle.parser.specs.declared.Progress.{Progress}
 use Rattle.parser.specs.declared.Step.{Step}
 
@@ -47,32 +44,24 @@ module _ {t : List ℕ} {at start len number next : ℕ} (l : Looked t at (Item.
       ∙ ap (λ (x : Option Keyword). x >>= λ k. formed k (framesAt t next .here))
       (keyword-number (take len (drop start t)) ∙ ap (λ (n : ℕ). keywordOf (wordOf n)) (l .ahead .2) ∙ e)
 
--- what is read behind the keyword is read from the statement's first place
-form-behind : {t : List ℕ} {at start len number next : ℕ} → Looked t at (Item.Word start len number next) → (k : Keyword) → keywordOf (wordOf number) ≡ some k
-    → (r : Step) → FormBehind t next k r → FormAt t at r
-form-behind {t} {next = next} l k e (Step.Read q past) x =
-    after-word l (statement-row (maxLevel - 1) l (shapeOf (some k)) (ap shapeOf (sym e)) ∙ sym (formed-is k (trim (framesAt t next .here) (maxLevel - 1)))) x
-form-behind l k e (Step.Fault n) x = tt
+module _ {t : List ℕ} {at place : ℕ} {before after : Memory} {s : Progress} {r : Step} where
+  -- nothing is said of a row of no form
+  formless : written (framesAt t at .here) ≡ none → StepsAt t at place before after s r
+  formless e = record { says = λ lent p w h row room. absurd (Option·none-ne-some w (sym e ∙ row .form)) }
 
-module _ {t : List ℕ} {at place : ℕ} {before after : Memory} {s : Progress} (long : length (after .code) ≡ length (before .code)) where
-  -- nothing is said of a row of no form but that it is refused
-  formless : (n : ℕ) → written (framesAt t at .here) ≡ none → StepsAt t at place before after s (Step.Fault n)
-  formless n e = record { long = long; form = tt; says = λ lent p w h row room. absurd (Option·none-ne-some w (sym e ∙ row .form)) }
+  pub no-word : (i : Item) → i ≡ itemAt t at → OneOf (1 ∷ 2 ∷ 3 ∷ []) (tagOf the-type i) → StepsAt t at place before after s r
+  no-word i e h = formless (alike-here written (λ f. none) t at i (1 ∷ 2 ∷ 3 ∷ []) (tt, λ x f g. refl, refl, refl) e h)
 
-  pub no-word : (n : ℕ) (i : Item) → i ≡ itemAt t at → OneOf (1 ∷ 2 ∷ 3 ∷ []) (tagOf the-type i) → StepsAt t at place before after s (Step.Fault n)
-  no-word n i e h = formless n (alike-here written (λ f. none) t at i (1 ∷ 2 ∷ 3 ∷ []) (tt, λ x f g. refl, refl, refl) e h)
+  module _ {start len number next : ℕ} (l : Looked t at (Item.Word start len number next)) where
+    pub no-keyword : keywordOf (wordOf number) ≡ none → StepsAt t at place before after s r
+    no-keyword e = formless (said l none e)
 
-  pub no-keyword : {start len number next : ℕ} (n : ℕ) → Looked t at (Item.Word start len number next) → keywordOf (wordOf number) ≡ none
-      → StepsAt t at place before after s (Step.Fault n)
-  no-keyword n l e = formless n (said l none e)
-
-module _ {t : List ℕ} {at place : ℕ} {before after : Memory} {s : Progress} {r : Step} {start len number next : ℕ} (l : Looked t at (Item.Word start len number next)) where
-  pub by-keyword : (k : Keyword) → keywordOf (wordOf number) ≡ some k → Steps t next place k before after s r → StepsAt t at place before after s r
-  by-keyword k e x = record { long = x .long; form = form-behind l k e r (x .form); says = λ lent p w h row room. x .says lent p w h (behind row) room }
-    where
-      behind : {w : Written} → RowIs (framesAt t at .here) (written (framesAt t at .here)) w → RowIs (framesAt t next .here) (formed k (framesAt t next .here)) w
-      behind row = record {
-        names = rest-good start (take len (drop start t)) (framesAt t next .here) (sym (ap namesGood (l .here)) ∙ row .names);
-        uncut = rest-whole start (take len (drop start t)) (framesAt t next .here) (subst (λ (f : Forms). trim f (maxLevel - 1) ≡ f) (l .here) (row .uncut));
-        form = sym (said l (some k) e) ∙ row .form;
-      }
+    pub by-keyword : (k : Keyword) → keywordOf (wordOf number) ≡ some k → Steps t next place k before after s r → StepsAt t at place before after s r
+    by-keyword k e x = record { says = λ lent p w h row room. x .says lent p w h (behind row) room }
+      where
+        behind : {w : Written} → RowIs (framesAt t at .here) (written (framesAt t at .here)) w → RowIs (framesAt t next .here) (formed k (framesAt t next .here)) w
+        behind row = record {
+          names = rest-good start (take len (drop start t)) (framesAt t next .here) (sym (ap namesGood (l .here)) ∙ row .names);
+          uncut = rest-whole start (take len (drop start t)) (framesAt t next .here) (subst (λ (f : Forms). trim f (maxLevel - 1) ≡ f) (l .here) (row .uncut));
+          form = sym (said l (some k) e) ∙ row .form;
+        }

@@ -14,7 +14,7 @@ use Rattle.bitset.specs.Parts.{put}
 use Rattle.bitset.specs.Relations.{joined}
 use Rattle.lexer.specs.Forms.{framesAt}
 use Rattle.policy.specs.Basics.{each}
-use Rattle.policy.specs.Words.{Keyword, transitionK, constrainK}
+use Rattle.policy.specs.Words.{Keyword, constrainK}
 use Rattle.policy.specs.Maxima.{maxTransitions, maxConstraints, maxRows, maxStack}
 use Rattle.policy.specs.Statements.{Declaration, class, Reference, Constraint, Written, Statement, declare, attributeset, gives, roletransition, constrain, Policy, declared, declarations, transition, Transition, transitions, Constrain, constrained, constrains, size, need}
 use Rattle.policy.specs.Grammar.{formed}
@@ -27,7 +27,6 @@ use Rattle.table_laws.proofs.Pieces.{wide-length}
 use Rattle.table_laws.proofs.ImageReadBack.{every-wide}
 use Rattle.table_laws.proofs.Records.{head-wide, row-wide}
 use Rattle.image_laws.proofs.RowCounts.{rows-count}
-use Rattle.items.specs.Reads.{StatementTo}
 use Rattle.reading_laws.proofs.ReadThen.{line}
 use Rattle.statement_code.specs.Code.{declarationCode, statementCode, codeOf}
 use Rattle.code_laws.proofs.CodeFits.{code-last}
@@ -43,7 +42,7 @@ use Rattle.constrain_statement.specs.Constraining as constraining
 use Rattle.constrain_statement.specs.Constraining.{headOf, fitsBefore, WritesConstrain}
 use Rattle.constrain_statement.specs.declared.Constrained.{Constrained}
 use Rattle.parser.specs.Memory.{Memory, memory, symbolsOf, Holds}
-use Rattle.parser.specs.Steps.{codedKeyword, Filled, Stepped, RowIs, Room, FormBehind, Steps, withSymbols, declaredStep, withCode, codedStep, withRows, constrainedStep}
+use Rattle.parser.specs.Steps.{codedKeyword, Filled, Stepped, RowIs, Room, Steps, withSymbols, declaredStep, withCode, codedStep, withRows, constrainedStep}
 use Rattle.parser.specs.declared.Progress.{Progress}
 use Rattle.parser.specs.declared.Step.{Step}
 use Rattle.parser.specs.declared.CodedKind.{CodedKind}
@@ -133,11 +132,6 @@ stepped-as : (p : Policy) (place : ℕ) (lent now : Memory) {j i : Judged} {r q 
 stepped-as p place lent now {j} {i} {r} {q} e f x =
     subst (λ (a : Judged). Stepped a p place lent now r) (sym e) (subst (λ (b : Step). Stepped i p place lent now b) (sym f) x)
 
--- a statement of its form is read where there is room for it, and else refused
-room-or-fault : (t : List ℕ) (at : ℕ) (k : Keyword) (q : Progress) (past : ℕ) (b : Bool) → StatementTo t at k past → FormBehind t at k (cond b (Step.Read q past) (Step.Fault 6))
-room-or-fault t at k q past true x = x
-room-or-fault t at k q past false x = tt
-
 -- DECLARATIONS: fault 4, then 6
 module _ (p : Policy) (d : Declaration) where
   abbrev judgedBy : Bool → Bool → Judged
@@ -149,18 +143,12 @@ module _ (p : Policy) (d : Declaration) where
 -- what is written for the declaration that the statement is
 pub record Declaring (k : Keyword) (place : ℕ) (co co' : List ℕ) (from to : ℕ) : Type 0 where
   pub of : (w : Written) → IsOf k w → (d : Declaration) × (w ≡ declare d) × Wrote co from (declarationCode place d) co' to
-  pub long : length co' ≡ length co
 
 module _ {t : List ℕ} {at place : ℕ} {k : Keyword} {sy sy' co co' cs rs : List ℕ} {s : Progress} {to : ℕ} where
   pub declared-steps : (r : Declared) → DeclaresAt t at k sy sy' (s .symbols) r → Declaring k place co co' (s .code) to
       → Steps t at place k (memory sy co cs rs) (memory sy' co' cs rs) s (declaredStep r (withCode s to (s .transitions)))
-  declared-steps r a x = record { long = x .long; form = form r (a .form); says = says r a }
+  declared-steps r a x = record { says = says r a }
     where
-      form : (r : Declared) → declaring.FormBy t at k r → FormBehind t at k (declaredStep r (withCode s to (s .transitions)))
-      form (Declared.Next end past) f = f
-      form Declared.Again f = tt
-      form Declared.Full f = tt
-
       says : (r : Declared) → DeclaresAt t at k sy sy' (s .symbols) r → (lent : Memory) (p : Policy) (w : Written) → Holds p lent (memory sy co cs rs) s
           → RowIs (framesAt t at .here) (formed k (framesAt t at .here)) w → Room lent p place w
           → Stepped (naming p (some w)) p place lent (memory sy' co' cs rs) (declaredStep r (withCode s to (s .transitions)))
@@ -177,7 +165,7 @@ module _ {t : List ℕ} {at place : ℕ} {k : Keyword} {sy sy' co co' cs rs : Li
 
           go : (r : Declared) → Declares sy sy' (s .symbols) (declarations p) d r
               → Stepped (naming p (some w)) p place lent (memory sy' co' cs rs) (declaredStep r (withCode s to (s .transitions)))
-          go (Declared.Next end past) y =
+          go (Declared.Next past) y =
               let e = as-declared _ (judged-declared p d true true (y .new) (y .room)) in
               stepped-as p place lent (memory sy' co' cs rs) e refl (filled-declared h place d y (o .2) (room .code (declare d) e))
           go Declared.Again y = stepped-as p place lent (memory sy' co' cs rs) (as-declared _ (ap (λ (new : Bool). judgedBy p d new (hasRoom (declarations p) d)) y)) refl refl
@@ -189,19 +177,19 @@ coded-naming (CodedKind.Set f) p w i = ap (λ (v : Written). naming p (some v)) 
 coded-naming (CodedKind.Relation r) p w i = ap (λ (v : Written). naming p (some v)) (i .2) ∙ ap (λ (v : Written). resolving p (resolved (declarations p) v)) (sym (i .2))
 coded-naming CodedKind.Transition p w i = ap (λ (v : Written). naming p (some v)) (i .4) ∙ ap (λ (v : Written). resolving p (resolved (declarations p) v)) (sym (i .4))
 
-module _ {p : Policy} {lent : Memory} {sy co co' cs rs : List ℕ} {s : Progress} {to : ℕ} (h : Holds p lent (memory sy co cs rs) s) (place past : ℕ) (st : Statement)
+module _ {p : Policy} {lent : Memory} {sy co co' cs rs : List ℕ} {s : Progress} {to : ℕ} (h : Holds p lent (memory sy co cs rs) s) (place : ℕ) (st : Statement)
     (room : sized p st ≡ reads st → length (codeOf p) + length (statementCode place st) ≤ length (lent .code))
     (w : Wrote co (s .code) (statementCode place st) co' to) where
   -- a statement that is no transition
   plain-step : (v : Statement) → st ≡ v → sized p v ≡ reads v → declared (line place v) ≡ none → constrained (line place v) ≡ none → transition (line place v) ≡ none
-      → Stepped (sized p st) p place lent (memory sy co' cs rs) (Step.Read (withCode s to (s .transitions)) past)
+      → Stepped (sized p st) p place lent (memory sy co' cs rs) (Step.Read (withCode s to (s .transitions)))
   plain-step v i e d k m =
       let f : sized p st ≡ reads st = ap (sized p) i ∙ e ∙ ap (λ (x : Statement). reads x) (sym i) in
       stepped-as p place lent (memory sy co' cs rs) f refl
       (filled-coded h place st (ap (λ (x : Statement). declared (line place x)) i ∙ d) (ap (λ (x : Statement). constrained (line place x)) i ∙ k) (s .transitions)
       (h .transition-count ∙ ap length (sym (transitions-same p (line place st) (ap (λ (x : Statement). transition (line place x)) i ∙ m)))) w (room f))
 
-  coded-sized : (kind : CodedKind) → IsOf (codedKeyword kind) st → Stepped (sized p st) p place lent (memory sy co' cs rs) (codedStep kind (Coded.Next to past) s)
+  coded-sized : (kind : CodedKind) → IsOf (codedKeyword kind) st → Stepped (sized p st) p place lent (memory sy co' cs rs) (codedStep kind (Coded.Next to) s)
   coded-sized (CodedKind.Set f) i = plain-step (attributeset (familyOf f) (i .0) (i .1)) (i .2) refl refl refl refl
   coded-sized (CodedKind.Relation r) i = plain-step (gives (relationOf r) (i .0) (i .1)) (i .2) refl refl refl refl
   coded-sized CodedKind.Transition i = go (ltb (length (transitions p)) maxTransitions) refl
@@ -216,16 +204,16 @@ module _ {p : Policy} {lent : Memory} {sy co co' cs rs : List ℕ} {s : Progress
       count = transitions-more p (line place st) _ m
 
       step : (b : Bool) → ltb (length (transitions p)) maxTransitions ≡ b
-          → codedStep CodedKind.Transition (Coded.Next to past) s ≡ cond b (Step.Read (withCode s to (s .transitions + 1)) past) (Step.Fault 6)
+          → codedStep CodedKind.Transition (Coded.Next to) s ≡ cond b (Step.Read (withCode s to (s .transitions + 1))) (Step.Fault 6)
       step b e =
-          ap (λ (x : Bool). cond x (Step.Read (withCode s to (s .transitions + 1)) past) (Step.Fault 6)) (ap (λ (n : ℕ). ltb n maxTransitions) (h .transition-count) ∙ e)
+          ap (λ (x : Bool). cond x (Step.Read (withCode s to (s .transitions + 1))) (Step.Fault 6)) (ap (λ (n : ℕ). ltb n maxTransitions) (h .transition-count) ∙ e)
 
       judged : (b : Bool) → ltb (length (transitions p)) maxTransitions ≡ b → sized p st ≡ cond b (reads st) (fault 6)
       judged b e =
           ap (sized p) (i .4) ∙ ap (λ (x : Bool). cond x (reads v) (fault 6)) e ∙ ap (λ (x : Statement). cond b (reads x) (fault 6)) (sym (i .4))
 
       go : (b : Bool) → ltb (length (transitions p)) maxTransitions ≡ b
-          → Stepped (sized p st) p place lent (memory sy co' cs rs) (codedStep CodedKind.Transition (Coded.Next to past) s)
+          → Stepped (sized p st) p place lent (memory sy co' cs rs) (codedStep CodedKind.Transition (Coded.Next to) s)
       go true e =
           stepped-as p place lent (memory sy co' cs rs) (judged true e) (step true e)
           (filled-coded h place st (ap (λ (x : Statement). declared (line place x)) (i .4)) (ap (λ (x : Statement). constrained (line place x)) (i .4)) (s .transitions + 1)
@@ -235,16 +223,8 @@ module _ {p : Policy} {lent : Memory} {sy co co' cs rs : List ℕ} {s : Progress
 module _ {t : List ℕ} {at place : ℕ} {sy co co' cs rs : List ℕ} {s : Progress} (kind : CodedKind) where
   pub coded-steps : (r : Coded) → WritesStatement t at (codedKeyword kind) place sy (s .symbols) co (s .code) co' r
       → Steps t at place (codedKeyword kind) (memory sy co cs rs) (memory sy co' cs rs) s (codedStep kind r s)
-  coded-steps r a = record { long = a .keeps .long; form = form kind r (a .form); says = says }
+  coded-steps r a = record { says = says }
     where
-      form : (kind : CodedKind) (r : Coded) → coding.FormBy t at (codedKeyword kind) r → FormBehind t at (codedKeyword kind) (codedStep kind r s)
-      form (CodedKind.Set f) (Coded.Next to past) x = x
-      form (CodedKind.Relation k) (Coded.Next to past) x = x
-      form CodedKind.Transition (Coded.Next to past) x = room-or-fault t at transitionK (withCode s to (s .transitions + 1)) past (ltb (s .transitions) maxTransitions) x
-      form (CodedKind.Set f) Coded.Undeclared x = tt
-      form (CodedKind.Relation k) Coded.Undeclared x = tt
-      form CodedKind.Transition Coded.Undeclared x = tt
-
       says : (lent : Memory) (p : Policy) (w : Written) → Holds p lent (memory sy co cs rs) s
           → RowIs (framesAt t at .here) (formed (codedKeyword kind) (framesAt t at .here)) w → Room lent p place w
           → Stepped (naming p (some w)) p place lent (memory sy co' cs rs) (codedStep kind r s)
@@ -260,10 +240,10 @@ module _ {t : List ℕ} {at place : ℕ} {sy co co' cs rs : List ℕ} {s : Progr
           go : (o : Option Statement) → resolved (declarations p) w ≡ o → (r : Coded) → coding.Answers co (s .code) place o co' r
               → Stepped (resolving p o) p place lent (memory sy co' cs rs) (codedStep kind r s)
           go none e Coded.Undeclared y = refl
-          go none e (Coded.Next u past) y = absurd y
+          go none e (Coded.Next u) y = absurd y
           go (some st) e Coded.Undeclared y = absurd y
-          go (some st) e (Coded.Next u past) y =
-              coded-sized h place past st (λ f. room .code st (named ∙ ap (resolving p) e ∙ f)) y kind (resolved-of (declarations p) (codedKeyword kind) w i .has st e)
+          go (some st) e (Coded.Next u) y =
+              coded-sized h place st (λ f. room .code st (named ∙ ap (resolving p) e ∙ f)) y kind (resolved-of (declarations p) (codedKeyword kind) w i .has st e)
 
 -- CONSTRAINTS: fault 5, then 6, then 7
 constrain-naming : (p : Policy) (w : Written) → IsOf constrainK w → naming p (some w) ≡ resolving p (resolved (declarations p) w)
@@ -282,9 +262,9 @@ module _ {p : Policy} {lent : Memory} {sy co cs rs : List ℕ} {s : Progress} (h
   constrained-sized : (place : ℕ) (cs' rs' : List ℕ) → 1280 ≤ length (lent .constraints) → 12288 ≤ length (lent .rows)
       → (r : Constrained) → constraining.Answers (some (constrain c ps e)) cs cs' (s .constraints) rs rs' (s .rows) r
       → Stepped (sized p (constrain c ps e)) p place lent (memory sy co cs' rs') (constrainedStep r s)
-  constrained-sized place cs' rs' wide long (Constrained.Next next past) a =
+  constrained-sized place cs' rs' wide long (Constrained.Next next) a =
       stepped-as p place lent (memory sy co cs' rs') (judged-constrained true true (a .fits) (a .shallow))
-      (ap (λ (b : Bool). cond b (Step.Read (withRows s next) past) (Step.Fault 6)) (both-true (ltb (s .constraints) maxConstraints) (leb (s .rows + size e) maxRows) (a .fits) .0))
+      (ap (λ (b : Bool). cond b (Step.Read (withRows s next)) (Step.Fault 6)) (both-true (ltb (s .constraints) maxConstraints) (leb (s .rows + size e) maxRows) (a .fits) .0))
       (filled-constrained h place c ps e a wide long)
   constrained-sized place cs' rs' wide long Constrained.Undeclared a = absurd a
   constrained-sized place cs' rs' wide long Constrained.Full a =
@@ -294,14 +274,8 @@ module _ {p : Policy} {lent : Memory} {sy co cs rs : List ℕ} {s : Progress} (h
 module _ {t : List ℕ} {at place : ℕ} {sy co cs cs' rs rs' : List ℕ} {s : Progress} where
   pub constrained-steps : (r : Constrained) → WritesConstrain t at sy (s .symbols) cs cs' (s .constraints) rs rs' (s .rows) r
       → Steps t at place constrainK (memory sy co cs rs) (memory sy co cs' rs') s (constrainedStep r s)
-  constrained-steps r a = record { long = refl; form = form r (a .form); says = says }
+  constrained-steps r a = record { says = says }
     where
-      form : (r : Constrained) → constraining.FormBy t at r → FormBehind t at constrainK (constrainedStep r s)
-      form (Constrained.Next next past) x = room-or-fault t at constrainK (withRows s next) past (ltb (s .constraints) maxConstraints) x
-      form Constrained.Undeclared x = tt
-      form Constrained.Full x = tt
-      form Constrained.Deep x = tt
-
       says : (lent : Memory) (p : Policy) (w : Written) → Holds p lent (memory sy co cs rs) s
           → RowIs (framesAt t at .here) (formed constrainK (framesAt t at .here)) w → Room lent p place w
           → Stepped (naming p (some w)) p place lent (memory sy co cs' rs') (constrainedStep r s)
@@ -318,7 +292,7 @@ module _ {t : List ℕ} {at place : ℕ} {sy co cs cs' rs rs' : List ℕ} {s : P
 
           go : (o : Option Statement) → resolved (declarations p) w ≡ o → (r : Constrained) → constraining.Answers o cs cs' (s .constraints) rs rs' (s .rows) r
               → Stepped (resolving p o) p place lent (memory sy co cs' rs') (constrainedStep r s)
-          go none e (Constrained.Next n past) y = absurd y
+          go none e (Constrained.Next n) y = absurd y
           go none e Constrained.Undeclared y = refl
           go none e Constrained.Full y = absurd y
           go none e Constrained.Deep y = absurd y

@@ -8,11 +8,10 @@ use mathlib.Core.Option.{Option, none, some}
 use types.Run.{OneOf}
 use denote.Enum.Declared.{tagOf}
 use lib.Dec.{leb}
-use borrow.Author.Tests.{le-leb}
 use lib.ListN.{length, take}
 use Rattle.lexer.specs.declared.Scanned.{Scanned}
 use Rattle.lexer.specs.declared.Token.{Token}
-use Rattle.lexer.specs.Scan.{scan, maxLevel}
+use Rattle.lexer.specs.Scan.{scan, maxText, maxLevel}
 use Rattle.lexer.specs.Token.{tokenAt}
 use Rattle.lexer.specs.Forms.{Forms, ended, part, framesAt, formsOf, trim, closes, balanced, namesGood}
 use Rattle.lexer.proofs.Clean.{clean-short, clean-balanced, clean-uncut, clean-names}
@@ -26,11 +25,12 @@ use Rattle.policy.specs.Accepted.{Accepted}
 use Rattle.policy.specs.Encode.{headsFrom, entriesFrom, entries}
 use Rattle.policy.proofs.Lists.{both-true}
 use Rattle.items.specs.Looks.{itemOf, itemAt, rowEnd}
+use Rattle.items.specs.Reads as items
 use Rattle.items.specs.Reads.{isSome}
 use Rattle.items.specs.declared.Item.{Item}
+use Rattle.items.specs.declared.Parsed as form
 use Rattle.items.proofs.Item.{the-type}
 use Rattle.items.proofs.Items.{Looked, sees, among}
-use Rattle.items.proofs.Rows.{told}
 use Rattle.grammar.proofs.Statements.{uncut}
 use Rattle.reading_laws.proofs.ReadThen.{line, judgedAt, read-part}
 use Rattle.reading_laws.proofs.ReadAccepted.{statement-accepted}
@@ -39,10 +39,10 @@ use Rattle.code_laws.specs.Weight.{weight}
 use Rattle.code_laws.proofs.TextWeight.{text-weight}
 use Rattle.code_laws.proofs.StatementShape.{statement-fits}
 use Rattle.code_laws.proofs.CodeFits.{part-fits}
-use Rattle.symbols.specs.Index.{Indexed}
+use Rattle.symbols.specs.Index.{Indexed, Cleared}
 use Rattle.declarations.specs.Declaring.{sectionOf}
-use Rattle.parser.specs.Memory.{Memory, symbolsOf, constraintsOf, rowsOf, Holds, Reads, memory, Starts}
-use Rattle.parser.specs.Steps.{Filled, Stepped, RowIs, Room, FormAt, numberOf, StepsAt, nothingRead}
+use Rattle.parser.specs.Memory.{Memory, symbolsOf, constraintsOf, rowsOf, Holds, Reads, memory, Starts, Parses, ParsesIndexed}
+use Rattle.parser.specs.Steps.{Filled, Stepped, RowIs, Room, StepsAt, nothingRead}
 use Rattle.parser.specs.declared.Progress.{Progress}
 use Rattle.parser.specs.declared.Parsed.{Parsed}
 use Rattle.parser.specs.declared.Step.{Step}
@@ -56,7 +56,7 @@ pub record Rest (t : List ℕ) (at : ℕ) (lent now : Memory) (s : Progress) : T
   pub shut : balanced (framesAt t at .here) ≡ true
   pub names : namesGood (framesAt t at .here) ≡ true
   pub deep : trim (framesAt t at .here) maxLevel ≡ framesAt t at .here
-  pub room : length (codeOf sofar) + weight (framesAt t at .here) ≤ length t
+  pub room : length (codeOf sofar) + weight (framesAt t at .here) ≤ maxText
 
 -- no statements
 nothing-accepted : Accepted []
@@ -90,7 +90,7 @@ begins t lent clean index = record {
   shut = clean-balanced t clean;
   names = clean-names t clean;
   deep = clean-uncut t clean;
-  room = omega (arith, no-code, text-weight t);
+  room = omega (arith, no-code, text-weight t, clean-short t clean);
 }
 
 -- the row is at its end, or it is not balanced
@@ -133,12 +133,12 @@ opens {t} {at} {place} {next} clean e f =
       within = omega (arith, l .ahead .1, opened t (tokenAt t at) place next (sym e ∙ f), clean-short t clean);
     }
 
--- the place past a statement that is read is further on
-pub further : (t : List ℕ) (at : ℕ) {place next past : ℕ} {i : Item} {k : Step} {q : Progress} → i ≡ itemAt t at → i ≡ Item.Open place next
-    → FormAt t next k → k ≡ Step.Read q past → length t - past < length t - at
-further t at {place} {next} {past} e g x h =
+-- the place past the statement is further on
+pub further : {t : List ℕ} (at : ℕ) {place next past : ℕ} {b : Bool} {i : Item} {f : form.Parsed} → i ≡ itemAt t at → i ≡ Item.Open place next
+    → items.Reads t next b f → f ≡ form.Parsed.Next past → length t - past < length t - at
+further {t} at {place} {next} {past} e g x h =
     let l = sees e g .ahead in
-    let a = subst (λ (k : Step). FormAt t next k) h x .ahead in
+    let a = subst (λ (k : form.Parsed). items.Ahead t next k) h (x .ahead) in
     omega (arith, l, a)
 
 module _ {t : List ℕ} {at place next : ℕ} {lent now : Memory} {s : Progress} (r : Rest t at lent now s) (o : Opens t at place next) where
@@ -159,37 +159,52 @@ module _ {t : List ℕ} {at place next : ℕ} {lent now : Memory} {s : Progress}
   inner-deep : (trim inner (maxLevel - 1) ≡ inner) × (trim after maxLevel ≡ after)
   inner-deep = uncut place inner after (subst (λ (f : Forms). trim f maxLevel ≡ f) (o .row) (r .deep))
 
-  whole-room : length (codeOf (r .sofar)) + weight (part place inner after) ≤ length t
-  whole-room = subst (λ (f : Forms). length (codeOf (r .sofar)) + weight f ≤ length t) (o .row) (r .room)
+  whole-room : length (codeOf (r .sofar)) + weight (part place inner after) ≤ maxText
+  whole-room = subst (λ (f : Forms). length (codeOf (r .sofar)) + weight f ≤ maxText) (o .row) (r .room)
 
   left-by : (j : Judged) → judge (r .sofar) inner ≡ j → readFrom (formsOf t) [] ≡ judgedAt place (r .sofar) j (readFrom after)
   left-by j e =
       r .left ∙ ap (λ (f : Forms). readFrom f (r .sofar)) (o .row) ∙ read-part place inner after (r .sofar)
       ∙ ap (λ (x : Judged). judgedAt place (r .sofar) x (readFrom after)) e
 
-  refuses : (now' : Memory) (n m : ℕ) → judge (r .sofar) inner ≡ fault n → m ≡ n → Reads (readFrom (formsOf t) []) lent now' (Parsed.Refused m place)
-  refuses now' n m e f = subst (λ (x : Read). Reads x lent now' (Parsed.Refused m place)) (sym (left-by (fault n) e)) (f, refl)
+  refuses : (n m : ℕ) → judge (r .sofar) inner ≡ fault n → m ≡ n → Reads (readFrom (formsOf t) []) lent now (Parsed.Refused m place)
+  refuses n m e f = subst (λ (x : Read). Reads x lent now (Parsed.Refused m place)) (sym (left-by (fault n) e)) (f, refl)
 
   -- fault 3
+  no-form : (b : Bool) (q : ℕ) → form.Parsed.Bad ≡ items.parsed b q → b ≡ false
+  no-form true q e = absurd (let z : _≡_ {A = ℕ} 0 1 = cc in omega arith)
+  no-form false q e = refl
+
   nothing-written : (w : Option Written) → isSome w ≡ false → naming (r .sofar) w ≡ fault 3
   nothing-written none e = refl
   nothing-written (some w) e = absurd (false≢true (sym e))
 
-  formless : (now' : Memory) → isSome (written (trim inner (maxLevel - 1))) ≡ false → Reads (readFrom (formsOf t) []) lent now' (Parsed.Refused 3 place)
+  pub formless : {f : form.Parsed} → items.Reads t next (isSome (written (trim inner (maxLevel - 1)))) f → f ≡ form.Parsed.Bad
+      → Reads (readFrom (formsOf t) []) lent now (Parsed.Refused 3 place)
   unfolding judge
-  formless now' b = refuses now' 3 3 (nothing-written (written inner) (ap (λ (g : Forms). isSome (written g)) (sym (inner-deep .0)) ∙ b)) refl
+  formless x e =
+      refuses 3 3
+      (nothing-written (written inner)
+      (ap (λ (g : Forms). isSome (written g)) (sym (inner-deep .0)) ∙ no-form _ _ (sym e ∙ x .answer))) refl
 
   -- a form
+  good-form : (b : Bool) (q past : ℕ) → form.Parsed.Next past ≡ items.parsed b q → (b ≡ true) × (past ≡ q)
+  good-form true q past e = (refl, cc)
+  good-form false q past e = absurd (let z : _≡_ {A = ℕ} 0 1 = cc in omega arith)
+
   is-written : (w : Option Written) → isSome w ≡ true → (v : Written) × (w ≡ some v)
   is-written none e = absurd (false≢true e)
   is-written (some v) e = (v, refl)
 
 -- a statement of a form: what its step says of the text, and what is left behind it
-module _ {t : List ℕ} {at place next : ℕ} {lent now : Memory} {s : Progress} (r : Rest t at lent now s) (o : Opens t at place next)
-    (wide : length t ≤ length (lent .code)) (many : 1280 ≤ length (lent .constraints)) (long : 12288 ≤ length (lent .rows))
-    (good : isSome (written (trim (framesAt t next .here) (maxLevel - 1))) ≡ true) where
+module _ {t : List ℕ} {at place next past : ℕ} {lent now : Memory} {s : Progress} (r : Rest t at lent now s) (o : Opens t at place next)
+    {f : form.Parsed} (x : items.Reads t next (isSome (written (trim (framesAt t next .here) (maxLevel - 1)))) f) (e : f ≡ form.Parsed.Next past)
+    (wide : 65536 ≤ length (lent .code)) (many : 1280 ≤ length (lent .constraints)) (long : 12288 ≤ length (lent .rows)) where
+  formed : (isSome (written (trim (inner r o) (maxLevel - 1))) ≡ true) × (past ≡ rowEnd t next)
+  formed = good-form r o _ _ past (sym e ∙ x .answer)
+
   one : (w : Written) × (written (inner r o) ≡ some w)
-  one = is-written r o (written (inner r o)) (ap (λ (g : Forms). isSome (written g)) (sym (inner-deep r o .0)) ∙ good)
+  one = is-written r o (written (inner r o)) (ap (λ (g : Forms). isSome (written g)) (sym (inner-deep r o .0)) ∙ formed .0)
 
   judged : judge (r .sofar) (inner r o) ≡ naming (r .sofar) (some (one .0))
   unfolding judge
@@ -208,65 +223,74 @@ module _ {t : List ℕ} {at place next : ℕ} {lent now : Memory} {s : Progress}
 
   -- the statement is read
   reads-on : {now' : Memory} {q : Progress} (st : Statement) → judge (r .sofar) (inner r o) ≡ reads st
-      → Filled (r .sofar ++ (line place st ∷ [])) lent now' q → Rest t (rowEnd t next) lent now' q
-  reads-on st j g = record {
-    sofar = r .sofar ++ (line place st ∷ []);
-    holds = record {
-      accepted = statement-accepted (r .sofar) (inner r o) place st (r .holds .accepted) (inner-names r o .0) j;
-      symbols = g .symbols;
-      indexed = g .indexed;
-      code = g .code;
-      constraints = g .constraints;
-      rows = g .rows;
-      transition-count = g .transition-count;
-      constraint-count = g .constraint-count;
-      row-count = g .row-count;
-    };
-    left = left-by r o (reads st) j;
-    shut = after-shut r o;
-    names = inner-names r o .1;
-    deep = inner-deep r o .1;
-    room = part-fits (r .sofar) (inner r o) (after r o) place (length t) st j (whole-room r o);
-  }
+      → Filled (r .sofar ++ (line place st ∷ [])) lent now' q → Rest t past lent now' q
+  reads-on {now'} {q} st j g =
+      subst (λ (n : ℕ). Rest t n lent now' q) (sym (formed .1))
+      (record {
+        sofar = r .sofar ++ (line place st ∷ []);
+        holds = record {
+          accepted = statement-accepted (r .sofar) (inner r o) place st (r .holds .accepted) (inner-names r o .0) j;
+          symbols = g .symbols;
+          indexed = g .indexed;
+          code = g .code;
+          constraints = g .constraints;
+          rows = g .rows;
+          transition-count = g .transition-count;
+          constraint-count = g .constraint-count;
+          row-count = g .row-count;
+        };
+        left = left-by r o (reads st) j;
+        shut = after-shut r o;
+        names = inner-names r o .1;
+        deep = inner-deep r o .1;
+        room = part-fits (r .sofar) (inner r o) (after r o) place maxText st j (whole-room r o);
+      })
 
   module _ {now' : Memory} {unit : ℕ} {k : Step} (u : place < 65536 → unit ≡ place) (y : StepsAt t next unit now now' s k) where
     step : Stepped (naming (r .sofar) (some (one .0))) (r .sofar) place lent now' k
     step =
         subst (λ (n : ℕ). StepsAt t next n now now' s k) (u (o .within)) y .says lent (r .sofar) (one .0) (r .holds) row-is room-for
 
-    good-goes-on : {q : Progress} {past : ℕ} → k ≡ Step.Read q past → Rest t (rowEnd t next) lent now' q
-    good-goes-on {q} {past} h = go (naming (r .sofar) (some (one .0))) refl (subst (λ (b : Step). Stepped (naming (r .sofar) (some (one .0))) (r .sofar) place lent now' b) h step)
+    pub goes-on : {q : Progress} → k ≡ Step.Read q → Rest t past lent now' q
+    goes-on {q} h = go (naming (r .sofar) (some (one .0))) refl (subst (λ (b : Step). Stepped (naming (r .sofar) (some (one .0))) (r .sofar) place lent now' b) h step)
       where
-        go : (j : Judged) → naming (r .sofar) (some (one .0)) ≡ j → Stepped j (r .sofar) place lent now' (Step.Read q past) → Rest t (rowEnd t next) lent now' q
+        go : (j : Judged) → naming (r .sofar) (some (one .0)) ≡ j → Stepped j (r .sofar) place lent now' (Step.Read q) → Rest t past lent now' q
         go (reads st) i g = reads-on st (judged ∙ i) g
         go (fault n) i g = absurd g
 
-    good-stops : {n : ℕ} → k ≡ Step.Fault n → Reads (readFrom (formsOf t) []) lent now' (Parsed.Refused n place)
-    good-stops {n} h = go (naming (r .sofar) (some (one .0))) refl (subst (λ (b : Step). Stepped (naming (r .sofar) (some (one .0))) (r .sofar) place lent now' b) h step)
+    pub stops : {n : ℕ} → k ≡ Step.Fault n → Reads (readFrom (formsOf t) []) lent now' (Parsed.Refused n place)
+    stops {n} h = go (naming (r .sofar) (some (one .0))) refl (subst (λ (b : Step). Stepped (naming (r .sofar) (some (one .0))) (r .sofar) place lent now' b) h step)
       where
         go : (j : Judged) → naming (r .sofar) (some (one .0)) ≡ j → Stepped j (r .sofar) place lent now' (Step.Fault n)
             → Reads (readFrom (formsOf t) []) lent now' (Parsed.Refused n place)
         go (reads st) i g = absurd g
-        go (fault m) i g = refuses r o now' m n (judged ∙ i) g
-
--- a statement, whatever its form: one that is read is of a form, and where a fault is found the form is looked at for itself
-module _ {t : List ℕ} {at place next : ℕ} {lent now now' : Memory} {s : Progress} {unit : ℕ} {k : Step} (r : Rest t at lent now s) (o : Opens t at place next)
-    (wide : length t ≤ length (lent .code)) (many : 1280 ≤ length (lent .constraints)) (long : 12288 ≤ length (lent .rows))
-    (u : place < 65536 → unit ≡ place) (y : StepsAt t next unit now now' s k) where
-  pub goes-on : {q : Progress} {past : ℕ} → k ≡ Step.Read q past → Rest t past lent now' q
-  goes-on {q} h =
-      let read = told (subst (λ (b : Step). FormAt t next b) h (y .form)) refl in
-      subst (λ (n : ℕ). Rest t n lent now' q) (read .end) (good-goes-on r o wide many long (read .good) u y h)
-
-  pub stops : {found number : ℕ} → k ≡ Step.Fault found → number ≡ numberOf (isSome (written (trim (framesAt t next .here) (maxLevel - 1)))) found
-      → Reads (readFrom (formsOf t) []) lent now' (Parsed.Refused number place)
-  stops {found} {number} h e = go (isSome (written (trim (framesAt t next .here) (maxLevel - 1)))) refl e
-    where
-      go : (b : Bool) → isSome (written (trim (framesAt t next .here) (maxLevel - 1))) ≡ b → number ≡ numberOf b found
-          → Reads (readFrom (formsOf t) []) lent now' (Parsed.Refused number place)
-      go true good e = subst (λ (n : ℕ). Reads (readFrom (formsOf t) []) lent now' (Parsed.Refused n place)) (sym e) (good-stops r o wide many long good u y h)
-      go false bad e = subst (λ (n : ℕ). Reads (readFrom (formsOf t) []) lent now' (Parsed.Refused n place)) (sym e) (formless r o now' bad)
+        go (fault m) i g = subst (λ (z : Read). Reads z lent now' (Parsed.Refused n place)) (sym (left-by r o (fault m) (judged ∙ i))) (g, refl)
 
 -- memory that is as long as the maxima ask has room
-pub roomy : {n a b c : ℕ} → n ≤ a → b ≡ 1280 → c ≡ 12288 → (leb n a && leb 1280 b && leb 12288 c) ≡ true
-roomy e f g = rw (le-leb _ _ e, f, g)
+pub roomy : {a b c : ℕ} → a ≡ 65536 → b ≡ 1280 → c ≡ 12288 → (leb 65536 a && leb 1280 b && leb 12288 c) ≡ true
+roomy e f g = rw (e, f, g)
+
+-- the symbols lent may be others behind the room for the entries
+module _ (lent other c k r : List ℕ) (same : take 137088 other ≡ take 137088 lent) where
+  pub lent-alike : (x : Read) (now : Memory) (y : Parsed) → Reads x (memory other c k r) now y → Reads x (memory lent c k r) now y
+  lent-alike (policy p) now (Parsed.Accepted s) h = record {
+    accepted = h .accepted;
+    symbols = subst (λ (l : List ℕ). Starts l (symbolsOf p) (take 137088 (now .symbols)) (s .symbols)) same (h .symbols);
+    indexed = h .indexed;
+    code = h .code;
+    constraints = h .constraints;
+    rows = h .rows;
+    transition-count = h .transition-count;
+    constraint-count = h .constraint-count;
+    row-count = h .row-count;
+  }
+  lent-alike (policy p) now (Parsed.Refused m q) h = h
+  lent-alike (refused n at) now (Parsed.Accepted s) h = h
+  lent-alike (refused n at) now (Parsed.Refused m q) h = h
+
+-- with the index cleared first, the text is read whatever the memory held
+pub parses : {t lent other c k r : List ℕ} {now : Memory} {y : Parsed} → Cleared lent other → 186264 ≤ length lent → ParsesIndexed t (memory other c k r) now y
+    → Parses t (memory lent c k r) now y
+parses {t} {lent} {other} {c} {k} {r} {now} {y} index room h = record {
+  reads = λ clean. lent-alike lent other c k r (index .front room) (readFrom (formsOf t) []) now y (h .reads clean (index .indexed room));
+}

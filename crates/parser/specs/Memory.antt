@@ -67,7 +67,10 @@ Reads (policy p) lent now (Parsed.Refused m q) = ⊥
 Reads (refused n at) lent now (Parsed.Accepted s) = ⊥
 Reads (refused n at) lent now (Parsed.Refused m q) = (m ≡ n) × (q ≡ at)
 
--- for every text that the scan leaves clean, where the index behind the symbols is empty and the memory of the code is as long as the text
+-- for every text that the scan leaves clean, whatever the lent memory held. What the index behind the symbols holds is free
 pub record Parses (t : List ℕ) (lent now : Memory) (r : Parsed) : Type 0 where
-  pub long : length (now .code) ≡ length (lent .code)
-  pub reads : scan t ≡ Scanned.Clean → Indexed (lent .symbols) 0 [] → length t ≤ length (lent .code) → Reads (readFrom (formsOf t) []) lent now r
+  pub reads : scan t ≡ Scanned.Clean → Reads (readFrom (formsOf t) []) lent now r
+
+-- the same where the index is known to be empty
+pub record ParsesIndexed (t : List ℕ) (lent now : Memory) (r : Parsed) : Type 0 where
+  pub reads : scan t ≡ Scanned.Clean → Indexed (lent .symbols) 0 [] → Reads (readFrom (formsOf t) []) lent now r

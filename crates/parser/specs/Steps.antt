@@ -1,7 +1,7 @@
 -- What one statement adds to the lent memory, or its fault. The parser's functions for the kinds of statements promise it. Assumes nothing.
 use Prim.Native.Nat.{ℕ, _+_, _-_, _*_, _≤_}
 use mathlib.Core.Path.{_≡_}
-use mathlib.Core.Bool.{Bool, true, cond}
+use mathlib.Core.Bool.{true, cond}
 use mathlib.Core.List.{List, [], _∷_, _++_}
 use mathlib.Core.Option.{Option, none, some}
 use lib.Dec.{ltb}
@@ -16,8 +16,6 @@ use Rattle.policy.specs.Grammar.{formed, written}
 use Rattle.policy.specs.Reading.{Judged, reads, fault, naming, rowCount}
 use Rattle.policy.specs.Answers.{familyOf}
 use Rattle.policy.specs.Encode.{entries}
-use Rattle.items.specs.Reads.{isSome, Reads, StatementTo}
-use Rattle.items.specs.declared.Parsed.{Parsed}
 use Rattle.symbols.specs.Index.{Indexed}
 use Rattle.statement_code.specs.Code.{statementCode, codeOf}
 use Rattle.declarations.specs.declared.Declared.{Declared}
@@ -57,9 +55,9 @@ pub record Filled (p : Policy) (lent now : Memory) (s : Progress) : Type 0 where
 
 -- one statement after those of p: it is read, and the memory holds it too; or its fault is answered
 abbrev pub Stepped : Judged → Policy → ℕ → Memory → Memory → Step → Type 0
-Stepped (reads s) p place lent now (Step.Read q past) = Filled (p ++ (record { place = place; says = s } ∷ [])) lent now q
+Stepped (reads s) p place lent now (Step.Read q) = Filled (p ++ (record { place = place; says = s } ∷ [])) lent now q
 Stepped (reads s) p place lent now (Step.Fault n) = ⊥
-Stepped (fault n) p place lent now (Step.Read q past) = ⊥
+Stepped (fault n) p place lent now (Step.Read q) = ⊥
 Stepped (fault n) p place lent now (Step.Fault m) = m ≡ n
 
 -- the row that is read as w: its words are names, and no part of it lies too deep
@@ -74,30 +72,13 @@ pub record Room (lent : Memory) (p : Policy) (place : ℕ) (w : Written) : Type 
   pub constraints : 1280 ≤ length (lent .constraints)
   pub rows : 12288 ≤ length (lent .rows)
 
--- a statement that is read is of its form, and past is the place behind its close: what stands behind the keyword k, and the statement as a whole
-abbrev pub FormBehind : List ℕ → ℕ → words.Keyword → Step → Type 0
-FormBehind t at k (Step.Read q past) = StatementTo t at k past
-FormBehind t at k (Step.Fault n) = Unit {0}
-
-abbrev pub FormAt : List ℕ → ℕ → Step → Type 0
-FormAt t at (Step.Read q past) = Reads t at (isSome (written (trim (framesAt t at .here) (maxLevel - 1)))) (Parsed.Next past)
-FormAt t at (Step.Fault n) = Unit {0}
-
--- the number of a fault: "each tried for 3, 4, 5, 6, 7", where another than 3 was found
-abbrev pub numberOf : Bool → ℕ → ℕ
-numberOf good found = cond good found 3
-
--- the statement behind the keyword k at a place of the text. The memory of the code is as long as it was
+-- the statement behind the keyword k at a place of the text
 pub record Steps (t : List ℕ) (at place : ℕ) (k : words.Keyword) (before after : Memory) (s : Progress) (r : Step) : Type 0 where
-  pub long : length (after .code) ≡ length (before .code)
-  pub form : FormBehind t at k r
   pub says : (lent : Memory) (p : Policy) (w : Written) → Holds p lent before s
       → RowIs (framesAt t at .here) (formed k (framesAt t at .here)) w → Room lent p place w → Stepped (naming p (some w)) p place lent after r
 
 -- the statement whose parentheses are open at a place of the text
 pub record StepsAt (t : List ℕ) (at place : ℕ) (before after : Memory) (s : Progress) (r : Step) : Type 0 where
-  pub long : length (after .code) ≡ length (before .code)
-  pub form : FormAt t at r
   pub says : (lent : Memory) (p : Policy) (w : Written) → Holds p lent before s
       → RowIs (framesAt t at .here) (written (framesAt t at .here)) w → Room lent p place w → Stepped (naming p (some w)) p place lent after r
 
@@ -106,7 +87,7 @@ abbrev pub withSymbols : Progress → ℕ → Progress
 withSymbols s past = record { symbols = past; code = s .code; transitions = s .transitions; constraints = s .constraints; rows = s .rows }
 
 abbrev pub declaredStep : Declared → Progress → Step
-declaredStep (Declared.Next end past) s = Step.Read (withSymbols s end) past
+declaredStep (Declared.Next past) s = Step.Read (withSymbols s past)
 declaredStep Declared.Again s = Step.Fault 4
 declaredStep Declared.Full s = Step.Fault 6
 
@@ -114,13 +95,13 @@ declaredStep Declared.Full s = Step.Fault 6
 abbrev pub withCode : Progress → ℕ → ℕ → Progress
 withCode s to n = record { symbols = s .symbols; code = to; transitions = n; constraints = s .constraints; rows = s .rows }
 
-abbrev pub codedNext : CodedKind → ℕ → ℕ → Progress → Step
-codedNext (CodedKind.Set f) to past s = Step.Read (withCode s to (s .transitions)) past
-codedNext (CodedKind.Relation r) to past s = Step.Read (withCode s to (s .transitions)) past
-codedNext CodedKind.Transition to past s = cond (ltb (s .transitions) maxTransitions) (Step.Read (withCode s to (s .transitions + 1)) past) (Step.Fault 6)
+abbrev pub codedNext : CodedKind → ℕ → Progress → Step
+codedNext (CodedKind.Set f) to s = Step.Read (withCode s to (s .transitions))
+codedNext (CodedKind.Relation r) to s = Step.Read (withCode s to (s .transitions))
+codedNext CodedKind.Transition to s = cond (ltb (s .transitions) maxTransitions) (Step.Read (withCode s to (s .transitions + 1))) (Step.Fault 6)
 
 abbrev pub codedStep : CodedKind → Coded → Progress → Step
-codedStep k (Coded.Next to past) s = codedNext k to past s
+codedStep k (Coded.Next to) s = codedNext k to s
 codedStep k Coded.Undeclared s = Step.Fault 5
 
 -- the step of a constraint: faults 5, 6, 7 in this order
@@ -128,7 +109,7 @@ abbrev pub withRows : Progress → ℕ → Progress
 withRows s next = record { symbols = s .symbols; code = s .code; transitions = s .transitions; constraints = s .constraints + 1; rows = next }
 
 abbrev pub constrainedStep : Constrained → Progress → Step
-constrainedStep (Constrained.Next next past) s = cond (ltb (s .constraints) maxConstraints) (Step.Read (withRows s next) past) (Step.Fault 6)
+constrainedStep (Constrained.Next next) s = cond (ltb (s .constraints) maxConstraints) (Step.Read (withRows s next)) (Step.Fault 6)
 constrainedStep Constrained.Undeclared s = Step.Fault 5
 constrainedStep Constrained.Full s = Step.Fault 6
 constrainedStep Constrained.Deep s = Step.Fault 7

@@ -4,20 +4,16 @@ ghost use mathlib.Core.Bool.{_&&_};
 ghost use mathlib.Core.List.{List};
 ghost use lib.Dec.{leb};
 ghost use lib.ListN.{length};
-ghost use Prim.Native.Nat.{ℕ, _+_, _-_, _<_};
-ghost use Rattle.lexer.specs.Scan.{maxLevel};
-ghost use Rattle.lexer.specs.Forms.{framesAt, trim};
+ghost use Prim.Native.Nat.{ℕ, _+_, _<_};
 ghost use Rattle.policy.specs.Words.{keywordOf, declareK, classK, constrainK};
-ghost use Rattle.policy.specs.Grammar.{written};
 ghost use Rattle.policy.specs.Statements.{thingOf, attributeOf};
 ghost use Rattle.policy.specs.Encode.{sortCode};
 ghost use Rattle.policy.specs.Answers.{familyOf};
 ghost use Rattle.words.specs.Numbers.{wordOf};
 ghost use Rattle.items.specs.Looks.{itemAt};
-ghost use Rattle.items.specs.Reads.{isSome};
 ghost use Rattle.statement_writer.specs.Coding.{WritesStatement};
-ghost use Rattle.parser.specs.Memory.{memory, Parses};
-ghost use Rattle.parser.specs.Steps.{codedKeyword, keywordIn, Steps, StepsAt, declaredStep, withCode, codedStep, constrainedStep, numberOf, nothingRead};
+ghost use Rattle.parser.specs.Memory.{memory, Parses, ParsesIndexed};
+ghost use Rattle.parser.specs.Steps.{codedKeyword, keywordIn, Steps, StepsAt, declaredStep, withCode, codedStep, constrainedStep, nothingRead};
 use constrain_statement::CONSTRAINT_BYTES;
 use constrain_statement::Constrained;
 use constrain_statement::ROW_BYTES;
@@ -30,6 +26,9 @@ use policy::Transition;
 use statement_writer::Coded;
 use statement_writer::Relation;
 use words::Word;
+
+// Room for the code: a clean text has at most 65,535 bytes, and no statement has more units than bytes.
+pub const CODE_UNITS: usize = 65_536;
 
 // How far the lent memory is filled, and how many transitions and constraints there are.
 pub struct Progress {
@@ -46,9 +45,9 @@ pub enum Parsed {
     Refused { number: usize, place: usize },
 }
 
-// One statement is read, and the place behind it; or the number of its fault.
+// One statement is read, or the number of its fault.
 enum Step {
-    Read(Progress, usize),
+    Read(Progress),
     Fault(usize),
 }
 
@@ -123,16 +122,13 @@ fn declared_step(declared: Declared, progress: Progress) -> Step
     ensures { λ r. ⌜ r ≡ declaredStep declared progress ⌝ }
 {
     match declared {
-        Declared::Next { end, past } => {
-            let further = Progress {
-                symbols: end,
-                code: progress.code,
-                transitions: progress.transitions,
-                constraints: progress.constraints,
-                rows: progress.rows,
-            };
-            Step::Read(further, past)
-        }
+        Declared::Next(past) => Step::Read(Progress {
+            symbols: past,
+            code: progress.code,
+            transitions: progress.transitions,
+            constraints: progress.constraints,
+            rows: progress.rows,
+        }),
         Declared::Again => Step::Fault(4),
         Declared::Full => Step::Fault(6),
     }
@@ -174,7 +170,7 @@ fn declare_attribute(
     place: u16,
     family: Family,
     symbols: &mut [u8; SYMBOL_BYTES],
-    code: &mut [u16],
+    code: &mut [u16; CODE_UNITS],
     progress: Progress,
 ) -> Step
     ensures { λ r. ⌜ ((cs rs : List ℕ) → Steps (now (text .entry)) at place (declareK (attributeOf (familyOf family)))
@@ -199,7 +195,7 @@ fn write_coded(
     kind: CodedKind,
     symbols: &[u8; SYMBOL_BYTES],
     end: usize,
-    code: &mut [u16],
+    code: &mut [u16; CODE_UNITS],
     to: usize,
 ) -> Coded
     ensures { λ r. ⌜ WritesStatement (now (text .entry)) at (codedKeyword kind) place (now (symbols .entry)) end (now (code .entry)) to (now (code .exit)) r ⌝ }
@@ -234,18 +230,18 @@ fn past_code(progress: Progress, to: usize, transitions: usize) -> Progress
 fn coded_step(kind: CodedKind, written: Coded, progress: Progress) -> Step
     ensures { λ r. ⌜ r ≡ codedStep kind written progress ⌝ }
 {
-    let Coded::Next { to, past } = written else {
+    let Coded::Next(to) = written else {
         return Step::Fault(5);
     };
     let count = progress.transitions;
     match kind {
-        CodedKind::Set(_) => Step::Read(past_code(progress, to, count), past),
-        CodedKind::Relation(_) => Step::Read(past_code(progress, to, count), past),
+        CodedKind::Set(_) => Step::Read(past_code(progress, to, count)),
+        CodedKind::Relation(_) => Step::Read(past_code(progress, to, count)),
         CodedKind::Transition => {
             if Transition::MAX <= count {
                 return Step::Fault(6);
             }
-            Step::Read(past_code(progress, to, count + 1), past)
+            Step::Read(past_code(progress, to, count + 1))
         }
     }
 }
@@ -257,7 +253,7 @@ fn coded(
     place: u16,
     kind: CodedKind,
     symbols: &[u8; SYMBOL_BYTES],
-    code: &mut [u16],
+    code: &mut [u16; CODE_UNITS],
     progress: Progress,
 ) -> Step
     ensures { λ r. ⌜ ((cs rs : List ℕ) → Steps (now (text .entry)) at place (codedKeyword kind)
@@ -275,18 +271,17 @@ fn constrained_step(written: Constrained, progress: Progress) -> Step
 {
     let count = progress.constraints;
     match written {
-        Constrained::Next { row, past } => {
+        Constrained::Next(row) => {
             if Constraint::MAX <= count {
                 return Step::Fault(6);
             }
-            let further = Progress {
+            Step::Read(Progress {
                 symbols: progress.symbols,
                 code: progress.code,
                 transitions: progress.transitions,
                 constraints: count + 1,
                 rows: row,
-            };
-            Step::Read(further, past)
+            })
         }
         Constrained::Undeclared => Step::Fault(5),
         Constrained::Full => Step::Fault(6),
@@ -320,14 +315,13 @@ fn constrain(
     constrained_step(written, progress)
 }
 
-// A statement, by the first item that its parentheses hold. One that is read is of its form. Where a fault is answered the form may be bad besides:
-// `fault_number` looks at it.
+// A statement, by the first item that its parentheses hold. Its form is known to be good where this is called, so that is a keyword.
 fn statement(
     text: &[u8],
     first: Item,
     place: u16,
     symbols: &mut [u8; SYMBOL_BYTES],
-    code: &mut [u16],
+    code: &mut [u16; CODE_UNITS],
     constraints: &mut [u8; CONSTRAINT_BYTES],
     rows: &mut [u8; ROW_BYTES],
     progress: Progress,
@@ -352,18 +346,6 @@ fn statement(
     }
 }
 
-// The number of a statement's fault, by its first item and the fault that was found: 3 comes before all others. So the form is looked at for itself
-// only where a text is refused.
-fn fault_number(text: &[u8], first: Item, found: usize) -> usize
-    ensures { λ r. ⌜ ((at : ℕ) → first ≡ itemAt (now (text .entry)) at → r ≡ numberOf (isSome (written (trim (framesAt (now (text .entry)) at .here) (maxLevel - 1)))) found) ⌝ }
-{
-    let form = grammar::statement_form(text, first);
-    match form {
-        items::Parsed::Next(_) => found,
-        items::Parsed::Bad => 3,
-    }
-}
-
 // The unit of a place: no place of a clean text is too great for one.
 fn place_unit(place: usize) -> u16
     ensures { λ r. ⌜ (place < 65536 → r ≡ place) ⌝ }
@@ -374,13 +356,12 @@ fn place_unit(place: usize) -> u16
     place as u16
 }
 
-// Whether the lent memory is as long as the text and the maxima of constraints and rows ask. For constraints and rows it always is, by their types; the
-// proof of `parse` learns the lengths where the arrays are lent as slices here.
-fn has_room(text: &[u8], code: &[u16], constraints: &[u8], rows: &[u8]) -> bool
-    ensures { λ r. ⌜ r ≡ (leb (length (now (text .entry))) (length (now (code .entry))) && leb 1280 (length (now (constraints .entry)))
-        && leb 12288 (length (now (rows .entry)))) ⌝ }
+// Whether the lent memory is as long as the text's maximum and the maxima of constraints and rows ask. It always is, by its types; the proof of
+// `parse` learns the lengths where the arrays are lent as slices here.
+fn has_room(code: &[u16], constraints: &[u8], rows: &[u8]) -> bool
+    ensures { λ r. ⌜ r ≡ (leb 65536 (length (now (code .entry))) && leb 1280 (length (now (constraints .entry))) && leb 12288 (length (now (rows .entry)))) ⌝ }
 {
-    if code.len() < text.len() {
+    if code.len() < CODE_UNITS {
         return false;
     }
     if constraints.len() < CONSTRAINT_BYTES {
@@ -402,20 +383,19 @@ fn nothing_read() -> Progress
     }
 }
 
-// The statements of a text that the scan leaves clean. In such a text only a statement or the end can come next. The index behind the symbols is
-// empty where this is called, and the code is as long as the text: no statement has more units than bytes.
-pub fn parse(
+// The statements of a text that the scan leaves clean, with an index that is empty. In such a text only a statement or the end can come next.
+fn parse_indexed(
     text: &[u8],
     symbols: &mut [u8; SYMBOL_BYTES],
-    code: &mut [u16],
+    code: &mut [u16; CODE_UNITS],
     constraints: &mut [u8; CONSTRAINT_BYTES],
     rows: &mut [u8; ROW_BYTES],
 ) -> Parsed
-    ensures { λ r. ⌜ Parses (now (text .entry))
+    ensures { λ r. ⌜ ParsesIndexed (now (text .entry))
         (memory (now (symbols .entry)) (now (code .entry)) (now (constraints .entry)) (now (rows .entry)))
         (memory (now (symbols .exit)) (now (code .exit)) (now (constraints .exit)) (now (rows .exit))) r ⌝ }
 {
-    if !has_room(text, code, constraints, rows) {
+    if !has_room(code, constraints, rows) {
         return Parsed::Refused {
             number: 6,
             place: 0,
@@ -424,11 +404,15 @@ pub fn parse(
     let mut progress = nothing_read();
     let mut at: usize = 0;
     loop {
-        let item = items::look_line(text, at);
+        let item = items::look(text, at);
         let Item::Open { place, next } = item else {
             return Parsed::Accepted(progress);
         };
-        let first = items::look_keyword(text, next);
+        let first = items::look(text, next);
+        let form = grammar::statement_form(text, first);
+        let items::Parsed::Next(past) = form else {
+            return Parsed::Refused { number: 3, place };
+        };
         let unit = place_unit(place);
         let step = statement(
             text,
@@ -441,14 +425,27 @@ pub fn parse(
             progress,
         );
         match step {
-            Step::Read(further, past) => {
+            Step::Read(further) => {
                 progress = further;
                 at = past;
             }
-            Step::Fault(found) => {
-                let number = fault_number(text, first, found);
-                return Parsed::Refused { number, place };
-            }
+            Step::Fault(number) => return Parsed::Refused { number, place },
         }
     }
+}
+
+// The statements of a text that the scan leaves clean, whatever the memory held.
+pub fn parse(
+    text: &[u8],
+    symbols: &mut [u8; SYMBOL_BYTES],
+    code: &mut [u16; CODE_UNITS],
+    constraints: &mut [u8; CONSTRAINT_BYTES],
+    rows: &mut [u8; ROW_BYTES],
+) -> Parsed
+    ensures { λ r. ⌜ Parses (now (text .entry))
+        (memory (now (symbols .entry)) (now (code .entry)) (now (constraints .entry)) (now (rows .entry)))
+        (memory (now (symbols .exit)) (now (code .exit)) (now (constraints .exit)) (now (rows .exit))) r ⌝ }
+{
+    symbols::clear_index(symbols);
+    parse_indexed(text, symbols, code, constraints, rows)
 }

@@ -19,7 +19,7 @@ struct Begun {
 }
 
 // How many operands a set expression has that starts with the word of the number.
-pub fn operands_of(number: usize) -> Wanted
+fn operands_of(number: usize) -> Wanted
     ensures { λ r. ⌜ r ≡ operandsOf (setWord (wordOf number)) ⌝ }
 {
     if number == Word::OTHER {

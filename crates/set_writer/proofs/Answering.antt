@@ -26,21 +26,21 @@ use Rattle.set_writer.specs.declared.SetWritten.{SetWritten}
 -- ---- the answer
 
 -- the code of S stands from the place to on, and the answer is the places past the close and past the code
-pub record Stands (t : List ℕ) (at levels : ℕ) (before : List ℕ) (to : ℕ) (s : SetExpr Reference) (after : List ℕ) (r : SetWritten) : Type 0 where
+pub record Stands (t : List ℕ) (at : ℕ) (before : List ℕ) (to : ℕ) (s : SetExpr Reference) (after : List ℕ) (r : SetWritten) : Type 0 where
   pub close : ℕ
   pub is : r ≡ SetWritten.Next close (to + length (setCode s))
-  pub past : Past t at levels to close (to + length (setCode s))
+  pub past : Past t at to close (to + length (setCode s))
   pub code : after ≡ put before to (setCode s)
 
 module _ {t : List ℕ} {at levels : ℕ} {table : List ℕ} {end family : ℕ} {before : List ℕ} {to : ℕ} {after : List ℕ} (ds : List Declaration) (f : Family) (w : SetExpr Name)
     (y : Symbols table end ds) (e : familyCode f ≡ family) (g : setIn (trim (framesAt t at .here) levels) ≡ some w) where
   pub when-declared : (r : SetWritten) → WritesSet t at levels table end family before to after r → (s : SetExpr Reference) → referS ds f w ≡ some s
-      → to + length (setCode s) ≤ length before → Stands t at levels before to s after r
+      → to + length (setCode s) ≤ length before → Stands t at before to s after r
   when-declared SetWritten.Undeclared h s d room = absurd (subst (λ (o : Option (SetExpr Reference)). Answers before to o after SetWritten.Undeclared) d (h .says ds f w y e g))
   when-declared (SetWritten.Next q u) h s d room =
       let a = subst (λ (o : Option (SetExpr Reference)). Answers before to o after (SetWritten.Next q u)) d (h .says ds f w y e g) in
       let same : u ≡ to + length (setCode s) = a .past room in
-      record { close = q; is = ap (SetWritten.Next q) same; past = subst (Past t at levels to q) same (h .moves); code = a .code room }
+      record { close = q; is = ap (SetWritten.Next q) same; past = subst (Past t at to q) same (h .moves); code = a .code room }
 
   pub when-undeclared : (r : SetWritten) → WritesSet t at levels table end family before to after r → referS ds f w ≡ none → r ≡ SetWritten.Undeclared
   when-undeclared SetWritten.Undeclared h d = refl

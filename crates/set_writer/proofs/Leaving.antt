@@ -1,12 +1,12 @@
 -- What is left of an S when the units of its operator and of some operands are written: the further operands stand in the row at hand, and the
--- units so far with theirs are those of S. A step for an operand, and the two ways to end. Assumes nothing.
+-- units so far with theirs are those of S. A step for an operand, and the three ways to end. Assumes nothing.
 use mathlib.Core.Path.{_≡_, refl, sym, ap, subst, _∙_}
 use mathlib.Core.Bool.{Bool, true, false, not}
 use mathlib.Core.List.{List, [], _∷_, _++_, append-assoc}
 use mathlib.Core.Option.{Option, none, some, Option·some-injective, Option·none-ne-some}
 use Prim.Native.Nat.{ℕ, _+_}
 use lib.ListN.{length}
-use Rattle.lexer.specs.Forms.{Forms, closed, word, part}
+use Rattle.lexer.specs.Forms.{Forms, closed, ended, word, part}
 use Rattle.policy.specs.Basics.{Name, _>>=_, given, more}
 use Rattle.policy.specs.Words.{isReserved, asName}
 use Rattle.policy.specs.Statements.{Family, Declaration, Reference, SetExpr, nameS}
@@ -115,6 +115,11 @@ module _ (ds : List Declaration) (f : Family) where
           → Answers before to o after (SetWritten.Next q v)
       go none e h = absurd (Option·none-ne-some (l .units ++ (endUnit ∷ [])) e)
       go (some s) e h = subst (λ (us : List ℕ). Wrote before to us after v) (sym (Option·some-injective (setCode s) (l .units ++ (endUnit ∷ [])) e)) h
+
+  -- a row that the end of the text cuts is none
+  pub cut : {w : SetExpr Name} {before code : List ℕ} {to u : ℕ} → Left w before to ended code u → ⊥
+  unfolding operands
+  cut l = Option·none-ne-some (l .each) (l .row)
 
 -- an undeclared name is answered so
 pub undeclared : (before after : List ℕ) (to : ℕ) (o : Option (SetExpr Reference)) → o ≡ none → Answers before to o after SetWritten.Undeclared

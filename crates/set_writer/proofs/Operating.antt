@@ -4,7 +4,7 @@ use mathlib.Core.Path.{_≡_, refl, sym, ap, _∙_}
 use mathlib.Core.List.{List, [], _∷_, _++_}
 use mathlib.Core.Option.{Option, none, some, Option·some-injective, Option·none-ne-some}
 use Prim.Native.Nat.{ℕ}
-use native.Mathlib.Omega.{arith}
+use borrow.Author.Tests.{eqb-false}
 use Rattle.lexer.specs.Forms.{Forms, word, part}
 use Rattle.policy.specs.Basics.{Name, _>>=_, more, ofNone, ofOne, ofTwo}
 use Rattle.policy.specs.Words.{asName, Connective, allC, notC, andC, orC, xorC, setWord}
@@ -13,8 +13,6 @@ use Rattle.policy.specs.Grammar.{operandRow, unionOf, formS, headed, operands, 
 use Rattle.policy.specs.Reading.{referS}
 use Rattle.words.specs.Numbers.{numberOf, wordOf}
 use Rattle.words.proofs.Meaning.{set-number}
-use Rattle.items.specs.declared.Wanted.{Wanted}
-use Rattle.set_grammar.specs.Starts.{operandsOf}
 use Rattle.statement_code.specs.Code.{setCode, rowCode, allUnit, notUnit, andUnit, orUnit, xorUnit, unionUnit, endUnit}
 use Rattle.set_writer.specs.Sets.{operatorUnit, setUnits, rowUnits, behind, Operands}
 
@@ -129,36 +127,32 @@ module _ (g : Forms) where
 -- ---- how an S begins
 
 -- the word w of the number k
-word-is : (w : Name) (k : ℕ) → numberOf w ≡ k → setWord (wordOf k) ≡ setWord w
-word-is w k e = sym (set-number w ∙ ap (λ (n : ℕ). setWord (wordOf n)) e)
-
--- one or more is no number
-apart : {m : ℕ} → Wanted.OneOrMore ≡ Wanted.Exactly m → ⊥
-apart e = let z : _≡_ {A = ℕ} 0 1 = cc in omega arith
+word-is : (w : Name) (k unit : ℕ) → numberOf w ≡ k → unit ≡ operatorUnit (setWord (wordOf k)) → unit ≡ operatorUnit (setWord w)
+word-is w k unit e h = h ∙ ap operatorUnit (sym (set-number w ∙ ap (λ (n : ℕ). setWord (wordOf n)) e))
 
 -- with a word that is an operator: the operands follow it
-pub operator-row : (w : Name) (s k unit m : ℕ) (r : Forms) (x : SetExpr Name) → numberOf w ≡ k → unit ≡ operatorUnit (setWord (wordOf k))
-    → Wanted.Exactly m ≡ operandsOf (setWord (wordOf k)) → setIn (word s w r) ≡ some x → Operands unit r x
+pub operator-row : (w : Name) (s k unit : ℕ) (r : Forms) (x : SetExpr Name) → numberOf w ≡ k → unit ≡ operatorUnit (setWord (wordOf k)) → (unit ≡ unionUnit → ⊥)
+    → setIn (word s w r) ≡ some x → Operands unit r x
 unfolding setIn
-operator-row w s k unit m r x e h wants g = go (setWord w) (h ∙ ap operatorUnit (word-is w k e)) (wants ∙ ap operandsOf (word-is w k e)) g
+operator-row w s k unit r x e h other g = go (setWord w) (word-is w k unit e h) g
   where
-    go : (c : Option Connective) → unit ≡ operatorUnit c → Wanted.Exactly m ≡ operandsOf c → headed w c (operands r) ≡ some x → Operands unit r x
-    go none d wants g = absurd (apart (sym wants))
-    go (some c) d wants g = rw d (operator-operands r c x g)
+    go : (c : Option Connective) → unit ≡ operatorUnit c → headed w c (operands r) ≡ some x → Operands unit r x
+    go none d g = absurd (other d)
+    go (some c) d g = rw d (operator-operands r c x g)
 
 -- with one that is not: it is the first operand
-pub name-row : (w : Name) (s k unit : ℕ) (r : Forms) (x : SetExpr Name) → numberOf w ≡ k → unit ≡ operatorUnit (setWord (wordOf k))
-    → Wanted.OneOrMore ≡ operandsOf (setWord (wordOf k)) → setIn (word s w r) ≡ some x → Operands unit (word s w r) x
+pub name-row : (w : Name) (s k unit : ℕ) (r : Forms) (x : SetExpr Name) → numberOf w ≡ k → unit ≡ operatorUnit (setWord (wordOf k)) → unit ≡ unionUnit
+    → setIn (word s w r) ≡ some x → Operands unit (word s w r) x
 unfolding setIn
-name-row w s k unit r x e h wants g = go (setWord w) (h ∙ ap operatorUnit (word-is w k e)) (wants ∙ ap operandsOf (word-is w k e)) g
+name-row w s k unit r x e h is g = rw is (go (setWord w) (sym is ∙ word-is w k unit e h) g)
   where
-    go : (c : Option Connective) → unit ≡ operatorUnit c → Wanted.OneOrMore ≡ operandsOf c → headed w c (operands r) ≡ some x → Operands unit (word s w r) x
-    go none d wants g = rw d (union-operands (word s w r) (asName w >>= λ n. some (nameS n)) (operands r) x refl g)
-    go (some allC) d wants g = absurd (apart wants)
-    go (some notC) d wants g = absurd (apart wants)
-    go (some andC) d wants g = absurd (apart wants)
-    go (some orC) d wants g = absurd (apart wants)
-    go (some xorC) d wants g = absurd (apart wants)
+    go : (c : Option Connective) → unionUnit ≡ operatorUnit c → headed w c (operands r) ≡ some x → Operands unionUnit (word s w r) x
+    go none d g = union-operands (word s w r) (asName w >>= λ n. some (nameS n)) (operands r) x refl g
+    go (some allC) d g = absurd (eqb-false 2053 2048 refl d)
+    go (some notC) d g = absurd (eqb-false 2053 2049 refl d)
+    go (some andC) d g = absurd (eqb-false 2053 2050 refl d)
+    go (some orC) d g = absurd (eqb-false 2053 2051 refl d)
+    go (some xorC) d g = absurd (eqb-false 2053 2052 refl d)
 
 -- with a part: it is the first operand
 pub part-row : (p : ℕ) (i r : Forms) (x : SetExpr Name) → setIn (part p i r) ≡ some x → Operands unionUnit (part p i r) x

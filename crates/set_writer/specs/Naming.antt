@@ -1,17 +1,15 @@
 -- What the names of a statement are looked up in, and the unit of what one stands for. Assumes nothing.
 use mathlib.Core.Path.{_≡_}
-use mathlib.Core.Bool.{true, false, not}
+use mathlib.Core.Bool.{true}
 use mathlib.Core.List.{List, []}
 use mathlib.Core.Option.{Option, none, some}
 use Prim.Native.Nat.{ℕ, _≤_}
 use lib.ListN.{length}
 use Rattle.policy.specs.Basics.{Name}
-use Rattle.policy.specs.Words.{isReserved}
 use Rattle.policy.specs.Statements.{Family, Declaration, Reference}
 use Rattle.policy.specs.Encode.{entries}
 use Rattle.policy.specs.Reading.{refer}
 use Rattle.policy.specs.Sound.{goodFrom}
-use Rattle.words.specs.Numbers.{wordOf}
 use Rattle.symbols.specs.Section.{entriesAt}
 use Rattle.symbols.specs.Symbols.{Symbols}
 use Rattle.symbols.specs.Resolving.{familyCode}
@@ -26,8 +24,3 @@ referred (some r) = Referred.Unit (referenceUnit r)
 -- the name w is resolved as `refer` resolves it
 pub record Refers (table : List ℕ) (end family : ℕ) (w : Name) (r : Referred) : Type 0 where
   pub resolves : (ds : List Declaration) (f : Family) → Symbols table end ds → familyCode f ≡ family → r ≡ referred (refer ds f w)
-
--- a word of a number as an operand: a reserved word is none, and any other is resolved
-pub record RefersName (number : ℕ) (table : List ℕ) (end family : ℕ) (w : Name) (r : Referred) : Type 0 where
-  pub name : not (isReserved (wordOf number)) ≡ true → Refers table end family w r
-  pub reserved : not (isReserved (wordOf number)) ≡ false → r ≡ Referred.Missing

@@ -2,8 +2,9 @@
 use mathlib.Core.Path.{_≡_}
 use mathlib.Core.List.{List, [], _∷_, _++_}
 use mathlib.Core.Option.{Option, none, some}
-use Prim.Native.Nat.{ℕ, _≤_}
-use Rattle.lexer.specs.Forms.{Forms, framesAt, trim}
+use Prim.Native.Nat.{ℕ, _<_, _≤_}
+use lib.ListN.{length}
+use Rattle.lexer.specs.Forms.{Forms, out, framesAt, trim}
 use Rattle.policy.specs.Basics.{Name, _>>=_}
 use Rattle.policy.specs.Words.{Connective, allC, notC, andC, orC, xorC}
 use Rattle.policy.specs.Statements.{Family, Declaration, Reference, SetExpr}
@@ -11,11 +12,7 @@ use Rattle.policy.specs.Grammar.{operands, setIn}
 use Rattle.policy.specs.Reading.{referS}
 use Rattle.symbols.specs.Resolving.{familyCode}
 use Rattle.statement_code.specs.Code.{setCode, allUnit, notUnit, andUnit, orUnit, xorUnit, unionUnit, endUnit}
-use Rattle.items.specs.Looks.{itemAt, rowEnd}
-use Rattle.items.specs.Reads.{isSome, parsed, Reads, enough, counted}
-use Rattle.items.specs.declared.Parsed.{Parsed}
-use Rattle.items.specs.declared.Wanted.{Wanted}
-use Rattle.set_writer.specs.Writing.{Wrote, Keeps, Stored}
+use Rattle.set_writer.specs.Writing.{Wrote, Keeps}
 use Rattle.symbols.specs.Symbols.{Symbols}
 use Rattle.set_writer.specs.declared.Begun.{Begun}
 use Rattle.set_writer.specs.declared.SetWritten.{SetWritten}
@@ -47,31 +44,23 @@ pub record Operands (unit : ℕ) (g : Forms) (w : SetExpr Name) : Type 0 where
   pub row : operands g ≡ some each
   pub units : (ds : List Declaration) (f : Family) → setUnits ds f w ≡ behind (unit ∷ []) (rowUnits ds f each)
 
--- how an S begins: its operands are from the place next on
+-- how an S begins
 pub record Begins (t : List ℕ) (at : ℕ) (r : Begun) : Type 0 where
-  pub next : ℕ
-  pub row : (levels : ℕ) (w : SetExpr Name) → setIn (trim (framesAt t at .here) levels) ≡ some w → Operands (r .operator) (trim (framesAt t next .here) levels) w
-  pub counts : (levels : ℕ) → counted (r .wanted) 0 (operands (trim (framesAt t next .here) levels)) ≡ isSome (setIn (trim (framesAt t at .here) levels))
-  pub last : rowEnd t next ≡ rowEnd t at
-  pub ahead : at ≤ next
-  pub first : r .first ≡ itemAt t next
+  pub row : (levels : ℕ) (w : SetExpr Name) → setIn (trim (framesAt t at .here) levels) ≡ some w
+      → Operands (r .operator) (trim (framesAt t (r .next) .here) levels) w
+  pub around : framesAt t (r .next) .around ≡ framesAt t at .around
+  pub ahead : at ≤ r .next
 
--- what is at the place at is an S, q is past its close, and u is not before the place to
-pub record Past (t : List ℕ) (at levels to q u : ℕ) : Type 0 where
-  pub form : Reads t at (isSome (setIn (trim (framesAt t at .here) levels))) (Parsed.Next q)
+-- q is past the close of the row at the place at, and u is not before the place to
+pub record Past (t : List ℕ) (at to q u : ℕ) : Type 0 where
+  pub rest : out (framesAt t at) ≡ framesAt t q
+  pub less : at < q
+  pub fits : q ≤ length t
   pub ahead : to ≤ u
 
-abbrev pub Moves : List ℕ → ℕ → ℕ → ℕ → SetWritten → Type 0
-Moves t at levels to (SetWritten.Next q u) = Past t at levels to q u
-Moves t at levels to SetWritten.Undeclared = Unit {0}
-
--- the close before the place next, behind so many operands: the end mark is written, and the answer is whether they are as many as there must be
-abbrev pub EndsBy : Wanted → ℕ → ℕ → List ℕ → ℕ → List ℕ → SetWritten → Type 0
-EndsBy w n next before to after (SetWritten.Next q u) = (Parsed.Next q ≡ parsed (enough w n) next) × Stored before to endUnit after u
-EndsBy w n next before to after SetWritten.Undeclared = (Parsed.Bad ≡ parsed (enough w n) next) × Keeps before to after
-
-pub record Ends (w : Wanted) (n next : ℕ) (before : List ℕ) (to : ℕ) (after : List ℕ) (r : SetWritten) : Type 0 where
-  pub close : EndsBy w n next before to after r
+abbrev pub Moves : List ℕ → ℕ → ℕ → SetWritten → Type 0
+Moves t at to (SetWritten.Next q u) = Past t at to q u
+Moves t at to SetWritten.Undeclared = Unit {0}
 
 -- "name not declared before, or of the wrong sort": the answer is Undeclared exactly if a name of S is; else the code of S is written
 abbrev pub Answers : List ℕ → ℕ → Option (SetExpr Reference) → List ℕ → SetWritten → Type 0
@@ -80,10 +69,9 @@ Answers before to none after (SetWritten.Next q u) = ⊥
 Answers before to (some s) after SetWritten.Undeclared = ⊥
 Answers before to (some s) after (SetWritten.Next q u) = Wrote before to (setCode s) after u
 
--- what writing the S at a place of the text answers and leaves. Of a row that is no S nothing is said but that it is not written, and that the code
--- before the place to is kept
+-- what writing the S at a place of the text answers and leaves. Nothing is said of a row that is no S, but that the code before the place to is kept
 pub record WritesSet (t : List ℕ) (at levels : ℕ) (table : List ℕ) (end family : ℕ) (before : List ℕ) (to : ℕ) (after : List ℕ) (r : SetWritten) : Type 0 where
   pub keeps : Keeps before to after
-  pub moves : Moves t at levels to r
+  pub moves : Moves t at to r
   pub says : (ds : List Declaration) (f : Family) (w : SetExpr Name) → Symbols table end ds → familyCode f ≡ family
       → setIn (trim (framesAt t at .here) levels) ≡ some w → Answers before to (referS ds f w) after r

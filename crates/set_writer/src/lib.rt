@@ -1,15 +1,13 @@
-// Set expressions with their names resolved: the part of the statement code that stands for one set expression. Its form is tested on the way: what
-// is no set expression is never written, but whether the form or a name is at fault is not told here.
+// Set expressions with their names resolved: the part of the statement code that stands for one set expression. Its form is known to be good
+// where this is called; what is found out here is whether its names are declared, and its units are written on the way.
 ghost use mathlib.Core.Path.{_≡_};
 ghost use Rattle.bitset.specs.Parts.{part};
 ghost use Rattle.policy.specs.Words.{setWord};
 ghost use Rattle.words.specs.Numbers.{wordOf};
 ghost use Rattle.set_writer.specs.Writing.{Stored};
-ghost use Rattle.set_writer.specs.Naming.{Refers, RefersName};
-ghost use Rattle.set_writer.specs.Sets.{operatorUnit, Begins, Ends, WritesSet};
+ghost use Rattle.set_writer.specs.Naming.{Refers};
+ghost use Rattle.set_writer.specs.Sets.{operatorUnit, Begins, WritesSet};
 use items::Item;
-use items::Parsed;
-use items::Wanted;
 use statement_code::Unit;
 use symbols::Found;
 use words::Word;
@@ -20,15 +18,13 @@ pub enum Referred {
     Missing,
 }
 
-// The operator of a set expression, how many operands it must have, and the item that the first of them begins with.
+// The operator of a set expression, and where its operands begin.
 struct Begun {
     operator: u16,
-    wanted: Wanted,
-    first: Item,
+    next: usize,
 }
 
-// The place past the close of the set expression and the place past its units, or that one of its names is not declared. What is no set expression
-// is answered so too.
+// The place past the close of the set expression and the place past its units, or that one of its names is not declared.
 pub enum SetWritten {
     Next { at: usize, to: usize },
     Undeclared,
@@ -93,56 +89,15 @@ fn set_start(text: &[u8], at: usize) -> Begun
     match item {
         Item::Word { number, next, .. } => {
             let operator = operator_of(number);
-            let wanted = set_grammar::operands_of(number);
-            match wanted {
-                Wanted::Exactly(_) => Begun {
-                    operator,
-                    wanted,
-                    first: items::look(text, next),
-                },
-                Wanted::OneOrMore => Begun {
-                    operator,
-                    wanted,
-                    first: item,
-                },
+            if operator == Unit::UNION {
+                return Begun { operator, next: at };
             }
+            Begun { operator, next }
         }
         Item::Open { .. } | Item::Close { .. } | Item::End => Begun {
             operator: Unit::UNION,
-            wanted: Wanted::OneOrMore,
-            first: item,
+            next: at,
         },
-    }
-}
-
-// The unit of a word of the number as an operand: a reserved word is none.
-fn operand_unit(
-    number: usize,
-    symbols: &[u8],
-    end: usize,
-    family: usize,
-    text: &[u8],
-    start: usize,
-    len: usize,
-) -> Referred
-    ensures { λ r. ⌜ RefersName number (now (symbols .entry)) end family (part (now (text .entry)) start len) r ⌝ }
-{
-    if words::is_name(number) {
-        return reference(symbols, end, family, text, start, len);
-    }
-    Referred::Missing
-}
-
-// Writes the end mark; whether there are as many operands as there must be is the answer. Where there are not, nobody reads what was written, and
-// that the mark does not wait for the test makes the code shorter.
-fn write_end(wanted: Wanted, count: usize, next: usize, code: &mut [u16], to: usize) -> SetWritten
-    ensures { λ r. ⌜ Ends wanted count next (now (code .entry)) to (now (code .exit)) r ⌝ }
-{
-    let closed = items::ended(wanted, count, next);
-    let v = put_unit(code, to, Unit::END);
-    match closed {
-        Parsed::Next(past) => SetWritten::Next { at: past, to: v },
-        Parsed::Bad => SetWritten::Undeclared,
     }
 }
 
@@ -161,25 +116,23 @@ pub fn write_set(
     ensures { λ r. ⌜ WritesSet (now (text .entry)) at levels (now (symbols .entry)) end family (now (code .entry)) to (now (code .exit)) r ⌝ }
 {
     let begun = set_start(text, at);
-    let wanted = begun.wanted;
-    let mut count: usize = 0;
+    let mut i = begun.next;
     let mut u = put_unit(code, to, begun.operator);
-    let mut item = begun.first;
     loop {
+        let item = items::look(text, i);
         match item {
             Item::Word {
                 start,
                 len,
-                number,
                 next,
+                ..
             } => {
-                let name = operand_unit(number, symbols, end, family, text, start, len);
+                let name = reference(symbols, end, family, text, start, len);
                 let Referred::Unit(unit) = name else {
                     return SetWritten::Undeclared;
                 };
                 u = put_unit(code, u, unit);
-                count += 1;
-                item = items::look(text, next);
+                i = next;
             }
             Item::Open { next, .. } => {
                 if levels == 0 {
@@ -189,11 +142,13 @@ pub fn write_set(
                 let SetWritten::Next { at: past, to: v } = operand else {
                     return SetWritten::Undeclared;
                 };
+                i = past;
                 u = v;
-                count += 1;
-                item = items::look(text, past);
             }
-            Item::Close { next } => return write_end(wanted, count, next, code, u),
+            Item::Close { next } => {
+                let v = put_unit(code, u, Unit::END);
+                return SetWritten::Next { at: next, to: v };
+            }
             Item::End => return SetWritten::Undeclared,
         }
     }

@@ -1,5 +1,4 @@
 pub mod Numbering
-pub mod NamedRows
 pub mod RowNames
 pub mod Wholes
 pub mod Finishing

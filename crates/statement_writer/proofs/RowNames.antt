@@ -1,6 +1,5 @@
 -- Names that are written one after the other: one name, and names behind names. Assumes nothing.
 use mathlib.Core.Path.{_≡_, refl, sym, ap, subst, _∙_}
-use mathlib.Core.Bool.{true, false, not}
 use mathlib.Core.List.{List, [], _∷_, _++_}
 use mathlib.Core.Option.{Option, none, some}
 use Prim.Native.Nat.{ℕ}
@@ -9,17 +8,15 @@ use lib.ListN.{length, take, drop}
 use Rattle.bitset.specs.Parts as parts
 use Rattle.lexer.specs.Forms.{Forms, framesAt, trim}
 use Rattle.policy.specs.Basics.{_>>=_}
-use Rattle.policy.specs.Words.{isReserved}
 use Rattle.policy.specs.Statements.{Declaration}
 use Rattle.items.specs.declared.Item.{Item}
 use Rattle.items.proofs.Frames.{Looked, by-word}
 use Rattle.set_writer.specs.Writing.{Stored}
 use Rattle.set_writer.specs.declared.Referred.{Referred}
 use Rattle.set_writer.proofs.Putting.{wrote-then, keeps-then, keeps-all}
-use Rattle.statement_writer.specs.Naming.{unitIn, referredBy, Names, firstUnit, behindFirst, startsNames, namesUnits, behindNames, Past, Moves, AnswersNames, WritesNames}
+use Rattle.statement_writer.specs.Naming.{unitIn, referredBy, Names, firstUnit, behindFirst, namesUnits, behindNames, Past, Moves, AnswersNames, WritesNames}
 use Rattle.statement_writer.specs.declared.Kind.{Kind}
 use Rattle.statement_writer.specs.declared.NamesWritten.{NamesWritten}
-use Rattle.statement_writer.proofs.NamedRows.{starts-append}
 
 -- ---- what an answer says of the names
 
@@ -44,10 +41,6 @@ is-missing (some n) e = absurd (let z : _≡_ {A = ℕ} 0 1 = cc in omega arith)
 abbrev pub alone : Option ℕ → Option (List ℕ)
 alone o = o >>= λ u. some (u ∷ [])
 
-unit-is : {t : List ℕ} {at s n i q : ℕ} (k : Kind) (ds : List Declaration) (levels : ℕ) → Looked t at (Item.Word s n i q) → not (isReserved (take n (drop s t))) ≡ true
-    → firstUnit ds k (trim (framesAt t at .here) levels) ≡ unitIn ds k (take n (drop s t))
-unit-is k ds levels l b = by-word (firstUnit ds k) levels l ∙ rw b
-
 module _ {t : List ℕ} {at : ℕ} {k : Kind} {table : List ℕ} {end : ℕ} {before : List ℕ} {to : ℕ} where
   -- no word stands there
   pub no-word : ((ds : List Declaration) (levels : ℕ) → firstUnit ds k (trim (framesAt t at .here) levels) ≡ none)
@@ -58,13 +51,7 @@ module _ {t : List ℕ} {at : ℕ} {k : Kind} {table : List ℕ} {end : ℕ} {be
     says = λ ds levels y. lacking before before to (namesUnits ds (k ∷ []) (trim (framesAt t at .here) levels)) (ap alone (h ds levels));
   }
 
-  module _ {s n i q : ℕ} (l : Looked t at (Item.Word s n i q)) where
-    -- a reserved word
-    pub reserved : not (isReserved (take n (drop s t))) ≡ false → WritesNames t at (k ∷ []) table end before to before NamesWritten.Undeclared
-    reserved e = no-word λ ds levels. by-word (firstUnit ds k) levels l ∙ rw e
-
-  module _ {s n i q : ℕ} (l : Looked t at (Item.Word s n i q)) (b : not (isReserved (take n (drop s t))) ≡ true)
-      {r : Referred} (m : Names table end k (parts.part t s n) r) where
+  module _ {s n i q : ℕ} (l : Looked t at (Item.Word s n i q)) {r : Referred} (m : Names table end k (parts.part t s n) r) where
     -- a name that is not declared
     pub no-name : r ≡ Referred.Missing → WritesNames t at (k ∷ []) table end before to before NamesWritten.Undeclared
     unfolding parts.part
@@ -73,7 +60,7 @@ module _ {t : List ℕ} {at : ℕ} {k : Kind} {table : List ℕ} {end : ℕ} {be
       moves = tt;
       says = λ ds levels y.
           let is : firstUnit ds k (trim (framesAt t at .here) levels) ≡ none =
-          unit-is k ds levels l b ∙ is-missing (unitIn ds k (take n (drop s t))) (sym e ∙ m .resolves ds y) in
+          by-word (firstUnit ds k) levels l ∙ is-missing (unitIn ds k (take n (drop s t))) (sym e ∙ m .resolves ds y) in
           lacking before before to (namesUnits ds (k ∷ []) (trim (framesAt t at .here) levels)) (ap alone is);
     }
 
@@ -83,16 +70,10 @@ module _ {t : List ℕ} {at : ℕ} {k : Kind} {table : List ℕ} {end : ℕ} {be
     unfolding parts.part
     one-name {unit} {u} {after} e st = record {
       keeps = st .keeps;
-      moves = record {
-        names = λ levels. by-word (startsNames (k ∷ [])) levels l ∙ rw b;
-        row = λ levels. sym (by-word behindFirst levels l);
-        end = l .item .end;
-        less = l .ahead .0;
-        ahead = st .ahead;
-      };
+      moves = record { row = λ levels. sym (by-word behindFirst levels l); ahead = st .ahead };
       says = λ ds levels y.
           let is : firstUnit ds k (trim (framesAt t at .here) levels) ≡ some unit =
-          unit-is k ds levels l b ∙ is-unit (unitIn ds k (take n (drop s t))) unit (sym e ∙ m .resolves ds y) in
+          by-word (firstUnit ds k) levels l ∙ is-unit (unitIn ds k (take n (drop s t))) unit (sym e ∙ m .resolves ds y) in
           subst (λ (o : Option (List ℕ)). AnswersNames before to o after (NamesWritten.Next q u)) (sym (ap alone is)) (st .wrote);
     }
 
@@ -160,9 +141,6 @@ module _ {t : List ℕ} {at : ℕ} {table : List ℕ} {end : ℕ} {a b : List �
       go : Past t at ks i q u → (p : NamesWritten) → Moves t q ls u p → Moves t at (ks ++ ls) i p
       go x NamesWritten.Undeclared w = tt
       go x (NamesWritten.Next j v) w = record {
-        names = λ levels. starts-append ks ls (trim (framesAt t at .here) levels) (x .names levels) (ap (startsNames ls) (sym (x .row levels)) ∙ w .names levels);
         row = λ levels. w .row levels ∙ ap (behindNames ls) (x .row levels) ∙ sym (behind-append ks ls (trim (framesAt t at .here) levels));
-        end = x .end ∙ w .end;
-        less = omega (arith, x .less, w .less);
         ahead = omega (arith, x .ahead, w .ahead);
       }

@@ -11,39 +11,29 @@ use Rattle.lexer.specs.Forms.{Forms, closed, ended, word, part, framesAt, trim}
 use Rattle.policy.specs.Answers.{familyOf}
 use Rattle.policy.specs.declared.Family as theFamily
 use Rattle.policy.specs.Words.{setK}
-use Rattle.policy.specs.Statements.{Declaration, Reference, SetExpr, Written, Statement}
-use Rattle.policy.specs.Grammar.{setIn, formed}
+use Rattle.policy.specs.Statements.{Reference, SetExpr, Statement}
+use Rattle.policy.specs.Grammar.{setIn}
 use Rattle.policy.specs.Reading.{referS, resolved}
-use Rattle.policy.proofs.Lists.{both-true}
 use Rattle.statement_code.specs.Code.{familyNumber, setTag}
-use Rattle.symbols.specs.Symbols.{Symbols}
-use Rattle.items.specs.Looks.{rowEnd}
-use Rattle.items.specs.Reads.{isSome, isClosed}
 use Rattle.items.specs.declared.Item.{Item}
-use Rattle.items.proofs.Items as items
 use Rattle.items.proofs.Frames.{Looked, by-part}
-use Rattle.items.proofs.Rows.{beyond, trim-closed}
-use Rattle.set_writer.specs.Writing.{Keeps}
 use Rattle.set_writer.specs.Sets as sets
 use Rattle.set_writer.specs.Sets.{WritesSet}
 use Rattle.set_writer.specs.declared.SetWritten.{SetWritten}
 use Rattle.set_writer.proofs.Putting.{wrote-then, keeps-then}
-use Rattle.set_writer.proofs.Going.{past}
-use Rattle.statement_writer.specs.Naming.{startsName, firstUnit, behindFirst, AnswersNames, WritesNames}
-use Rattle.statement_writer.specs.Coding.{Stores, Answers, Closes, WritesStatement}
+use Rattle.statement_writer.specs.Naming.{firstUnit, behindFirst, AnswersNames, WritesNames}
+use Rattle.statement_writer.specs.Coding.{Stores, Answers, WritesStatement}
 use Rattle.statement_writer.specs.declared.Kind.{Kind}
 use Rattle.statement_writer.specs.declared.NamesWritten.{NamesWritten}
 use Rattle.statement_writer.specs.declared.Coded.{Coded}
 use Rattle.statement_writer.proofs.Numbering.{same-number}
-use Rattle.statement_writer.proofs.NamedRows.{onlySet, set-formed}
 use Rattle.statement_writer.proofs.RowNames.{alone, lacks}
-use Rattle.statement_writer.proofs.Wholes.{codeIn, headed, SetRow, numberAndSet, set-row, set-whole}
-use Rattle.statement_writer.proofs.Finishing.{tagged, uncoded, coded, closes}
+use Rattle.statement_writer.proofs.Wholes.{codeIn, headed, numberAndSet, set-row, set-whole}
+use Rattle.statement_writer.proofs.Finishing.{tagged, uncoded, coded}
 
--- the answer by that for S, where the statement's close is before the place q
-abbrev pub codedSet : ℕ → SetWritten → Coded
-codedSet q (SetWritten.Next p u) = Coded.Next u q
-codedSet q SetWritten.Undeclared = Coded.Undeclared
+abbrev pub codedSet : SetWritten → Coded
+codedSet (SetWritten.Next q u) = Coded.Next u
+codedSet SetWritten.Undeclared = Coded.Undeclared
 
 -- the row starts with a part; what that part holds
 abbrev pub startsPart : Forms → Bool
@@ -62,15 +52,15 @@ no-unit : (o : Option ℕ) → alone o ≡ none → o ≡ none
 no-unit none e = refl
 no-unit (some n) e = absurd (Option·none-ne-some (n ∷ []) (sym e))
 
-module _ {a b : List ℕ} {i u tag place : ℕ} (head : Stores a i (tag ∷ place ∷ []) b u) (c d : List ℕ) (q v past : ℕ) (long : length c ≡ length b) where
+module _ {a b : List ℕ} {i u tag place : ℕ} (head : Stores a i (tag ∷ place ∷ []) b u) (c d : List ℕ) (q v : ℕ) (long : length c ≡ length b) where
   answered : (o : Option Statement) (n : Option ℕ) (x : Option (SetExpr Reference)) (r : SetWritten) → codeIn place o ≡ headed tag place (numberAndSet n x)
-      → AnswersNames b u (alone n) c (NamesWritten.Next q v) → sets.Answers c v x d r → Answers a i place o d (codedSet past r)
+      → AnswersNames b u (alone n) c (NamesWritten.Next q v) → sets.Answers c v x d r → Answers a i place o d (codedSet r)
   answered o none x r e h g = absurd h
   answered o (some n) none SetWritten.Undeclared e h g = uncoded a d i place o e
   answered o (some n) none (SetWritten.Next p w) e h g = absurd g
   answered o (some n) (some x) SetWritten.Undeclared e h g = absurd g
   answered o (some n) (some x) (SetWritten.Next p w) e h g =
-      coded a d i place past o e (wrote-then (long ∙ head .keeps .long) (wrote-then (head .keeps .long) (head .wrote) h) g)
+      coded a d i place o e (wrote-then (long ∙ head .keeps .long) (wrote-then (head .keeps .long) (head .wrote) h) g)
 
 module _ {t : List ℕ} {at place : ℕ} {table : List ℕ} {end : ℕ} {a b c : List ℕ} {i u n : ℕ} {f : theFamily.Family} {r : NamesWritten}
     (d : n ≡ familyNumber (familyOf f)) (h : Stores a i ((4099 + n) ∷ place ∷ []) b u) (m : WritesNames t at (Kind.Attribute f ∷ []) table end b u c r) where
@@ -86,7 +76,6 @@ module _ {t : List ℕ} {at place : ℕ} {table : List ℕ} {end : ℕ} {a b c :
       let z = subst (λ (x : NamesWritten). WritesNames t at (Kind.Attribute f ∷ []) table end b u c x) e m in
       record {
         keeps = keeps-then (h .ahead) (h .keeps) (m .keeps);
-        form = tt;
         says = λ ds w y g.
             let s = set-row (familyOf f) row w g in
             let no : firstUnit ds (Kind.Attribute f) row ≡ none =
@@ -106,50 +95,22 @@ module _ {t : List ℕ} {at place : ℕ} {table : List ℕ} {end : ℕ} {a b c :
     pub no-part : startsPart (trim (framesAt t q .here) (maxLevel - 1)) ≡ false → WritesStatement t at (setK (familyOf f)) place table end a i c Coded.Undeclared
     no-part p = record {
       keeps = keeps-then (h .ahead) (h .keeps) (m .keeps);
-      form = tt;
       says = λ ds w y g.
           let s = set-row (familyOf f) row w g in
           absurd (false≢true (sym p ∙ ap startsPart (behind ∙ s .behind)));
     }
 
-    module _ {j p : ℕ} (l : Looked t q (Item.Open p j)) where
-      -- what the part holds
-      abbrev inner : Forms
-      inner = trim (framesAt t j .here) (maxLevel - 1 - 1)
-
-      in-part : {w : Written} (s : SetRow (familyOf f) row w) → setIn inner ≡ some (s .set)
-      in-part s = ap setIn (sym (by-part inside (maxLevel - 1) l (λ y. omega arith)) ∙ ap inside (behind ∙ s .behind)) ∙ s .in-part
-
-      -- the form, by what stands behind S
-      ties : (o : ℕ) → rowEnd t j ≡ o → isSome (setIn inner) ≡ true → isSome (formed (setK (familyOf f)) row) ≡ isClosed (framesAt t o .here)
-      ties o g good =
-          set-formed (familyOf f) row (both-true (startsName row) true (name .moves .names (maxLevel - 1)) .0)
-          ∙ ap onlySet (sym behind)
-          ∙ items.by-part onlySet (maxLevel - 1) o (l .item) g (λ y. omega arith)
-          ∙ rw good (trim-closed (framesAt t o .here) (maxLevel - 1))
-
-      module _ {after : List ℕ} {x z : SetWritten} (k : WritesSet t j (maxLevel - 1 - 1) table end n c v after x) (g : x ≡ z) where
-        keeps : Keeps a i after
-        keeps = keeps-then (h .ahead) (h .keeps) (keeps-then (name .moves .ahead) (name .keeps) (k .keeps))
-
-        says : (past : ℕ) (ds : List Declaration) (w : Written) → Symbols table end ds → formed (setK (familyOf f)) row ≡ some w
-            → Answers a i place (resolved ds w) after (codedSet past z)
-        says past ds w y x =
-            let s = set-row (familyOf f) row w x in
-            answered head c after q v past (name .keeps .long) (resolved ds w) (firstUnit ds (Kind.Attribute f) row) (referS ds (familyOf f) (s .set)) z
-            (set-whole ds place f row w s) (name .says ds (maxLevel - 1) y)
-            (subst (λ (r : SetWritten). sets.Answers c v (referS ds (familyOf f) (s .set)) after r) g
-            (k .says ds (familyOf f) (s .set) y (same-number (familyOf f) ∙ sym d) (in-part s)))
-
-      -- a name of S is not declared
-      pub no-name : {after : List ℕ} {x : SetWritten} → WritesSet t j (maxLevel - 1 - 1) table end n c v after x → x ≡ SetWritten.Undeclared
-          → WritesStatement t at (setK (familyOf f)) place table end a i after Coded.Undeclared
-      no-name k g = record { keeps = keeps k g; form = tt; says = λ ds w y x. says k g 0 ds w y x }
-
-      -- S is written
-      pub set-coded : {after : List ℕ} {x : SetWritten} {o w : ℕ} {r : Coded} → WritesSet t j (maxLevel - 1 - 1) table end n c v after x → x ≡ SetWritten.Next o w
-          → Closes t o w r → WritesStatement t at (setK (familyOf f)) place table end a i after r
-      set-coded {o = o} {r = r} k g close =
-          let S = past k g in
-          closes (ties o (S .end) (S .good)) r (name .moves .end ∙ beyond o (l .item) (S .end)) (omega (arith, name .moves .less, l .ahead .0, S .less)) (keeps k g)
-          (λ ds w past y x. says k g past ds w y x) close
+    -- S is written, or a name of it is not declared
+    pub set-coded : {j p : ℕ} {after : List ℕ} {x : SetWritten} (z : SetWritten) → Looked t q (Item.Open p j) → WritesSet t j (maxLevel - 1 - 1) table end n c v after x → x ≡ z
+        → WritesStatement t at (setK (familyOf f)) place table end a i after (codedSet z)
+    set-coded {j} {p} {after} {x} z l k g =
+        let k = subst (λ (y : SetWritten). WritesSet t j (maxLevel - 1 - 1) table end n c v after y) g k in
+        record {
+          keeps = keeps-then (h .ahead) (h .keeps) (keeps-then (name .moves .ahead) (name .keeps) (k .keeps));
+          says = λ ds w y g.
+              let s = set-row (familyOf f) row w g in
+              let in-part : trim (framesAt t j .here) (maxLevel - 1 - 1) ≡ s .inner =
+              sym (by-part inside (maxLevel - 1) l (λ y. omega arith)) ∙ ap inside (behind ∙ s .behind) in
+              answered head c after q v (name .keeps .long) (resolved ds w) (firstUnit ds (Kind.Attribute f) row) (referS ds (familyOf f) (s .set)) z (set-whole ds place f row w s)
+              (name .says ds (maxLevel - 1) y) (k .says ds (familyOf f) (s .set) y (same-number (familyOf f) ∙ sym d) (ap setIn in-part ∙ s .in-part));
+        }

@@ -41,7 +41,7 @@ row-units ds (k ∷ ks) (part p i g) ws h = absurd (Option·none-ne-some ws h)
 row-units ds (k ∷ ks) (word s w g) ws h = go (row-units ds ks g) (not (isReserved w)) (namesIn g) refl h
   where
     go : ((vs : List Name) → namesIn g ≡ some vs → namesUnits ds ks g ≡ unitsOf ds ks vs) → (b : Bool) (o : Option (List Name)) → namesIn g ≡ o → more (given b w) o ≡ some ws
-        → ((given b w >>= unitIn ds k) >>= λ u. namesUnits ds ks g >>= λ us. some (u ∷ us)) ≡ unitsOf ds (k ∷ ks) ws
+        → (unitIn ds k w >>= λ u. namesUnits ds ks g >>= λ us. some (u ∷ us)) ≡ unitsOf ds (k ∷ ks) ws
     go ih false o e q = absurd (Option·none-ne-some ws q)
     go ih true none e q = absurd (Option·none-ne-some ws q)
     go ih true (some vs) e q =
@@ -141,17 +141,17 @@ set-row f (word s a (word r b g)) w h = absurd (Option·none-ne-some w h)
 set-row f (word s a (part p i ended)) w h = absurd (Option·none-ne-some w h)
 set-row f (word s a (part p i (word r b g))) w h = absurd (Option·none-ne-some w h)
 set-row f (word s a (part p i (part r j g))) w h = absurd (Option·none-ne-some w h)
-set-row f (word s a (part p i closed)) w h = go (not (isReserved a)) (setIn i) refl refl h
+set-row f (word s a (part p i closed)) w h = go (not (isReserved a)) (setIn i) refl h
   where
-    go : (b : Bool) (o : Option (SetExpr Name)) → not (isReserved a) ≡ b → setIn i ≡ o → (given b a >>= λ a. o >>= λ x. some (attributeset f a x)) ≡ some w → SetRow f (word s a (part p i closed)) w
-    go false o d e q = absurd (Option·none-ne-some w q)
-    go true none d e q = absurd (Option·none-ne-some w q)
-    go true (some x) d e q = record {
+    go : (b : Bool) (o : Option (SetExpr Name)) → setIn i ≡ o → (given b a >>= λ a. o >>= λ x. some (attributeset f a x)) ≡ some w → SetRow f (word s a (part p i closed)) w
+    go false o e q = absurd (Option·none-ne-some w q)
+    go true none e q = absurd (Option·none-ne-some w q)
+    go true (some x) e q = record {
       name = a;
       at = p;
       inner = i;
       set = x;
-      first = λ ds k. rw d;
+      first = λ ds k. refl;
       behind = refl;
       in-part = e;
       is = sym (Option·some-injective (attributeset f a x) w q);

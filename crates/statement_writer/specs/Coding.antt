@@ -1,6 +1,5 @@
 -- The units of a statement whose names are resolved. Assumes nothing.
 use mathlib.Core.Path.{_≡_}
-use mathlib.Core.Bool.{false}
 use mathlib.Core.List.{List}
 use mathlib.Core.Option.{Option, none, some}
 use Prim.Native.Nat.{ℕ, _-_, _≤_}
@@ -13,8 +12,6 @@ use Rattle.policy.specs.Grammar.{formed}
 use Rattle.policy.specs.Reading.{resolved}
 use Rattle.statement_code.specs.Code.{statementCode}
 use Rattle.symbols.specs.Symbols.{Symbols}
-use Rattle.items.specs.Reads.{Reads, StatementTo, isClosed}
-use Rattle.items.specs.declared.Parsed.{Parsed}
 use Rattle.set_writer.specs.Writing.{Wrote, Keeps}
 use Rattle.statement_writer.specs.declared.Coded.{Coded}
 use Rattle.statement_writer.specs.declared.Relation as theRelation
@@ -31,30 +28,16 @@ pub record Stores (before : List ℕ) (to : ℕ) (units after : List ℕ) (u : �
   pub keeps : Keeps before to after
   pub ahead : to ≤ u
 
--- the close of a statement that is written up to the place to: the row at the place at has nothing more
-abbrev pub ClosesBy : List ℕ → ℕ → ℕ → Coded → Type 0
-ClosesBy t at to (Coded.Next u q) = (u ≡ to) × Reads t at (isClosed (framesAt t at .here)) (Parsed.Next q)
-ClosesBy t at to Coded.Undeclared = isClosed (framesAt t at .here) ≡ false
-
-pub record Closes (t : List ℕ) (at to : ℕ) (r : Coded) : Type 0 where
-  pub close : ClosesBy t at to r
-
 -- "name not declared before, or of the wrong sort": Undeclared exactly if a name of the statement is; else its units are written
 abbrev pub Answers : List ℕ → ℕ → ℕ → Option Statement → List ℕ → Coded → Type 0
 Answers before to place none after Coded.Undeclared = Unit {0}
-Answers before to place none after (Coded.Next u q) = ⊥
+Answers before to place none after (Coded.Next u) = ⊥
 Answers before to place (some s) after Coded.Undeclared = ⊥
-Answers before to place (some s) after (Coded.Next u q) = Wrote before to (statementCode place s) after u
+Answers before to place (some s) after (Coded.Next u) = Wrote before to (statementCode place s) after u
 
--- a statement that is written is of its keyword's form, and q is the place behind its close
-abbrev pub FormBy : List ℕ → ℕ → Keyword → Coded → Type 0
-FormBy t at k (Coded.Next u q) = StatementTo t at k q
-FormBy t at k Coded.Undeclared = Unit {0}
-
--- what writing the statement with the keyword k, behind which the place at is, answers and leaves. Of a row that is not of the keyword's form nothing
--- is said but that it is not written, and that the code before the place to is kept
+-- what writing the statement with the keyword k, behind which the place at is, answers and leaves. Nothing is said of a row that is not of the
+-- keyword's form, but that the code before the place to is kept
 pub record WritesStatement (t : List ℕ) (at : ℕ) (k : Keyword) (place : ℕ) (table : List ℕ) (end : ℕ) (before : List ℕ) (to : ℕ) (after : List ℕ) (r : Coded) : Type 0 where
   pub keeps : Keeps before to after
-  pub form : FormBy t at k r
   pub says : (ds : List Declaration) (w : Written) → Symbols table end ds → formed k (trim (framesAt t at .here) (maxLevel - 1)) ≡ some w
       → Answers before to place (resolved ds w) after r

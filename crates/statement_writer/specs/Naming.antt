@@ -1,19 +1,16 @@
 -- What the names of a statement may stand for, and the units of what they do stand for. Assumes nothing.
 use mathlib.Core.Path.{_≡_}
-use mathlib.Core.Bool.{Bool, true, false, not, _&&_}
 use mathlib.Core.List.{List, [], _∷_}
 use mathlib.Core.Option.{Option, none, some}
-use Prim.Native.Nat.{ℕ, _<_, _≤_}
+use Prim.Native.Nat.{ℕ, _≤_}
 use Rattle.lexer.specs.Forms.{Forms, closed, ended, word, part, framesAt, trim}
 use Rattle.policy.specs.Answers.{familyOf}
 use Rattle.policy.specs.Basics.{Name, _>>=_, indexOf}
-use Rattle.policy.specs.Words.{isReserved, asName}
 use Rattle.policy.specs.Statements.{roles, Sort, thingOf, attributeOf, Declaration, namesOf, classNames}
 use Rattle.policy.specs.Encode.{sortCode}
 use Rattle.policy.specs.Reading.{refer}
 use Rattle.statement_code.specs.Code.{referenceUnit}
 use Rattle.symbols.specs.Symbols.{Symbols}
-use Rattle.items.specs.Looks.{rowEnd}
 use Rattle.set_writer.specs.Writing.{Wrote, Keeps}
 use Rattle.set_writer.specs.declared.Referred.{Referred}
 use Rattle.statement_writer.specs.declared.Kind.{Kind}
@@ -43,18 +40,11 @@ pub record Names (table : List ℕ) (end : ℕ) (k : Kind) (w : Name) (r : Refer
 
 -- ---- names in a row
 
--- the row begins with a name
-abbrev pub startsName : Forms → Bool
-startsName closed = false
-startsName ended = false
-startsName (word s w g) = not (isReserved w)
-startsName (part p i g) = false
-
--- the unit of that name, as a name of a kind; the row behind it
+-- the unit of the first word of a row as a name of a kind; the row behind it
 abbrev pub firstUnit : List Declaration → Kind → Forms → Option ℕ
 firstUnit ds k closed = none
 firstUnit ds k ended = none
-firstUnit ds k (word s w g) = asName w >>= unitIn ds k
+firstUnit ds k (word s w g) = unitIn ds k w
 firstUnit ds k (part p i g) = none
 
 abbrev pub behindFirst : Forms → Forms
@@ -63,12 +53,7 @@ behindFirst ended = ended
 behindFirst (word s w g) = g
 behindFirst (part p i g) = ended
 
--- the row begins with names, one for each kind
-abbrev pub startsNames : List Kind → Forms → Bool
-startsNames [] g = true
-startsNames (k ∷ ks) g = startsName g && startsNames ks (behindFirst g)
-
--- their units; the row behind them
+-- the units of the first words of a row, a name for each kind; the row behind them
 abbrev pub namesUnits : List Declaration → List Kind → Forms → Option (List ℕ)
 namesUnits ds [] g = some []
 namesUnits ds (k ∷ ks) g = firstUnit ds k g >>= λ u. namesUnits ds ks (behindFirst g) >>= λ us. some (u ∷ us)
@@ -77,19 +62,16 @@ abbrev pub behindNames : List Kind → Forms → Forms
 behindNames [] g = g
 behindNames (k ∷ ks) g = behindNames ks (behindFirst g)
 
--- there are names at the place at, q is behind them in the same row, and u is not before the place to
+-- q is behind the names at the place at, and u is not before the place to
 pub record Past (t : List ℕ) (at : ℕ) (ks : List Kind) (to q u : ℕ) : Type 0 where
-  pub names : (levels : ℕ) → startsNames ks (trim (framesAt t at .here) levels) ≡ true
   pub row : (levels : ℕ) → trim (framesAt t q .here) levels ≡ behindNames ks (trim (framesAt t at .here) levels)
-  pub end : rowEnd t at ≡ rowEnd t q
-  pub less : at < q
   pub ahead : to ≤ u
 
 abbrev pub Moves : List ℕ → ℕ → List Kind → ℕ → NamesWritten → Type 0
 Moves t at ks to (NamesWritten.Next q u) = Past t at ks to q u
 Moves t at ks to NamesWritten.Undeclared = Unit {0}
 
--- "name not declared before, or of the wrong sort": the answer is Undeclared exactly if one of the names is, or is no name; else the units are written
+-- "name not declared before, or of the wrong sort": the answer is Undeclared exactly if one of the names is; else the units are written
 abbrev pub AnswersNames : List ℕ → ℕ → Option (List ℕ) → List ℕ → NamesWritten → Type 0
 AnswersNames before to none after NamesWritten.Undeclared = Unit {0}
 AnswersNames before to none after (NamesWritten.Next q u) = ⊥

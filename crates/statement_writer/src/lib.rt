@@ -1,5 +1,5 @@
-// Attribute sets, relations and role transitions with their names resolved, written as statement code: fault 5. The form of a statement is tested
-// on the way: one of a wrong form is never written, but whether its form or its names are at fault is not told here.
+// Attribute sets, relations and role transitions with their names resolved, written as statement code: fault 5. The form of a statement is known
+// to be good where these functions are called; what is found out here is whether its names are declared, and its units are written on the way.
 ghost use mathlib.Core.Path.{_≡_};
 ghost use mathlib.Core.List.{[], _∷_};
 ghost use Prim.Native.Nat.{_≤_};
@@ -9,9 +9,8 @@ ghost use Rattle.policy.specs.Statements.{fromOf, toOf};
 ghost use Rattle.policy.specs.Words.{setK, relationK, transitionK};
 ghost use Rattle.statement_code.specs.Code.{familyNumber, relationNumber, attributeTag};
 ghost use Rattle.statement_writer.specs.Naming.{Numbers, Names, WritesNames};
-ghost use Rattle.statement_writer.specs.Coding.{relationOf, Stores, Closes, WritesStatement};
+ghost use Rattle.statement_writer.specs.Coding.{relationOf, Stores, WritesStatement};
 use items::Item;
-use items::Parsed;
 use lexer::Level;
 use policy::Family;
 use set_writer::Referred;
@@ -19,10 +18,9 @@ use set_writer::SetWritten;
 use statement_code::Unit;
 use symbols::Found;
 
-// The place behind the units written and the place past the statement's close; or fault 5: a name is not declared before, or is of the wrong sort.
-// A statement of a wrong form is answered so too.
+// The place behind the units written, or fault 5: a name is not declared before, or is of the wrong sort.
 pub enum Coded {
-    Next { to: usize, past: usize },
+    Next(usize),
     Undeclared,
 }
 
@@ -136,15 +134,12 @@ fn write_name(
     let Item::Word {
         start,
         len,
-        number,
         next,
+        ..
     } = item
     else {
         return NamesWritten::Undeclared;
     };
-    if !words::is_name(number) {
-        return NamesWritten::Undeclared;
-    }
     let name = name_unit(kind, symbols, end, text, start, len);
     let Referred::Unit(unit) = name else {
         return NamesWritten::Undeclared;
@@ -181,17 +176,6 @@ fn write_head(tag: u16, place: u16, code: &mut [u16], to: usize) -> usize
 {
     let u = set_writer::put_unit(code, to, tag);
     set_writer::put_unit(code, u, place)
-}
-
-// The close of a statement whose units are written up to a place.
-fn closed(text: &[u8], at: usize, to: usize) -> Coded
-    ensures { λ r. ⌜ Closes (now (text .entry)) at to r ⌝ }
-{
-    let close = items::close_form(text, at);
-    match close {
-        Parsed::Next(past) => Coded::Next { to, past },
-        Parsed::Bad => Coded::Undeclared,
-    }
 }
 
 // Writes the declaration of an attribute: its tag and place. The answer is the place behind them.
@@ -252,10 +236,10 @@ pub fn write_relation(
     let first = Kind::Reference(first_family(relation));
     let second = Kind::Reference(second_family(relation));
     let names = write_pair(text, at, first, second, symbols, end, code, u);
-    let NamesWritten::Next { at: next, to: v } = names else {
-        return Coded::Undeclared;
-    };
-    closed(text, next, v)
+    match names {
+        NamesWritten::Next { to: v, .. } => Coded::Next(v),
+        NamesWritten::Undeclared => Coded::Undeclared,
+    }
 }
 
 // Writes `(roletransition R T C R)`, whose names are from a place on.
@@ -278,10 +262,10 @@ pub fn write_transition(
         return Coded::Undeclared;
     };
     let others = write_pair(text, next, Kind::Class, Kind::Role, symbols, end, code, v);
-    let NamesWritten::Next { at: last, to: w } = others else {
-        return Coded::Undeclared;
-    };
-    closed(text, last, w)
+    match others {
+        NamesWritten::Next { to: w, .. } => Coded::Next(w),
+        NamesWritten::Undeclared => Coded::Undeclared,
+    }
 }
 
 // Writes `(userattributeset A S)` and the same for roles and types, whose A is the name at a place. The parentheses of the statement are level 1 and
@@ -318,8 +302,8 @@ pub fn write_attribute_set(
         code,
         v,
     );
-    let SetWritten::Next { at: last, to: w } = set else {
-        return Coded::Undeclared;
-    };
-    closed(text, last, w)
+    match set {
+        SetWritten::Next { to: w, .. } => Coded::Next(w),
+        SetWritten::Undeclared => Coded::Undeclared,
+    }
 }

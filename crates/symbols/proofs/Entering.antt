@@ -10,15 +10,17 @@ use native.Mathlib.Decide.{decLt}
 use native.Mathlib.Omega.{arith}
 use borrow.Author.Tests.{eqb-true, eqb-false}
 use lib.Dec.{eqb}
-use lib.ListN.{length, getD, take, replicate, length-replicate, getD-replicate}
+use lib.ListN.{length, getD, take}
 use lib.Seq.{ext-getD, getD-take, length-take-le}
 use Rattle.bitset.specs.Parts.{part, put}
-use Rattle.bitset.proofs.PartLaws.{length-put, part-part, getD-put-in, getD-put-before, getD-put-after, getD-part, length-part-le}
+use Rattle.bitset.specs.Sets.{setOf, fromBits, emptied}
+use Rattle.bitset.proofs.SetLaws.{length-setOf, byte-setOf}
+use Rattle.bitset.proofs.PartLaws.{length-put, part-part, part-put-before, getD-put-in, getD-put-before, getD-put-after, getD-part, length-part-le}
 use Rattle.policy.specs.Basics.{Name, unle}
 use Rattle.policy.specs.Encode.{NameEntry, entryBytes}
 use Rattle.symbols.specs.Lookup.{familyNumber, isNamed, firstNamed, countSort}
 use Rattle.symbols.specs.Append.{Appended}
-use Rattle.symbols.specs.Index.{slotOf, otherSlot, slotIn, Stored, Noted, Pointed, Indexed, EntryRoom, Entered}
+use Rattle.symbols.specs.Index.{slotOf, otherSlot, slotIn, Stored, Noted, Pointed, Indexed, EntryRoom, Entered, Cleared}
 use Rattle.symbols.specs.declared.Found.{Found}
 use Rattle.symbols.proofs.PartLaws.{length-part}
 use Rattle.symbols.proofs.Appending.{entry-length, length-after, part-before, part-after, part-new}
@@ -54,11 +56,40 @@ slot-zero t h s l =
     let r : i < 3 = omega (arith, length-part-le t (137088 + 3 * s) 3) in
     getD-part t (137088 + 3 * s) 3 i r ∙ h (137088 + 3 * s + i) (omega arith) (omega arith))
 
--- memory that is 0 has the index of no entries
-pub zero-indexed : (n : ℕ) → 186264 ≤ n → Indexed (replicate n 0) 0 []
-zero-indexed n room =
-    let long = length-replicate {A = ℕ} n 0 in
-    indexed-none (replicate n 0) (omega arith) (slot-zero (replicate n 0) (λ i l m. getD-replicate n i 0 0 (omega arith)))
+-- the bytes of no set are 0
+no-bits : (w i : ℕ) → i < w → getD (setOf w (λ n. false)) i 0 ≡ 0
+unfolding fromBits
+no-bits w i l = byte-setOf w (λ n. false) i l
+
+module _ (t : List ℕ) (room : 186264 ≤ length t) where
+  index-part : length (part t 137088 49176) ≡ 49176
+  index-part = length-part t 137088 49176 ∙ omega arith
+
+  index-fits : 137088 + length (emptied (part t 137088 49176)) ≤ length t
+  unfolding emptied
+  index-fits = omega (arith, index-part, length-setOf (length (part t 137088 49176)) (λ n. false))
+
+  clear-long : length (put t 137088 (emptied (part t 137088 49176))) ≡ length t
+  clear-long = length-put t 137088 (emptied (part t 137088 49176)) index-fits
+
+  clear-front : take 137088 (put t 137088 (emptied (part t 137088 49176))) ≡ take 137088 t
+  unfolding part
+  clear-front = part-put-before t 137088 (emptied (part t 137088 49176)) index-fits 0 137088 (omega arith)
+
+  clear-zero : (i : ℕ) → 137088 ≤ i → i < 186264 → getD (put t 137088 (emptied (part t 137088 49176))) i 0 ≡ 0
+  unfolding emptied
+  clear-zero i l m =
+      let long = length-setOf (length (part t 137088 49176)) (λ n. false) in
+      let e : 137088 + (i - 137088) ≡ i = omega arith in
+      ap (λ (k : ℕ). getD (put t 137088 (emptied (part t 137088 49176))) k 0) (sym e)
+      ∙ getD-put-in t 137088 (emptied (part t 137088 49176)) index-fits (i - 137088) (omega (arith, long, index-part))
+      ∙ no-bits (length (part t 137088 49176)) (i - 137088) (omega (arith, index-part))
+
+pub cleared : (t : List ℕ) → Cleared t (put t 137088 (emptied (part t 137088 49176)))
+cleared t = record {
+  front = λ room. clear-front t room;
+  indexed = λ room. indexed-none _ (omega (arith, clear-long t room)) (slot-zero _ (clear-zero t room));
+}
 
 -- ---- the bytes before the index
 

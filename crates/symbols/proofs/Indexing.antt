@@ -2,26 +2,22 @@
 use mathlib.Core.Path.{_≡_, refl, sym, ap, ap₂, subst, _∙_}
 use mathlib.Core.Bool.{Bool, true, false, cond, and-true, and-false}
 use mathlib.Core.List.{List, [], _∷_, _++_}
-use Prim.Native.Nat.{ℕ, min, _+_, _-_, _*_, _<_, _≤_}
-use native.Mathlib.Decide.{decLt}
+use Prim.Native.Nat.{ℕ, _+_, _-_, _<_}
 use native.Mathlib.Omega.{arith}
 use borrow.Author.Tests.{eq-eqb, eqb-true}
 use lib.Dec.{eqb}
-use lib.ListN.{length, getD}
+use lib.ListN.{length}
 use Rattle.bitset.specs.Parts.{part}
-use Rattle.bitset.proofs.PartLaws.{small-part}
-use Rattle.policy.specs.Basics.{Name, same, le, unle}
+use Rattle.policy.specs.Basics.{Name, same}
 use Rattle.policy.specs.Encode.{NameEntry, nameEntry, entryBytes}
 use Rattle.policy.proofs.Lists.{both-true}
-use Rattle.symbols.specs.Section.{Section, broken, entry, sectionIn, sectionAt, entriesRead, between, entriesAt, EntryIs}
+use Rattle.symbols.specs.Section.{Section, entry, sectionIn, sectionAt, entriesRead, between, entriesAt, EntryIs}
 use Rattle.symbols.specs.Lookup.{familyNumber, isNamed, headNamed, firstNamed}
-use Rattle.symbols.specs.Index.{slotOf, otherSlot, slotIn, Hit, Pointed}
+use Rattle.symbols.specs.Index.{slotOf, otherSlot, slotIn, Pointed}
 use Rattle.symbols.specs.Symbols.{Looks, LooksOn}
 use Rattle.symbols.specs.declared.Entry.{Entry}
 use Rattle.symbols.specs.declared.Found.{Found}
-use Rattle.symbols.proofs.PartLaws.{length-part, part-join}
-use Rattle.symbols.proofs.WordLaws.{Small, alike}
-use Rattle.symbols.proofs.LookLaws.{is-named, is-cut}
+use Rattle.symbols.proofs.PartLaws.{part-join}
 use Rattle.symbols.proofs.ReadBack.{entry-back}
 
 -- ---- names
@@ -37,7 +33,7 @@ same-is (x ∷ v) (y ∷ w) e =
     let t = same-is v w (b .1) in
     cc
 
-pub same-self : (w : Name) → same w w ≡ true
+same-self : (w : Name) → same w w ≡ true
 unfolding same
 same-self [] = refl
 same-self (x ∷ w) = rw (eq-eqb x x refl, same-self w)
@@ -115,53 +111,9 @@ other-there p f w h = by (isNamed f w (p .is)) (sym (head-is p f w) ∙ h)
     by true z = absurd (let y : _≡_ {A = ℕ} 0 1 = cc in omega arith)
     by false z = refl
 
--- the same of the same
-pub looks-as : {t u : List ℕ} {end f : ℕ} {v w : Name} {r q : Found} → Looks t end f v r → t ≡ u → v ≡ w → q ≡ r → Looks u end f w q
-looks-as {t} {u} {end} {f} {v} {w} {r} h e d g =
-    subst (λ (x : Found). Looks u end f w x) (sym g) (subst (λ (x : Name). Looks u end f x r) d (subst (λ (x : List ℕ). Looks x end f v r) e h))
-
--- ---- what `is_hit` says
-
-pub hit : (t : List ℕ) (at f len n : ℕ) {l m s p q : ℕ} → l ≡ getD t (at + 3) 0 → l ≡ len → m ≡ unle (part t (at + 4) len) → m ≡ n → s ≡ getD t at 0
-    → p ≡ getD t (at + 1) 0 + 256 * getD t (at + 1 + 1) 0 → q ≡ familyNumber s p → q ≡ f → Hit t at f len n
-hit t at f len n a b c d e g h i =
-    let two : at + 1 + 1 ≡ at + 2 = omega arith in
-    record {
-      long = sym a ∙ b;
-      name = sym c ∙ d;
-      family = ap₂ familyNumber (sym e) (ap (λ (k : ℕ). getD t (at + 1) 0 + 256 * getD t k 0) (sym two) ∙ sym g) ∙ sym h ∙ i;
-    }
-
-module _ {t : List ℕ} {end : ℕ} {es : List NameEntry} {at f len n : ℕ} (p : Pointed t end es at) (bytes : Small t) (far : at + 12 ≤ length t) (h : Hit t at f len n) where
-  abbrev left : ℕ
-  left = min (end - at) (length t - at)
-
-  abbrev number : ℕ
-  number = getD t (at + 1) 0 + 256 * getD t (at + 2) 0
-
-  enough : 4 ≤ left
-  unfolding le
-  enough = omega (arith, p .inside)
-
-  -- the entry that stands there has a name of len bytes
-  hit-entry : EntryIs t at end (Entry.Named (getD t at 0) number (at + 4 + len))
-  hit-entry = by (decLt (left - 4) len)
-    where
-      long : (len ≡ getD t (at + 3) 0) × (len < 256)
-      long = (sym (h .long), omega (arith, bytes (at + 3), h .long))
-
-      by : Dec (left - 4 < len) → EntryIs t at end (Entry.Named (getD t at 0) number (at + 4 + len))
-      by (yes g) = absurd (let z : _≡_ {A = Section} broken (entry _ _) = sym (is-cut t at end left refl len long enough g .reads) ∙ read-there p in let y : _≡_ {A = ℕ} 0 1 = cc in omega arith)
-      by (no g) =
-          is-named t at end left refl (getD t at 0) (getD t (at + 1) 0) (getD t (at + 2) 0) len (refl, bytes at) (refl, bytes (at + 1)) (refl, bytes (at + 2)) long enough (omega arith)
-
-  hit-first : (w : Name) → Small w → length w ≡ len → n ≡ unle w → Found.At (getD t at 0) number ≡ firstNamed f w es
-  hit-first w small l e =
-      let wide : at + 4 + len - (at + 4) ≡ len = omega arith in
-      let there : between t (at + 4) (at + 4 + len) ≡ part t (at + 4) len = ap (part t (at + 4)) wide in
-      let same-name : same w (part t (at + 4) len) ≡ true = alike w (part t (at + 4) len) small (small-part t (at + 4) len bytes) (l ∙ sym (length-part t (at + 4) len ∙ omega (arith, hit-entry .within .stored))) (sym e ∙ sym (h .name)) in
-      let named : true ≡ isNamed f w (nameEntry (getD t at 0) number (between t (at + 4) (at + 4 + len))) = sym (rw (there, same-name, eq-eqb (familyNumber (getD t at 0) number) f (h .family))) in
-      first-there p f w (getD t at 0) number (named-there t at end f w hit-entry true named)
+-- the name by other words
+pub looks-for : {t : List ℕ} {end f : ℕ} {v w : Name} {r : Found} → Looks t end f v r → v ≡ w → Looks t end f w r
+looks-for {t} {end} {f} {r = r} h e = subst (λ (n : Name). Looks t end f n r) e h
 
 less-one : (n : ℕ) → (n ≡ 0 → ⊥) → n ≡ n - 1 + 1
 less-one n h = omega arith
@@ -180,17 +132,6 @@ module _ {t : List ℕ} {end f : ℕ} {w : Name} where
 
       pub by-other : r ≡ Found.Missing → {g : Found} → LooksOn t end slot f w g → Looks t end f w g
       by-other q o = record { finds = λ ds y. o .finds ds y (s .0) (hint - 1) (sym (h .0) ∙ less-one hint e) (sym m ∙ q) }
-
-    -- the answer of `lookup_short` where the slot's entry has the family and the name
-    pub by-hit : (hint ≡ 0 → ⊥) → Small t → hint - 1 + 12 ≤ length t → {len n k : ℕ} → Hit t (hint - 1) f len n → Small w → length w ≡ len → n ≡ unle w
-        → k ≡ getD t (hint - 1) 0 → {m : ℕ} → m ≡ getD t (hint - 1 + 1) 0 + 256 * getD t (hint - 1 + 1 + 1) 0 → Looks t end f w (Found.At k m)
-    by-hit e bytes far g small l d x y =
-        let two : hint - 1 + 1 + 1 ≡ hint - 1 + 2 = omega arith in
-        record {
-          finds = λ ds z.
-              ap₂ Found.At x (y ∙ ap (λ (i : ℕ). getD t (hint - 1 + 1) 0 + 256 * getD t i 0) two)
-              ∙ hit-first (z .indexed .points slot (hint - 1) (s .1) (sym (h .0) ∙ less-one hint e)) bytes far g w small l d;
-        }
 
   -- the answers of `look_on`
   module _ {slot hint : ℕ} (l : slot < 16384) (h : (hint ≡ slotIn t (otherSlot slot)) × (hint < 16777216)) where

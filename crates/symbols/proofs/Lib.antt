@@ -1,5 +1,4 @@
 pub mod PartLaws
-pub mod WordLaws
 pub mod SectionLaws
 pub mod LookLaws
 pub mod FindLaws
@@ -15,5 +14,4 @@ pub mod Walking
 pub mod CountLaws
 pub mod SlotLaws
 pub mod Indexing
-pub mod SameLaws
 pub mod Entering

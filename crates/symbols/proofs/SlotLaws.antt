@@ -1,5 +1,5 @@
 -- The slots of the index: which slot a name has, what a slot holds, and what a store into one leaves. Assumes nothing.
-use mathlib.Core.Path.{_≡_, refl, sym, ap, subst, _∙_}
+use mathlib.Core.Path.{_≡_, refl, sym, ap, ap₂, subst, _∙_}
 use mathlib.Core.Bool.{Bool, true, false}
 use mathlib.Core.Logic.{_⊎_, inl, inr}
 use mathlib.Core.List.{List, [], _∷_}
@@ -9,15 +9,14 @@ use native.Mathlib.Decide.{decLt}
 use native.Mathlib.Omega.{arith}
 use borrow.Author.Tests.{eqb-true, eqb-false}
 use lib.Dec.{eqb}
-use lib.ListN.{length, getD, take, drop, set, drop-of-length-le}
-use lib.Seq.{sets, take-all}
+use lib.ListN.{length, getD, drop, set, drop-of-length-le}
+use lib.Seq.{sets}
 use Rattle.bitset.specs.Parts.{part, put}
 use Rattle.bitset.proofs.PartLaws.{length-put, part-put-same, part-put-before, part-put-after}
 use Rattle.policy.specs.Basics.{Name, unle}
-use Rattle.symbols.specs.Index.{slotFrom, slotBy, slotOf, otherSlot, slotIn, Stored, Noted}
+use Rattle.symbols.specs.Index.{slotFrom, slotOf, otherSlot, slotIn, Stored, Noted}
 use Rattle.symbols.proofs.AppendLaws.{put-sets}
-use Rattle.symbols.proofs.PartLaws.{drop-two, drop-last}
-use Rattle.symbols.proofs.WordLaws.{Small, last-three}
+use Rattle.symbols.proofs.PartLaws.{part-none, part-cons, drop-two, drop-last}
 
 -- ---- the slot of a name
 
@@ -28,17 +27,12 @@ slot-from-below (b ∷ w) s h = slot-from-below w ((s * 31 + b) % 16384) (omega 
 
 pub slot-below : (f : ℕ) (w : Name) → slotOf f w < 16384
 unfolding slotOf
-slot-below f w = slot-from-below (drop 8 w) (slotBy f (unle (take 8 w))) (omega arith)
+slot-below f w = slot-from-below w (f % 16384) (omega arith)
 
 -- the turns of `slot_of`: the bytes before i - 1 are in the slot so far
-pub slot-start : (f : ℕ) (w : Name) {n s : ℕ} → s ≡ slotBy f n → n ≡ unle (take 8 w) → slotFrom (drop 8 w) s ≡ slotOf f w
+pub slot-start : (f : ℕ) (w : Name) → slotFrom (drop 0 w) (f % 16384) ≡ slotOf f w
 unfolding slotOf
-slot-start f w e d = ap (slotFrom (drop 8 w)) (e ∙ ap (slotBy f) d)
-
--- a name of eight bytes at most has no bytes behind the first eight
-pub slot-short : (f : ℕ) (w : Name) {n s : ℕ} → length w ≤ 8 → s ≡ slotBy f n → n ≡ unle w → s ≡ slotOf f w
-unfolding slotFrom slotOf
-slot-short f w l e d = e ∙ ap (slotBy f) (d ∙ sym (ap unle (take-all 8 w l))) ∙ sym (ap (λ (r : Name). slotFrom r (slotBy f (unle (take 8 w)))) (drop-of-length-le w {i = 8} l))
+slot-start f w = refl
 
 two-turns : (s a b : ℕ) → ((s * 31 + a) % 16384 * 31 + b) % 16384 ≡ (s * 961 + a * 31 + b) % 16384
 two-turns s a b =
@@ -61,17 +55,25 @@ module _ (w : Name) (i : ℕ) (positive : 0 < i) (s : ℕ) where
 
 -- ---- what a slot holds
 
+three : (t : List ℕ) (o : ℕ) → o + 3 ≤ length t → part t o 3 ≡ getD t o 0 ∷ getD t (o + 1) 0 ∷ getD t (o + 2) 0 ∷ []
+three t o h =
+    part-cons t o 3 (omega arith) (omega arith)
+    ∙ ap (λ (r : List ℕ). getD t o 0 ∷ r) (part-cons t (o + 1) 2 (omega arith) (omega arith)
+    ∙ ap (λ (r : List ℕ). getD t (o + 1) 0 ∷ r) (ap₂ (part t) (omega arith) (omega arith) ∙ part-cons t (o + 2) 1 (omega arith) (omega arith)
+    ∙ ap (λ (r : List ℕ). getD t (o + 2) 0 ∷ r) (part-none t (o + 2 + 1) (1 - 1) (omega arith))))
+
 unle-three : (a b c : ℕ) → unle (a ∷ b ∷ c ∷ []) ≡ a + 256 * (b + 256 * c)
 unfolding unle
 unle-three a b c = omega arith
 
--- by the four bytes that end with those of the slot
-pub held : (t : List ℕ) (s : ℕ) → Small t → s < 16392 → 186264 ≤ length t → {n : ℕ} → (n ≡ unle (part t (137088 - 1 + 3 * s) 4)) × (n < 4294967296)
-    → (n / 256 ≡ slotIn t s) × (n / 256 < 16777216)
-unfolding slotIn
-held t s small below room h =
-    let o : 137088 - 1 + 3 * s + 1 ≡ 137088 + 3 * s = omega arith in
-    (ap (λ (k : ℕ). k / 256) (h .0) ∙ last-three t (137088 - 1 + 3 * s) small (omega arith) ∙ ap (λ (k : ℕ). unle (part t k 3)) o, omega (arith, h .1))
+module _ (t : List ℕ) (s a b c : ℕ) (below : s < 16392) (room : 186264 ≤ length t) where
+  pub held : (a ≡ getD t (137088 + 3 * s) 0) × (a < 256) → (b ≡ getD t (137088 + 3 * s + 1) 0) × (b < 256) → (c ≡ getD t (137088 + 3 * s + 2) 0) × (c < 256)
+      → (a + 256 * (b + 256 * c) ≡ slotIn t s) × (a + 256 * (b + 256 * c) < 16777216)
+  unfolding slotIn
+  held p q r = (
+    sym (ap unle (three t (137088 + 3 * s) (omega arith)) ∙ unle-three (getD t (137088 + 3 * s) 0) (getD t (137088 + 3 * s + 1) 0) (getD t (137088 + 3 * s + 2) 0) ∙ rw (p .0, q .0, r .0)),
+    omega arith,
+  )
 
 -- ---- a store
 

@@ -5,25 +5,21 @@ use mathlib.Core.Bool.{false}
 use mathlib.Core.Logic.{_⊎_}
 use mathlib.Core.List.{List, [], _∷_, _++_}
 use Prim.Native.Nat.{ℕ, _+_, _*_, _%_, _<_, _≤_}
-use lib.ListN.{length, getD, take, drop}
+use lib.ListN.{length, take}
 use Rattle.bitset.specs.Parts.{part, put}
 use Rattle.policy.specs.Basics.{Name, unle}
 use Rattle.policy.specs.Encode.{NameEntry, entryBytes}
 use Rattle.symbols.specs.Lookup.{familyNumber, isNamed, firstNamed, countSort}
 use Rattle.symbols.specs.declared.Found.{Found}
 
--- the number that bytes make to the base 31, from a first number on, cut to the 16,384 slots of names
+-- the number that a name's bytes make to the base 31, from a first number on, cut to the 16,384 slots of names
 unfoldable pub slotFrom : List ℕ → ℕ → ℕ
 slotFrom [] s = s
 slotFrom (b ∷ bs) s = slotFrom bs ((s * 31 + b) % 16384)
 
--- the slot of a family f and the number n of the first bytes of a name; 16,361 is a prime, so all of them count
-abbrev pub slotBy : ℕ → ℕ → ℕ
-slotBy f n = (n % 16361 + f % 16384 * 7001) % 16384
-
--- the slot of a name w of the family f: that of its first eight bytes, and the bytes behind them from there on
+-- the slot of a name w of the family f
 unfoldable pub slotOf : ℕ → Name → ℕ
-slotOf f w = slotFrom (drop 8 w) (slotBy f (unle (take 8 w)))
+slotOf f w = slotFrom w (f % 16384)
 
 -- the slot that a name takes where its own holds another entry
 abbrev pub otherSlot : ℕ → ℕ
@@ -69,12 +65,6 @@ pub record Indexed (t : List ℕ) (end : ℕ) (es : List NameEntry) : Type 0 whe
   pub points : (s at : ℕ) → s < 16384 → slotIn t s ≡ at + 1 → Pointed t end es at
   pub counts : (s : ℕ) → s < 8 → slotIn t (16384 + s) ≡ countSort s es % 16777216
 
--- what stands at a place is the head of an entry of the family f with a name of len bytes, and behind it bytes that make the number n
-pub record Hit (t : List ℕ) (at f len n : ℕ) : Type 0 where
-  pub long : getD t (at + 3) 0 ≡ len
-  pub name : unle (part t (at + 4) len) ≡ n
-  pub family : familyNumber (getD t at 0) (getD t (at + 1) 0 + 256 * getD t (at + 2) 0) ≡ f
-
 -- there is room for an entry with a name of len bytes, before an index
 pub record EntryRoom (total end sort len : ℕ) : Type 0 where
   pub index : 186264 ≤ total
@@ -91,3 +81,8 @@ pub record Entered (before after : List ℕ) (end : ℕ) (e : NameEntry) (r : �
   pub inside : r ≤ 137088
   pub indexed : (es : List NameEntry) → Indexed before end es → firstNamed (familyNumber (e .sort) (e .number)) (e .name) es ≡ Found.Missing → e .number < 65536
       → Indexed after r (es ++ (e ∷ []))
+
+-- the index is empty, whatever it held; the bytes before it are kept
+pub record Cleared (before after : List ℕ) : Type 0 where
+  pub front : 186264 ≤ length before → take 137088 after ≡ take 137088 before
+  pub indexed : 186264 ≤ length before → Indexed after 0 []

@@ -3,9 +3,8 @@
 // Parts that reach past the end of a slice are cut there, so that the searches ask nothing of their caller; what writes asks for room. Behind the
 // room for the entries the compiler's memory has an index of them, by which `lookup` finds an entry mostly without a walk.
 ghost use mathlib.Core.Path.{_≡_};
-ghost use mathlib.Core.Bool.{true};
-ghost use Prim.Native.Nat.{ℕ, min, _+_, _-_, _*_, _^_, _<_, _≤_};
-ghost use lib.ListN.{length, getD, take};
+ghost use Prim.Native.Nat.{ℕ, min, _+_, _-_, _*_, _<_, _≤_};
+ghost use lib.ListN.{length, getD};
 ghost use Rattle.bitset.specs.Parts.{part, put};
 ghost use Rattle.policy.specs.Basics as basics;
 ghost use Rattle.policy.specs.Encode.{nameEntry, entryBytes};
@@ -13,7 +12,7 @@ ghost use Rattle.policy.specs.Questions.{nameFrom};
 ghost use Rattle.symbols.specs.Section.{EntryIs, entriesAt, between};
 ghost use Rattle.symbols.specs.Lookup.{familyNumber, isNamed, headNamed, firstNamed, replyOf, countSort};
 ghost use Rattle.symbols.specs.Append.{Room, Appended};
-ghost use Rattle.symbols.specs.Index.{slotBy, slotOf, slotIn, Stored, Noted, Hit, EntryRoom, Entered};
+ghost use Rattle.symbols.specs.Index.{slotOf, slotIn, Stored, Noted, EntryRoom, Entered, Cleared};
 ghost use Rattle.symbols.specs.Symbols.{Looks, LooksOn};
 
 // What stands at a place of a section: an entry, with the place past it; the section's end; or bytes that are no entry.
@@ -102,50 +101,13 @@ fn pair(bytes: &[u8], at: usize) -> usize
     low + 256 * high
 }
 
-// The four bytes from a place on as one number.
-fn four(bytes: &[u8], at: usize) -> usize
-    requires { ⌜ at + 4 ≤ length (now bytes) ⌝ }
-    ensures { λ r. ⌜ (r ≡ basics.unle (part (now (bytes .entry)) at 4)) × (r < 4294967296) ⌝ }
-{
-    let low = wide(bytes[at]) + 256 * wide(bytes[at + 1]);
-    let high = wide(bytes[at + 2]) + 256 * wide(bytes[at + 3]);
-    low + 65_536 * high
-}
-
-// The eight bytes from a place on as one number.
-fn eight(bytes: &[u8], at: usize) -> usize
-    requires { ⌜ at + 8 ≤ length (now bytes) ⌝ }
-    ensures { λ r. ⌜ r ≡ basics.unle (part (now (bytes .entry)) at 8) ⌝ }
-{
-    four(bytes, at) + 4_294_967_296 * four(bytes, at + 4)
-}
-
-// Whether two slices of the same length, eight bytes or more, hold the same bytes. A turn compares eight. The last eight come last, and some of them
-// may have been compared before.
-fn same_long(a: &[u8], b: &[u8]) -> bool
-    requires { ⌜ (8 ≤ length (now a)) × (length (now a) ≡ length (now b)) ⌝ }
-    ensures { λ r. ⌜ r ≡ basics.same (now (a .entry)) (now (b .entry)) ⌝ }
-{
-    let last = a.len() - 8;
-    let mut k: usize = 0;
-    while k < last {
-        if eight(a, k) != eight(b, k) {
-            return false;
-        }
-        k += 8;
-    }
-    eight(a, last) == eight(b, last)
-}
-
-// Whether two slices hold the same bytes. Lengths are compared first. Of less than eight bytes a turn compares two; k is the place of the second.
+// Whether two slices hold the same bytes. Lengths are compared first. A turn compares two bytes, since most names are short; k is the place of
+// the second.
 fn same_bytes(a: &[u8], b: &[u8]) -> bool
     ensures { λ r. ⌜ r ≡ basics.same (now (a .entry)) (now (b .entry)) ⌝ }
 {
     if a.len() != b.len() {
         return false;
-    }
-    if 8 <= a.len() {
-        return same_long(a, b);
     }
     let mut k: usize = 1;
     while k < a.len() {
@@ -338,58 +300,12 @@ const OTHER: usize = 385;
 // The memory of symbols with an index.
 pub const SYMBOL_BYTES: usize = 186_264;
 
-// The greatest number that len bytes make, eight at most.
-fn greatest(len: usize) -> usize
-    requires { ⌜ len ≤ 8 ⌝ }
-    ensures { λ r. ⌜ r ≡ 2 ^ (8 * len) - 1 ⌝ }
-{
-    match len {
-        0 => 0,
-        1 => 0xff,
-        2 => 0xffff,
-        3 => 0xff_ffff,
-        4 => 0xffff_ffff,
-        5 => 0xff_ffff_ffff,
-        6 => 0xffff_ffff_ffff,
-        7 => 0xff_ffff_ffff_ffff,
-        8 => 0xffff_ffff_ffff_ffff,
-        _ => 0,
-    }
-}
-
-// The len bytes from a place on as one number. Eight are read at once, and those behind the len are cut off.
-fn few(bytes: &[u8], at: usize, len: usize) -> usize
-    requires { ⌜ (at + 8 ≤ length (now bytes)) × (len ≤ 8) ⌝ }
-    ensures { λ r. ⌜ r ≡ basics.unle (part (now (bytes .entry)) at len) ⌝ }
-{
-    eight(bytes, at) & greatest(len)
-}
-
-// The first eight bytes of a name as one number, or all where it has less.
-fn front(name: &[u8]) -> usize
-    ensures { λ r. ⌜ r ≡ basics.unle (take 8 (now (name .entry))) ⌝ }
-{
-    if 8 <= name.len() {
-        return eight(name, 0);
-    }
-    let mut padded = [0u8; 8];
-    copy(&mut padded, 0, name, 0, name.len());
-    eight(&padded, 0)
-}
-
-// The slot of a family and the number of a name's first bytes. The number is divided by a prime.
-fn slot_by(family: usize, front: usize) -> usize
-    ensures { λ r. ⌜ (r ≡ slotBy family front) × (r < 16384) ⌝ }
-{
-    (front % 16_361 + family % SLOTS * 7001) % SLOTS
-}
-
-// The slot of a name of a family. Behind the first eight bytes a turn takes two, i being the place of the second; 961 is 31 times 31.
+// The slot of a name of a family. A turn takes two bytes, i being the place of the second; 961 is 31 times 31.
 fn slot_of(family: usize, name: &[u8]) -> usize
     ensures { λ r. ⌜ (r ≡ slotOf family (now (name .entry))) × (r < 16384) ⌝ }
 {
-    let mut slot = slot_by(family, front(name));
-    let mut i: usize = 9;
+    let mut slot = family % SLOTS;
+    let mut i: usize = 1;
     while i < name.len() {
         slot = (slot * 961 + wide(name[i - 1]) * 31 + wide(name[i])) % SLOTS;
         i += 2;
@@ -400,12 +316,13 @@ fn slot_of(family: usize, name: &[u8]) -> usize
     slot
 }
 
-// What a slot holds. Its 3 bytes are read with the one before them, as one number, which is quicker.
+// What a slot holds.
 fn slot_in(symbols: &[u8], slot: usize) -> usize
     requires { ⌜ (slot < 16392) × (186264 ≤ length (now symbols)) ⌝ }
     ensures { λ r. ⌜ (r ≡ slotIn (now (symbols .entry)) slot) × (r < 16777216) ⌝ }
 {
-    four(symbols, NAME_BYTES - 1 + 3 * slot) / 256
+    let at = NAME_BYTES + 3 * slot;
+    wide(symbols[at]) + 256 * (wide(symbols[at + 1]) + 256 * wide(symbols[at + 2]))
 }
 
 // Stores a number into a slot.
@@ -440,21 +357,16 @@ fn hinted(symbols: &[u8], at: usize, end: usize, family: usize, name: &[u8]) -> 
     }
 }
 
-// An answer built anew: what another function writes lies in memory, and the answers of the index would be copied through that memory too.
-fn anew(found: Found) -> Found
-    ensures { λ r. ⌜ r ≡ found ⌝ }
+// The lookup by the walk. The answer is built anew from the one of `find`: what another function writes lies in memory, and the answers of
+// the index would be copied through that memory too.
+fn walked(symbols: &[u8], end: usize, family: usize, name: &[u8]) -> Found
+    ensures { λ r. ⌜ r ≡ firstNamed family (now (name .entry)) (entriesAt (now (symbols .entry)) 0 end) ⌝ }
 {
+    let found = find(symbols, 0, end, family, name, 0, name.len());
     match found {
         Found::At { sort, number } => Found::At { sort, number },
         Found::Missing => Found::Missing,
     }
-}
-
-// The lookup by the walk.
-fn walked(symbols: &[u8], end: usize, family: usize, name: &[u8]) -> Found
-    ensures { λ r. ⌜ r ≡ firstNamed family (now (name .entry)) (entriesAt (now (symbols .entry)) 0 end) ⌝ }
-{
-    anew(find(symbols, 0, end, family, name, 0, name.len()))
 }
 
 // The lookup of a name whose slot holds another entry: by its other slot, and else by the walk.
@@ -496,85 +408,7 @@ fn lookup_name(symbols: &[u8], end: usize, family: usize, name: &[u8]) -> Found
     }
 }
 
-// Whether the entry at a place has a family and a name of len bytes, eight at most, that make a number. What is read past the name is cut off.
-fn is_hit(symbols: &[u8], at: usize, family: usize, len: usize, name: usize) -> bool
-    requires { ⌜ (at + 12 ≤ length (now symbols)) × (len ≤ 8) ⌝ }
-    ensures { λ r. ⌜ (r ≡ true → Hit (now (symbols .entry)) at family len name) ⌝ }
-{
-    if wide(symbols[at + 3]) != len {
-        return false;
-    }
-    if few(symbols, at + 4, len) != name {
-        return false;
-    }
-    family_of(wide(symbols[at]), pair(symbols, at + 1)) == family
-}
-
-// The lookup of a name of eight bytes at most: the entry that its slot points at, if that has the family and the name. Else as of any name.
-fn lookup_short(
-    symbols: &[u8],
-    end: usize,
-    family: usize,
-    text: &[u8],
-    from: usize,
-    len: usize,
-) -> Found
-    requires { ⌜ (186264 ≤ length (now symbols)) × (from + 8 ≤ length (now text)) × (len ≤ 8) ⌝ }
-    ensures { λ r. ⌜ Looks (now (symbols .entry)) end family (part (now (text .entry)) from len) r ⌝ }
-{
-    let name = few(text, from, len);
-    let held = slot_in(symbols, slot_by(family, name));
-    if held == 0 {
-        return Found::Missing;
-    }
-    if held <= NAME_BYTES {
-        let at = held - 1;
-        if is_hit(symbols, at, family, len, name) {
-            return Found::At {
-                sort: wide(symbols[at]),
-                number: pair(symbols, at + 1),
-            };
-        }
-    }
-    let all = bitset::part(symbols, 0, symbols.len());
-    let past = from + len;
-    anew(lookup_name(all, end, family, &text[from..past]))
-}
-
-// The lookup of the name of len bytes of text from a place on: by the walk. The symbols are lent anew: a slice that is handed on as it came is copied to
-// memory before all else, also where this way is not taken.
-fn walked_text(
-    symbols: &[u8],
-    end: usize,
-    family: usize,
-    text: &[u8],
-    from: usize,
-    len: usize,
-) -> Found
-    ensures { λ r. ⌜ Looks (now (symbols .entry)) end family (part (now (text .entry)) from len) r ⌝ }
-{
-    let all = bitset::part(symbols, 0, symbols.len());
-    anew(walked(all, end, family, bitset::part(text, from, len)))
-}
-
-// The same by the index, for a name of any length.
-fn lookup_text(
-    symbols: &[u8],
-    end: usize,
-    family: usize,
-    text: &[u8],
-    from: usize,
-    len: usize,
-) -> Found
-    ensures { λ r. ⌜ Looks (now (symbols .entry)) end family (part (now (text .entry)) from len) r ⌝ }
-{
-    let all = bitset::part(symbols, 0, symbols.len());
-    anew(lookup_name(all, end, family, bitset::part(text, from, len)))
-}
-
-// The first entry of a family whose name is the len bytes of text from a place on, among the entries from place 0 on: found by the index. Most names
-// are short, and eight bytes can be read where they stand. Tests in a row lead to different ways, since LLVM would make one of two that lead to the same,
-// which is slower; so a name past the end of the text, which has no bytes, is walked for.
+// The first entry of a family whose name is the len bytes of text from a place on, among the entries from place 0 on: found by the index.
 pub fn lookup(
     symbols: &[u8],
     end: usize,
@@ -585,35 +419,7 @@ pub fn lookup(
 ) -> Found
     ensures { λ r. ⌜ Looks (now (symbols .entry)) end family (part (now (text .entry)) from len) r ⌝ }
 {
-    if symbols.len() < SYMBOL_BYTES {
-        return walked_text(symbols, end, family, text, from, len);
-    }
-    if 8 < len {
-        return lookup_text(symbols, end, family, text, from, len);
-    }
-    if text.len() <= from {
-        return walked_text(symbols, end, family, text, from, len);
-    }
-    if text.len() - from < 8 {
-        return lookup_text(symbols, end, family, text, from, len);
-    }
-    lookup_short(symbols, end, family, text, from, len)
-}
-
-// The slot of a family and the name of len bytes of text from a place on.
-fn slot_at(family: usize, text: &[u8], from: usize, len: usize) -> usize
-    ensures { λ r. ⌜ (r ≡ slotOf family (part (now (text .entry)) from len)) × (r < 16384) ⌝ }
-{
-    if 8 < len {
-        return slot_of(family, bitset::part(text, from, len));
-    }
-    if text.len() <= from {
-        return slot_of(family, bitset::part(text, from, len));
-    }
-    if text.len() - from < 8 {
-        return slot_of(family, bitset::part(text, from, len));
-    }
-    slot_by(family, few(text, from, len))
+    lookup_name(symbols, end, family, bitset::part(text, from, len))
 }
 
 // Notes that an entry of a family with a name starts at a place: in the name's slot, or else in its other slot, if one of them is empty.
@@ -621,7 +427,7 @@ pub fn note(symbols: &mut [u8], at: usize, family: usize, text: &[u8], from: usi
     requires { ⌜ (at < 137088) × (186264 ≤ length (now symbols)) ⌝ }
     ensures { λ _. ⌜ Noted (now (symbols .entry)) (now (symbols .exit)) (slotOf family (part (now (text .entry)) from len)) at ⌝ }
 {
-    let slot = slot_at(family, text, from, len);
+    let slot = slot_of(family, bitset::part(text, from, len));
     if slot_in(symbols, slot) == 0 {
         set_slot(symbols, slot, at + 1);
         return;
@@ -659,4 +465,11 @@ pub fn enter(
     let count = entered(symbols, sort);
     set_slot(symbols, SLOTS + sort, count + 1);
     past
+}
+
+// Empties the index: no name is noted, and none is counted.
+pub fn clear_index(symbols: &mut [u8])
+    ensures { λ _. ⌜ Cleared (now (symbols .entry)) (now (symbols .exit)) ⌝ }
+{
+    bitset::clear_at(symbols, NAME_BYTES, SYMBOL_BYTES - NAME_BYTES);
 }

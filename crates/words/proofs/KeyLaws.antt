@@ -2,19 +2,18 @@
 use mathlib.Core.Path.{_≡_, refl, sym, ap, ap₂, _∙_}
 use mathlib.Core.Bool.{Bool, true, false, _&&_, cond}
 use mathlib.Core.List.{List, [], _∷_}
-use Prim.Native.Nat.{ℕ, zero, suc, _+_, _<_, _≤_}
+use Prim.Native.Nat.{ℕ, zero, suc, _+_, _<_}
 use native.Mathlib.Nat.{zero-add}
 use native.Mathlib.Omega.{arith}
 use borrow.Author.Tests.{eqb-true, eq-eqb, ltb-true}
 use lib.Dec.{eqb, ltb}
-use lib.ListN.{length, getD, take, drop, length-drop}
-use lib.Seq.{length-take-le, getD-take, getD-drop}
+use lib.ListN.{length, getD, take, drop}
 use Rattle.lexer.proofs.Marks.{tabulate}
 use Rattle.policy.specs.Basics.{Name, same, every, unle}
 use Rattle.policy.specs.Words.{reserved}
 use Rattle.policy.proofs.Lists.{both-true}
 use Rattle.words.specs.Numbers.{keywords, words, numberIn, numberOf}
-use Rattle.words.specs.Keys.{eightAt, numberAmong, numberBy}
+use Rattle.words.specs.Keys.{numberAmong, numberBy}
 use Rattle.words.proofs.Meaning.{same-is}
 
 -- the letters are bytes
@@ -97,35 +96,3 @@ module _ (w : Name) (n low high : ℕ) where
       let c : low ≡ unle (take 8 w) = a ∙ sym (ap (λ (v : Name). unle (take 8 v)) e) in
       let d : high ≡ unle (drop 8 w) = b ∙ sym (ap (λ (v : Name). unle (drop 8 v)) e) in
       rw (← l, c, d) (by-keys w s)
-
--- ---- eight letters of a text
-
-small-take : (n : ℕ) (w : Name) → Small w → Small (take n w)
-small-take zero w s i = omega arith
-small-take (suc n) [] s i = omega arith
-small-take (suc n) (x ∷ w) s zero = s 0
-small-take (suc n) (x ∷ w) s (suc i) = small-take n w (λ i. s (suc i)) i
-
-module _ (t : Name) (at : ℕ) where
-  letter : (i place : ℕ) → (i < 8) × (at + i ≡ place) → getD (take 8 (drop at t)) i 0 ≡ getD t place 0
-  letter i place h = getD-take 8 (drop at t) i 0 (h .0) ∙ getD-drop at t i 0 ∙ ap (λ (n : ℕ). getD t n 0) (h .1)
-
-  -- the number of the word that they are
-  pub number-of-eight : at + 8 ≤ length t → Small t → numberBy 8 (eightAt t at) 0 ≡ numberOf (take 8 (drop at t))
-  unfolding unle
-  number-of-eight h s =
-      number-by (take 8 (drop at t)) 8 (eightAt t at) 0
-      (length-take-le 8 (drop at t) (omega (arith, length-drop at t)))
-      (small-take 8 (drop at t) (λ i. rw (getD-drop at t i 0) (s (at + i))))
-      (omega (
-        arith,
-        letter 0 at (omega arith),
-        letter 1 (at + 1) (omega arith),
-        letter 2 (at + 2) (omega arith),
-        letter 3 (at + 2 + 1) (omega arith),
-        letter 4 (at + 4) (omega arith),
-        letter 5 (at + 4 + 1) (omega arith),
-        letter 6 (at + 4 + 2) (omega arith),
-        letter 7 (at + 4 + 2 + 1) (omega arith),
-      ))
-      refl

@@ -12,7 +12,6 @@ use borrow.Author.Tests.{eqb-true, ltb-true, ltb-false, not-true}
 use lib.Dec.{eqb, ltb}
 use lib.ListN.{length, getD, take, drop, replicate, getD-replicate, List·getD-map, List·getD-eq-default}
 use lib.Seq.{getD-take, getD-drop}
-use Rattle.lexer.specs.Class.{classOf, allGoOn}
 use Rattle.policy.specs.Basics.{Name, same, any, every, isIn, Under, lookup}
 use Rattle.policy.specs.Words.{reserved, isReserved, keywordOf, setWord, expressionWord, opOf, componentOf}
 use Rattle.policy.proofs.Lists.{both-true, neither, any-append}
@@ -54,23 +53,6 @@ unfolding numberOf wordOf
 by-number meaning other w =
     by-cases (λ n. meaning w ≡ meaning (getD ([] ∷ words) n [])) words w 1 (other w)
     (λ j l h. let d : suc j ≡ 1 + j = omega arith in ap meaning h ∙ ap (λ (n : ℕ). meaning (getD ([] ∷ words) n [])) d)
-
--- a test that each of them passes, a word passes that has a number
-getD-every : (test : Name → Bool) (xs : List Name) (j : ℕ) → every test xs ≡ true → j < length xs → test (getD xs j []) ≡ true
-unfolding every
-getD-every test [] j e h = absurd (not-suc-le-zero h)
-getD-every test (x ∷ xs) zero e h = both-true (test x) (every test xs) e .0
-getD-every test (x ∷ xs) (suc j) e h = getD-every test xs j (both-true (test x) (every test xs) e .1) (le-of-suc-le-suc h)
-
-pub numbered : (test : Name → Bool) → every test words ≡ true → (w : Name) → 0 < numberOf w → test w ≡ true
-unfolding numberOf
-numbered test e w =
-    by-cases (λ n. 0 < n → test w ≡ true) words w 1 (λ h l. absurd (not-suc-le-zero l)) (λ j l h z. ap test h ∙ getD-every test words j e l)
-
--- so each of its letters goes on a name
-pub goes-on : (w : Name) → 0 < numberOf w → allGoOn w ≡ true
-unfolding every reserved keywords words classOf allGoOn
-goes-on = numbered allGoOn refl
 
 -- ---- the meanings that policy names
 

@@ -418,14 +418,6 @@ pub fn number_at(text: &[u8], start: usize, len: usize) -> usize
     number_of(&text[start..end])
 }
 
-// The number of the word that eight bytes of a text are, by the place of the first: they are looked at by one load.
-pub fn number_of_eight(text: &[u8], start: usize) -> usize
-    requires { ⌜ start + 8 ≤ length (now text) ⌝ }
-    ensures { λ r. ⌜ r ≡ numberOf (take 8 (drop start (now (text .entry)))) ⌝ }
-{
-    of_eight(eight(text, start))
-}
-
 // Whether a word of the number may name a thing: all but the reserved words may.
 pub fn is_name(number: usize) -> bool
     ensures { λ r. ⌜ r ≡ not (isReserved (wordOf number)) ⌝ }

@@ -1,25 +1,22 @@
--- `compiler::compile_clean` meets its contract: the memory for the code is as long as the text. Assumes nothing.
-use native.Mathlib.Omega.{arith}
+-- `compiler::compile_clean` meets its contract: a fault 3 to 7, or what the statements give. Assumes nothing.
 use borrow.Author.Needs.{needs}
-use Rattle.lexer.proofs.Clean.{clean-short}
+use Rattle.compiler.proofs.Giving.{accepted-read, accepted-gives, refused-read, refused-gives}
 use Rattle.compiler.proofs.compile_clean.Statement.{statement}
 use Rattle.compiler.proofs.compile_clean.Tie as tie
 
 returns : tie.Need-returns
-returns c = c .before .before .before .compile-within .ensures (omega (arith, c .before .before .before .before .before .before .if1 .taken))
+returns c = record {
+  says = λ clean.
+      let read = accepted-read (c .before .before .before .before .before .before .before .before .before .before .before .parse .ensures) clean _ (c .before .before .before .before .before .before .before .before .before .parsed .given .1) in
+      accepted-gives _ (read .0) (read .1) (c .before .before .compile-statements .ensures .says (read .0) _ (read .2));
+}
 
 returns-2 : tie.Need-returns-2
-returns-2 c = record { says = λ clean. c .before .before .before .compile-within2 .ensures (omega (arith, clean-short _ clean)) .says clean }
+returns-2 c = record {
+  says = λ clean. refused-gives _ _ _ (refused-read (c .before .before .before .before .parse .ensures) clean _ _ (c .before .before .parsed2 .given .1)) (c .refusal .ensures);
+}
 
 pub compile-clean-spec : {M : Type 1} → statement M
 compile-clean-spec =
     tie.close
-    (tie.spec
-    (λ c. search needs)
-    (λ c κs. search needs)
-    (λ c. search needs)
-    returns
-    (λ c. search needs)
-    (λ c κs. search needs)
-    (λ c. search needs)
-    returns-2)
+    (tie.spec (λ c κs. search needs) (λ c. search needs) (λ c κs. search needs) (λ c. search needs) (λ c κs. search needs) (λ c. search needs) returns returns-2)

@@ -9,18 +9,12 @@ use Rattle.compiler.proofs.compile_statements.Tie as tie
 returns : tie.Need-returns
 returns c = record {
   says = λ p lent h.
-      let sizes = c .before .before .before .before .before .before .before .before .before .before .sizes-of .ensures .says p lent _ refl h in
+      let sizes = c .before .before .before .before .before .before .before .before .before .before .before .sizes-of .ensures .says p lent _ refl h in
       c .before .before .resolve-and-write .ensures .says p (h .accepted) (c .before .before .before .before .before .before .before .units .ensures ∙ code-taken h) sizes
-      (things-counted p types (symbols-held h) (c .before .before .before .before .before .before .before .before .count .ensures) refl) (names-taken h sizes) (constraints-taken h sizes) (rows-taken h sizes);
+      (things-counted p types (symbols-held h) (c .before .before .before .before .before .before .before .before .before .count .ensures) refl) (names-taken h sizes) (constraints-taken h sizes) (rows-taken h sizes);
 }
 
 pub compile-statements-spec : {M : Type 1} → statement M
 compile-statements-spec =
     tie.close
-    (tie.spec
-    (λ c κs. search needs)
-    (λ c κs. search needs)
-    (λ c κs. search needs)
-    (λ c κs. search needs)
-    (λ c. search needs)
-    returns)
+    (tie.spec (λ c κs. search needs) (λ c κs. search needs) (λ c κs. search needs) (λ c κs. search needs) (λ c. search needs) returns)

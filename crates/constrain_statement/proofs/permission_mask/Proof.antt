@@ -1,9 +1,7 @@
 -- `constrain_statement::permission_mask` meets its contract: what is left of the row adds to the mask so far. Assumes nothing.
 use Prim.Native.Nat.{_-_}
-use mathlib.Core.Path.{sym, _∙_}
-use borrow.Author.Tests.{not-true, not-false}
 use Rattle.items.proofs.Items.{sees}
-use Rattle.constrain_statement.proofs.Masking.{Going, begun, no-name, one-more, not-of-class, nothing-read, finished, no-names}
+use Rattle.constrain_statement.proofs.Masking.{Going, begun, one-more, not-of-class, finished, no-names}
 use borrow.Author.Needs.{needs}
 use native.Mathlib.Omega.{arith}
 use lib.ListN.{length}
@@ -25,12 +23,6 @@ look-requires c κs = search needs
 enum-known-item : tie.Need-enum-known-item Inv-loop μ-loop
 enum-known-item c = search needs
 
-is-name-requires : tie.Need-is-name-requires Inv-loop μ-loop
-is-name-requires c κs = search needs
-
-returns : tie.Need-returns Inv-loop μ-loop
-returns c = no-name (c .before .before .before .before .before .before .loop .inv) (sees (c .before .before .before .before .before .look .ensures) (c .before .before .before .item .given .1)) (sym (not-true _ (c .if1 .taken)) ∙ c .before .is-name .ensures)
-
 lookup-requires : tie.Need-lookup-requires Inv-loop μ-loop
 lookup-requires c κs = search needs
 
@@ -40,29 +32,26 @@ enum-known-found c = search needs
 enum-told : tie.Need-enum-told Inv-loop μ-loop
 enum-told c = search needs
 
-returns-2 : tie.Need-returns-2 Inv-loop μ-loop
-returns-2 c = not-of-class (c .before .before .before .before .before .before .before .before .before .loop .inv) (sees (c .before .before .before .before .before .before .before .before .look .ensures) (c .before .before .before .before .before .before .item .given .1)) (c .before .before .lookup .ensures) (c .enum-told .given .1)
+returns : tie.Need-returns Inv-loop μ-loop
+returns c = not-of-class (c .before .before .before .before .before .before .before .loop .inv) (sees (c .before .before .before .before .before .before .look .ensures) (c .before .before .before .before .item .given .1)) (c .before .before .lookup .ensures) (c .enum-told .given .1)
 
 with-permission-requires : tie.Need-with-permission-requires Inv-loop μ-loop
 with-permission-requires c κs = search needs
 
 loop-less : tie.Need-loop-less Inv-loop μ-loop
-loop-less c = let l = (sees (c .before .before .before .before .before .before .before .before .before .before .look .ensures) (c .before .before .before .before .before .before .before .before .item .given .1)) in omega (arith, l .ahead .0, l .ahead .1)
+loop-less c = let l = (sees (c .before .before .before .before .before .before .before .before .look .ensures) (c .before .before .before .before .before .before .item .given .1)) in omega (arith, l .ahead .0, l .ahead .1)
 
 loop-again : tie.Need-loop-again Inv-loop μ-loop
-loop-again c = one-more (c .before .before .before .before .before .before .before .before .before .before .before .loop .inv) (sees (c .before .before .before .before .before .before .before .before .before .before .look .ensures) (c .before .before .before .before .before .before .before .before .item .given .1)) (c .before .before .before .before .lookup .ensures) (sym (not-false _ (c .before .before .before .before .before .if1 .left)) ∙ c .before .before .before .before .before .before .is-name .ensures) (c .before .before .found .given .1) (c .with-permission .ensures)
+loop-again c = one-more (c .before .before .before .before .before .before .before .before .before .loop .inv) (sees (c .before .before .before .before .before .before .before .before .look .ensures) (c .before .before .before .before .before .before .item .given .1)) (c .before .before .before .before .lookup .ensures) (c .before .before .found .given .1) (c .with-permission .ensures)
 
 enum-known-item-2 : tie.Need-enum-known-item-2 Inv-loop μ-loop
 enum-known-item-2 c = search needs
 
+returns-2 : tie.Need-returns-2 Inv-loop μ-loop
+returns-2 c = finished (c .before .before .before .before .loop .inv) (sees (c .before .before .before .look .ensures) (c .before .item2 .given .1))
+
 returns-3 : tie.Need-returns-3 Inv-loop μ-loop
-returns-3 c = nothing-read (c .before .before .before .before .before .loop .inv) (sees (c .before .before .before .before .look .ensures) (c .before .before .item2 .given .1)) (c .if2 .taken)
-
-returns-4 : tie.Need-returns-4 Inv-loop μ-loop
-returns-4 c = finished (c .before .before .before .before .before .loop .inv) (sees (c .before .before .before .before .look .ensures) (c .before .before .item2 .given .1)) (c .if2 .left)
-
-returns-5 : tie.Need-returns-5 Inv-loop μ-loop
-returns-5 c = no-names (c .before .before .loop .inv) (c .before .look .ensures) (c .match .keys3)
+returns-3 c = no-names (c .before .before .loop .inv) (c .before .look .ensures) (c .match .keys3)
 
 pub permission-mask-spec : {M : Type 1} → statement M
 permission-mask-spec =
@@ -73,16 +62,13 @@ permission-mask-spec =
     loop-holds
     look-requires
     enum-known-item
-    is-name-requires
-    returns
     lookup-requires
     enum-known-found
     enum-told
-    returns-2
+    returns
     with-permission-requires
     loop-less
     loop-again
     enum-known-item-2
-    returns-3
-    returns-4
-    returns-5)
+    returns-2
+    returns-3)

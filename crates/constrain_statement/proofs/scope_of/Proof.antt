@@ -1,8 +1,6 @@
 -- `constrain_statement::scope_of` meets its contract: item by item, as the form has them. Assumes nothing.
-use mathlib.Core.Path.{sym, _∙_}
-use borrow.Author.Tests.{not-true, not-false}
 use Rattle.items.proofs.Items.{sees}
-use Rattle.constrain_statement.proofs.Scoping.{word-missing, word-reserved, class-undeclared, class-too-far, part-missing, permission-undeclared, close-missing, scoped}
+use Rattle.constrain_statement.proofs.Scoping.{word-missing, class-undeclared, class-too-far, part-missing, permission-undeclared, close-missing, scoped}
 use borrow.Author.Needs.{needs}
 use Rattle.constrain_statement.proofs.scope_of.Statement.{statement}
 use Rattle.constrain_statement.proofs.scope_of.Tie as tie
@@ -16,12 +14,6 @@ enum-known-first c = search needs
 returns : tie.Need-returns
 returns c = word-missing (c .before .look .ensures) (c .match .keys2)
 
-is-name-requires : tie.Need-is-name-requires
-is-name-requires c κs = search needs
-
-returns-2 : tie.Need-returns-2
-returns-2 c = word-reserved (sees (c .before .before .before .before .before .look .ensures) (c .before .before .before .first .given .1)) (sym (not-true _ (c .if1 .taken)) ∙ c .before .is-name .ensures)
-
 lookup-requires : tie.Need-lookup-requires
 lookup-requires c κs = search needs
 
@@ -31,11 +23,11 @@ enum-known-found c = search needs
 enum-told : tie.Need-enum-told
 enum-told c = search needs
 
-returns-3 : tie.Need-returns-3
-returns-3 c = class-undeclared (sees (c .before .before .before .before .before .before .before .before .look .ensures) (c .before .before .before .before .before .before .first .given .1)) (c .before .before .lookup .ensures) (c .enum-told .given .1)
+returns-2 : tie.Need-returns-2
+returns-2 c = class-undeclared (sees (c .before .before .before .before .before .before .look .ensures) (c .before .before .before .before .first .given .1)) (c .before .before .lookup .ensures) (c .enum-told .given .1)
 
-returns-4 : tie.Need-returns-4
-returns-4 c = class-too-far (sees (c .before .before .before .before .before .before .before .before .before .before .look .ensures) (c .before .before .before .before .before .before .before .before .first .given .1)) (c .before .before .before .before .lookup .ensures) (c .before .before .found .given .1) (c .if2 .taken)
+returns-3 : tie.Need-returns-3
+returns-3 c = class-too-far (sees (c .before .before .before .before .before .before .before .before .look .ensures) (c .before .before .before .before .before .before .first .given .1)) (c .before .before .before .before .lookup .ensures) (c .before .before .found .given .1) (c .if1 .taken)
 
 look-requires-2 : tie.Need-look-requires-2
 look-requires-2 c κs = search needs
@@ -43,8 +35,8 @@ look-requires-2 c κs = search needs
 enum-known-second : tie.Need-enum-known-second
 enum-known-second c = search needs
 
-returns-5 : tie.Need-returns-5
-returns-5 c = part-missing (sees (c .before .before .before .before .before .before .before .before .before .before .before .before .look .ensures) (c .before .before .before .before .before .before .before .before .before .before .first .given .1)) (c .before .before .before .before .before .before .lookup .ensures) (c .before .before .before .before .found .given .1) (c .before .look2 .ensures) (c .match3 .keys2)
+returns-4 : tie.Need-returns-4
+returns-4 c = part-missing (sees (c .before .before .before .before .before .before .before .before .before .before .look .ensures) (c .before .before .before .before .before .before .before .before .first .given .1)) (c .before .before .before .before .before .before .lookup .ensures) (c .before .before .before .before .found .given .1) (c .before .look2 .ensures) (c .match3 .keys2)
 
 add-permission-mask : tie.Need-add-permission-mask
 add-permission-mask c = search needs
@@ -58,8 +50,8 @@ enum-known-masked c = search needs
 enum-told-2 : tie.Need-enum-told-2
 enum-told-2 c = search needs
 
-returns-6 : tie.Need-returns-6
-returns-6 c = permission-undeclared (sees (c .before .before .before .before .before .before .before .before .before .before .before .before .before .before .before .before .before .look .ensures) (c .before .before .before .before .before .before .before .before .before .before .before .before .before .before .before .first .given .1)) (c .before .before .before .before .before .before .before .before .before .before .before .lookup .ensures) (c .before .before .before .before .before .before .before .before .before .found .given .1) (sees (c .before .before .before .before .before .before .look2 .ensures) (c .before .before .before .before .second .given .1)) (c .before .before .permission-mask .ensures) (c .enum-told2 .given .1)
+returns-5 : tie.Need-returns-5
+returns-5 c = permission-undeclared (sees (c .before .before .before .before .before .before .before .before .before .before .before .before .before .before .before .look .ensures) (c .before .before .before .before .before .before .before .before .before .before .before .before .before .first .given .1)) (c .before .before .before .before .before .before .before .before .before .before .before .lookup .ensures) (c .before .before .before .before .before .before .before .before .before .found .given .1) (sees (c .before .before .before .before .before .before .look2 .ensures) (c .before .before .before .before .second .given .1)) (c .before .before .permission-mask .ensures) (c .enum-told2 .given .1)
 
 look-requires-3 : tie.Need-look-requires-3
 look-requires-3 c κs = search needs
@@ -67,11 +59,11 @@ look-requires-3 c κs = search needs
 enum-known-last : tie.Need-enum-known-last
 enum-known-last c = search needs
 
-returns-7 : tie.Need-returns-7
-returns-7 c = close-missing (sees (c .before .before .before .before .before .before .before .before .before .before .before .before .before .before .before .before .before .before .before .before .look .ensures) (c .before .before .before .before .before .before .before .before .before .before .before .before .before .before .before .before .before .before .first .given .1)) (c .before .before .before .before .before .before .before .before .before .before .before .before .before .before .lookup .ensures) (c .before .before .before .before .before .before .before .before .before .before .before .before .found .given .1) (sees (c .before .before .before .before .before .before .before .before .before .look2 .ensures) (c .before .before .before .before .before .before .before .second .given .1)) (c .before .before .before .before .before .permission-mask .ensures) (c .before .before .before .masked .given .1) (c .before .look3 .ensures) (c .match5 .keys2)
+returns-6 : tie.Need-returns-6
+returns-6 c = close-missing (sees (c .before .before .before .before .before .before .before .before .before .before .before .before .before .before .before .before .before .before .look .ensures) (c .before .before .before .before .before .before .before .before .before .before .before .before .before .before .before .before .first .given .1)) (c .before .before .before .before .before .before .before .before .before .before .before .before .before .before .lookup .ensures) (c .before .before .before .before .before .before .before .before .before .before .before .before .found .given .1) (sees (c .before .before .before .before .before .before .before .before .before .look2 .ensures) (c .before .before .before .before .before .before .before .second .given .1)) (c .before .before .before .before .before .permission-mask .ensures) (c .before .before .before .masked .given .1) (c .before .look3 .ensures) (c .match5 .keys2)
 
-returns-8 : tie.Need-returns-8
-returns-8 c = scoped (sees (c .before .before .before .before .before .before .before .before .before .before .before .before .before .before .before .before .before .before .before .before .before .before .look .ensures) (c .before .before .before .before .before .before .before .before .before .before .before .before .before .before .before .before .before .before .before .before .first .given .1)) (c .before .before .before .before .before .before .before .before .before .before .before .before .before .before .before .before .lookup .ensures) (c .before .before .before .before .before .before .before .before .before .before .before .before .before .before .found .given .1) (sees (c .before .before .before .before .before .before .before .before .before .before .before .look2 .ensures) (c .before .before .before .before .before .before .before .before .before .second .given .1)) (c .before .before .before .before .before .before .before .permission-mask .ensures) (c .before .before .before .before .before .masked .given .1) (sym (not-false _ (c .before .before .before .before .before .before .before .before .before .before .before .before .before .before .before .before .before .if1 .left)) ∙ c .before .before .before .before .before .before .before .before .before .before .before .before .before .before .before .before .before .before .is-name .ensures) (sees (c .before .before .before .look3 .ensures) (c .before .last .given .1))
+returns-7 : tie.Need-returns-7
+returns-7 c = scoped (sees (c .before .before .before .before .before .before .before .before .before .before .before .before .before .before .before .before .before .before .before .before .look .ensures) (c .before .before .before .before .before .before .before .before .before .before .before .before .before .before .before .before .before .before .first .given .1)) (c .before .before .before .before .before .before .before .before .before .before .before .before .before .before .before .before .lookup .ensures) (c .before .before .before .before .before .before .before .before .before .before .before .before .before .before .found .given .1) (sees (c .before .before .before .before .before .before .before .before .before .before .before .look2 .ensures) (c .before .before .before .before .before .before .before .before .before .second .given .1)) (c .before .before .before .before .before .before .before .permission-mask .ensures) (c .before .before .before .before .before .masked .given .1) (sees (c .before .before .before .look3 .ensures) (c .before .last .given .1))
 
 pub scope-of-spec : {M : Type 1} → statement M
 scope-of-spec =
@@ -80,22 +72,20 @@ scope-of-spec =
     look-requires
     enum-known-first
     returns
-    is-name-requires
-    returns-2
     lookup-requires
     enum-known-found
     enum-told
+    returns-2
     returns-3
-    returns-4
     look-requires-2
     enum-known-second
-    returns-5
+    returns-4
     add-permission-mask
     permission-mask-requires
     enum-known-masked
     enum-told-2
-    returns-6
+    returns-5
     look-requires-3
     enum-known-last
-    returns-7
-    returns-8)
+    returns-6
+    returns-7)

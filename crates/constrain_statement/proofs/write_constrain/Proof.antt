@@ -2,8 +2,7 @@
 -- Assumes nothing.
 use Rattle.items.proofs.Items.{sees}
 use Rattle.constraint_writer.proofs.Resolving.{told}
-use Rattle.constrain_statement.specs.declared.Admitted.{Admitted}
-use Rattle.constrain_statement.proofs.Answering.{past-rows, scope-missing, scope-undeclared, expression-missing, name-undeclared, close-missing, answered}
+use Rattle.constrain_statement.proofs.Answering.{past-rows, scope-missing, scope-undeclared, expression-missing, name-undeclared, answered}
 use native.Mathlib.Omega.{arith}
 use borrow.Author.Needs.{needs}
 use Rattle.constrain_statement.proofs.write_constrain.Statement.{statement}
@@ -54,38 +53,11 @@ enum-told-2 c = search needs
 returns-5 : tie.Need-returns-5
 returns-5 c = name-undeclared (sees (c .before .before .before .before .before .before .before .before .before .before .before .before .before .before .before .look .ensures) (c .before .before .before .before .before .before .before .before .before .before .before .before .before .first .given .1)) (c .before .before .before .before .before .before .before .before .before .before .before .scope-of .ensures) (c .before .before .before .before .before .before .before .before .before .scope .given .1) (sees (c .before .before .before .before .before .before .before .look2 .ensures) (c .before .before .before .before .before .second .given .1)) (c .before .before .write-constraint .ensures) (c .enum-told2 .given .1)
 
-close-form-requires : tie.Need-close-form-requires
-close-form-requires c κs = search needs
-
-enum-known-closed : tie.Need-enum-known-closed
-enum-known-closed c = search needs
-
-enum-told-3 : tie.Need-enum-told-3
-enum-told-3 c = search needs
+admit-requires : tie.Need-admit-requires
+admit-requires c κs = let w = told (c .before .before .before .before .write-constraint .ensures) (c .before .before .written .given .1) in omega (arith, w .reads .some-row)
 
 returns-6 : tie.Need-returns-6
-returns-6 c = close-missing (sees (c .before .before .before .before .before .before .before .before .before .before .before .before .before .before .before .before .before .before .before .look .ensures) (c .before .before .before .before .before .before .before .before .before .before .before .before .before .before .before .before .before .first .given .1)) (c .before .before .before .before .before .before .before .before .before .before .before .before .before .before .before .scope-of .ensures) (c .before .before .before .before .before .before .before .before .before .before .before .before .before .scope .given .1) (sees (c .before .before .before .before .before .before .before .before .before .before .before .look2 .ensures) (c .before .before .before .before .before .before .before .before .before .second .given .1)) (c .before .before .before .before .before .before .write-constraint .ensures) (c .before .before .before .before .written .given .1) (c .before .before .close-form .ensures) (c .enum-told3 .given .1)
-
-admit-requires : tie.Need-admit-requires
-admit-requires c κs = let w = told (c .before .before .before .before .before .before .before .before .write-constraint .ensures) (c .before .before .before .before .before .before .written .given .1) in omega (arith, w .reads .some-row)
-
-enum-told-4 : tie.Need-enum-told-4
-enum-told-4 c = search needs
-
-enum-told-5 : tie.Need-enum-told-5
-enum-told-5 c = search needs
-
-enum-told-6 : tie.Need-enum-told-6
-enum-told-6 c = search needs
-
-returns-7 : tie.Need-returns-7
-returns-7 c = answered (sees (c .before .before .before .before .before .before .before .before .before .before .before .before .before .before .before .before .before .before .before .before .before .before .before .before .look .ensures) (c .before .before .before .before .before .before .before .before .before .before .before .before .before .before .before .before .before .before .before .before .before .before .first .given .1)) (c .before .before .before .before .before .before .before .before .before .before .before .before .before .before .before .before .before .before .before .before .scope-of .ensures) (c .before .before .before .before .before .before .before .before .before .before .before .before .before .before .before .before .before .before .scope .given .1) (sees (c .before .before .before .before .before .before .before .before .before .before .before .before .before .before .before .before .look2 .ensures) (c .before .before .before .before .before .before .before .before .before .before .before .before .before .before .second .given .1)) (c .before .before .before .before .before .before .before .before .before .before .before .write-constraint .ensures) (c .before .before .before .before .before .before .before .before .before .written .given .1) (c .before .before .before .before .before .before .before .close-form .ensures) (c .before .before .before .before .before .closed .given .1) (c .before .before .before .before .before .before .before .before .before .before .before .before .write-constraint-arg .given .0 .1) (c .before .before .admit .ensures) Admitted.Written (c .enum-told4 .given .1)
-
-returns-8 : tie.Need-returns-8
-returns-8 c = answered (sees (c .before .before .before .before .before .before .before .before .before .before .before .before .before .before .before .before .before .before .before .before .before .before .before .before .look .ensures) (c .before .before .before .before .before .before .before .before .before .before .before .before .before .before .before .before .before .before .before .before .before .before .first .given .1)) (c .before .before .before .before .before .before .before .before .before .before .before .before .before .before .before .before .before .before .before .before .scope-of .ensures) (c .before .before .before .before .before .before .before .before .before .before .before .before .before .before .before .before .before .before .scope .given .1) (sees (c .before .before .before .before .before .before .before .before .before .before .before .before .before .before .before .before .look2 .ensures) (c .before .before .before .before .before .before .before .before .before .before .before .before .before .before .second .given .1)) (c .before .before .before .before .before .before .before .before .before .before .before .write-constraint .ensures) (c .before .before .before .before .before .before .before .before .before .written .given .1) (c .before .before .before .before .before .before .before .close-form .ensures) (c .before .before .before .before .before .closed .given .1) (c .before .before .before .before .before .before .before .before .before .before .before .before .write-constraint-arg .given .0 .1) (c .before .before .admit .ensures) Admitted.Full (c .enum-told5 .given .1)
-
-returns-9 : tie.Need-returns-9
-returns-9 c = answered (sees (c .before .before .before .before .before .before .before .before .before .before .before .before .before .before .before .before .before .before .before .before .before .before .before .before .look .ensures) (c .before .before .before .before .before .before .before .before .before .before .before .before .before .before .before .before .before .before .before .before .before .before .first .given .1)) (c .before .before .before .before .before .before .before .before .before .before .before .before .before .before .before .before .before .before .before .before .scope-of .ensures) (c .before .before .before .before .before .before .before .before .before .before .before .before .before .before .before .before .before .before .scope .given .1) (sees (c .before .before .before .before .before .before .before .before .before .before .before .before .before .before .before .before .look2 .ensures) (c .before .before .before .before .before .before .before .before .before .before .before .before .before .before .second .given .1)) (c .before .before .before .before .before .before .before .before .before .before .before .write-constraint .ensures) (c .before .before .before .before .before .before .before .before .before .written .given .1) (c .before .before .before .before .before .before .before .close-form .ensures) (c .before .before .before .before .before .closed .given .1) (c .before .before .before .before .before .before .before .before .before .before .before .before .write-constraint-arg .given .0 .1) (c .before .before .admit .ensures) Admitted.Deep (c .enum-told6 .given .1)
+returns-6 c = answered (sees (c .before .before .before .before .before .before .before .before .before .before .before .before .before .before .before .before .before .before .look .ensures) (c .before .before .before .before .before .before .before .before .before .before .before .before .before .before .before .before .first .given .1)) (c .before .before .before .before .before .before .before .before .before .before .before .before .before .before .scope-of .ensures) (c .before .before .before .before .before .before .before .before .before .before .before .before .scope .given .1) (sees (c .before .before .before .before .before .before .before .before .before .before .look2 .ensures) (c .before .before .before .before .before .before .before .before .second .given .1)) (c .before .before .before .before .before .write-constraint .ensures) (c .before .before .before .written .given .1) (c .before .before .before .before .before .before .write-constraint-arg .given .0 .1) (c .admit .ensures)
 
 pub write-constrain-spec : {M : Type 1} → statement M
 write-constrain-spec =
@@ -106,14 +78,5 @@ write-constrain-spec =
     enum-known-written
     enum-told-2
     returns-5
-    close-form-requires
-    enum-known-closed
-    enum-told-3
-    returns-6
     admit-requires
-    enum-told-4
-    enum-told-5
-    enum-told-6
-    returns-7
-    returns-8
-    returns-9)
+    returns-6)

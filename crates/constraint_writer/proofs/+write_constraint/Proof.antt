@@ -1,19 +1,19 @@
 -- `constraint_writer::write_constraint` meets its contract. It calls itself with one level less. Before each operand and before the close the rows of
--- the operands so far are written, and those left decide with them whether the form is good (Joining's Loop); each row has a byte of the text of its
--- own, so that no count passes what a usize holds.
+-- the operands so far are written (Joining's Loop); each row has a byte of the text of its own, so that no count passes what a usize holds.
 -- Assumes nothing.
 use mathlib.Core.List.{[], _∷_}
 use mathlib.Core.Option.{none}
 use Prim.Native.Nat.{_-_}
 use Rattle.policy.specs.Grammar.{expressions, expressionIn}
-use Rattle.items.proofs.Items.{sees, too-deep, alike}
+use Rattle.items.proofs.Frames.{sees, around-of, too-deep}
+use Rattle.items.proofs.Items.{alike}
 use Rattle.constraint_writer.proofs.Putting.{all-kept}
 use Rattle.constraint_writer.proofs.Resolving.{told, no-form, moved}
-use Rattle.constraint_writer.proofs.Joining.{Loop, no-word, begun, compares, end-none, word-none, no-operand, operand-done, operand-undeclared, other-count, finished}
+use Rattle.constraint_writer.proofs.Joining.{Loop, no-word, begun, compares, end-none, word-none, no-operand, operand-done, operand-undeclared, finished}
 use borrow.Author.Needs.{needs}
 use native.Mathlib.Omega.{arith}
 use lib.ListN.{length}
-use mathlib.Core.Path.{_∙_}
+use mathlib.Core.Path.{sym, _∙_}
 use Prim.Native.Nat.{ℕ, _<_}
 use borrow.Fn.Kinds.{In}
 use borrow.Fn.PlainCycle.{Measures, is, falls, and}
@@ -24,7 +24,6 @@ use Rattle.constraint_writer.proofs.comparison.Reads as comparison-read
 use Rattle.constraint_writer.proofs.kind_of.Reads as kind-of-reads
 use Rattle.constraint_writer.proofs.put_row.Reads as put-row-reads
 use Rattle.items.proofs.look.Reads as look-reads
-use Rattle.constraint_grammar.proofs.joins.Reads as joins-reads
 use Rattle.constraint_writer.proofs.+write_constraint.{statement}
 use Rattle.constraint_writer.proofs.+write_constraint.Tie.{close}
 
@@ -38,13 +37,13 @@ abbrev below : ℕ → In 3 write-constraint-kinds.ps
 below t = and 3 write-constraint-kinds.ps (falls 3 write-constraint-kinds.ps _<_ μ t) write-constraint.Pre
 
 abbrev claims : ℕ → lts.Claims
-claims t = (look-reads.Asked, look-reads.Learnt, kind-of-reads.Asked, kind-of-reads.Learnt, comparison-reads.Asked, comparison-reads.Learnt, below t, write-constraint.Post, joins-reads.Asked, joins-reads.Learnt, put-row-reads.Asked, put-row-reads.Learnt)
+claims t = (look-reads.Asked, look-reads.Learnt, kind-of-reads.Asked, kind-of-reads.Learnt, comparison-reads.Asked, comparison-reads.Learnt, below t, write-constraint.Post, put-row-reads.Asked, put-row-reads.Learnt)
 
 abbrev Inv-loop : lts.InvT-loop
-Inv-loop text at levels symbols end rows₀ row number next kind i₀ n₀ count₀ rows i n count = Loop text at levels symbols end number kind row rows₀ i n count rows
+Inv-loop text at levels symbols end rows₀ row number next kind i₀ n₀ rows i n = Loop text at levels symbols end kind row rows₀ i n rows
 
 abbrev μ-loop : lts.MeasureT-loop
-μ-loop text at levels symbols end rows₀ row number next kind i₀ n₀ count₀ rows i n count = length text - i
+μ-loop text at levels symbols end rows₀ row number next kind i₀ n₀ rows i n = length text - i
 
 module _ (t : ℕ) where
   look-requires : lts.Need-look-requires (claims t) (at-level t) write-constraint.Post Inv-loop μ-loop
@@ -69,7 +68,7 @@ module _ (t : ℕ) where
 
   returns-2 : lts.Need-returns-2 (claims t) (at-level t) write-constraint.Post Inv-loop μ-loop
   returns-2 c =
-      let l = sees (c .before .before .before .before .before .before .before .before .before .look .ensures) (c .before .before .before .before .before .before .before .first .given .1) in moved (l .end) (l .ahead .0) (compares l (c .before .before .before .before .before .kind-of .ensures) _ (c .before .before .before .before .if1 .taken)) (c .before .before .comparison .ensures)
+      let l = sees (c .before .before .before .before .before .before .before .before .before .look .ensures) (c .before .before .before .before .before .before .before .first .given .1) in moved (sym (around-of l)) (l .ahead .0) (compares l (c .before .before .before .before .before .kind-of .ensures) _ (c .before .before .before .before .if1 .taken)) (c .before .before .comparison .ensures)
 
   loop-holds : lts.Need-loop-holds (claims t) (at-level t) write-constraint.Post Inv-loop μ-loop
   loop-holds c =
@@ -110,12 +109,6 @@ module _ (t : ℕ) where
   returns-4 c =
       operand-undeclared (c .before .before .before .before .before .before .before .before .before .before .before .loop .inv) (sees (c .before .before .before .before .before .before .before .before .before .before .look2 .ensures) (c .before .before .before .before .before .before .before .before .item .given .1)) (c .before .before .before .before .before .before .if2 .left) (told (c .before .before .before .before .write-constraint .ensures) (c .enum-told .given .1))
 
-  add-count : lts.Need-add-count (claims t) (at-level t) write-constraint.Post Inv-loop μ-loop
-  add-count c =
-      let l = sees (c .before .before .before .before .before .before .before .before .before .before .before .look2 .ensures) (c .before .before .before .before .before .before .before .before .before .item .given .1) in
-      let w = told (c .before .before .before .before .before .write-constraint .ensures) (c .before .operand .given .1) in
-      omega (arith, c .before .before .before .before .before .before .before .before .before .before .before .before .loop .inv .ahead, l .ahead .0, w .reads .less, w .reads .fits)
-
   loop-less : lts.Need-loop-less (claims t) (at-level t) write-constraint.Post Inv-loop μ-loop
   loop-less c =
       let l = sees (c .before .before .before .before .before .before .before .before .before .before .before .look2 .ensures) (c .before .before .before .before .before .before .before .before .before .item .given .1) in
@@ -129,38 +122,27 @@ module _ (t : ℕ) where
   enum-known-item-2 : lts.Need-enum-known-item-2 (claims t) (at-level t) write-constraint.Post Inv-loop μ-loop
   enum-known-item-2 c = search needs
 
-  joins-requires : lts.Need-joins-requires (claims t) (at-level t) write-constraint.Post Inv-loop μ-loop
-  joins-requires c κs = search needs
-
-  same-length-4 : lts.Need-same-length-4 (claims t) (at-level t) write-constraint.Post Inv-loop μ-loop
-  same-length-4 c =
-      c .before .before .before .before .before .before .loop .inv .kept .long
-
-  returns-5 : lts.Need-returns-5 (claims t) (at-level t) write-constraint.Post Inv-loop μ-loop
-  returns-5 c =
-      other-count (c .before .before .before .before .before .before .loop .inv) (sees (c .before .before .before .before .before .look2 .ensures) (c .before .before .before .item2 .given .1)) (c .before .joins .ensures) (c .if3 .taken)
-
   put-row-requires : lts.Need-put-row-requires (claims t) (at-level t) write-constraint.Post Inv-loop μ-loop
   put-row-requires c κs = search needs
 
   add-m : lts.Need-add-m (claims t) (at-level t) write-constraint.Post Inv-loop μ-loop
   add-m c =
-      let l = sees (c .before .before .before .before .before .before .before .before .before .look2 .ensures) (c .before .before .before .before .before .before .before .item2 .given .1) in omega (arith, c .before .before .before .before .before .before .before .before .before .before .loop .inv .few, c .before .before .before .before .before .before .before .before .before .before .loop .inv .ahead, l .ahead .0, l .ahead .1, c .before .before .before .before .before .before .before .before .before .before .before .before .before .before .before .before .before .before .before .before .pre .1)
+      let l = sees (c .before .before .before .before .before .before .before .look2 .ensures) (c .before .before .before .before .before .item2 .given .1) in omega (arith, c .before .before .before .before .before .before .before .before .loop .inv .few, c .before .before .before .before .before .before .before .before .loop .inv .ahead, l .ahead .0, l .ahead .1, c .before .before .before .before .before .before .before .before .before .before .before .before .before .before .before .before .before .before .pre .1)
+
+  same-length-4 : lts.Need-same-length-4 (claims t) (at-level t) write-constraint.Post Inv-loop μ-loop
+  same-length-4 c =
+      c .before .before .put-row .ensures .kept .long ∙ c .before .before .before .before .before .before .before .before .loop .inv .kept .long
+
+  returns-5 : lts.Need-returns-5 (claims t) (at-level t) write-constraint.Post Inv-loop μ-loop
+  returns-5 c =
+      finished (c .before .before .before .before .before .before .before .before .loop .inv) (sees (c .before .before .before .before .before .before .before .look2 .ensures) (c .before .before .before .before .before .item2 .given .1)) (c .before .before .put-row .ensures)
 
   same-length-5 : lts.Need-same-length-5 (claims t) (at-level t) write-constraint.Post Inv-loop μ-loop
   same-length-5 c =
-      c .before .before .put-row .ensures .kept .long ∙ c .before .before .before .before .before .before .before .before .before .before .loop .inv .kept .long
+      c .before .before .loop .inv .kept .long
 
   returns-6 : lts.Need-returns-6 (claims t) (at-level t) write-constraint.Post Inv-loop μ-loop
   returns-6 c =
-      finished (c .before .before .before .before .before .before .before .before .before .before .loop .inv) (sees (c .before .before .before .before .before .before .before .before .before .look2 .ensures) (c .before .before .before .before .before .before .before .item2 .given .1)) (c .before .before .before .before .before .joins .ensures) (c .before .before .before .before .if3 .left) (c .before .before .put-row .ensures)
-
-  same-length-6 : lts.Need-same-length-6 (claims t) (at-level t) write-constraint.Post Inv-loop μ-loop
-  same-length-6 c =
-      c .before .before .loop .inv .kept .long
-
-  returns-7 : lts.Need-returns-7 (claims t) (at-level t) write-constraint.Post Inv-loop μ-loop
-  returns-7 c =
       no-operand (c .before .before .loop .inv) (alike expressions (λ f. none) _ _ _ (0 ∷ 3 ∷ []) _ (word-none, tt, tt, end-none) (c .before .look2 .ensures) (c .match2 .keys3))
 
 pub +write-constraint-spec : {M : Type 1} → statement M
@@ -185,16 +167,12 @@ pub +write-constraint-spec : {M : Type 1} → statement M
     (enum-told t)
     (same-length-3 t)
     (returns-4 t)
-    (add-count t)
     (loop-less t)
     (loop-again t)
     (enum-known-item-2 t)
-    (joins-requires t)
-    (same-length-4 t)
-    (returns-5 t)
     (put-row-requires t)
     (add-m t)
+    (same-length-4 t)
+    (returns-5 t)
     (same-length-5 t)
-    (returns-6 t)
-    (same-length-6 t)
-    (returns-7 t))
+    (returns-6 t))

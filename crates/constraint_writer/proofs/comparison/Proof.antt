@@ -1,13 +1,11 @@
--- `constraint_writer::comparison` meets its contract: two words and a close, and one row by the three words, if they may be compared. Assumes nothing.
+-- `constraint_writer::comparison` meets its contract: two words and a close, and one row by the three words. Assumes nothing.
 use native.Mathlib.Omega.{arith}
 use borrow.Author.Needs.{needs}
-use borrow.Author.Tests.{not-true, not-false}
-use mathlib.Core.Path.{sym, _∙_}
-use Rattle.items.proofs.Items.{sees}
+use Rattle.items.proofs.Frames.{sees}
 use Rattle.constraint_writer.proofs.Putting.{all-kept}
 use Rattle.constraint_writer.proofs.Operands.{compares-told}
 use Rattle.constraint_writer.proofs.Resolving.{no-form}
-use Rattle.constraint_writer.proofs.Comparisons.{first-missing, second-missing, close-missing, not-compared, not-declared, compared-row}
+use Rattle.constraint_writer.proofs.Comparisons.{first-missing, second-missing, close-missing, not-declared, compared-row}
 use Rattle.constraint_writer.proofs.comparison.Statement.{statement}
 use Rattle.constraint_writer.proofs.comparison.Tie as tie
 
@@ -44,16 +42,6 @@ returns-3 : tie.Need-returns-3
 returns-3 c =
     no-form (all-kept _ _) (close-missing _ (sees (c .before .before .before .before .before .before .before .before .before .before .look .ensures) (c .before .before .before .before .before .before .before .before .first .given .1)) (sees (c .before .before .before .before .before .look2 .ensures) (c .before .before .before .second .given .1)) (c .before .look3 .ensures) (c .match3 .keys2))
 
-compares-requires : tie.Need-compares-requires
-compares-requires c κs = search needs
-
-returns-4 : tie.Need-returns-4
-returns-4 c =
-    let l = sees (c .before .before .before .before .before .before .before .before .before .before .before .before .before .before .look .ensures) (c .before .before .before .before .before .before .before .before .before .before .before .before .first .given .1) in
-    let l2 = sees (c .before .before .before .before .before .before .before .before .before .look2 .ensures) (c .before .before .before .before .before .before .before .second .given .1) in
-    let l3 = sees (c .before .before .before .before .before .look3 .ensures) (c .before .before .before .last .given .1) in
-    no-form (all-kept _ _) (not-compared l l2 l3 _ (sym (c .before .compares .ensures) ∙ not-true _ (c .if1 .taken)))
-
 operand-of-requires : tie.Need-operand-of-requires
 operand-of-requires c κs = search needs
 
@@ -63,12 +51,12 @@ enum-known-operand c = search needs
 enum-told : tie.Need-enum-told
 enum-told c = search needs
 
-returns-5 : tie.Need-returns-5
-returns-5 c =
-    let l = sees (c .before .before .before .before .before .before .before .before .before .before .before .before .before .before .before .before .before .look .ensures) (c .before .before .before .before .before .before .before .before .before .before .before .before .before .before .before .first .given .1) in
-    let l2 = sees (c .before .before .before .before .before .before .before .before .before .before .before .before .look2 .ensures) (c .before .before .before .before .before .before .before .before .before .before .second .given .1) in
-    let l3 = sees (c .before .before .before .before .before .before .before .before .look3 .ensures) (c .before .before .before .before .before .before .last .given .1) in
-    not-declared l l2 l3 _ (c .before .before .before .before .before .before .before .before .before .before .before .before .before .component-of .ensures) (compares-told (c .before .before .operand-of .ensures) (c .enum-told .given .1))
+returns-4 : tie.Need-returns-4
+returns-4 c =
+    let l = sees (c .before .before .before .before .before .before .before .before .before .before .before .before .before .before .before .look .ensures) (c .before .before .before .before .before .before .before .before .before .before .before .before .before .first .given .1) in
+    let l2 = sees (c .before .before .before .before .before .before .before .before .before .before .look2 .ensures) (c .before .before .before .before .before .before .before .before .second .given .1) in
+    let l3 = sees (c .before .before .before .before .before .before .look3 .ensures) (c .before .before .before .before .last .given .1) in
+    not-declared l l2 l3 _ (c .before .before .before .before .before .before .before .before .before .before .before .component-of .ensures) (compares-told (c .before .before .operand-of .ensures) (c .enum-told .given .1))
 
 operator-of-requires : tie.Need-operator-of-requires
 operator-of-requires c κs = search needs
@@ -78,20 +66,20 @@ put-row-requires c κs = search needs
 
 add-row : tie.Need-add-row
 add-row c =
-    let l = sees (c .before .before .before .before .before .before .before .before .before .before .before .before .before .before .before .before .before .before .before .before .before .before .before .look .ensures) (c .before .before .before .before .before .before .before .before .before .before .before .before .before .before .before .before .before .before .before .before .before .first .given .1) in
-    let l2 = sees (c .before .before .before .before .before .before .before .before .before .before .before .before .before .before .before .before .before .before .look2 .ensures) (c .before .before .before .before .before .before .before .before .before .before .before .before .before .before .before .before .second .given .1) in
-    let l3 = sees (c .before .before .before .before .before .before .before .before .before .before .before .before .before .before .look3 .ensures) (c .before .before .before .before .before .before .before .before .before .before .before .before .last .given .1) in
-    omega (arith, l .ahead .0, l2 .ahead .0, l3 .ahead .0, l3 .ahead .1, c .before .before .before .before .before .before .before .before .before .before .before .before .before .before .before .before .before .before .before .before .before .before .before .before .before .before .before .pre)
+    let l = sees (c .before .before .before .before .before .before .before .before .before .before .before .before .before .before .before .before .before .before .before .before .before .look .ensures) (c .before .before .before .before .before .before .before .before .before .before .before .before .before .before .before .before .before .before .before .first .given .1) in
+    let l2 = sees (c .before .before .before .before .before .before .before .before .before .before .before .before .before .before .before .before .look2 .ensures) (c .before .before .before .before .before .before .before .before .before .before .before .before .before .before .second .given .1) in
+    let l3 = sees (c .before .before .before .before .before .before .before .before .before .before .before .before .look3 .ensures) (c .before .before .before .before .before .before .before .before .before .before .last .given .1) in
+    omega (arith, l .ahead .0, l2 .ahead .0, l3 .ahead .0, l3 .ahead .1, c .before .before .before .before .before .before .before .before .before .before .before .before .before .before .before .before .before .before .before .before .before .before .before .before .before .pre)
 
 same-length : tie.Need-same-length
 same-length c = search needs
 
-returns-6 : tie.Need-returns-6
-returns-6 c =
-    let l = sees (c .before .before .before .before .before .before .before .before .before .before .before .before .before .before .before .before .before .before .before .before .before .before .before .look .ensures) (c .before .before .before .before .before .before .before .before .before .before .before .before .before .before .before .before .before .before .before .before .before .first .given .1) in
-    let l2 = sees (c .before .before .before .before .before .before .before .before .before .before .before .before .before .before .before .before .before .before .look2 .ensures) (c .before .before .before .before .before .before .before .before .before .before .before .before .before .before .before .before .second .given .1) in
-    let l3 = sees (c .before .before .before .before .before .before .before .before .before .before .before .before .before .before .look3 .ensures) (c .before .before .before .before .before .before .before .before .before .before .before .before .last .given .1) in
-    compared-row l l2 l3 _ (c .before .before .before .before .before .before .before .before .before .before .before .before .before .before .before .before .before .before .before .component-of .ensures) (compares-told (c .before .before .before .before .before .before .before .before .operand-of .ensures) (c .before .before .before .before .before .before .operand .given .1)) (sym (c .before .before .before .before .before .before .before .before .before .before .compares .ensures) ∙ not-false _ (c .before .before .before .before .before .before .before .before .before .if1 .left)) (c .before .before .before .operator-of .ensures) (c .before .before .put-row .ensures)
+returns-5 : tie.Need-returns-5
+returns-5 c =
+    let l = sees (c .before .before .before .before .before .before .before .before .before .before .before .before .before .before .before .before .before .before .before .before .before .look .ensures) (c .before .before .before .before .before .before .before .before .before .before .before .before .before .before .before .before .before .before .before .first .given .1) in
+    let l2 = sees (c .before .before .before .before .before .before .before .before .before .before .before .before .before .before .before .before .look2 .ensures) (c .before .before .before .before .before .before .before .before .before .before .before .before .before .before .second .given .1) in
+    let l3 = sees (c .before .before .before .before .before .before .before .before .before .before .before .before .look3 .ensures) (c .before .before .before .before .before .before .before .before .before .before .last .given .1) in
+    compared-row l l2 l3 _ (c .before .before .before .before .before .before .before .before .before .before .before .before .before .before .before .before .before .component-of .ensures) (compares-told (c .before .before .before .before .before .before .before .before .operand-of .ensures) (c .before .before .before .before .before .before .operand .given .1)) (c .before .before .before .operator-of .ensures) (c .before .before .put-row .ensures)
 
 pub comparison-spec : {M : Type 1} → statement M
 comparison-spec =
@@ -107,14 +95,12 @@ comparison-spec =
     look-requires-3
     enum-known-last
     returns-3
-    compares-requires
-    returns-4
     operand-of-requires
     enum-known-operand
     enum-told
-    returns-5
+    returns-4
     operator-of-requires
     put-row-requires
     add-row
     same-length
-    returns-6)
+    returns-5)

@@ -5,16 +5,7 @@ use Rattle.parser.proofs.coded.Statement.{statement}
 use Rattle.parser.proofs.coded.Tie as tie
 
 returns : tie.Need-returns
-returns c = λ cs rs. rw (c .coded-step .ensures) (coded-steps (c .before .before .before .before .before .before .before .args .kind) (c .before .before .before .write-coded .result) (c .before .before .before .write-coded .ensures))
-
-same-length : tie.Need-same-length
-same-length c = c .before .before .before .write-coded .ensures .keeps .long
+returns c = λ cs rs. rw (c .coded-step .ensures) (coded-steps (c .before .before .before .before .args .kind) (c .before .write-coded .result) (c .before .write-coded .ensures))
 
 pub coded-spec : {M : Type 1} → statement M
-coded-spec =
-    tie.close
-    (tie.spec
-    (λ c κs. search needs)
-    (λ c κs. search needs)
-    same-length
-    returns)
+coded-spec = tie.close (tie.spec (λ c κs. search needs) (λ c κs. search needs) returns)

@@ -8,22 +8,10 @@ use Rattle.parser.proofs.declare_attribute.Tie as tie
 
 returns : tie.Need-returns
 returns c = λ cs rs.
-    let s = attributeOf (familyOf (c .before .before .before .before .before .before .before .before .before .before .before .args .family)) in
+    let s = attributeOf (familyOf (c .before .before .before .before .before .before .before .before .args .family)) in
     rw (c .declared-step .ensures, c .before .past-code .ensures)
-    (declared-steps (c .before .before .before .before .before .before .declare .result) (c .before .before .before .before .before .before .declare .ensures .of s (c .before .before .before .before .before .before .before .before .attribute-sort .ensures))
-    (record { of = λ w i. (plain s (i .0), i .1, c .before .before .before .before .write-attribute .ensures .wrote); long = c .before .before .before .before .write-attribute .ensures .keeps .long }))
-
-same-length : tie.Need-same-length
-same-length c = c .before .before .before .before .write-attribute .ensures .keeps .long
+    (declared-steps (c .before .before .before .before .declare .result) (c .before .before .before .before .declare .ensures .of s (c .before .before .before .before .before .before .attribute-sort .ensures))
+    (record { of = λ w i. (plain s (i .0), i .1, c .before .before .write-attribute .ensures .wrote) }))
 
 pub declare-attribute-spec : {M : Type 1} → statement M
-declare-attribute-spec =
-    tie.close
-    (tie.spec
-    (λ c κs. search needs)
-    (λ c κs. search needs)
-    (λ c κs. search needs)
-    (λ c κs. search needs)
-    (λ c κs. search needs)
-    same-length
-    returns)
+declare-attribute-spec = tie.close (tie.spec (λ c κs. search needs) (λ c κs. search needs) (λ c κs. search needs) (λ c κs. search needs) (λ c κs. search needs) returns)

@@ -1,5 +1,4 @@
 -- `parser::declare_class` meets its contract: a class has no code. Assumes nothing.
-use mathlib.Core.Path.{refl}
 use borrow.Author.Needs.{needs}
 use Rattle.policy.specs.Statements.{class}
 use Rattle.parser.proofs.Filling.{wrote-none}
@@ -9,7 +8,7 @@ use Rattle.parser.proofs.declare_class.Tie as tie
 
 returns : tie.Need-returns
 returns c = λ place co cs rs. rw (c .declared-step .ensures)
-    (declared-steps (c .before .declare-class .result) (c .before .declare-class .ensures) (record { of = λ w i. (class (i .0) (i .1), i .2, wrote-none co _); long = refl }))
+    (declared-steps (c .before .declare-class .result) (c .before .declare-class .ensures) (record { of = λ w i. (class (i .0) (i .1), i .2, wrote-none co _) }))
 
 pub declare-class-spec : {M : Type 1} → statement M
 declare-class-spec = tie.close (tie.spec (λ c κs. search needs) (λ c κs. search needs) returns)

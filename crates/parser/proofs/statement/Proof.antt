@@ -1,6 +1,5 @@
 -- `parser::statement` meets its contract, by the function of the statement's keyword. Assumes nothing.
-use mathlib.Core.Path.{refl, ap, _∙_}
-use mathlib.Core.List.{[]}
+use mathlib.Core.Path.{ap, _∙_}
 use borrow.Author.Needs.{needs}
 use Rattle.items.proofs.Items.{sees}
 use Rattle.parser.specs.Steps.{keywordIn}
@@ -9,7 +8,7 @@ use Rattle.parser.proofs.statement.Statement.{statement}
 use Rattle.parser.proofs.statement.Tie as tie
 
 returns : tie.Need-returns
-returns c = λ at e. no-word refl _ _ e (c .match .keys2)
+returns c = λ at e. no-word _ e (c .match .keys2)
 
 returns-2 : tie.Need-returns-2
 returns-2 c = λ at e.
@@ -18,8 +17,8 @@ returns-2 c = λ at e.
 
 returns-3 : tie.Need-returns-3
 returns-3 c = λ at e.
-    by-keyword (sees e (c .before .before .before .before .before .before .before .before .before .before .first .given .1)) _
-    (c .before .before .before .before .before .before .before .before .keyword-of .ensures ∙ ap keywordIn (c .before .before .before .before .before .before .keyword2 .given .1)) (c .before .before .declare-attribute .ensures _ _)
+    by-keyword (sees e (c .before .before .before .before .before .before .before .before .first .given .1)) _
+    (c .before .before .before .before .before .before .keyword-of .ensures ∙ ap keywordIn (c .before .before .before .before .keyword2 .given .1)) (c .declare-attribute .ensures _ _)
 
 returns-4 : tie.Need-returns-4
 returns-4 c = λ at e.
@@ -28,8 +27,8 @@ returns-4 c = λ at e.
 
 returns-5 : tie.Need-returns-5
 returns-5 c = λ at e.
-    by-keyword (sees e (c .before .before .before .before .before .before .before .before .before .before .first .given .1)) _
-    (c .before .before .before .before .before .before .before .before .keyword-of .ensures ∙ ap keywordIn (c .before .before .before .before .before .before .keyword3 .given .1)) (c .before .before .coded .ensures _ _)
+    by-keyword (sees e (c .before .before .before .before .before .before .before .before .first .given .1)) _
+    (c .before .before .before .before .before .before .keyword-of .ensures ∙ ap keywordIn (c .before .before .before .before .keyword3 .given .1)) (c .coded .ensures _ _)
 
 returns-6 : tie.Need-returns-6
 returns-6 c = λ at e.
@@ -38,37 +37,9 @@ returns-6 c = λ at e.
 
 returns-7 : tie.Need-returns-7
 returns-7 c = λ at e.
-    no-keyword refl _ (sees e (c .before .before .before .before .first .given .1)) (c .before .before .keyword-of .ensures ∙ ap keywordIn (c .enum-told3 .given .1))
-
-same-length : tie.Need-same-length
-same-length c = c .before .before .declare-attribute .ensures [] [] .long
-
-same-length-2 : tie.Need-same-length-2
-same-length-2 c = c .before .before .coded .ensures [] [] .long
+    no-keyword (sees e (c .before .before .before .before .first .given .1)) (c .before .before .keyword-of .ensures ∙ ap keywordIn (c .enum-told3 .given .1))
 
 pub statement-spec : {M : Type 1} → statement M
 statement-spec =
     tie.close
-    (tie.spec
-    (λ c. search needs)
-    returns
-    (λ c κs. search needs)
-    (λ c. search needs)
-    (λ c κs. search needs)
-    (λ c. search needs)
-    (λ c κs. search needs)
-    (λ c. search needs)
-    (λ c κs. search needs)
-    (λ c. search needs)
-    (λ c κs. search needs)
-    (λ c. search needs)
-    (λ c κs. search needs)
-    (λ c. search needs)
-    returns-2
-    same-length
-    returns-3
-    returns-4
-    same-length-2
-    returns-5
-    returns-6
-    returns-7)
+    (tie.spec (λ c. search needs) returns (λ c κs. search needs) (λ c. search needs) (λ c κs. search needs) (λ c. search needs) (λ c κs. search needs) (λ c. search needs) (λ c κs. search needs) (λ c. search needs) (λ c κs. search needs) (λ c. search needs) (λ c κs. search needs) (λ c. search needs) returns-2 returns-3 returns-4 returns-5 returns-6 returns-7)

@@ -2,20 +2,21 @@
 -- Assumes nothing.
 use mathlib.Core.Path.{_∙_}
 use mathlib.Core.List.{List}
-use Prim.Native.Nat.{ℕ, _<_}
+use Prim.Native.Nat.{ℕ, _-_, _<_}
 use native.Mathlib.Omega.{arith}
 use borrow.Author.Needs.{needs}
 use borrow.Fn.Kinds.{In}
 use borrow.Fn.PlainCycle.{Measures, is, falls, and}
+use lib.ListN.{length}
+use Rattle.items.proofs.Frames.{sees}
 use Rattle.items.proofs.look.Reads as look-reads
-use Rattle.set_writer.proofs.Going.{Going, going, toGo, seen-as, word-falls, past-word, stop-word, part-falls, stop-deep, past-part, stop-part, past-close, stop-end, past}
+use Rattle.set_writer.proofs.Going.{Going, going, past-word, stop-word, stop-deep, past-part, stop-part, past-close, stop-end, past}
 use Rattle.set_writer.proofs.write_set.Reads as write-set
 use Rattle.set_writer.proofs.write_set.Kinds as write-set-kinds
 use Rattle.set_writer.proofs.+write_set.Lts-write_set as lts
 use Rattle.set_writer.proofs.put_unit.Reads as put-unit-reads
-use Rattle.set_writer.proofs.operand_unit.Reads as operand-unit-reads
+use Rattle.set_writer.proofs.reference.Reads as reference-reads
 use Rattle.set_writer.proofs.set_start.Reads as set-start-reads
-use Rattle.set_writer.proofs.write_end.Reads as write-end-reads
 use Rattle.set_writer.proofs.+write_set.{statement}
 use Rattle.set_writer.proofs.+write_set.Tie.{close}
 
@@ -29,15 +30,15 @@ abbrev below : ℕ → In 3 write-set-kinds.ps
 below t = and 3 write-set-kinds.ps (falls 3 write-set-kinds.ps _<_ μ t) write-set.Pre
 
 abbrev claims : ℕ → lts.Claims
-claims t = (set-start-reads.Asked, set-start-reads.Learnt, put-unit-reads.Asked, put-unit-reads.Learnt, operand-unit-reads.Asked, operand-unit-reads.Learnt, look-reads.Asked, look-reads.Learnt, below t, write-set.Post, write-end-reads.Asked, write-end-reads.Learnt)
+claims t = (set-start-reads.Asked, set-start-reads.Learnt, put-unit-reads.Asked, put-unit-reads.Learnt, look-reads.Asked, look-reads.Learnt, reference-reads.Asked, reference-reads.Learnt, below t, write-set.Post)
 
 -- what held of the operands where they begin holds of those that are left
 abbrev Inv-loop : lts.InvT-loop
-Inv-loop text at levels symbols end family code₀ to wanted count₀ u₀ item₀ code count u item =
-    (before : List ℕ) → Going text at levels symbols end family before to wanted item₀ count₀ code₀ u₀ → Going text at levels symbols end family before to wanted item count code u
+Inv-loop text at levels symbols end family code₀ to i₀ u₀ code i u =
+    (before : List ℕ) → Going text at levels symbols end family before to i₀ code₀ u₀ → Going text at levels symbols end family before to i code u
 
 abbrev μ-loop : lts.MeasureT-loop
-μ-loop text at levels symbols end family code₀ to wanted count₀ u₀ item₀ code count u item = toGo text item
+μ-loop text at levels symbols end family code₀ to i₀ u₀ code i u = length text - i
 
 module _ (t : ℕ) where
   set-start-requires : lts.Need-set-start-requires (claims t) (at-level t) write-set.Post Inv-loop μ-loop
@@ -49,11 +50,14 @@ module _ (t : ℕ) where
   loop-holds : lts.Need-loop-holds (claims t) (at-level t) write-set.Post Inv-loop μ-loop
   loop-holds c before g = g
 
+  look-requires : lts.Need-look-requires (claims t) (at-level t) write-set.Post Inv-loop μ-loop
+  look-requires c κs = search needs
+
   enum-known-item : lts.Need-enum-known-item (claims t) (at-level t) write-set.Post Inv-loop μ-loop
   enum-known-item c = search needs
 
-  operand-unit-requires : lts.Need-operand-unit-requires (claims t) (at-level t) write-set.Post Inv-loop μ-loop
-  operand-unit-requires c κs = search needs
+  reference-requires : lts.Need-reference-requires (claims t) (at-level t) write-set.Post Inv-loop μ-loop
+  reference-requires c κs = search needs
 
   enum-known-name : lts.Need-enum-known-name (claims t) (at-level t) write-set.Post Inv-loop μ-loop
   enum-known-name c = search needs
@@ -63,47 +67,41 @@ module _ (t : ℕ) where
 
   same-length : lts.Need-same-length (claims t) (at-level t) write-set.Post Inv-loop μ-loop
   same-length c =
-      let o = c .before .before .before .before .before .before .loop .inv _ (going _ _ _ _ (c .before .before .before .before .before .before .before .before .before .before .before .set-start .ensures) (c .before .before .before .before .before .before .before .before .before .put-unit .ensures)) in
+      let o = c .before .before .before .before .before .before .before .loop .inv _ (going _ _ _ _ (c .before .before .before .before .before .before .before .before .before .before .before .before .set-start .ensures) (c .before .before .before .before .before .before .before .before .before .before .put-unit .ensures)) in
       o .keeps .long
 
   returns : lts.Need-returns (claims t) (at-level t) write-set.Post Inv-loop μ-loop
   returns c =
-      let o = c .before .before .before .before .before .before .loop .inv _ (going _ _ _ _ (c .before .before .before .before .before .before .before .before .before .before .before .set-start .ensures) (c .before .before .before .before .before .before .before .before .before .put-unit .ensures)) in
-      stop-word o (c .before .before .before .before .item .given .1) (c .before .before .operand-unit .ensures) (c .enum-told .given .1)
+      let o = c .before .before .before .before .before .before .before .loop .inv _ (going _ _ _ _ (c .before .before .before .before .before .before .before .before .before .before .before .before .set-start .ensures) (c .before .before .before .before .before .before .before .before .before .before .put-unit .ensures)) in
+      let l = sees (c .before .before .before .before .before .before .look .ensures) (c .before .before .before .before .item .given .1) in
+      stop-word o l (c .before .before .reference .ensures) (c .enum-told .given .1)
 
   put-unit-requires-2 : lts.Need-put-unit-requires-2 (claims t) (at-level t) write-set.Post Inv-loop μ-loop
   put-unit-requires-2 c κs = search needs
 
-  add-count : lts.Need-add-count (claims t) (at-level t) write-set.Post Inv-loop μ-loop
-  add-count c =
-      let o = c .before .before .before .before .before .before .before .before .before .before .before .loop .inv _ (going _ _ _ _ (c .before .before .before .before .before .before .before .before .before .before .before .before .before .before .before .before .set-start .ensures) (c .before .before .before .before .before .before .before .before .before .before .before .before .before .before .put-unit .ensures)) in
-      let l = seen-as o (c .before .before .before .before .before .before .before .before .before .item .given .1) in
-      omega (arith, o .low, l .ahead .0, l .ahead .1)
-
-  look-requires : lts.Need-look-requires (claims t) (at-level t) write-set.Post Inv-loop μ-loop
-  look-requires c κs = search needs
-
   loop-less : lts.Need-loop-less (claims t) (at-level t) write-set.Post Inv-loop μ-loop
   loop-less c =
-      let o = c .before .before .before .before .before .before .before .before .before .before .before .before .loop .inv _ (going _ _ _ _ (c .before .before .before .before .before .before .before .before .before .before .before .before .before .before .before .before .before .set-start .ensures) (c .before .before .before .before .before .before .before .before .before .before .before .before .before .before .before .put-unit .ensures)) in
-      word-falls o (c .before .before .before .before .before .before .before .before .before .before .item .given .1) (c .look .ensures)
+      let l = sees (c .before .before .before .before .before .before .before .before .before .before .before .look .ensures) (c .before .before .before .before .before .before .before .before .before .item .given .1) in
+      omega (arith, l .ahead .0, l .ahead .1)
 
   loop-again : lts.Need-loop-again (claims t) (at-level t) write-set.Post Inv-loop μ-loop
   loop-again c before g =
-      past-word (c .before .before .before .before .before .before .before .before .before .before .before .before .loop .inv before g) (c .before .before .before .before .before .before .before .before .before .before .item .given .1) (c .before .before .before .before .before .before .before .before .operand-unit .ensures) (c .before .before .before .before .before .before .name .given .1) (c .before .before .before .put-unit2 .ensures) (c .look .ensures)
+      let l = sees (c .before .before .before .before .before .before .before .before .before .before .before .look .ensures) (c .before .before .before .before .before .before .before .before .before .item .given .1) in
+      past-word (c .before .before .before .before .before .before .before .before .before .before .before .before .loop .inv before g) l (c .before .before .before .before .before .before .before .reference .ensures) (c .before .before .before .before .before .name .given .1) (c .before .before .put-unit2 .ensures)
 
   enum-known-item-2 : lts.Need-enum-known-item-2 (claims t) (at-level t) write-set.Post Inv-loop μ-loop
   enum-known-item-2 c = search needs
 
   same-length-2 : lts.Need-same-length-2 (claims t) (at-level t) write-set.Post Inv-loop μ-loop
   same-length-2 c =
-      let o = c .before .before .before .before .loop .inv _ (going _ _ _ _ (c .before .before .before .before .before .before .before .before .before .set-start .ensures) (c .before .before .before .before .before .before .before .put-unit .ensures)) in
+      let o = c .before .before .before .before .before .loop .inv _ (going _ _ _ _ (c .before .before .before .before .before .before .before .before .before .before .set-start .ensures) (c .before .before .before .before .before .before .before .before .put-unit .ensures)) in
       o .keeps .long
 
   returns-2 : lts.Need-returns-2 (claims t) (at-level t) write-set.Post Inv-loop μ-loop
   returns-2 c =
-      let o = c .before .before .before .before .loop .inv _ (going _ _ _ _ (c .before .before .before .before .before .before .before .before .before .set-start .ensures) (c .before .before .before .before .before .before .before .put-unit .ensures)) in
-      stop-deep o (c .before .before .item2 .given .1) (c .if1 .taken)
+      let o = c .before .before .before .before .before .loop .inv _ (going _ _ _ _ (c .before .before .before .before .before .before .before .before .before .before .set-start .ensures) (c .before .before .before .before .before .before .before .before .put-unit .ensures)) in
+      let l = sees (c .before .before .before .before .look .ensures) (c .before .before .item2 .given .1) in
+      stop-deep o l (c .if1 .taken)
 
   sub-write-set : lts.Need-sub-write-set (claims t) (at-level t) write-set.Post Inv-loop μ-loop
   sub-write-set c = search needs
@@ -119,61 +117,56 @@ module _ (t : ℕ) where
 
   same-length-3 : lts.Need-same-length-3 (claims t) (at-level t) write-set.Post Inv-loop μ-loop
   same-length-3 c =
-      let o = c .before .before .before .before .before .before .before .before .before .before .loop .inv _ (going _ _ _ _ (c .before .before .before .before .before .before .before .before .before .before .before .before .before .before .before .set-start .ensures) (c .before .before .before .before .before .before .before .before .before .before .before .before .before .put-unit .ensures)) in
+      let o = c .before .before .before .before .before .before .before .before .before .before .before .loop .inv _ (going _ _ _ _ (c .before .before .before .before .before .before .before .before .before .before .before .before .before .before .before .before .set-start .ensures) (c .before .before .before .before .before .before .before .before .before .before .before .before .before .before .put-unit .ensures)) in
       c .before .before .before .before .write-set .ensures .keeps .long ∙ o .keeps .long
 
   returns-3 : lts.Need-returns-3 (claims t) (at-level t) write-set.Post Inv-loop μ-loop
   returns-3 c =
-      let o = c .before .before .before .before .before .before .before .before .before .before .loop .inv _ (going _ _ _ _ (c .before .before .before .before .before .before .before .before .before .before .before .before .before .before .before .set-start .ensures) (c .before .before .before .before .before .before .before .before .before .before .before .before .before .put-unit .ensures)) in
-      stop-part o (c .before .before .before .before .before .before .before .before .item2 .given .1) (c .before .before .before .before .before .before .if1 .left) (c .before .before .before .before .write-set .ensures) (c .enum-told2 .given .1)
-
-  add-count-2 : lts.Need-add-count-2 (claims t) (at-level t) write-set.Post Inv-loop μ-loop
-  add-count-2 c =
       let o = c .before .before .before .before .before .before .before .before .before .before .before .loop .inv _ (going _ _ _ _ (c .before .before .before .before .before .before .before .before .before .before .before .before .before .before .before .before .set-start .ensures) (c .before .before .before .before .before .before .before .before .before .before .before .before .before .before .put-unit .ensures)) in
-      let l = seen-as o (c .before .before .before .before .before .before .before .before .before .item2 .given .1) in
-      let g = past (c .before .before .before .before .before .write-set .ensures) (c .before .operand .given .1) in
-      omega (arith, o .low, l .ahead .0, g .less, g .fits)
-
-  look-requires-2 : lts.Need-look-requires-2 (claims t) (at-level t) write-set.Post Inv-loop μ-loop
-  look-requires-2 c κs = search needs
+      let l = sees (c .before .before .before .before .before .before .before .before .before .before .look .ensures) (c .before .before .before .before .before .before .before .before .item2 .given .1) in
+      stop-part o l (c .before .before .before .before .before .before .if1 .left) (c .before .before .before .before .write-set .ensures) (c .enum-told2 .given .1)
 
   loop-less-2 : lts.Need-loop-less-2 (claims t) (at-level t) write-set.Post Inv-loop μ-loop
   loop-less-2 c =
-      let o = c .before .before .before .before .before .before .before .before .before .before .before .before .loop .inv _ (going _ _ _ _ (c .before .before .before .before .before .before .before .before .before .before .before .before .before .before .before .before .before .set-start .ensures) (c .before .before .before .before .before .before .before .before .before .before .before .before .before .before .before .put-unit .ensures)) in
-      part-falls o (c .before .before .before .before .before .before .before .before .before .before .item2 .given .1) (past (c .before .before .before .before .before .before .write-set .ensures) (c .before .before .operand .given .1)) (c .look2 .ensures)
+      let l = sees (c .before .before .before .before .before .before .before .before .before .before .before .look .ensures) (c .before .before .before .before .before .before .before .before .before .item2 .given .1) in
+      let g = past (c .before .before .before .before .before .write-set .ensures) (c .before .operand .given .1) in
+      omega (arith, l .ahead .0, g .less, g .fits)
 
   loop-again-2 : lts.Need-loop-again-2 (claims t) (at-level t) write-set.Post Inv-loop μ-loop
   loop-again-2 c before g =
-      past-part (c .before .before .before .before .before .before .before .before .before .before .before .before .loop .inv before g) (c .before .before .before .before .before .before .before .before .before .before .item2 .given .1) (c .before .before .before .before .before .before .before .before .if1 .left) (c .before .before .before .before .before .before .write-set .ensures) (c .before .before .operand .given .1) (c .look2 .ensures)
+      let l = sees (c .before .before .before .before .before .before .before .before .before .before .before .look .ensures) (c .before .before .before .before .before .before .before .before .before .item2 .given .1) in
+      past-part (c .before .before .before .before .before .before .before .before .before .before .before .before .loop .inv before g) l (c .before .before .before .before .before .before .before .if1 .left) (c .before .before .before .before .before .write-set .ensures) (c .before .operand .given .1)
 
   enum-known-item-3 : lts.Need-enum-known-item-3 (claims t) (at-level t) write-set.Post Inv-loop μ-loop
   enum-known-item-3 c = search needs
 
-  write-end-requires : lts.Need-write-end-requires (claims t) (at-level t) write-set.Post Inv-loop μ-loop
-  write-end-requires c κs = search needs
+  put-unit-requires-3 : lts.Need-put-unit-requires-3 (claims t) (at-level t) write-set.Post Inv-loop μ-loop
+  put-unit-requires-3 c κs = search needs
 
   same-length-4 : lts.Need-same-length-4 (claims t) (at-level t) write-set.Post Inv-loop μ-loop
   same-length-4 c =
-      let o = c .before .before .before .before .before .before .before .loop .inv _ (going _ _ _ _ (c .before .before .before .before .before .before .before .before .before .before .before .before .set-start .ensures) (c .before .before .before .before .before .before .before .before .before .before .put-unit .ensures)) in
-      past-close o (c .before .before .before .before .before .item3 .given .1) _ (c .before .before .write-end .ensures) .keeps .long
+      let o = c .before .before .before .before .before .before .before .before .loop .inv _ (going _ _ _ _ (c .before .before .before .before .before .before .before .before .before .before .before .before .before .set-start .ensures) (c .before .before .before .before .before .before .before .before .before .before .before .put-unit .ensures)) in
+      c .before .before .put-unit3 .ensures .keeps .long ∙ o .keeps .long
 
   returns-4 : lts.Need-returns-4 (claims t) (at-level t) write-set.Post Inv-loop μ-loop
   returns-4 c =
-      let o = c .before .before .before .before .before .before .before .loop .inv _ (going _ _ _ _ (c .before .before .before .before .before .before .before .before .before .before .before .before .set-start .ensures) (c .before .before .before .before .before .before .before .before .before .before .put-unit .ensures)) in
-      past-close o (c .before .before .before .before .before .item3 .given .1) _ (c .before .before .write-end .ensures)
+      let o = c .before .before .before .before .before .before .before .before .loop .inv _ (going _ _ _ _ (c .before .before .before .before .before .before .before .before .before .before .before .before .before .set-start .ensures) (c .before .before .before .before .before .before .before .before .before .before .before .put-unit .ensures)) in
+      let l = sees (c .before .before .before .before .before .before .before .look .ensures) (c .before .before .before .before .before .item3 .given .1) in
+      past-close o l (c .before .before .put-unit3 .ensures)
 
   enum-told-3 : lts.Need-enum-told-3 (claims t) (at-level t) write-set.Post Inv-loop μ-loop
   enum-told-3 c = search needs
 
   same-length-5 : lts.Need-same-length-5 (claims t) (at-level t) write-set.Post Inv-loop μ-loop
   same-length-5 c =
-      let o = c .before .before .loop .inv _ (going _ _ _ _ (c .before .before .before .before .before .before .before .set-start .ensures) (c .before .before .before .before .before .put-unit .ensures)) in
+      let o = c .before .before .before .loop .inv _ (going _ _ _ _ (c .before .before .before .before .before .before .before .before .set-start .ensures) (c .before .before .before .before .before .before .put-unit .ensures)) in
       o .keeps .long
 
   returns-5 : lts.Need-returns-5 (claims t) (at-level t) write-set.Post Inv-loop μ-loop
   returns-5 c =
-      let o = c .before .before .loop .inv _ (going _ _ _ _ (c .before .before .before .before .before .before .before .set-start .ensures) (c .before .before .before .before .before .put-unit .ensures)) in
-      stop-end o (c .enum-told3 .given .1)
+      let o = c .before .before .before .loop .inv _ (going _ _ _ _ (c .before .before .before .before .before .before .before .before .set-start .ensures) (c .before .before .before .before .before .before .put-unit .ensures)) in
+      let l = sees (c .before .before .look .ensures) (c .enum-told3 .given .1) in
+      stop-end o l
 
 pub +write-set-spec : {M : Type 1} → statement M
 +write-set-spec =
@@ -182,15 +175,14 @@ pub +write-set-spec : {M : Type 1} → statement M
     (set-start-requires t)
     (put-unit-requires t)
     (loop-holds t)
+    (look-requires t)
     (enum-known-item t)
-    (operand-unit-requires t)
+    (reference-requires t)
     (enum-known-name t)
     (enum-told t)
     (same-length t)
     (returns t)
     (put-unit-requires-2 t)
-    (add-count t)
-    (look-requires t)
     (loop-less t)
     (loop-again t)
     (enum-known-item-2 t)
@@ -202,12 +194,10 @@ pub +write-set-spec : {M : Type 1} → statement M
     (enum-told-2 t)
     (same-length-3 t)
     (returns-3 t)
-    (add-count-2 t)
-    (look-requires-2 t)
     (loop-less-2 t)
     (loop-again-2 t)
     (enum-known-item-3 t)
-    (write-end-requires t)
+    (put-unit-requires-3 t)
     (same-length-4 t)
     (returns-4 t)
     (enum-told-3 t)

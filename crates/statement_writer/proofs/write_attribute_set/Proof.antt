@@ -1,11 +1,12 @@
--- `statement_writer::write_attribute_set` meets its contract: the head, the attribute's number, S and the close. Assumes nothing.
+-- `statement_writer::write_attribute_set` meets its contract: the head, the attribute's number and S. Assumes nothing.
 use borrow.Author.Needs.{needs}
 use mathlib.Core.Path.{refl, _∙_}
 use mathlib.Core.Bool.{false}
 use mathlib.Core.List.{[], _∷_}
 use Rattle.items.proofs.Frames.{sees}
 use Rattle.items.proofs.Items.{alike}
-use Rattle.statement_writer.proofs.SetStatements.{startsPart, no-attribute, no-part, no-name, set-coded}
+use Rattle.set_writer.specs.declared.SetWritten.{SetWritten}
+use Rattle.statement_writer.proofs.SetStatements.{startsPart, no-attribute, no-part, set-coded}
 use Rattle.statement_writer.proofs.write_attribute_set.Statement.{statement}
 use Rattle.statement_writer.proofs.write_attribute_set.Tie as tie
 
@@ -61,21 +62,16 @@ enum-told-2 : tie.Need-enum-told-2
 enum-told-2 c = search needs
 
 same-length-3 : tie.Need-same-length-3
-same-length-3 c = c .before .before .before .before .write-set .ensures .keeps .long ∙ c .before .before .before .before .before .before .before .before .before .before .before .before .before .before .before .write-name .ensures .keeps .long ∙ c .before .before .before .before .before .before .before .before .before .before .before .before .before .before .before .before .before .before .before .write-head .ensures .keeps .long
+same-length-3 c = c .before .before .before .before .before .write-set .ensures .keeps .long ∙ c .before .before .before .before .before .before .before .before .before .before .before .before .before .before .before .before .write-name .ensures .keeps .long ∙ c .before .before .before .before .before .before .before .before .before .before .before .before .before .before .before .before .before .before .before .before .write-head .ensures .keeps .long
 
 returns-3 : tie.Need-returns-3
-returns-3 c =
-    no-name (c .before .before .before .before .before .before .before .before .before .before .before .before .before .before .before .before .before .before .before .before .before .family-number .ensures .0) (c .before .before .before .before .before .before .before .before .before .before .before .before .before .before .before .before .before .before .before .write-head .ensures) (c .before .before .before .before .before .before .before .before .before .before .before .before .before .before .before .write-name .ensures) (c .before .before .before .before .before .before .before .before .before .before .before .name .given .1) (sees (c .before .before .before .before .before .before .before .before .before .look .ensures) (c .before .before .before .before .before .before .before .item .given .1)) (c .before .before .before .before .write-set .ensures) (c .enum-told2 .given .1)
-
-closed-requires : tie.Need-closed-requires
-closed-requires c κs = search needs
+returns-3 c = set-coded (c .before .before .before .before .before .before .before .before .before .before .before .before .before .before .before .before .before .before .before .before .before .before .family-number .ensures .0) (c .before .before .before .before .before .before .before .before .before .before .before .before .before .before .before .before .before .before .before .before .write-head .ensures) (c .before .before .before .before .before .before .before .before .before .before .before .before .before .before .before .before .write-name .ensures) (c .before .before .before .before .before .before .before .before .before .before .before .before .name .given .1) (SetWritten.Next _ _) (sees (c .before .before .before .before .before .before .before .before .before .before .look .ensures) (c .before .before .before .before .before .before .before .before .item .given .1)) (c .before .before .before .before .before .write-set .ensures) (c .before .set .given .1)
 
 same-length-4 : tie.Need-same-length-4
-same-length-4 c = c .before .before .before .before .before .before .write-set .ensures .keeps .long ∙ c .before .before .before .before .before .before .before .before .before .before .before .before .before .before .before .before .before .write-name .ensures .keeps .long ∙ c .before .before .before .before .before .before .before .before .before .before .before .before .before .before .before .before .before .before .before .before .before .write-head .ensures .keeps .long
+same-length-4 c = c .before .before .before .before .write-set .ensures .keeps .long ∙ c .before .before .before .before .before .before .before .before .before .before .before .before .before .before .before .write-name .ensures .keeps .long ∙ c .before .before .before .before .before .before .before .before .before .before .before .before .before .before .before .before .before .before .before .write-head .ensures .keeps .long
 
 returns-4 : tie.Need-returns-4
-returns-4 c =
-    set-coded (c .before .before .before .before .before .before .before .before .before .before .before .before .before .before .before .before .before .before .before .before .before .before .before .family-number .ensures .0) (c .before .before .before .before .before .before .before .before .before .before .before .before .before .before .before .before .before .before .before .before .before .write-head .ensures) (c .before .before .before .before .before .before .before .before .before .before .before .before .before .before .before .before .before .write-name .ensures) (c .before .before .before .before .before .before .before .before .before .before .before .before .before .name .given .1) (sees (c .before .before .before .before .before .before .before .before .before .before .before .look .ensures) (c .before .before .before .before .before .before .before .before .before .item .given .1)) (c .before .before .before .before .before .before .write-set .ensures) (c .before .before .set .given .1) (c .closed .ensures)
+returns-4 c = set-coded (c .before .before .before .before .before .before .before .before .before .before .before .before .before .before .before .before .before .before .before .before .before .family-number .ensures .0) (c .before .before .before .before .before .before .before .before .before .before .before .before .before .before .before .before .before .before .before .write-head .ensures) (c .before .before .before .before .before .before .before .before .before .before .before .before .before .before .before .write-name .ensures) (c .before .before .before .before .before .before .before .before .before .before .before .name .given .1) SetWritten.Undeclared (sees (c .before .before .before .before .before .before .before .before .before .look .ensures) (c .before .before .before .before .before .before .before .item .given .1)) (c .before .before .before .before .write-set .ensures) (c .enum-told2 .given .1)
 
 pub write-attribute-set-spec : {M : Type 1} → statement M
 write-attribute-set-spec =
@@ -100,6 +96,5 @@ write-attribute-set-spec =
     enum-told-2
     same-length-3
     returns-3
-    closed-requires
     same-length-4
     returns-4)

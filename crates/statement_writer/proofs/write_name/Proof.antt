@@ -1,15 +1,12 @@
--- `statement_writer::write_name` meets its contract: a name of something of the kind, or not. Assumes nothing.
+-- `statement_writer::write_name` meets its contract: a word that names something of the kind, or not. Assumes nothing.
 use borrow.Author.Needs.{needs}
-use borrow.Author.Tests.{not-true, not-false}
-use mathlib.Core.Path.{refl, sym, _∙_}
-use mathlib.Core.Bool.{true, false}
+use mathlib.Core.Path.{refl}
 use mathlib.Core.List.{[], _∷_}
 use mathlib.Core.Option.{none}
 use Rattle.items.proofs.Frames.{sees}
 use Rattle.items.proofs.Items.{alike}
-use Rattle.items.proofs.Counts.{is-name}
 use Rattle.statement_writer.specs.Naming.{firstUnit}
-use Rattle.statement_writer.proofs.RowNames.{no-word, reserved, no-name, one-name}
+use Rattle.statement_writer.proofs.RowNames.{no-word, no-name, one-name}
 use Rattle.statement_writer.proofs.write_name.Statement.{statement}
 use Rattle.statement_writer.proofs.write_name.Tie as tie
 
@@ -22,14 +19,6 @@ enum-known-item c = search needs
 returns : tie.Need-returns
 returns c = no-word λ ds levels. alike (firstUnit ds _) (λ f. none) _ _ _ (1 ∷ 2 ∷ 3 ∷ []) levels (tt, λ x f g. refl, refl, refl) (c .before .look .ensures) (c .match .keys2)
 
-is-name-requires : tie.Need-is-name-requires
-is-name-requires c κs = search needs
-
-returns-2 : tie.Need-returns-2
-returns-2 c =
-    let l = sees (c .before .before .before .before .before .look .ensures) (c .before .before .before .item .given .1) in
-    reserved l (is-name _ _ false (l .ahead .2) (sym (not-true _ (c .if1 .taken)) ∙ c .before .is-name .ensures))
-
 name-unit-requires : tie.Need-name-unit-requires
 name-unit-requires c κs = search needs
 
@@ -39,10 +28,8 @@ enum-known-name c = search needs
 enum-told : tie.Need-enum-told
 enum-told c = search needs
 
-returns-3 : tie.Need-returns-3
-returns-3 c =
-    let l = sees (c .before .before .before .before .before .before .before .before .look .ensures) (c .before .before .before .before .before .before .item .given .1) in
-    no-name l (is-name _ _ true (l .ahead .2) (sym (not-false _ (c .before .before .before .if1 .left)) ∙ c .before .before .before .before .is-name .ensures)) (c .before .before .name-unit .ensures) (c .enum-told .given .1)
+returns-2 : tie.Need-returns-2
+returns-2 c = no-name (sees (c .before .before .before .before .before .before .look .ensures) (c .before .before .before .before .item .given .1)) (c .before .before .name-unit .ensures) (c .enum-told .given .1)
 
 put-unit-requires : tie.Need-put-unit-requires
 put-unit-requires c κs = search needs
@@ -50,10 +37,8 @@ put-unit-requires c κs = search needs
 same-length : tie.Need-same-length
 same-length c = search needs
 
-returns-4 : tie.Need-returns-4
-returns-4 c =
-    let l = sees (c .before .before .before .before .before .before .before .before .before .before .before .before .before .look .ensures) (c .before .before .before .before .before .before .before .before .before .before .before .item .given .1) in
-    one-name l (is-name _ _ true (l .ahead .2) (sym (not-false _ (c .before .before .before .before .before .before .before .before .if1 .left)) ∙ c .before .before .before .before .before .before .before .before .before .is-name .ensures)) (c .before .before .before .before .before .before .before .name-unit .ensures) (c .before .before .before .before .before .name .given .1) (c .before .before .put-unit .ensures)
+returns-3 : tie.Need-returns-3
+returns-3 c = one-name (sees (c .before .before .before .before .before .before .before .before .before .before .before .look .ensures) (c .before .before .before .before .before .before .before .before .before .item .given .1)) (c .before .before .before .before .before .before .before .name-unit .ensures) (c .before .before .before .before .before .name .given .1) (c .before .before .put-unit .ensures)
 
 pub write-name-spec : {M : Type 1} → statement M
 write-name-spec =
@@ -62,12 +47,10 @@ write-name-spec =
     look-requires
     enum-known-item
     returns
-    is-name-requires
-    returns-2
     name-unit-requires
     enum-known-name
     enum-told
-    returns-3
+    returns-2
     put-unit-requires
     same-length
-    returns-4)
+    returns-3)

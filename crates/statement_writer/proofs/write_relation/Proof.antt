@@ -1,7 +1,8 @@
--- `statement_writer::write_relation` meets its contract: the head, two references and the close. Assumes nothing.
+-- `statement_writer::write_relation` meets its contract: the head and two references. Assumes nothing.
 use borrow.Author.Needs.{needs}
 use mathlib.Core.Path.{_∙_}
-use Rattle.statement_writer.proofs.Finishing.{relation-begun, unnamed, named}
+use Rattle.statement_writer.specs.declared.NamesWritten.{NamesWritten}
+use Rattle.statement_writer.proofs.Finishing.{relation-coded}
 use Rattle.statement_writer.proofs.write_relation.Statement.{statement}
 use Rattle.statement_writer.proofs.write_relation.Tie as tie
 
@@ -30,23 +31,16 @@ enum-told : tie.Need-enum-told
 enum-told c = search needs
 
 same-length : tie.Need-same-length
-same-length c = c .before .before .before .before .write-pair .ensures .keeps .long ∙ c .before .before .before .before .before .before .before .before .before .before .write-head .ensures .keeps .long
+same-length c = c .before .before .before .before .before .write-pair .ensures .keeps .long ∙ c .before .before .before .before .before .before .before .before .before .before .before .write-head .ensures .keeps .long
 
 returns : tie.Need-returns
-returns c =
-    let o = relation-begun _ _ (c .before .before .before .before .before .before .before .before .before .before .before .before .relation-number .ensures .0) (c .before .before .before .before .before .before .before .before .before .before .write-head .ensures) (c .before .before .before .before .before .before .before .first-family .ensures) (c .before .before .before .before .before .before .second-family .ensures) in
-    unnamed o (c .before .before .before .before .write-pair .ensures) (c .enum-told .given .1)
-
-closed-requires : tie.Need-closed-requires
-closed-requires c κs = search needs
+returns c = relation-coded (NamesWritten.Next _ _) (c .before .names .given .1) _ _ (c .before .before .before .before .before .before .before .before .before .before .before .before .before .relation-number .ensures .0) (c .before .before .before .before .before .before .before .before .before .before .before .write-head .ensures) (c .before .before .before .before .before .before .before .before .first-family .ensures) (c .before .before .before .before .before .before .before .second-family .ensures) (c .before .before .before .before .before .write-pair .ensures)
 
 same-length-2 : tie.Need-same-length-2
-same-length-2 c = c .before .before .before .before .before .before .write-pair .ensures .keeps .long ∙ c .before .before .before .before .before .before .before .before .before .before .before .before .write-head .ensures .keeps .long
+same-length-2 c = c .before .before .before .before .write-pair .ensures .keeps .long ∙ c .before .before .before .before .before .before .before .before .before .before .write-head .ensures .keeps .long
 
 returns-2 : tie.Need-returns-2
-returns-2 c =
-    let o = relation-begun _ _ (c .before .before .before .before .before .before .before .before .before .before .before .before .before .before .relation-number .ensures .0) (c .before .before .before .before .before .before .before .before .before .before .before .before .write-head .ensures) (c .before .before .before .before .before .before .before .before .before .first-family .ensures) (c .before .before .before .before .before .before .before .before .second-family .ensures) in
-    named o (c .before .before .before .before .before .before .write-pair .ensures) (c .before .before .names .given .1) (c .closed .ensures)
+returns-2 c = relation-coded NamesWritten.Undeclared (c .enum-told .given .1) _ _ (c .before .before .before .before .before .before .before .before .before .before .before .before .relation-number .ensures .0) (c .before .before .before .before .before .before .before .before .before .before .write-head .ensures) (c .before .before .before .before .before .before .before .first-family .ensures) (c .before .before .before .before .before .before .second-family .ensures) (c .before .before .before .before .write-pair .ensures)
 
 pub write-relation-spec : {M : Type 1} → statement M
 write-relation-spec =
@@ -62,6 +56,5 @@ write-relation-spec =
     enum-told
     same-length
     returns
-    closed-requires
     same-length-2
     returns-2)

@@ -1,19 +1,14 @@
--- `statement_writer::write_transition` meets its contract: the head, two references, the class, the new role and the close. Assumes nothing.
+-- `statement_writer::write_transition` meets its contract: the head, two references, the class and the new role. Assumes nothing.
 use borrow.Author.Needs.{needs}
 use mathlib.Core.Path.{refl, _∙_}
-use mathlib.Core.List.{List, [], _∷_}
+use mathlib.Core.List.{[], _∷_}
 use Rattle.policy.specs.declared.Family.{Family}
 use Rattle.statement_writer.specs.declared.Kind.{Kind}
+use Rattle.statement_writer.specs.declared.NamesWritten.{NamesWritten}
 use Rattle.statement_writer.proofs.RowNames.{names-stop, names-then}
-use Rattle.statement_writer.proofs.Finishing.{transition-begun, unnamed, named}
+use Rattle.statement_writer.proofs.Finishing.{transition-coded}
 use Rattle.statement_writer.proofs.write_transition.Statement.{statement}
 use Rattle.statement_writer.proofs.write_transition.Tie as tie
-
-abbrev firsts : List Kind
-firsts = Kind.Reference Family.Roles ∷ Kind.Reference Family.Types ∷ []
-
-abbrev lasts : List Kind
-lasts = Kind.Class ∷ Kind.Role ∷ []
 
 write-head-requires : tie.Need-write-head-requires
 write-head-requires c κs = search needs
@@ -31,7 +26,7 @@ same-length : tie.Need-same-length
 same-length c = c .before .before .before .before .write-pair .ensures .keeps .long ∙ c .before .before .before .before .before .before .before .before .write-head .ensures .keeps .long
 
 returns : tie.Need-returns
-returns c = unnamed (transition-begun (c .before .before .before .before .before .before .before .before .write-head .ensures)) (names-stop firsts lasts (c .before .before .before .before .write-pair .ensures) (c .enum-told .given .1)) refl
+returns c = transition-coded NamesWritten.Undeclared refl (c .before .before .before .before .before .before .before .before .write-head .ensures) (names-stop (Kind.Reference Family.Roles ∷ Kind.Reference Family.Types ∷ []) (Kind.Class ∷ Kind.Role ∷ []) (c .before .before .before .before .write-pair .ensures) (c .enum-told .given .1))
 
 write-pair-requires-2 : tie.Need-write-pair-requires-2
 write-pair-requires-2 c κs = search needs
@@ -43,21 +38,16 @@ enum-told-2 : tie.Need-enum-told-2
 enum-told-2 c = search needs
 
 same-length-2 : tie.Need-same-length-2
-same-length-2 c = c .before .before .before .before .write-pair2 .ensures .keeps .long ∙ c .before .before .before .before .before .before .before .before .before .before .before .write-pair .ensures .keeps .long ∙ c .before .before .before .before .before .before .before .before .before .before .before .before .before .before .before .write-head .ensures .keeps .long
+same-length-2 c = c .before .before .before .before .before .write-pair2 .ensures .keeps .long ∙ c .before .before .before .before .before .before .before .before .before .before .before .before .write-pair .ensures .keeps .long ∙ c .before .before .before .before .before .before .before .before .before .before .before .before .before .before .before .before .write-head .ensures .keeps .long
 
 returns-2 : tie.Need-returns-2
-returns-2 c =
-    unnamed (transition-begun (c .before .before .before .before .before .before .before .before .before .before .before .before .before .before .before .write-head .ensures)) (names-then firsts lasts (c .before .before .before .before .before .before .before .before .before .before .before .write-pair .ensures) (c .before .before .before .before .before .before .before .names .given .1) (c .before .before .before .before .write-pair2 .ensures)) (c .enum-told2 .given .1)
-
-closed-requires : tie.Need-closed-requires
-closed-requires c κs = search needs
+returns-2 c = transition-coded (NamesWritten.Next _ _) (c .before .others .given .1) (c .before .before .before .before .before .before .before .before .before .before .before .before .before .before .before .before .write-head .ensures) (names-then (Kind.Reference Family.Roles ∷ Kind.Reference Family.Types ∷ []) (Kind.Class ∷ Kind.Role ∷ []) (c .before .before .before .before .before .before .before .before .before .before .before .before .write-pair .ensures) (c .before .before .before .before .before .before .before .before .names .given .1) (c .before .before .before .before .before .write-pair2 .ensures))
 
 same-length-3 : tie.Need-same-length-3
-same-length-3 c = c .before .before .before .before .before .before .write-pair2 .ensures .keeps .long ∙ c .before .before .before .before .before .before .before .before .before .before .before .before .before .write-pair .ensures .keeps .long ∙ c .before .before .before .before .before .before .before .before .before .before .before .before .before .before .before .before .before .write-head .ensures .keeps .long
+same-length-3 c = c .before .before .before .before .write-pair2 .ensures .keeps .long ∙ c .before .before .before .before .before .before .before .before .before .before .before .write-pair .ensures .keeps .long ∙ c .before .before .before .before .before .before .before .before .before .before .before .before .before .before .before .write-head .ensures .keeps .long
 
 returns-3 : tie.Need-returns-3
-returns-3 c =
-    named (transition-begun (c .before .before .before .before .before .before .before .before .before .before .before .before .before .before .before .before .before .write-head .ensures)) (names-then firsts lasts (c .before .before .before .before .before .before .before .before .before .before .before .before .before .write-pair .ensures) (c .before .before .before .before .before .before .before .before .before .names .given .1) (c .before .before .before .before .before .before .write-pair2 .ensures)) (c .before .before .others .given .1) (c .closed .ensures)
+returns-3 c = transition-coded NamesWritten.Undeclared (c .enum-told2 .given .1) (c .before .before .before .before .before .before .before .before .before .before .before .before .before .before .before .write-head .ensures) (names-then (Kind.Reference Family.Roles ∷ Kind.Reference Family.Types ∷ []) (Kind.Class ∷ Kind.Role ∷ []) (c .before .before .before .before .before .before .before .before .before .before .before .write-pair .ensures) (c .before .before .before .before .before .before .before .names .given .1) (c .before .before .before .before .write-pair2 .ensures))
 
 pub write-transition-spec : {M : Type 1} → statement M
 write-transition-spec =
@@ -74,6 +64,5 @@ write-transition-spec =
     enum-told-2
     same-length-2
     returns-2
-    closed-requires
     same-length-3
     returns-3)

@@ -1,9 +1,17 @@
--- `symbols::lookup` meets its contract: each way looks the name up. Assumes nothing.
+-- `symbols::lookup` meets its contract: it lends the name's bytes. Assumes nothing.
+use Rattle.symbols.proofs.Indexing.{looks-for}
 use borrow.Author.Needs.{needs}
 use Rattle.symbols.proofs.lookup.Statement.{statement}
 use Rattle.symbols.proofs.lookup.Tie as tie
 
+part-requires : tie.Need-part-requires
+part-requires c κs = search needs
+
+lookup-name-requires : tie.Need-lookup-name-requires
+lookup-name-requires c κs = search needs
+
+returns : tie.Need-returns
+returns c = looks-for (c .lookup-name .ensures) (c .before .part .ensures)
+
 pub lookup-spec : {M : Type 1} → statement M
-lookup-spec =
-    tie.close
-    (tie.spec (λ c κs. search needs) (λ c. c .walked-text .ensures) (λ c κs. search needs) (λ c. c .lookup-text .ensures) (λ c κs. search needs) (λ c. c .walked-text2 .ensures) (λ c. search needs) (λ c κs. search needs) (λ c. c .lookup-text2 .ensures) (λ c κs. search needs) (λ c. c .lookup-short .ensures))
+lookup-spec = tie.close (tie.spec part-requires lookup-name-requires returns)

@@ -19,12 +19,6 @@ abbrev μ-loop : tie.MeasureT-loop
 returns : tie.Need-returns Inv-loop μ-loop
 returns c = sym (same-length _ _ (c .if1 .taken))
 
-same-long-requires : tie.Need-same-long-requires Inv-loop μ-loop
-same-long-requires c κs = search needs
-
-returns-2 : tie.Need-returns-2 Inv-loop μ-loop
-returns-2 c = c .same-long .ensures
-
 loop-holds : tie.Need-loop-holds Inv-loop μ-loop
 loop-holds c = (refl, omega arith, refl)
 
@@ -40,10 +34,10 @@ sub-pair-2 c = search needs
 pair-requires-2 : tie.Need-pair-requires-2 Inv-loop μ-loop
 pair-requires-2 c κs = search needs
 
-returns-3 : tie.Need-returns-3 Inv-loop μ-loop
-returns-3 c =
+returns-2 : tie.Need-returns-2 Inv-loop μ-loop
+returns-2 c =
     let l = c .before .before .before .before .loop in
-    pair-other _ _ (l .k) (omega arith) (omega arith) (omega arith) (c .before .before .pair .ensures) (c .before .pair2 .ensures) (c .if3 .taken) ∙ l .inv .2
+    pair-other _ _ (l .k) (omega arith) (omega arith) (omega arith) (c .before .before .pair .ensures) (c .before .pair2 .ensures) (c .if2 .taken) ∙ l .inv .2
 
 add-k : tie.Need-add-k Inv-loop μ-loop
 add-k c = search needs
@@ -54,7 +48,7 @@ loop-less c = search needs
 loop-again : tie.Need-loop-again Inv-loop μ-loop
 loop-again c =
     let l = c .before .before .before .before .loop in
-    (omega arith, omega arith, pair-same _ _ (l .k) (omega arith) (omega arith) (omega arith) (c .before .before .pair .ensures) (c .before .pair2 .ensures) (c .if3 .left) ∙ l .inv .2)
+    (omega arith, omega arith, pair-same _ _ (l .k) (omega arith) (omega arith) (omega arith) (c .before .before .pair .ensures) (c .before .pair2 .ensures) (c .if2 .left) ∙ l .inv .2)
 
 sub-result : tie.Need-sub-result Inv-loop μ-loop
 sub-result c = search needs
@@ -68,13 +62,13 @@ sub-result-2 c = search needs
 shared-slice-read-result-2 : tie.Need-shared-slice-read-result-2 Inv-loop μ-loop
 shared-slice-read-result-2 c = search needs
 
+returns-3 : tie.Need-returns-3 Inv-loop μ-loop
+returns-3 c =
+    let l = c .before .before .before .before .loop in
+    last-same _ _ (l .k) (omega arith) (c .before .before .if3 .taken) (omega arith) ∙ l .inv .2
+
 returns-4 : tie.Need-returns-4 Inv-loop μ-loop
 returns-4 c =
-    let l = c .before .before .before .before .loop in
-    last-same _ _ (l .k) (omega arith) (c .before .before .if4 .taken) (omega arith) ∙ l .inv .2
-
-returns-5 : tie.Need-returns-5 Inv-loop μ-loop
-returns-5 c =
     let l = c .before .before .loop in
     none-left _ _ (l .k) (omega arith) (omega arith) (omega arith) ∙ l .inv .2
 
@@ -85,14 +79,12 @@ same-bytes-spec =
     Inv-loop
     μ-loop
     returns
-    same-long-requires
-    returns-2
     loop-holds
     sub-pair
     pair-requires
     sub-pair-2
     pair-requires-2
-    returns-3
+    returns-2
     add-k
     loop-less
     loop-again
@@ -100,5 +92,5 @@ same-bytes-spec =
     shared-slice-read-result
     sub-result-2
     shared-slice-read-result-2
-    returns-4
-    returns-5)
+    returns-3
+    returns-4)

@@ -11,19 +11,13 @@ use Rattle.symbols.proofs.slot_of.Statement.{statement}
 use Rattle.symbols.proofs.slot_of.Tie as tie
 
 abbrev Inv-loop : tie.InvT-loop
-Inv-loop family name slot₀ i₀ slot i = (i % 2 ≡ 1) × (9 ≤ i) × (i ≤ length name + 9) × (slot < 16384) × (slotFrom (drop (i - 1) name) slot ≡ slotOf family name)
+Inv-loop family name slot₀ i₀ slot i = (i % 2 ≡ 1) × (i ≤ length name + 1) × (slot < 16384) × (slotFrom (drop (i - 1) name) slot ≡ slotOf family name)
 
 abbrev μ-loop : tie.MeasureT-loop
-μ-loop family name slot₀ i₀ slot i = length name + 9 - i
+μ-loop family name slot₀ i₀ slot i = length name + 1 - i
 
 loop-holds : tie.Need-loop-holds Inv-loop μ-loop
-loop-holds c = (refl, omega arith, omega arith, c .slot-by .ensures .1, slot-start _ _ (c .slot-by .ensures .0) (c .before .front .ensures))
-
-front-requires : tie.Need-front-requires Inv-loop μ-loop
-front-requires c κs = search needs
-
-slot-by-requires : tie.Need-slot-by-requires Inv-loop μ-loop
-slot-by-requires c κs = search needs
+loop-holds c = (refl, omega arith, omega arith, slot-start _ _)
 
 mul-slot : tie.Need-mul-slot Inv-loop μ-loop
 mul-slot c = search needs
@@ -61,8 +55,8 @@ loop-less c = search needs
 loop-again : tie.Need-loop-again Inv-loop μ-loop
 loop-again c =
     let l = c .before .before .before .before .before .loop in
-    let s = c .before .before .before .before .before .before .before .before .before in
-    (omega arith, omega arith, omega arith, omega arith, rw (c .before .before .wide .ensures .0, c .wide2 .ensures .0) (slot-pair (s .args .name .now) (l .i) (omega arith) (l .slot) (omega arith)) ∙ l .inv .4)
+    let s = c .before .before .before .before .before .before .before in
+    (omega arith, omega arith, omega arith, rw (c .before .before .wide .ensures .0, c .wide2 .ensures .0) (slot-pair (s .args .name .now) (l .i) (omega arith) (l .slot) (omega arith)) ∙ l .inv .3)
 
 mul-result : tie.Need-mul-result Inv-loop μ-loop
 mul-result c = search needs
@@ -82,14 +76,14 @@ add-result c = search needs
 returns : tie.Need-returns Inv-loop μ-loop
 returns c =
     let l = c .before .before .before .before .loop in
-    let s = c .before .before .before .before .before .before .before .before in
-    (rw (c .wide3 .ensures .0) (slot-last (s .args .name .now) (l .i) (omega arith) (l .slot) (c .before .before .if1 .taken)) ∙ l .inv .4, omega arith)
+    let s = c .before .before .before .before .before .before in
+    (rw (c .wide3 .ensures .0) (slot-last (s .args .name .now) (l .i) (omega arith) (l .slot) (c .before .before .if1 .taken)) ∙ l .inv .3, omega arith)
 
 returns-2 : tie.Need-returns-2 Inv-loop μ-loop
 returns-2 c =
     let l = c .before .before .loop in
-    let s = c .before .before .before .before .before .before in
-    (slot-end (s .args .name .now) (l .i) (omega arith) (l .slot) (omega arith) ∙ l .inv .4, l .inv .3)
+    let s = c .before .before .before .before in
+    (slot-end (s .args .name .now) (l .i) (omega arith) (l .slot) (omega arith) ∙ l .inv .3, l .inv .2)
 
 pub slot-of-spec : {M : Type 1} → statement M
 slot-of-spec =
@@ -97,8 +91,6 @@ slot-of-spec =
     (tie.spec
     Inv-loop
     μ-loop
-    front-requires
-    slot-by-requires
     loop-holds
     mul-slot
     sub-wide
