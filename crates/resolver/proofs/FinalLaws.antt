@@ -4,19 +4,17 @@ use Prim.Native.Nat.{ℕ, zero, suc, _+_, _-_, _<_, _≤_}
 use native.Mathlib.Nat.{suc-add}
 use native.Mathlib.Numerals.{add-one}
 use native.Mathlib.Omega.{arith}
-use mathlib.Core.Path.{_≡_, refl, sym, ap, subst, _∙_}
+use mathlib.Core.Path.{_≡_, refl, sym, ap, _∙_}
 use mathlib.Core.Bool.{Bool, true, false, false≢true}
 use mathlib.Core.Logic.{⊎-elim}
 use mathlib.Core.List.{List, [], _∷_}
 use lib.Dec.{eqb}
-use lib.ListN.{length, getD, replicate, length-replicate, getD-replicate}
+use lib.ListN.{length, getD}
 use lib.Seq.{ext-getD}
 use borrow.Author.Tests.{eq-eqb, eqb-true}
-use Rattle.bitset.specs.Sets.{setOf, allBelow}
+use Rattle.bitset.specs.Sets.{setOf, allBelow, emptied}
 use Rattle.bitset.specs.Relations.{relation}
 use Rattle.bitset.proofs.AllLaws.{allBelow-at}
-use Rattle.bitset.proofs.BitLaws.{bit-zero}
-use Rattle.bitset.proofs.SetLaws.{length-setOf, byte-eq}
 use Rattle.bitset.proofs.RelationLaws.{relation-ext, relation-empty, length-relation}
 use Rattle.policy.specs.Basics.{any, isAmong}
 use Rattle.policy.specs.Statements.{Family, Policy}
@@ -50,12 +48,6 @@ rows-equal R Q h =
     (λ i l. eqb-true (getD (relation 64 64 R) i 0) (getD (relation 64 64 Q) i 0)
     (allBelow-at 4096 (λ j. eqb (getD (relation 64 64 R) j 0) (getD (relation 64 64 Q) j 0)) h i (omega (arith, l, rows-long R))))
 
--- bytes of 0 are sets of nothing
-zeros : (w : ℕ) → replicate w 0 ≡ setOf w (λ n. false)
-zeros w =
-    ext-getD 0 (replicate w 0) (setOf w (λ n. false)) (length-replicate w 0 ∙ sym (length-setOf w (λ n. false)))
-    (λ i l. let m : i < w = subst (λ (x : ℕ). i < x) (length-replicate w 0) l in getD-replicate w i 0 0 m ∙ byte-eq w (λ n. false) i 0 m (omega arith) (λ k b. bit-zero k))
-
 -- what one round leaves is the union of the S of each attribute
 pub round-rows : (p : Policy) (f : Family) (total : ℕ) (sets rows : List ℕ) → total ≡ countIn p f
     → rows ≡ rowsOf f (ofS total (setsIn sets)) (items p) → rows ≡ relation 64 64 (unionOf p f (setsIn sets))
@@ -77,15 +69,14 @@ module _ (p : Policy) (ok : Accepted p) (f : Family) where
   all-mentioned P a h = all-among P (mentions p f a)
       (λ b e. h b (omega (arith, direct-declared p f ok a b (mentions-exactly p f a b .1 e) .1, few-attributes p ok f)))
 
+  pub first-rows : (s : List ℕ) → length s ≡ 4096 → emptied s ≡ after 0
+  unfolding emptied nested
+  first-rows s h = ap (λ (w : ℕ). setOf w (λ n. false)) h ∙ sym (relation-empty 64 64)
+
   next-rows : (k : ℕ) → turned (after k) ≡ after (suc k)
   unfolding nested
   next-rows k = relation-ext 64 64 (unionOf p f (setsIn (after k))) (unionOf p f (nested k p f))
       (λ a n h l. same-union p f a n (setsIn (after k)) (nested k p f) (all-mentioned _ a (λ b d. sets-in (nested k p f) b n d l)))
-
-  -- the first round, from sets of nothing
-  pub first-filled : (before : List ℕ) → before ≡ replicate 4096 0 → turned before ≡ after 1
-  unfolding nested
-  first-filled before e = ap turned (e ∙ zeros 4096 ∙ sym (relation-empty 64 64)) ∙ next-rows 0
 
   -- one round more
   pub more-rows : (k : ℕ) (sets rows : List ℕ) → sets ≡ after k → rows ≡ turned sets → rows ≡ after (k + 1)
@@ -116,9 +107,10 @@ module _ (p : Policy) (ok : Accepted p) (f : Family) where
   abbrev direct : ℕ → ℕ → Bool
   direct a b = isAmong b (mentions p f a)
 
-  pub none-mentioned : ((a b : ℕ) → b < 512 → isAmong b (mentions p f a) ≡ false) → relation 64 64 direct ≡ after 0
-  unfolding nested
-  none-mentioned h = relation-ext 64 64 direct (nested 0 p f) (λ a b k l. h a b l)
+  -- rows that are equal to rows of nothing
+  pub none-mentioned : (rows sets : List ℕ) → rows ≡ relation 64 64 direct → sets ≡ after 0
+      → allBelow 4096 (λ i. eqb (getD rows i 0) (getD sets i 0)) ≡ true → rows ≡ after 0
+  none-mentioned rows sets h e same = h ∙ rows-equal direct (nested 0 p f) (rw (← h, ← e) same)
 
   module _ (nothing : relation 64 64 direct ≡ after 0) where
     silent : (a b : ℕ) → a < 64 → b < 64 → isAmong b (mentions p f a) ≡ false
@@ -142,12 +134,12 @@ module _ (p : Policy) (ok : Accepted p) (f : Family) where
     off-cycle a = ⊎-elim (λ e. absurd (none-through (on-cycle-exactly p f ok a .0 e))) (λ e. e) (decided (onCycle p f a))
 
     -- the sets do not depend on those before, so one round is all
-    pub one-round : (sets : List ℕ) → sets ≡ after 1 → sets ≡ relation 64 64 (final p f)
+    pub one-round : (rows sets : List ℕ) → rows ≡ after 0 → sets ≡ turned rows → sets ≡ relation 64 64 (final p f)
     unfolding final
-    one-round sets e =
+    one-round rows sets z e =
         let still : after 1 ≡ after 2 =
         sym (next-rows 0)
         ∙ relation-ext 64 64 (unionOf p f (setsIn (after 0))) (unionOf p f (setsIn (after 1)))
         (λ a n h l. same-union p f a n (setsIn (after 0)) (setsIn (after 1)) (all-among _ (mentions p f a) (λ b m. absurd (none-directly a b (mentions-exactly p f a b .1 m)))))
         ∙ next-rows 1 in
-        e ∙ sym (rests 1 still 63)
+        more-rows 0 rows sets z e ∙ sym (rests 1 still 63)

@@ -8,7 +8,6 @@ pub mod RowLaws
 pub mod ClosureLaws
 pub mod SetPasses
 pub mod FinalLaws
-pub mod FirstRounds
 pub mod SegmentLaws
 pub mod SharingLaws
 pub mod ClashLaws

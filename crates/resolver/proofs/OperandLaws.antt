@@ -30,26 +30,6 @@ pub operands-past : (code : List ℕ) (at : ℕ) → length code ≤ at → oper
 unfolding operandsOf
 operands-past code at h = rw (drop-of-length-le code h)
 
--- where the operands from a place on end; a place that is no tag is passed over
-abbrev pub endAt : List ℕ → ℕ → ℕ
-endAt code at = at + length (operandsOf (drop at code))
-
-pub ends-here : (code : List ℕ) (at : ℕ) → at < length code → 4096 ≤ getD code at 0 → endAt code at ≡ at
-ends-here code at h l = omega (arith, ap length (operands-tag code at h l))
-
-pub ends-past : (code : List ℕ) (at : ℕ) → length code ≤ at → endAt code at ≡ at
-ends-past code at h = omega (arith, ap length (operands-past code at h))
-
-pub ends-one : (code : List ℕ) (at : ℕ) → at < length code → getD code at 0 < 4096 → endAt code at ≡ endAt code (at + 1)
-ends-one code at h l = omega (arith, ap length (operands-next code at h l))
-
--- the same for one place more than those that are known to be passed over
-pub ends-more : (code : List ℕ) (at k : ℕ) → endAt code at ≡ endAt code (at + k) → at + k < length code → getD code (at + k) 0 < 4096
-    → endAt code at ≡ endAt code (at + (k + 1))
-ends-more code at k e h l =
-    let next : at + k + 1 ≡ at + (k + 1) = omega arith in
-    e ∙ ends-one code (at + k) h l ∙ ap (endAt code) next
-
 -- what a statement's operands are, before a tag or the end of the code
 abbrev pub Tagged : List ℕ → Type 0
 Tagged [] = Unit {0}

@@ -65,7 +65,7 @@ four-operands (relates k at x y) h = absurd (omega (arith, h, relation-few k))
 four-operands (moves t) h = refl
 
 -- so that a step over them leads to the next item, as one over any other does
-pub step-next : (code : List ℕ) (at : ℕ) (i : Item) (left : List Item) → Stands code at i left → stepOf code at ≡ nextAt code at
+step-next : (code : List ℕ) (at : ℕ) (i : Item) (left : List Item) → Stands code at i left → stepOf code at ≡ nextAt code at
 step-next code at i left s = go (leb 4102 (getD code at 0)) (ltb (getD code at 0) 4105) (eqb (getD code at 0) 4105) refl refl refl
   where
     go : (a b c : Bool) → leb 4102 (getD code at 0) ≡ a → ltb (getD code at 0) 4105 ≡ b → eqb (getD code at 0) 4105 ≡ c

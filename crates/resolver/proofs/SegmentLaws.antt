@@ -1,20 +1,14 @@
 -- Lines of a policy that stand one behind the other, and a pass that leaves out those before the first transition. Assumes nothing.
-use Prim.Native.Nat.{ℕ, _<_, _≤_, min}
-use native.Mathlib.Omega.{arith}
+use Prim.Native.Nat.{ℕ, _<_, _≤_}
 use mathlib.Core.Path.{_≡_, refl, sym, ap, ap₂, _∙_, subst}
-use mathlib.Core.Logic.{_⊎_, inl, inr}
-use mathlib.Core.Bool.{Bool, true, false, cond}
 use mathlib.Core.List.{List, [], _∷_, _++_, append-assoc, append-nil}
 use lib.ListN.{length, getD, drop}
 use lib.Seq.{drop-at}
-use lib.Dec.{eqb}
-use borrow.Author.Tests.{eqb-false}
 use Rattle.policy.specs.Basics.{gather}
 use Rattle.policy.specs.Statements.{Policy, declarations, Transition, transitions}
 use Rattle.policy.specs.Accepted.{All, Accepted}
 use Rattle.policy.proofs.Lists.{gather-append, gather-over, all-left, all-right}
 use Rattle.statement_code.specs.Code.{transitionTag, codeOf}
-use Rattle.meaning_laws.proofs.ListLaws.{decided}
 use Rattle.meaning_laws.proofs.Splitting.{cut-gathered}
 use Rattle.resolver.specs.Clashes.{Segment, AllTransitions}
 use Rattle.resolver.specs.Reading.{stepOf}
@@ -91,45 +85,3 @@ module _ (p : Policy) (ok : Accepted p) (code : List ℕ) (q : code ≡ codeOf p
         left-out (cut .before) (cut .here ∷ cut .after) (cut .whole)
         (transitions-items (cut .before) ∙ ap (gather moveIn) (cut .earlier) ∙ m .so-far)
         at (m .reached ∙ ap length (sym (code-items (cut .before) ∙ ap itemsCode (cut .earlier))))
-
--- ---- where it stands, found on the way
-
-pub sooner-within : (tag first at long new : ℕ) → at < long → first ≤ long → new ≡ cond (eqb tag 4105) (min first at) first → new ≤ long
-sooner-within tag first at long new l h n = by (eqb tag 4105) n
-  where
-    by : (b : Bool) → new ≡ cond b (min first at) first → new ≤ long
-    by true e = omega (arith, l, e)
-    by false e = omega (arith, h, e)
-
--- none of the items passed is a transition and the end of the code stands for it, or it is found
-abbrev pub Sought : Policy → List ℕ → ℕ → ℕ → Type 0
-Sought p code at first = (Through (items p) code at Still × (first ≡ length code)) ⊎ (AllTransitions p (drop first code) × (first ≤ at))
-
-module _ (p : Policy) (ok : Accepted p) (code : List ℕ) (q : code ≡ codeOf p) where
-  found-at : (m n : ℕ) → m ≡ n → AllTransitions p (drop m code) → AllTransitions p (drop n code)
-  found-at m n e a = subst (λ (k : ℕ). AllTransitions p (drop k code)) e a
-
-  pub sought-first : Sought p code 0 (length code)
-  sought-first = inl (still-first p ok code q, refl)
-
-  pub sought-all : (at first : ℕ) → length code ≤ at → Sought p code at first → AllTransitions p (drop first code)
-  sought-all at first l (inl (t, e)) = found-at (length code) first (sym e) (still-none p ok code q at l t)
-  sought-all at first l (inr (a, h)) = a
-
-  module _ (at first : ℕ) (inside : at < length code) (next : ℕ) (e : next ≡ stepOf code at) (ahead : at < next) where
-    pub sought-over : (getD code at 0 ≡ transitionTag → ⊥) → Sought p code at first → Sought p code next first
-    sought-over h (inl (t, z)) = inl (still-over p ok code q at inside t next e h, z)
-    sought-over h (inr (a, z)) = inr (a, omega (arith, z, ahead))
-
-    sought-here : (new : ℕ) → new ≡ min first at → Sought p code at first → Sought p code next new
-    sought-here new n (inl (t, z)) = inr (found-at at new (omega (arith, n, z, inside)) (still-here p ok code q at inside t), omega (arith, n, ahead))
-    sought-here new n (inr (a, z)) = inr (found-at first new (omega (arith, n, z)) a, omega (arith, n, ahead))
-
-    pub sought-on : (new : ℕ) → new ≡ cond (eqb (getD code at 0) 4105) (min first at) first → Sought p code at first → Sought p code next new
-    sought-on new n s = by (decided (eqb (getD code at 0) 4105))
-      where
-        by : (eqb (getD code at 0) 4105 ≡ true) ⊎ (eqb (getD code at 0) 4105 ≡ false) → Sought p code next new
-        by (inl y) = sought-here new (n ∙ ap (λ (b : Bool). cond b (min first at) first) y) s
-        by (inr y) =
-            let same : first ≡ new = sym (n ∙ ap (λ (b : Bool). cond b (min first at) first) y) in
-            subst (λ (k : ℕ). Sought p code next k) same (sought-over (eqb-false (getD code at 0) 4105 y) s)

@@ -29,7 +29,7 @@ pub record Given (code : List ℕ) (at a : ℕ) (s : SetExpr Reference) (rest : 
   pub row : getD code (at + 2) 0 ≡ a
   pub set : drop (at + 3) code ≡ setCode s ++ rest
 
-pub given : (code : List ℕ) (at a : ℕ) (s : SetExpr Reference) (rest : List ℕ) → drop (at + 2) code ≡ (a ∷ setCode s) ++ rest → Given code at a s rest
+given : (code : List ℕ) (at a : ℕ) (s : SetExpr Reference) (rest : List ℕ) → drop (at + 2) code ≡ (a ∷ setCode s) ++ rest → Given code at a s rest
 given code at a s rest q =
     let w = here code (at + 2) a (setCode s ++ rest) q in
     let three : at + 2 + 1 ≡ at + 3 = omega arith in

@@ -3,9 +3,9 @@
 // A family has at most 64 attributes. What is kept of each is a set of 64 bytes, one after the other, 4,096 bytes for a family: first the
 // attributes that it mentions, later the things that it stands for.
 ghost use mathlib.Core.Path.{_≡_};
-ghost use mathlib.Core.Bool.{true, not, _&&_, false, cond};
+ghost use mathlib.Core.Bool.{true, not, _&&_, false};
 ghost use mathlib.Core.List.{List, [], _++_};
-ghost use Prim.Native.Nat.{ℕ, _+_, _-_, _*_, _<_, _≤_, min};
+ghost use Prim.Native.Nat.{ℕ, _+_, _-_, _*_, _<_, _≤_};
 ghost use lib.Dec.{eqb, ltb};
 ghost use lib.ListN.{length, getD, drop};
 ghost use Rattle.bitset.specs.Sets.{setOf, allBelow};
@@ -15,7 +15,7 @@ ghost use Rattle.policy.specs.Basics.{any, isAmong};
 ghost use Rattle.policy.specs.Statements as statements;
 ghost use Rattle.policy.specs.Statements.{Policy, Reference, SetExpr, Transition, transitions};
 ghost use Rattle.policy.specs.Meaning as meaning;
-ghost use Rattle.policy.specs.Meaning.{ofS, countIn, nested};
+ghost use Rattle.policy.specs.Meaning.{ofS, countIn};
 ghost use Rattle.policy.specs.Faults as faults;
 ghost use Rattle.policy.specs.Reading.{orElse};
 ghost use Rattle.policy.specs.Accepted.{Accepted};
@@ -25,7 +25,7 @@ ghost use Rattle.statement_code.specs.Numbered.{Numbered};
 ghost use Rattle.resolver.specs.Reading.{operandsOf, isRelation, stepOf, added, foundOf};
 ghost use Rattle.resolver.specs.Closure.{columnOf, throughOf, closedOf};
 ghost use Rattle.resolver.specs.Clashes.{sharesOf, clashesOf, moveAt, Codes, Segment, AllTransitions};
-ghost use Rattle.resolver.specs.Resolving.{finalSets, marked, TakesSet, FirstRound, Resolves};
+ghost use Rattle.resolver.specs.Resolving.{finalSets, Resolves};
 use policy::Attribute;
 use policy::Family;
 use policy::Type;
@@ -55,8 +55,8 @@ pub fn unit(code: &[u16], at: usize, k: usize) -> u16
     code[at + k]
 }
 
-// Where the operands from a place on end: at the next tag, or at the end of the code. Tags are numbered from DECLARE_ATTRIBUTE on.
-fn last_end(code: &[u16], from: usize) -> usize
+// Where the operands of a statement end: at the next tag, or at the end of the code. Tags are numbered from DECLARE_ATTRIBUTE on.
+fn statement_end(code: &[u16], from: usize) -> usize
     ensures { λ r. ⌜ r ≡ from + length (operandsOf (drop from (now (code .entry)))) ⌝ }
 {
     let mut at = from;
@@ -67,30 +67,6 @@ fn last_end(code: &[u16], from: usize) -> usize
         at += 1;
     }
     at
-}
-
-// The same, with one test of where the code ends for four units.
-fn statement_end(code: &[u16], from: usize) -> usize
-    requires { ⌜ from ≤ length (now code) + 4 ⌝ }
-    ensures { λ r. ⌜ r ≡ from + length (operandsOf (drop from (now (code .entry)))) ⌝ }
-{
-    let mut at = from;
-    while at + 4 <= code.len() {
-        if Unit::DECLARE_ATTRIBUTE <= code[at] {
-            return at;
-        }
-        if Unit::DECLARE_ATTRIBUTE <= code[at + 1] {
-            return at + 1;
-        }
-        if Unit::DECLARE_ATTRIBUTE <= code[at + 2] {
-            return at + 2;
-        }
-        if Unit::DECLARE_ATTRIBUTE <= code[at + 3] {
-            return at + 3;
-        }
-        at += 4;
-    }
-    last_end(code, at)
 }
 
 // Whether a tag is that of a relation.
@@ -354,135 +330,14 @@ fn same_rows(a: &[u8; FAMILY_BYTES], b: &[u8; FAMILY_BYTES]) -> bool
     same
 }
 
-// The units, joined bit by bit: an attribute among them shows in the bit of ATTRIBUTE. There is no early exit, so that many units are read at once.
-fn joined(units: &[u16]) -> u16
-    ensures { λ r. ⌜ marked r ≡ any marked (now (units .entry)) ⌝ }
-{
-    let mut all = 0;
-    let mut i = 0;
-    while i < units.len() {
-        all = all | units[i];
-        i += 1;
-    }
-    all
-}
-
-// What the first round needs to know of a set statement: where the next one stands, and the units of its set, joined.
-struct Taken {
-    next: usize,
-    units: u16,
-}
-
-// The first round at the set statement that stands at a place: its attribute gains its set, in which attributes stand for their sets of before.
-fn take_set(
-    code: &[u16],
-    at: usize,
-    total: usize,
-    before: &[u8; FAMILY_BYTES],
-    sets: &mut [u8; FAMILY_BYTES],
-) -> Taken
-    requires { ⌜ at < length (now code) ⌝ }
-    ensures { λ r. ⌜ TakesSet (now (code .entry)) at total (now (before .entry)) (now (sets .entry)) (now (sets .exit)) (r .next) (r .units) ⌝ }
-{
-    let from = at + 3;
-    if code.len() <= from {
-        return Taken {
-            next: from,
-            units: 0,
-        };
-    }
-    let mut set = [0u8; Type::SET_BYTES];
-    let next = set_code::evaluate(code, from, total, before, &mut set);
-    add_row(sets, code[at + 2], &set);
-    let end = bitset::least(next, code.len());
-    let units = joined(&code[from..end]);
-    Taken { next, units }
-}
-
-// Where the first transition stands among the statements up to a place, when that of those before it is known.
-fn sooner(first: usize, at: usize, tag: u16) -> usize
-    ensures { λ r. ⌜ r ≡ cond (eqb tag 4105) (min first at) first ⌝ }
-{
-    if tag == Unit::TRANSITION {
-        return bitset::least(first, at);
-    }
-    first
-}
-
-// What the first walk over the code finds: the units of the sets of each family, joined, and where the first transition stands, or the end of the code.
-struct Walked {
-    users: u16,
-    roles: u16,
-    types: u16,
-    first: usize,
-}
-
-// The first round for all families in one walk over the code: each attribute becomes the union of the S in its statements, in which attributes
-// stand for nothing: for cleared sets, as a set of full length is added many bytes at once. The first transition is found on the way.
-fn first_round(
-    code: &[u16],
-    users: usize,
-    roles: usize,
-    types: usize,
-    user_sets: &mut [u8; FAMILY_BYTES],
-    role_sets: &mut [u8; FAMILY_BYTES],
-    type_sets: &mut [u8; FAMILY_BYTES],
-) -> Walked
-    ensures { λ r. ⌜ (r .first ≤ length (now (code .entry)))
-        × ((p : Policy) → Accepted p → now (code .entry) ≡ codeOf p → AllTransitions p (drop (r .first) (now (code .entry))))
-        × ((p : Policy) → Accepted p → now (code .entry) ≡ codeOf p
-        → users ≡ countIn p statements.users → roles ≡ countIn p statements.roles → types ≡ countIn p statements.types
-        → FirstRound p statements.users (now («user_sets» .exit)) (r .users) × FirstRound p statements.roles (now («role_sets» .exit)) (r .roles)
-        × FirstRound p statements.types (now («type_sets» .exit)) (r .types)) ⌝ }
-{
-    bitset::clear(user_sets);
-    bitset::clear(role_sets);
-    bitset::clear(type_sets);
-    let none = [0u8; FAMILY_BYTES];
-    let mut of_users = 0;
-    let mut of_roles = 0;
-    let mut of_types = 0;
-    let mut first = code.len();
-    let mut at = 0;
-    while at < code.len() {
-        let tag = code[at];
-        if tag == Unit::ATTRIBUTE_SET {
-            let taken = take_set(code, at, users, &none, user_sets);
-            of_users = of_users | taken.units;
-            at = taken.next;
-            continue;
-        }
-        if tag == Unit::ATTRIBUTE_SET + 1 {
-            let taken = take_set(code, at, roles, &none, role_sets);
-            of_roles = of_roles | taken.units;
-            at = taken.next;
-            continue;
-        }
-        if tag == Unit::ATTRIBUTE_SET + 2 {
-            let taken = take_set(code, at, types, &none, type_sets);
-            of_types = of_types | taken.units;
-            at = taken.next;
-            continue;
-        }
-        let next = next_statement(code, at);
-        first = sooner(first, at, tag);
-        at = next;
-    }
-    Walked {
-        users: of_users,
-        roles: of_roles,
-        types: of_types,
-        first,
-    }
-}
-
-// The final set of each attribute of a family, from what the first round made. Rounds go on until one changes nothing, and 64 are always enough.
+// The final set of each attribute of a family. Rounds go on until one changes nothing, and 64 are always enough.
 fn final_sets(code: &[u16], family: Family, total: usize, sets: &mut [u8; FAMILY_BYTES])
     ensures { λ _. ⌜ ((p : Policy) → Accepted p → now (code .entry) ≡ codeOf p → total ≡ countIn p (familyOf family)
-        → now (sets .entry) ≡ relation 64 64 (nested 1 p (familyOf family)) → now (sets .exit) ≡ finalSets p (familyOf family)) ⌝ }
+        → now (sets .exit) ≡ finalSets p (familyOf family)) ⌝ }
 {
+    bitset::clear(sets);
     let mut next = [0u8; FAMILY_BYTES];
-    let mut rounds: usize = 1;
+    let mut rounds: usize = 0;
     while rounds < Attribute::MAX {
         round(code, family, total, sets, &mut next);
         if same_rows(sets, &next) {
@@ -493,25 +348,24 @@ fn final_sets(code: &[u16], family: Family, total: usize, sets: &mut [u8; FAMILY
     }
 }
 
-// The final set of each attribute of a family, from what the first round made, and fault 8 in the family. Where no set has the unit of an attribute
-// the first round is all, and there is no cycle.
+// The final set of each attribute of a family, and fault 8 in the family. Where no attribute mentions another, one round is all and there is no cycle.
 fn resolve_family(
     code: &[u16],
     family: Family,
     total: usize,
-    units: u16,
     sets: &mut [u8; FAMILY_BYTES],
 ) -> Found
     ensures { λ r. ⌜ ((p : Policy) → Accepted p → now (code .entry) ≡ codeOf p → total ≡ countIn p (familyOf family)
-        → FirstRound p (familyOf family) (now (sets .entry)) units
         → (now (sets .exit) ≡ finalSets p (familyOf family)) × (foundOf r ≡ faults.familyCycle p (familyOf family))) ⌝ }
 {
-    if units / Unit::ATTRIBUTE % 2 == 0 {
+    bitset::clear(sets);
+    let mut rows = [0u8; FAMILY_BYTES];
+    mentions(code, family, &mut rows);
+    if same_rows(&rows, sets) {
+        round(code, family, total, &rows, sets);
         return Found::Nowhere;
     }
     final_sets(code, family, total, sets);
-    let mut rows = [0u8; FAMILY_BYTES];
-    mentions(code, family, &mut rows);
     family_cycle(code, family, &mut rows)
 }
 
@@ -672,19 +526,29 @@ fn first_clash(
     Found::Nowhere
 }
 
+// Where the first transition stands, or the end of the code.
+fn first_transition(code: &[u16]) -> usize
+    ensures { λ r. ⌜ (r ≤ length (now (code .entry)))
+        × ((p : Policy) → Accepted p → now (code .entry) ≡ codeOf p → AllTransitions p (drop r (now (code .entry)))) ⌝ }
+{
+    let mut at = 0;
+    while at < code.len() {
+        if code[at] == Unit::TRANSITION {
+            return at;
+        }
+        at = next_statement(code, at);
+    }
+    code.len()
+}
+
 // Fault 9: the first transition that clashes with an earlier one. The earlier code is read again for each transition, so the code before the
-// first, whose place is given, is left out.
-pub fn clash(
-    code: &[u16],
-    first: usize,
-    role_sets: &[u8; FAMILY_BYTES],
-    type_sets: &[u8; FAMILY_BYTES],
-) -> Found
-    requires { ⌜ first ≤ length (now code) ⌝ }
-    ensures { λ r. ⌜ ((p : Policy) → Accepted p → AllTransitions p (drop first (now (code .entry)))
+// first is left out.
+pub fn clash(code: &[u16], role_sets: &[u8; FAMILY_BYTES], type_sets: &[u8; FAMILY_BYTES]) -> Found
+    ensures { λ r. ⌜ ((p : Policy) → Accepted p → now (code .entry) ≡ codeOf p
         → now («role_sets» .entry) ≡ finalSets p statements.roles → now («type_sets» .entry) ≡ finalSets p statements.types
         → foundOf r ≡ faults.clash p) ⌝ }
 {
+    let first = first_transition(code);
     first_clash(&code[first..], role_sets, type_sets)
 }
 
@@ -721,15 +585,14 @@ pub fn resolve(
         → users ≡ countIn p statements.users → roles ≡ countIn p statements.roles → types ≡ countIn p statements.types
         → Resolves p (now («user_sets» .exit)) (now («role_sets» .exit)) (now («type_sets» .exit)) r) ⌝ }
 {
-    let walked = first_round(code, users, roles, types, user_sets, role_sets, type_sets);
-    let in_users = resolve_family(code, Family::Users, users, walked.users, user_sets);
-    let in_roles = resolve_family(code, Family::Roles, roles, walked.roles, role_sets);
-    let in_types = resolve_family(code, Family::Types, types, walked.types, type_sets);
+    let in_users = resolve_family(code, Family::Users, users, user_sets);
+    let in_roles = resolve_family(code, Family::Roles, roles, role_sets);
+    let in_types = resolve_family(code, Family::Types, types, type_sets);
     let cycle = first_found(in_users, first_found(in_roles, in_types));
     if let Found::At(place) = cycle {
         return Resolved::Cycle(place);
     }
-    if let Found::At(place) = clash(code, walked.first, role_sets, type_sets) {
+    if let Found::At(place) = clash(code, role_sets, type_sets) {
         return Resolved::Clash(place);
     }
     Resolved::Sound

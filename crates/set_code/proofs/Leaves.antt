@@ -8,9 +8,9 @@ use mathlib.Core.List.{List}
 use lib.Dec.{eqb, ltb}
 use lib.ListN.{length}
 use borrow.Author.Tests.{lt-ltb, le-ltb}
-use Rattle.bitset.specs.Sets.{member, setOf, inserted, unionOf, emptied, complementOf}
+use Rattle.bitset.specs.Sets.{member, setOf, inserted, unionOf, copyOf, emptied, complementOf}
 use Rattle.bitset.specs.Parts.{part}
-use Rattle.bitset.proofs.SetLaws.{member-setOf, setOf-ext, union-setOf, complement-setOf, operator-setOf}
+use Rattle.bitset.proofs.SetLaws.{member-setOf, setOf-ext, inserted-setOf, complement-setOf, operator-setOf}
 use Rattle.policy.specs.Statements.{Reference, thing, attribute}
 use Rattle.policy.specs.Meaning.{standsIn}
 use Rattle.statement_code.specs.Code.{referenceUnit}
@@ -32,6 +32,19 @@ pub filled-none : (s : List ℕ) → length s ≡ 64 → emptied s ≡ setOf 64 
 unfolding emptied
 filled-none s h =
     ap (λ (w : ℕ). setOf w (λ n. false)) h ∙ setOf-ext 64 (λ n. false) (λ n. ltb n 0) (λ n l. rw (le-ltb n 0 (omega arith)))
+
+pub one-thing : (s sets : List ℕ) (u : ℕ) → length s ≡ 64 → u < 1024 → inserted (emptied s) u ≡ setOf 64 (valueOf sets u)
+unfolding emptied
+one-thing s sets u h l =
+    ap (λ (w : ℕ). inserted (setOf w (λ n. false)) u) h
+    ∙ inserted-setOf 64 (λ n. false) u
+    ∙ thing-alone sets u l
+
+pub one-attribute : (s sets : List ℕ) (u : ℕ) → length s ≡ 64 → 1024 ≤ u → copyOf s (part sets (64 * (u - 1024)) 64) ≡ setOf 64 (valueOf sets u)
+unfolding copyOf setsIn
+one-attribute s sets u h l =
+    ap (λ (w : ℕ). setOf w (member (part sets (64 * (u - 1024)) 64))) h
+    ∙ setOf-ext 64 (member (part sets (64 * (u - 1024)) 64)) (valueOf sets u) (λ n k. rw (le-ltb u 1024 l))
 
 -- the unit of a reference stands for what the reference stands for
 pub value-of-reference : (sets : List ℕ) (r : Reference) → NumberedR r → (n : ℕ) → valueOf sets (referenceUnit r) n ≡ standsIn (setsIn sets) r n
@@ -59,11 +72,6 @@ gained-thing s sets u h l = gained s (valueOf sets u) (λ n. eqb n u) h (λ n. r
 pub gained-attribute : (s sets : List ℕ) (u : ℕ) → length s ≡ 64 → 1024 ≤ u → unionOf s (part sets (64 * (u - 1024)) 64) ≡ unionOf s (setOf 64 (valueOf sets u))
 unfolding unionOf setsIn
 gained-attribute s sets u h l = gained s (valueOf sets u) (member (part sets (64 * (u - 1024)) 64)) h (λ n. rw (le-ltb u 1024 l))
-
--- the empty set gains a set
-pub gained-first : (s : List ℕ) (f : ℕ → Bool) → length s ≡ 64 → unionOf (emptied s) (setOf 64 f) ≡ setOf 64 f
-unfolding emptied
-gained-first s f h = ap (λ (w : ℕ). unionOf (setOf w (λ n. false)) (setOf 64 f)) h ∙ union-setOf 64 (λ n. false) f
 
 -- an operator that only adds joins by union
 pub joined-union : (op : ℕ) (a b : List ℕ) → ((x y : Bool) → joinOf op x y ≡ (x || y)) → joinedBy op a b ≡ unionOf a b

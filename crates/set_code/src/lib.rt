@@ -47,27 +47,17 @@ fn join(operator: u16, out: &mut [u8; Type::SET_BYTES], operand: &[u8; Type::SET
     }
 }
 
-// The set gains what the unit of a reference stands for.
-fn add_reference(unit: u16, sets: &[u8], out: &mut [u8; Type::SET_BYTES])
-    ensures { λ _. ⌜ now (out .exit) ≡ unionOf (now (out .entry)) (setOf 64 (valueOf (now (sets .entry)) unit)) ⌝ }
-{
-    if unit < Unit::ATTRIBUTE {
-        bitset::insert(out, unit as usize);
-    } else {
-        let attribute = (unit - Unit::ATTRIBUTE) as usize;
-        bitset::union(
-            out,
-            bitset::part(sets, Type::SET_BYTES * attribute, Type::SET_BYTES),
-        );
-    }
-}
-
 // The set becomes what the unit of a reference stands for: a thing for itself alone, an attribute for its set.
 pub fn reference(unit: u16, sets: &[u8], out: &mut [u8; Type::SET_BYTES])
     ensures { λ _. ⌜ now (out .exit) ≡ setOf 64 (valueOf (now (sets .entry)) unit) ⌝ }
 {
-    bitset::clear(out);
-    add_reference(unit, sets, out);
+    if unit < Unit::ATTRIBUTE {
+        bitset::clear(out);
+        bitset::insert(out, unit as usize);
+    } else {
+        let attribute = (unit - Unit::ATTRIBUTE) as usize;
+        bitset::read_at(out, sets, Type::SET_BYTES * attribute, Type::SET_BYTES);
+    }
 }
 
 // Whether an operand is a reference and its operator only adds. Then the operand is added with no set made of it first.
@@ -82,6 +72,21 @@ fn adds_reference(operator: u16, unit: u16) -> bool
         Unit::AND => false,
         Unit::XOR => false,
         _ => true,
+    }
+}
+
+// The set gains what the unit of a reference stands for.
+fn add_reference(unit: u16, sets: &[u8], out: &mut [u8; Type::SET_BYTES])
+    ensures { λ _. ⌜ now (out .exit) ≡ unionOf (now (out .entry)) (setOf 64 (valueOf (now (sets .entry)) unit)) ⌝ }
+{
+    if unit < Unit::ATTRIBUTE {
+        bitset::insert(out, unit as usize);
+    } else {
+        let attribute = (unit - Unit::ATTRIBUTE) as usize;
+        bitset::union(
+            out,
+            bitset::part(sets, Type::SET_BYTES * attribute, Type::SET_BYTES),
+        );
     }
 }
 

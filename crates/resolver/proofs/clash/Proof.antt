@@ -12,12 +12,14 @@ use Rattle.resolver.proofs.clash.Tie as tie
 
 returns : tie.Need-returns
 unfolding clash
-returns c = λ p ok rest hr ht.
-    let a = c .before .before .before .args in
-    let left = take-all (length (a .code .now) - a .first) (drop (a .first) (a .code .now)) (omega (arith, length-drop (a .first) (a .code .now))) in
+returns c = λ p ok q hr ht.
+    let first = c .before .before .first-transition in
+    let rest = first .ensures .1 p ok q in
+    let code = c .before .before .before .before .args .code .now in
+    let left = take-all (length code - first .result) (drop (first .result) code) (omega (arith, length-drop (first .result) code)) in
     c .first-clash .ensures p (rest .part) ok (rest .segment) (left ∙ rest .coded) hr ht ∙ ap (firstClash p []) (rest .all)
 
 pub clash-spec : {M : Type 1} → statement M
 clash-spec =
     tie.close
-    (tie.spec (λ c. search needs) (λ c. search needs) (λ c. search needs) (λ c. search needs) (λ c κs. search needs) returns)
+    (tie.spec (λ c κs. search needs) (λ c. search needs) (λ c. search needs) (λ c. search needs) (λ c. search needs) (λ c κs. search needs) returns)
