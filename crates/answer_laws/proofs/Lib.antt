@@ -1,3 +1,5 @@
+pub mod SameSets
+pub mod Placeless
 pub mod LongerPolicy
 pub mod ImageAnswers
 pub mod GrantsExactly

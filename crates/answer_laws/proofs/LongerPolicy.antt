@@ -1,61 +1,29 @@
 -- One constrain more at the end of a policy: what was denied stays denied, with the same answer. Assumes nothing.
-use Prim.Native.Nat.{ℕ, zero, suc, _+_}
-use mathlib.Core.Path.{_≡_, refl, sym, ap, _∙_, fun-ext}
-use mathlib.Core.Bool.{Bool, true, false, _&&_, _||_, false≢true}
+use Prim.Native.Nat.{ℕ, _+_}
+use mathlib.Core.Path.{_≡_, refl, sym, ap, _∙_}
+use mathlib.Core.Bool.{Bool, true, false, false≢true}
 use mathlib.Core.List.{List, [], _∷_, _++_}
-use mathlib.Core.Option.{Option, none, some}
-use Rattle.policy.specs.Basics.{any}
-use Rattle.policy.proofs.Lists.{gather-over, gather-last, any-over}
-use Rattle.policy.specs.Statements.{Family, Reference, SetExpr, StatementOf, constrain, Constraint, Statement, Line, Policy, Declaration, declared, declarations, setFor, setsFor, count, thingOf, Constrain, constrained, constrains, roleallow, userrole, roletype, Relation}
-use Rattle.policy.specs.Meaning.{Set, ofS, countIn, unionOf, nested, final, stands, standsIn, Standing, lineGives, related, validIn, holds, Context}
-use Rattle.policy.specs.Answer.{Question, Verdict, granted, denied, fails, refuses, Answer, unconsulted, oneMore, ruling, firstFailing, decide, declaredQuestion, asksRole, roleMay, namesAsked, answer}
+use Rattle.policy.specs.Basics.{each}
+use Rattle.policy.proofs.Lists.{gather-over, gather-last, any-over, each-append}
+use Rattle.policy.specs.Statements.{Reference, constrain, Constraint, Statement, Line, Policy, declared, declarations, setFor, setsFor, Constrain, constrained, constrains}
+use Rattle.policy.specs.Meaning.{lineGives, stands, holds}
+use Rattle.policy.specs.Answer.{Question, Verdict, granted, denied, fails, refuses, Answer, unconsulted, oneMore, ruling, firstFailing, decide, namesAsked, answer}
+use Rattle.answer_laws.specs.Longer.{said, OneConstrainMore, isDenied}
+use Rattle.answer_laws.proofs.SameSets.{SameSets, answerWith, answer-same-sets, answer-with}
+use Rattle.answer_laws.proofs.Placeless.{answer-said}
 
 module _ (p : Policy) (l : Line) (c : ℕ) (ps : List ℕ) (e : Constraint Reference) (says : l .says ≡ constrain c ps e) where
-  longer : Policy
-  longer = p ++ (l ∷ [])
+  same-sets : SameSets p (p ++ (l ∷ []))
+  unfolding declarations setsFor
+  same-sets = record {
+    declares = gather-over declared p l (rw says);
+    sets = λ f a. gather-over (setFor f a) p l (rw says);
+    gives = λ s k x y. any-over (lineGives s k x y) p l (rw says);
+  }
 
-  declared-over : declared l ≡ none
-  declared-over = rw says
-
-  declarations-over : declarations longer ≡ declarations p
-  unfolding declarations longer
-  declarations-over = gather-over declared p l declared-over
-
-  sets-over : (f : Family) (a : ℕ) → setsFor f a longer ≡ setsFor f a p
-  unfolding setsFor longer
-  sets-over f a = gather-over (setFor f a) p l (rw says)
-
-  constrains-last : constrains longer ≡ constrains p ++ (record { class = c; perms = ps; body = e } ∷ [])
-  unfolding constrains longer
+  constrains-last : constrains (p ++ (l ∷ [])) ≡ constrains p ++ (record { class = c; perms = ps; body = e } ∷ [])
+  unfolding constrains
   constrains-last = gather-last constrained p l _ (rw says)
-
-  count-over : (f : Family) → countIn longer f ≡ countIn p f
-  unfolding countIn
-  count-over f = ap (count (thingOf f)) declarations-over
-
-  nested-over : (f : Family) (k : ℕ) → nested k longer f ≡ nested k p f
-  unfolding nested unionOf
-  nested-over f zero = refl
-  nested-over f (suc k) = fun-ext λ a. fun-ext λ n. rw (nested-over f k, sets-over f a, count-over f)
-
-  stands-over : stands longer ≡ stands p
-  unfolding stands final
-  stands-over = fun-ext λ f. fun-ext λ r. fun-ext λ n. ap (λ (s : ℕ → Set). standsIn s r n) (nested-over f 64)
-
-  related-over : (k : Relation) (x y : ℕ) → related longer k x y ≡ related p k x y
-  unfolding related longer
-  related-over k x y = any-over (lineGives (stands longer) k x y) p l (rw says) ∙ ap (λ (s : Standing). any (lineGives s k x y) p) stands-over
-
-  valid-over : (x : Context) → validIn longer x ≡ validIn p x
-  unfolding validIn
-  valid-over x = rw (related-over userrole, related-over roletype)
-
--- a denial, by any number
-abbrev pub isDenied : Verdict → Bool
-isDenied granted = false
-isDenied (denied n) = true
-isDenied (fails n) = true
-isDenied (refuses n at) = false
 
 ruling-longer : (n b : Bool) (i : ℕ) (r s : Answer) → (isDenied (r .verdict) ≡ true → s ≡ r) → isDenied (ruling n b i r .verdict) ≡ true → ruling n b i s ≡ ruling n b i r
 ruling-longer false b i r s ih h = ih h
@@ -78,10 +46,25 @@ decide-longer true true false r x y g h = refl
 decide-longer true true true false x y g h = refl
 decide-longer true true true true x y g h = g h
 
--- DEMAND 3, the last sentence, on the statements: what the shorter policy denies the longer one denies, by the same answer
-pub denied-longer : (p : Policy) (l : Line) (c : ℕ) (ps : List ℕ) (e : Constraint Reference) (says : l .says ≡ constrain c ps e) (q : Question)
+-- more constrains at the end, the same denial
+with-more : (p : Policy) (cs ds : List Constrain) (q : Question) → isDenied (answerWith p cs q .verdict) ≡ true → answerWith p (cs ++ ds) q ≡ answerWith p cs q
+unfolding answerWith
+with-more p cs ds q h =
+    decide-longer _ _ _ _ _ _ (failing-longer (namesAsked (q .class) (q .perm)) (λ s. holds (stands p) (q .source) (q .target) (s .body)) 0 cs ds) h
+
+-- one line more
+line-longer : (p : Policy) (l : Line) (c : ℕ) (ps : List ℕ) (e : Constraint Reference) (says : l .says ≡ constrain c ps e) (q : Question)
     → isDenied (answer p q .verdict) ≡ true → answer (p ++ (l ∷ [])) q ≡ answer p q
-unfolding answer longer
-denied-longer p l c ps e says q h =
-    rw (declarations-over p l c ps e says, valid-over p l c ps e says (q .source), valid-over p l c ps e says (q .target), related-over p l c ps e says roleallow, stands-over p l c ps e says, constrains-last p l c ps e says)
-    (decide-longer _ _ _ _ _ _ (failing-longer (namesAsked (q .class) (q .perm)) (λ s. holds (stands p) (q .source) (q .target) (s .body)) 0 (constrains p) _) h)
+line-longer p l c ps e says q h =
+    answer-same-sets p (p ++ (l ∷ [])) (same-sets p l c ps e says) q
+    ∙ ap (λ (cs : List Constrain). answerWith p cs q) (constrains-last p l c ps e says)
+    ∙ with-more p (constrains p) _ q (ap (λ (a : Answer). isDenied (a .verdict)) (sym (answer-with p q)) ∙ h)
+    ∙ sym (answer-with p q)
+
+-- DEMAND 3, the last sentence, on the statements: what the shorter policy denies the longer one denies, by the same answer, wherever their statements stand
+pub denied-longer : (p p′ : Policy) → OneConstrainMore p p′ → (q : Question) → isDenied (answer p q .verdict) ≡ true → answer p′ q ≡ answer p q
+unfolding said
+denied-longer p p′ m q h =
+    let l : Line = record { place = 0; says = constrain (m .class) (m .perms) (m .body) } in
+    answer-said (p ++ (l ∷ [])) p′ (m .last ∙ sym (each-append (λ (x : Line). x .says) p (l ∷ []) ∙ ap (λ (r : List Statement). said p ++ r) (unfold each in refl))) q
+    ∙ line-longer p l (m .class) (m .perms) (m .body) refl q h

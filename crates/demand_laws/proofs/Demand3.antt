@@ -9,7 +9,8 @@ use mathlib.Core.List.{List, [], _∷_, _++_}
 use mathlib.Core.Option.{some}
 use lib.Dec.{leb}
 use lib.ListN.{length, take, drop}
-use Rattle.policy.specs.Statements.{Policy, Line, Reference, Constraint, constrain, declarations, Constrain, constrains}
+use Rattle.policy.specs.Basics.{each}
+use Rattle.policy.specs.Statements.{Policy, Line, Statement, constrain, declarations, Constrain, constrains}
 use Rattle.policy.specs.Reading.{Read, policy, refused}
 use Rattle.policy.specs.Meaning.{Context, stands, validIn, holds}
 use Rattle.policy.specs.Answer.{Question, Verdict, granted, denied, fails, refuses, Answer, unconsulted, ruling, firstFailing, decide, declaredQuestion, answer}
@@ -20,7 +21,10 @@ use Rattle.policy.specs.Sound.{wellFormed, imageIn}
 use Rattle.policy.specs.Outcome as outcomes
 use Rattle.policy.specs.Outcome.{policyOf, Compiled, compiles, compiled, fitted, Outcome, accepted, rejected, outcomeOf, afterOf, outcome, after}
 use Rattle.policy.specs.Questions.{Reply, changed, changeOn, asked, validOn, newRoleOn}
-use Rattle.reading_laws.proofs.ReadAccepted.{policy-accepted}
+use Rattle.policy.proofs.Lists.{each-append}
+use Rattle.reading_laws.proofs.ReadAccepted.{policy-accepted, policy-read}
+use Rattle.reading_laws.proofs.ReadThen.{line}
+use Rattle.reading_laws.proofs.LongerText.{one-statement-more, resolved-constrain}
 use Rattle.image_laws.proofs.ImageWellFormed.{image-well-formed}
 use Rattle.image_laws.proofs.Fits.{image-fits}
 use Rattle.table_laws.proofs.WellFormedLaid.{table-back}
@@ -29,7 +33,8 @@ use Rattle.answer_laws.proofs.ImageQuestions.{image-valid, image-new-role}
 use Rattle.answer_laws.specs.ByStatements.{validBy, newRoleBy}
 use Rattle.answer_laws.specs.Granting.{Grants}
 use Rattle.answer_laws.proofs.GrantsExactly.{grants-only, grants-when}
-use Rattle.answer_laws.proofs.LongerPolicy.{isDenied, denied-longer}
+use Rattle.answer_laws.specs.Longer.{said, OneConstrainMore, ConstrainText, isDenied, KeepsDenials}
+use Rattle.answer_laws.proofs.LongerPolicy.{denied-longer}
 use Rattle.demand_laws.specs.ByText.{isRefusal, TableAnswers}
 
 module _ (text : List ℕ) (p : Policy) (read : policyOf text ≡ policy p) (rest : List ℕ) where
@@ -87,14 +92,30 @@ unfolding answer
 declared-unrefused p q h = rw h (decided (validIn p (q .source)) (validIn p (q .target)) _ _ (unrefused _ _ 0 (constrains p)))
 
 -- "Add one constrain statement at the end: if the longer policy is accepted, its table denies every question that the first table denies",
--- and by the same denial, constraint and number consulted
-pub longer-table-denies : (text text′ : List ℕ) (p : Policy) (l : Line) (c : ℕ) (ps : List ℕ) (e : Constraint Reference) → l .says ≡ constrain c ps e
-    → policyOf text ≡ policy p → policyOf text′ ≡ policy (p ++ (l ∷ []))
-    → (rest rest′ : List ℕ) (q : Question) → isDenied (changeOn (encode (imageOf p) ++ rest) q .verdict) ≡ true
-    → changeOn (encode (imageOf (p ++ (l ∷ []))) ++ rest′) q ≡ changeOn (encode (imageOf p) ++ rest) q
-longer-table-denies text text′ p l c ps e says read read′ rest rest′ q h =
-    rw (table-answers text′ (p ++ (l ∷ [])) read′ rest′ q, table-answers text p read rest q)
-    (denied-longer p l c ps e says q (rw (table-answers text p read rest q) at h))
+-- and by the same denial, constraint and number consulted; wherever the statements stand in the two texts
+pub longer-table-denies : (text text′ : List ℕ) (p p′ : Policy) → OneConstrainMore p p′ → policyOf text ≡ policy p → policyOf text′ ≡ policy p′
+    → KeepsDenials (encode (imageOf p)) (encode (imageOf p′))
+longer-table-denies text text′ p p′ m read read′ =
+    record { denies = λ rest rest′ q h. ap (λ (a : Answer). isDenied (a .verdict)) (same rest rest′ q h) ∙ h; by-the-same = same }
+  where
+    same : (rest rest′ : List ℕ) (q : Question) → isDenied (changeOn (encode (imageOf p) ++ rest) q .verdict) ≡ true
+        → changeOn (encode (imageOf p′) ++ rest′) q ≡ changeOn (encode (imageOf p) ++ rest) q
+    same rest rest′ q h =
+        rw (table-answers text′ p′ read′ rest′ q, table-answers text p read rest q) (denied-longer p p′ m q (rw (table-answers text p read rest q) at h))
+
+-- a line feed and the bytes of one constrain behind a text: where both are read, the second says what the first says, then one constrain
+pub constrain-added : (text more : List ℕ) (p p′ : Policy) → ConstrainText more → policyOf text ≡ policy p → policyOf (text ++ (10 ∷ more)) ≡ policy p′ → OneConstrainMore p p′
+unfolding said each
+constrain-added text more p p′ c read read′ =
+    let m = one-statement-more text more p p′ (c .place) (c .inner) (constrain (c .class) (c .perms) (c .body)) (policy-read text p read) (policy-read _ p′ read′) (c .alone) (c .form) in
+    let s = resolved-constrain (declarations p) (c .class) (c .perms) (c .body) .has (m .statement) (m .resolves) in
+    record {
+      class = s .class;
+      perms = s .perms;
+      body = s .body;
+      last = ap (each (λ (l : Line). l .says)) (m .last) ∙ each-append (λ (l : Line). l .says) p (line (m .place) (m .statement) ∷ [])
+          ∙ ap (λ (x : Statement). each (λ (l : Line). l .says) p ++ (x ∷ [])) (s .says);
+    }
 
 -- the first n bytes of a list that n bytes stand in front of
 front : (xs ys : List ℕ) → take (length xs) (xs ++ ys) ≡ xs

@@ -2,7 +2,7 @@
 -- has good names, and it has room. The law follows the order of the faults. Assumes nothing.
 use Prim.Native.Nat.{ℕ}
 use native.Mathlib.Omega.{arith}
-use mathlib.Core.Path.{_≡_, refl, subst}
+use mathlib.Core.Path.{_≡_, refl, ap, subst}
 use mathlib.Core.Bool.{Bool, true, false, cond}
 use mathlib.Core.Option.{Option, none, some}
 use Rattle.lexer.specs.Forms.{Forms, namesGood}
@@ -51,3 +51,24 @@ module _ (p : Policy) where
   pub judge-passes : (f : Forms) → namesGood f ≡ true → IfReads (Passes p) (judge p f)
   unfolding judge
   judge-passes f h = naming-passes (written f) (written-well f h)
+
+  -- a statement that is judged good is what its written form resolves to
+  sized-reads : (s t : Statement) → sized p s ≡ reads t → s ≡ t
+  sized-reads s t h = go (fits p s) (shallow s) h
+    where
+      go : (a b : Bool) → cond a (cond b (reads s) (fault 7)) (fault 6) ≡ reads t → s ≡ t
+      go false b e = let z : _≡_ {A = ℕ} 0 1 = cc in absurd (omega arith)
+      go true false e = let z : _≡_ {A = ℕ} 0 1 = cc in absurd (omega arith)
+      go true true e = cc
+
+  resolving-reads : (o : Option Statement) (t : Statement) → resolving p o ≡ reads t → o ≡ some t
+  resolving-reads none t h = let z : _≡_ {A = ℕ} 0 1 = cc in absurd (omega arith)
+  resolving-reads (some s) t h = ap some (sized-reads s t h)
+
+  pub judge-resolves : (f : Forms) (w : Written) (s : Statement) → written f ≡ some w → judge p f ≡ reads s → resolved (declarations p) w ≡ some s
+  unfolding judge
+  judge-resolves f w s e h = go (again (declarations p) w) (rw e at h)
+    where
+      go : (b : Bool) → elim b [ true ↦ fault 4 | false ↦ resolving p (resolved (declarations p) w) ] ≡ reads s → resolved (declarations p) w ≡ some s
+      go true k = let z : _≡_ {A = ℕ} 0 1 = cc in absurd (omega arith)
+      go false k = resolving-reads (resolved (declarations p) w) s k

@@ -5,8 +5,10 @@ pub mod Judging
 pub mod LongerText
 pub mod OneMore
 pub mod OpensAt
+pub mod Placed
 pub mod ReadAccepted
 pub mod ReadThen
 pub mod Resolving
+pub mod TextMoved
 pub mod TextThen
 pub mod Written

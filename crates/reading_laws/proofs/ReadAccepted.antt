@@ -2,7 +2,7 @@
 -- good keeps them. Induction on the row of statements. That every word of a clean text is a name is the lexer's law. Assumes nothing.
 use Prim.Native.Nat.{ℕ}
 use native.Mathlib.Omega.{arith}
-use mathlib.Core.Path.{_≡_, refl, subst, subst⁻¹}
+use mathlib.Core.Path.{_≡_, refl, ap, _∙_, subst, subst⁻¹}
 use mathlib.Core.Bool.{true}
 use mathlib.Core.List.{List, [], _∷_, _++_}
 use mathlib.Core.Option.{Option, none, some}
@@ -89,3 +89,12 @@ policy-accepted text p h = go (readPolicy text) refl h
     go (policy q) e k =
         let b = accept-passes q p k in
         subst (λ (r : Policy). Accepted r × (cycle r ≡ none) × (clash r ≡ none)) (b .0) (read-accepted text q e, b .1, b .2)
+
+-- and it is what is read
+pub policy-read : (text : List ℕ) (p : Policy) → policyOf text ≡ policy p → readPolicy text ≡ policy p
+unfolding policyOf
+policy-read text p h = go (readPolicy text) refl h
+  where
+    go : (r : Read) → readPolicy text ≡ r → elim r [ refused n at ↦ refused n at | policy q ↦ accept q ] ≡ policy p → readPolicy text ≡ policy p
+    go (refused n at) e k = let z : _≡_ {A = ℕ} 0 1 = cc in absurd (omega arith)
+    go (policy q) e k = e ∙ ap policy (accept-passes q p k .0)

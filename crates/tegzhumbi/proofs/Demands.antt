@@ -1,11 +1,12 @@
 -- DEMAND 3 FROM THE PROMISE OF COMPILE: whoever has the promise has the demand, with no other fact about the compiler. Assumes nothing.
 use Prim.Native.Nat.{ℕ}
-use mathlib.Core.Path.{_≡_, refl, sym, ap, _∙_}
+use mathlib.Core.Path.{_≡_, refl, sym, ap, subst, _∙_}
 use mathlib.Core.Bool.{true}
 use mathlib.Core.List.{List, [], _∷_, _++_}
 use lib.ListN.{take}
+use Rattle.lexer.specs.Spell.{bytes}
 use Rattle.policy.specs.declared.Compiling.{Compiling}
-use Rattle.policy.specs.Statements.{Policy, Line, Reference, Constraint, constrain}
+use Rattle.policy.specs.Statements.{Policy}
 use Rattle.policy.specs.Reading.{Read, policy, refused}
 use Rattle.policy.specs.Answer.{Question, Answer, answer}
 use Rattle.policy.specs.Image.{imageOf}
@@ -13,9 +14,10 @@ use Rattle.policy.specs.Encode.{encode}
 use Rattle.policy.specs.Sound.{imageIn}
 use Rattle.policy.specs.Outcome.{policyOf}
 use Rattle.policy.specs.Questions.{validOn, newRoleOn, changeOn}
-use Rattle.answer_laws.proofs.LongerPolicy.{isDenied}
+use Rattle.policy.specs.Opened.{computing}
+use Rattle.answer_laws.specs.Longer.{OneConstrainMore, ConstrainText, KeepsDenials}
 use Rattle.demand_laws.specs.ByText.{isRefusal}
-use Rattle.demand_laws.proofs.Demand3.{Accepts, accepted-table, table-read, table-answers, table-valid, table-new-role, table-grants-only, table-grants-when, declared-unrefused, longer-table-denies}
+use Rattle.demand_laws.proofs.Demand3.{Accepts, accepted-table, table-read, table-answers, table-valid, table-new-role, table-grants-only, table-grants-when, declared-unrefused, longer-table-denies, constrain-added}
 use Rattle.compiler.specs.Promise.{Compiles}
 use Rattle.tegzhumbi.specs.Demands.{Demand3}
 
@@ -37,36 +39,32 @@ module _ {text before now : List ℕ} {n : ℕ} (c : Compiles text before now (C
   moved : {A : Type 0} (f : List ℕ → A) (behind : List ℕ) → f (take n now ++ behind) ≡ f (encode (imageOf (accepts .statements)) ++ behind)
   moved f behind = ap (λ (t : List ℕ). f (t ++ behind)) written
 
-  pub demand-3 : Demand3 text (take n now)
-  demand-3 =
-      let p = accepts .statements in
-      let r = accepts .read in
-      let answers : (behind : List ℕ) (q : Question) → changeOn (take n now ++ behind) q ≡ _ = λ behind q. moved (λ t. changeOn t q) behind ∙ table-answers text p r behind q in
-      record {
-        statements = p;
-        read = r;
-        answers = answers;
-        never-refused = λ behind q d. ap (λ (a : Answer). isRefusal (a .verdict)) (answers behind q) ∙ declared-unrefused p q d;
-        grants-only = λ behind q g. table-grants-only text p r behind q (sym (moved (λ t. changeOn t q .verdict) behind) ∙ g);
-        grants-when = λ behind q d g. moved (λ t. changeOn t q .verdict) behind ∙ table-grants-when text p r behind q d g;
-        valid = λ behind c. moved (λ t. validOn t c) behind ∙ table-valid text p r behind c;
-        new-role = λ behind x y z. moved (λ t. newRoleOn t x y z) behind ∙ table-new-role text p r behind x y z;
-        holds = λ behind. moved imageIn behind ∙ table-read text p r behind;
-      }
+-- a text that says the same and then one constrain, compiled too
+keeps : {text before now text′ before′ now′ : List ℕ} {n n′ : ℕ} (c : Compiles text before now (Compiling.Accepted n)) (c′ : Compiles text′ before′ now′ (Compiling.Accepted n′))
+    → OneConstrainMore (accepts c .statements) (accepts c′ .statements) → KeepsDenials (take n now) (take n′ now′)
+keeps {text} {before} {now} {text′} c c′ m =
+    rw (written c, written c′) (longer-table-denies text text′ (accepts c .statements) (accepts c′ .statements) m (accepts c .read) (accepts c′ .read))
 
--- "Add one constrain statement at the end: if the longer policy is accepted, its table denies every question that the first table denies", and by
--- the same denial, constraint and number consulted. p is what the first text says; the second says the same and then one constrain
-pub longer-denies : {text before now text′ before′ now′ : List ℕ} {n n′ : ℕ} → (c : Compiles text before now (Compiling.Accepted n))
-    → (c′ : Compiles text′ before′ now′ (Compiling.Accepted n′)) → (p : Policy) (l : Line) (k : ℕ) (ps : List ℕ) (e : Constraint Reference) → l .says ≡ constrain k ps e
-    → policyOf text ≡ policy p → policyOf text′ ≡ policy (p ++ (l ∷ []))
-    → (behind behind′ : List ℕ) (q : Question) → isDenied (changeOn (take n now ++ behind) q .verdict) ≡ true
-    → changeOn (take n′ now′ ++ behind′) q ≡ changeOn (take n now ++ behind) q
-longer-denies {text} {before} {now} {text′} {before′} {now′} {n} {n′} c c′ p l k ps e says read read′ behind behind′ q h =
-    let first : changeOn (take n now ++ behind) q ≡ changeOn (encode (imageOf p) ++ behind) q =
-    demand-3 c .answers behind q ∙ same text (demand-3 c .read) read ∙ sym (table-answers text p read behind q) in
-    let second : changeOn (take n′ now′ ++ behind′) q ≡ changeOn (encode (imageOf (p ++ (l ∷ []))) ++ behind′) q =
-    demand-3 c′ .answers behind′ q ∙ same text′ (demand-3 c′ .read) read′ ∙ sym (table-answers text′ (p ++ (l ∷ [])) read′ behind′ q) in
-    second ∙ longer-table-denies text text′ p l k ps e says read read′ behind behind′ q (sym (ap (λ (a : Answer). isDenied (a .verdict)) first) ∙ h) ∙ sym first
-  where
-    same : (t : List ℕ) {x y : Policy} → policyOf t ≡ policy x → policyOf t ≡ policy y → answer x q ≡ answer y q
-    same t a b = ap (λ (r : Read). answer (statementsOf r) q) (sym a ∙ b)
+pub demand-3 : {text before now : List ℕ} {n : ℕ} → Compiles text before now (Compiling.Accepted n) → Demand3 text (take n now)
+demand-3 {text} {before} {now} {n} c =
+    let p = accepts c .statements in
+    let r = accepts c .read in
+    let answers : (behind : List ℕ) (q : Question) → changeOn (take n now ++ behind) q ≡ _ = λ behind q. moved c (λ t. changeOn t q) behind ∙ table-answers text p r behind q in
+    record {
+      statements = p;
+      read = r;
+      answers = answers;
+      never-refused = λ behind q d. ap (λ (a : Answer). isRefusal (a .verdict)) (answers behind q) ∙ declared-unrefused p q d;
+      grants-only = λ behind q g. table-grants-only text p r behind q (sym (moved c (λ t. changeOn t q .verdict) behind) ∙ g);
+      grants-when = λ behind q d g. moved c (λ t. changeOn t q .verdict) behind ∙ table-grants-when text p r behind q d g;
+      longer-denies = λ longer before′ now′ n′ c′ said r′ m. keeps c c′ (subst (OneConstrainMore p) (ap statementsOf (sym r′ ∙ accepts c′ .read)) m);
+      added-denies = λ more before′ now′ n′ c′ u. keeps c c′ (constrain-added text more p (accepts c′ .statements) u r (accepts c′ .read));
+      valid = λ behind x. moved c (λ t. validOn t x) behind ∙ table-valid text p r behind x;
+      new-role = λ behind x y z. moved c (λ t. newRoleOn t x y z) behind ∙ table-new-role text p r behind x y z;
+      holds = λ behind. moved c imageIn behind ∙ table-read text p r behind;
+    }
+
+-- bytes that one would add are such a text, blanks and comments around it or not
+pub a-constrain : ConstrainText (bytes " (constrain (c (p q)) (or (eq u1 u2) (not (eq r1 a)))) ; the last")
+unfolding computing
+a-constrain = record { place = 1; inner = _; alone = refl; class = _; perms = _; body = _; form = refl }

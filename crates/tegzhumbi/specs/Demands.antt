@@ -2,8 +2,10 @@
 use Prim.Native.Nat.{ℕ}
 use mathlib.Core.Path.{_≡_}
 use mathlib.Core.Bool.{true, false}
-use mathlib.Core.List.{List, _++_}
+use mathlib.Core.List.{List, _∷_, _++_}
 use mathlib.Core.Option.{some}
+use lib.ListN.{take}
+use Rattle.policy.specs.declared.Compiling.{Compiling}
 use Rattle.policy.specs.Statements.{Policy, declarations}
 use Rattle.policy.specs.Reading.{policy}
 use Rattle.policy.specs.Meaning.{Context}
@@ -14,7 +16,9 @@ use Rattle.policy.specs.Outcome.{policyOf}
 use Rattle.policy.specs.Questions.{validOn, newRoleOn, changeOn}
 use Rattle.answer_laws.specs.ByStatements.{validBy, newRoleBy}
 use Rattle.answer_laws.specs.Granting.{Grants}
+use Rattle.answer_laws.specs.Longer.{OneConstrainMore, ConstrainText, KeepsDenials}
 use Rattle.demand_laws.specs.ByText.{isRefusal}
+use Rattle.compiler.specs.Promise.{Compiles}
 
 pub record Demand3 (text table : List ℕ) : Type 0 where
   -- the statements of the text, as read
@@ -29,6 +33,13 @@ pub record Demand3 (text table : List ℕ) : Type 0 where
   -- dyntransition asks it, and every constraint on that class and permission is true as written"
   pub grants-only : (behind : List ℕ) (q : Question) → changeOn (table ++ behind) q .verdict ≡ granted → Grants statements q
   pub grants-when : (behind : List ℕ) (q : Question) → declaredQuestion (declarations statements) q ≡ true → Grants statements q → changeOn (table ++ behind) q .verdict ≡ granted
+  -- "Add one constrain statement at the end: if the longer policy is accepted, its table denies every question that the first table denies": of every text
+  -- that says the same statements in order, wherever they stand in it, and then one constrain
+  pub longer-denies : (longer before now : List ℕ) (n : ℕ) → Compiles longer before now (Compiling.Accepted n) → (said : Policy) → policyOf longer ≡ policy said
+      → OneConstrainMore statements said → KeepsDenials table (take n now)
+  -- and of the bytes: this text, a line feed, and the bytes of one constrain
+  pub added-denies : (more before now : List ℕ) (n : ℕ) → Compiles (text ++ (10 ∷ more)) before now (Compiling.Accepted n) → ConstrainText more
+      → KeepsDenials table (take n now)
   -- valid context and new role give back what the statements say
   pub valid : (behind : List ℕ) (c : Context) → validOn (table ++ behind) c ≡ validBy statements c
   pub new-role : (behind : List ℕ) (r y c : ℕ) → newRoleOn (table ++ behind) r y c ≡ newRoleBy statements r y c

@@ -1,0 +1,122 @@
+-- What a row of a text says does not depend on the places of its words and parts: with other places it is of the same form. Each law follows the
+-- definition of the grammar that it speaks of. Assumes nothing.
+use Prim.Native.Nat.{ℕ}
+use mathlib.Core.Path.{_≡_, refl, ap}
+use mathlib.Core.List.{List}
+use mathlib.Core.Option.{Option, none, some}
+use Rattle.lexer.specs.Forms.{Forms, closed, ended, word, part}
+use Rattle.policy.specs.Basics.{Name, _>>=_, more, ofOne, ofTwo}
+use Rattle.policy.specs.Words.{asName, Keyword, declareK, classK, setK, relationK, transitionK, constrainK, Connective, keywordOf, setWord, expressionWord, opOf, componentOf}
+use Rattle.policy.specs.Grammar.{unionOf, headed, operands, setIn, compared, atClose, wordThen, partThen, twoWords, twoParts, wordAndPart, comparison, formE, connected, expressions, expressionIn, namesIn, oneOrMore, classIn, ofFour, formed, written}
+use Rattle.policy.specs.Statements.{SetExpr, Constraint, Written, plain, declare, gives}
+
+-- the same row at other places
+abbrev pub placed : (ℕ → ℕ) → Forms → Forms
+placed g closed = closed
+placed g ended = ended
+placed g (word at w r) = word (g at) w (placed g r)
+placed g (part at i r) = part (g at) (placed g i) (placed g r)
+
+module _ (g : ℕ → ℕ) where
+  -- ROWS
+  module _ {A : Type 0} where
+    close-placed : (f : Forms) (o : Option A) → atClose (placed g f) o ≡ atClose f o
+    close-placed closed o = refl
+    close-placed ended o = refl
+    close-placed (word at w r) o = refl
+    close-placed (part at i r) o = refl
+
+    word-placed : (f : Forms) (h k : Name → Forms → Option A) → ((w : Name) (r : Forms) → h w (placed g r) ≡ k w r) → wordThen (placed g f) h ≡ wordThen f k
+    word-placed closed h k e = refl
+    word-placed ended h k e = refl
+    word-placed (word at w r) h k e = e w r
+    word-placed (part at i r) h k e = refl
+
+    part-placed : (f : Forms) (h k : Forms → Forms → Option A) → ((i r : Forms) → h (placed g i) (placed g r) ≡ k i r) → partThen (placed g f) h ≡ partThen f k
+    part-placed closed h k e = refl
+    part-placed ended h k e = refl
+    part-placed (word at w r) h k e = refl
+    part-placed (part at i r) h k e = e i r
+
+    two-words-placed : (f : Forms) (h : Name → Name → Option A) → twoWords (placed g f) h ≡ twoWords f h
+    two-words-placed f h = word-placed f _ _ λ v r. word-placed r _ _ λ w r. close-placed r (h v w)
+
+    word-and-part-placed : (f : Forms) (h : Name → Forms → Option A) → ((w : Name) (i : Forms) → h w (placed g i) ≡ h w i) → wordAndPart (placed g f) h ≡ wordAndPart f h
+    word-and-part-placed f h e = word-placed f _ _ λ w r. part-placed r _ _ λ i r. rw (e w i) (close-placed r (h w i))
+
+    two-parts-placed : (f : Forms) (h : Forms → Forms → Option A) → ((i j : Forms) → h (placed g i) (placed g j) ≡ h i j) → twoParts (placed g f) h ≡ twoParts f h
+    two-parts-placed f h e = part-placed f _ _ λ i r. part-placed r _ _ λ j r. rw (e i j) (close-placed r (h i j))
+
+  -- NAMES AND CLASSES
+  names-placed : (f : Forms) → namesIn (placed g f) ≡ namesIn f
+  unfolding namesIn
+  names-placed closed = refl
+  names-placed ended = refl
+  names-placed (word at w r) = ap (more (asName w)) (names-placed r)
+  names-placed (part at i r) = refl
+
+  class-placed : {A : Type 0} (f : Forms) (h : Name → List Name → Option A) → classIn (placed g f) h ≡ classIn f h
+  class-placed f h = word-and-part-placed f _ λ c i. rw (names-placed i)
+
+  -- SETS
+  mutual
+    unfolding operands
+
+    operands-placed : (f : Forms) → operands (placed g f) ≡ operands f
+    operands-placed closed = refl
+    operands-placed ended = refl
+    operands-placed (word at w r) = rw (operands-placed r)
+    operands-placed (part at i r) = rw (set-placed i, operands-placed r)
+
+    set-placed : (f : Forms) → setIn (placed g f) ≡ setIn f
+    set-placed closed = refl
+    set-placed ended = refl
+    set-placed (word at w r) = rw (operands-placed r)
+    set-placed (part at i r) = rw (set-placed i, operands-placed r)
+
+  -- EXPRESSIONS
+  comparison-placed : (w : Name) (f : Forms) → comparison w (placed g f) ≡ comparison w f
+  comparison-placed w f = go (opOf w)
+    where
+      go : (o : Option _) → (o >>= λ o. twoWords (placed g f) (λ v w. componentOf v >>= λ x. compared o x w (componentOf w)))
+          ≡ (o >>= λ o. twoWords f (λ v w. componentOf v >>= λ x. compared o x w (componentOf w)))
+      go none = refl
+      go (some o) = two-words-placed f _
+
+  connected-placed : (w : Name) (f : Forms) (c : Option Connective) (es : Option (List (Constraint Name))) → connected w (placed g f) c es ≡ connected w f c es
+  connected-placed w f none es = comparison-placed w f
+  connected-placed w f (some c) es = refl
+
+  mutual
+    unfolding expressions
+
+    expressions-placed : (f : Forms) → expressions (placed g f) ≡ expressions f
+    expressions-placed closed = refl
+    expressions-placed ended = refl
+    expressions-placed (word at w r) = refl
+    expressions-placed (part at i r) = rw (expression-placed i, expressions-placed r)
+
+    expression-placed : (f : Forms) → expressionIn (placed g f) ≡ expressionIn f
+    expression-placed closed = refl
+    expression-placed ended = refl
+    expression-placed (word at w r) = rw (expressions-placed r) (connected-placed w r (expressionWord w) (expressions r))
+    expression-placed (part at i r) = refl
+
+  -- STATEMENTS
+  formed-placed : (k : Keyword) (f : Forms) → formed k (placed g f) ≡ formed k f
+  formed-placed (declareK s) f = rw (names-placed f)
+  formed-placed classK f = class-placed f _
+  formed-placed (setK a) f = word-and-part-placed f _ λ w i. rw (set-placed i)
+  formed-placed (relationK r) f = rw (names-placed f)
+  formed-placed transitionK f = rw (names-placed f)
+  formed-placed constrainK f = two-parts-placed f _ λ i j. rw (expression-placed j) (class-placed i _)
+
+  pub written-placed : (f : Forms) → written (placed g f) ≡ written f
+  written-placed closed = refl
+  written-placed ended = refl
+  written-placed (part at i r) = refl
+  written-placed (word at w r) = go (keywordOf w)
+    where
+      go : (k : Option Keyword) → (k >>= λ k. formed k (placed g r)) ≡ (k >>= λ k. formed k r)
+      go none = refl
+      go (some k) = formed-placed k r
