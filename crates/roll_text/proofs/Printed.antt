@@ -9,6 +9,7 @@ use Rattle.bitset.specs.Parts.{put}
 use Rattle.bitset.specs.Relations.{joined}
 use Rattle.policy.specs.declared.Compiling.{Compiling}
 use Rattle.policy.specs.Answers.{compilingOf}
+use Rattle.policy.specs.Outcome as outcomes
 use Rattle.policy.specs.Outcome.{outcome}
 use Rattle.policy.specs.Roll.{rollOf, refusal, printed}
 use Rattle.image_rows.specs.SoundRows.{isSome}
@@ -20,8 +21,10 @@ use Rattle.roll_lines.proofs.Rolls.{roll-parts}
 use Rattle.roll_text.specs.Printing.{Prints}
 use Rattle.roll_text.proofs.Outcomes.{Holds, refusal-printed, roll-printed}
 
-pub bytes-printed : {text before after bytes : List ℕ} {past : ℕ} → Appends before 0 bytes after past → bytes ≡ printed text → Prints text before after past
-bytes-printed {text} {before} {after} {bytes} {past} a e = record {
+pub bytes-printed : {text table table′ before after bytes : List ℕ} {past : ℕ} → table′ ≡ outcomes.after text table → Appends before 0 bytes after past
+    → bytes ≡ printed text → Prints text table table′ before after past
+bytes-printed {text} {table} {table′} {before} {after} {bytes} {past} m a e = record {
+  memory = m;
   written = a .written ∙ ap (put before 0) e;
   long = omega (arith, a .ends, ap length e);
 }
@@ -39,10 +42,11 @@ module _ {text before after : List ℕ} {r : Compiling} (long : length before �
     unfolding isSound
     table-sound = ap isSome (holds .read)
 
-    pub prints-roll : {out out′ : List ℕ} {past : ℕ} → PutsRoll after n out out′ past → Prints text out out′ past
+    pub prints-roll : {out out′ : List ℕ} {past : ℕ} → PutsRoll after n out out′ past → Prints text before after out out′ past
     prints-roll puts =
-        bytes-printed (puts .says (holds .image) (holds .read))
+        bytes-printed (c .memory) (puts .says (holds .image) (holds .read))
         (ap (λ (m : ℕ). joined (acceptance m ∷ rollOf (holds .image) ∷ [])) (holds .long) ∙ roll-parts (holds .image) ∙ sym (holds .prints))
 
-  pub prints-refusal : {n at : ℕ} → r ≡ Compiling.Refused n at → {out out′ : List ℕ} {past : ℕ} → Appends out 0 (refusal n at) out′ past → Prints text out out′ past
-  prints-refusal {n} {at} e puts = bytes-printed puts (sym (refusal-printed text n at (answer (Compiling.Refused n at) e)))
+  pub prints-refusal : {n at : ℕ} → r ≡ Compiling.Refused n at → {out out′ : List ℕ} {past : ℕ} → Appends out 0 (refusal n at) out′ past
+      → Prints text before after out out′ past
+  prints-refusal {n} {at} e puts = bytes-printed (c .memory) puts (sym (refusal-printed text n at (answer (Compiling.Refused n at) e)))
