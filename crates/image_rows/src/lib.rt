@@ -1,6 +1,7 @@
 // The rows and the constraints of a table: whether they are those that the forms of constraints allow, name nothing undeclared, and run the
 // stack of five as they may. Every function answers for every table, whatever its bytes are.
 use policy::Constraint;
+use policy::Permission;
 use table_reader::ConstraintRecord;
 use table_reader::RowRecord;
 ghost use mathlib.Core.Path.{_≡_};
@@ -192,8 +193,8 @@ fn permissions_of(permissions: &[usize], class: usize) -> usize
     0
 }
 
-// The bits of a permission mask.
-const MASK_BITS: usize = 32;
+// The bits of a permission mask: one for each permission that a class may have.
+const MASK_BITS: usize = Permission::MAX;
 
 // Whether a constraint's class is declared, and its mask is not 0 and names only permissions of the class.
 fn fits_mask(constraint: ConstraintRecord, counts: Counts, permissions: &[usize]) -> bool

@@ -20,6 +20,7 @@ use constrain_statement::ROW_BYTES;
 use declarations::Declared;
 use declarations::SYMBOL_BYTES;
 use items::Item;
+use lexer::Text;
 use policy::Constraint;
 use policy::Family;
 use policy::Transition;
@@ -350,7 +351,7 @@ fn statement(
 fn place_unit(place: usize) -> u16
     ensures { λ r. ⌜ (place < 65536 → r ≡ place) ⌝ }
 {
-    if 65_535 < place {
+    if Text::MAX < place {
         return 0;
     }
     place as u16

@@ -286,8 +286,17 @@ pub fn count(table: &[u8], start: usize, end: usize, sort: usize) -> usize
     }
 }
 
-// All names that the maxima allow: 2,016 entries of at most 68 bytes.
-pub const NAME_BYTES: usize = 137_088;
+// All names that the maxima allow, 2,016, and the longest entry of one, 68 bytes.
+const NAMES: usize = policy::User::MAX
+    + policy::Role::MAX
+    + policy::Type::MAX
+    + 3 * policy::Attribute::MAX
+    + policy::Class::MAX * (1 + policy::Permission::MAX);
+
+const ENTRY_BYTES: usize = 4 + lexer::Name::MAX;
+
+// Room for all names.
+pub const NAME_BYTES: usize = NAMES * ENTRY_BYTES;
 
 // The index stands behind the room for the entries, in slots of 3 bytes. A name has a slot by its bytes and its family, and another slot for
 // where that is taken. A slot holds 0, or 1 + the place of an entry: a hint, since names can share a slot. Behind these slots one for each
@@ -297,8 +306,8 @@ const SLOTS: usize = 16_384;
 // How far the other slot of a name is from its own.
 const OTHER: usize = 385;
 
-// The memory of symbols with an index.
-pub const SYMBOL_BYTES: usize = 186_264;
+// The memory of symbols with an index: 186,264 bytes.
+pub const SYMBOL_BYTES: usize = NAME_BYTES + 3 * (SLOTS + 8);
 
 // The slot of a name of a family. A turn takes two bytes, i being the place of the second; 961 is 31 times 31.
 fn slot_of(family: usize, name: &[u8]) -> usize
