@@ -388,7 +388,7 @@ fn change_words(q: &Change<u64>) -> String {
 fn change_answer(answer: ChangeAnswer) -> String {
     match answer {
         ChangeAnswer::Granted { consulted } => said("granted", consulted),
-        ChangeAnswer::Denied { number: 4, constraint, consulted } => said(&format!("fails {constraint}"), consulted),
+        ChangeAnswer::Denied { number: number @ 4, constraint, consulted } => said(&format!("fails {number} {constraint}"), consulted),
         ChangeAnswer::Denied { number, consulted, .. } => said(&format!("denied {number}"), consulted),
         ChangeAnswer::Refused(number) => said(&format!("refuses {number} 0"), 0),
     }
@@ -496,8 +496,8 @@ mod tests {
         }
         for what in [
             "verdict = granted; consulted = 0", "verdict = granted; consulted = 1", "verdict = granted; consulted = 3",
-            "verdict = denied 1;", "verdict = denied 2;", "verdict = denied 3;", "verdict = fails 0; consulted = 1",
-            "verdict = fails 2; consulted = 2", "verdict = fails 4; consulted = 3", "verdict = refuses 12 0; consulted = 0",
+            "verdict = denied 1;", "verdict = denied 2;", "verdict = denied 3;", "verdict = fails 4 0; consulted = 1",
+            "verdict = fails 4 2; consulted = 2", "verdict = fails 4 4; consulted = 3", "verdict = refuses 12 0; consulted = 0",
             "answered true", "answered false", "≡ answered 1", "≡ answered (record", "≡ refused 12 0", "≡ none",
             "printed (",
         ] {

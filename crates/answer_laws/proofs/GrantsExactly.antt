@@ -21,20 +21,20 @@ use Rattle.answer_laws.specs.Granting.{Grants, howMany, FirstFailing}
 abbrev isGrant : Verdict → Bool
 isGrant granted = true
 isGrant (denied n) = false
-isGrant (fails n) = false
+isGrant (fails m n) = false
 isGrant (refuses n at) = false
 
 -- the number of the constraint that fails
 abbrev failing : Verdict → ℕ
 failing granted = 0
 failing (denied n) = 0
-failing (fails n) = n
+failing (fails m n) = n
 failing (refuses n at) = 0
 
 abbrev isFailure : Verdict → Bool
 isFailure granted = false
 isFailure (denied n) = false
-isFailure (fails n) = true
+isFailure (fails m n) = true
 isFailure (refuses n at) = false
 
 -- one constraint, named or not, true or not, before the answer of the later ones
@@ -54,9 +54,9 @@ abbrev Here : Bool → Bool → ℕ → ℕ → ℕ → Type 0
 Here n b i j k = (n ≡ true) × (b ≡ false) × (j ≡ i) × (k ≡ 1)
 
 abbrev Later : Bool → Bool → ℕ → Answer → ℕ → Type 0
-Later n b j later k = (n ≡ true → b ≡ true) × (later .verdict ≡ fails j) × (k ≡ cond n 1 0 + later .consulted)
+Later n b j later k = (n ≡ true → b ≡ true) × (later .verdict ≡ fails 4 j) × (k ≡ cond n 1 0 + later .consulted)
 
-ruling-fails : (n b : Bool) (i j : ℕ) (later : Answer) → ruling n b i later .verdict ≡ fails j
+ruling-fails : (n b : Bool) (i j : ℕ) (later : Answer) → ruling n b i later .verdict ≡ fails 4 j
     → Here n b i j (ruling n b i later .consulted) ⊎ Later n b j later (ruling n b i later .consulted)
 ruling-fails false b i j later h = inr ((λ m. absurd (false≢true m)), h, omega arith)
 ruling-fails true false i j later h = inl (refl, refl, sym (ap failing h), refl)
@@ -115,7 +115,7 @@ module _ {A : Type 0} (names holds : A → Bool) where
     count = h .2 ∙ ap (λ (m : ℕ). cond (names x) 1 0 + m) (r .count);
   }
 
-  pub failed : (i j : ℕ) (xs : List A) → firstFailing names holds i xs .verdict ≡ fails j → Failed i j xs (firstFailing names holds i xs .consulted)
+  pub failed : (i j : ℕ) (xs : List A) → firstFailing names holds i xs .verdict ≡ fails 4 j → Failed i j xs (firstFailing names holds i xs .consulted)
   unfolding firstFailing
   failed i j [] h = absurd (false≢true (ap isFailure h))
   failed i j (x ∷ xs) h = by (ruling-fails (names x) (holds x) i j (firstFailing names holds (i + 1) xs) h) (λ k. failed (i + 1) j xs k)
@@ -124,7 +124,7 @@ module _ {A : Type 0} (names holds : A → Bool) where
       later = firstFailing names holds (i + 1) xs
 
       by : Here (names x) (holds x) i j (ruling (names x) (holds x) i later .consulted) ⊎ Later (names x) (holds x) j later (ruling (names x) (holds x) i later .consulted)
-          → (later .verdict ≡ fails j → Failed (i + 1) j xs (later .consulted)) → Failed i j (x ∷ xs) (ruling (names x) (holds x) i later .consulted)
+          → (later .verdict ≡ fails 4 j → Failed (i + 1) j xs (later .consulted)) → Failed i j (x ∷ xs) (ruling (names x) (holds x) i later .consulted)
       by (inl g) rec = failed-here i j x xs _ g
       by (inr g) rec = failed-later i j x xs _ g (rec (g .1))
 

@@ -36,7 +36,7 @@ pub record ConstrainText (text : List ℕ) : Type 0 where
 abbrev pub isDenied : Verdict → Bool
 isDenied granted = false
 isDenied (denied n) = true
-isDenied (fails n) = true
+isDenied (fails n i) = true
 isDenied (refuses n at) = false
 
 -- "its table denies every question that the first table denies", whatever stands behind each of them; and by the same denial, constraint's number and

@@ -45,7 +45,7 @@ image-formed t i h =
 abbrev pub SmallVerdict : Verdict → Type 0
 SmallVerdict granted = Unit {0}
 SmallVerdict (denied n) = n ≤ 3
-SmallVerdict (fails n) = n < 128
+SmallVerdict (fails m n) = (m ≤ 4) × (n < 128)
 SmallVerdict (refuses n at) = n ≤ 12
 
 pub record SmallAnswer (a : Answer) : Type 0 where
@@ -56,7 +56,7 @@ pub record SmallAnswer (a : Answer) : Type 0 where
 abbrev FailsBelow : ℕ → Verdict → Type 0
 FailsBelow n granted = Unit {0}
 FailsBelow n (denied k) = ⊥
-FailsBelow n (fails k) = k < n
+FailsBelow n (fails m k) = (m ≤ 4) × (k < n)
 FailsBelow n (refuses k at) = ⊥
 
 record Within (n k : ℕ) (a : Answer) : Type 0 where
@@ -66,7 +66,7 @@ record Within (n k : ℕ) (a : Answer) : Type 0 where
 wider : (n m : ℕ) (v : Verdict) → n ≤ m → FailsBelow n v → FailsBelow m v
 wider n m granted l h = tt
 wider n m (denied k) l h = h
-wider n m (fails k) l h = omega arith
+wider n m (fails d k) l h = (h .0, omega (arith, h .1))
 wider n m (refuses k at) l h = h
 
 module _ {A : Type 0} (names holds : A → Bool) where
@@ -77,7 +77,7 @@ module _ {A : Type 0} (names holds : A → Bool) where
     where
       by : (n b : Bool) (later : Answer) → Within (i + 1 + length xs) (length xs) later → Within (i + suc (length xs)) (suc (length xs)) (ruling n b i later)
       by false b later h = record { fails = wider _ _ (later .verdict) (omega arith) (h .fails); consulted = omega (arith, h .consulted) }
-      by true false later h = record { fails = omega arith; consulted = omega arith }
+      by true false later h = record { fails = (omega arith, omega arith); consulted = omega arith }
       by true true later h = record { fails = wider _ _ (later .verdict) (omega arith) (h .fails); consulted = omega (arith, h .consulted) }
 
 small : (n k : ℕ) (a : Answer) → n ≤ 128 → k ≤ 128 → Within n k a → SmallAnswer a
@@ -85,7 +85,7 @@ small n k a l m h = record { verdict = by (a .verdict) (h .fails); consulted = o
   where
     by : (v : Verdict) → FailsBelow n v → SmallVerdict v
     by granted f = tt
-    by (fails j) f = omega arith
+    by (fails m j) f = (f .0, omega (arith, f .1))
 
 decided-small : (d s t r : Bool) (rest : Answer) → SmallAnswer rest → SmallAnswer (decide d s t r rest)
 unfolding decide

@@ -37,6 +37,6 @@ module _ {A : Type 0} (names holds : A → Bool) where
         let a = firstFailing names holds (i + 1) xs in
         record { decides = ap (answers (a .verdict)) (add-assoc k 1 (a .consulted)) ∙ (rw (n, h) at (l .decides)) }
 
-    pub left-fail : names x ≡ true → holds x ≡ false → answers (fails i) (k + 1) ≡ whole
+    pub left-fail : names x ≡ true → holds x ≡ false → answers (fails 4 i) (k + 1) ≡ whole
     unfolding firstFailing
     left-fail n h = rw (n, h) at (l .decides)

@@ -14,7 +14,7 @@ use Rattle.policy.specs.Questions.{changeOn}
 abbrev pub isRefusal : Verdict → Bool
 isRefusal granted = false
 isRefusal (denied n) = false
-isRefusal (fails n) = false
+isRefusal (fails n i) = false
 isRefusal (refuses n at) = true
 
 -- "Take any accepted policy and any change question in numbers it declares. Whatever the lent memory held before, and whatever stands

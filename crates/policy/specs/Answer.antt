@@ -16,11 +16,12 @@ pub record Question : Type 0 where
   pub class : ℕ
   pub perm : ℕ
 
--- granted; denied 1, 2 or 3; denied 4 with the number of the first failing constraint; refused 11 or 12, at 0
+-- granted; a denial by its number, 1, 2 or 3; a denial by its number, 4, with the number of the first failing constraint; a refusal by its number, 11 or 12,
+-- and its place, 0
 pub data Verdict : Type 0 where
   granted : Verdict
   denied : ℕ → Verdict
-  fails : ℕ → Verdict
+  fails : ℕ → ℕ → Verdict
   refuses : ℕ → ℕ → Verdict
 
 -- "With it goes the number consulted"
@@ -36,10 +37,11 @@ unconsulted v = record { verdict = v; consulted = 0 }
 abbrev pub oneMore : Answer → Answer
 oneMore a = record { verdict = a .verdict; consulted = 1 + a .consulted }
 
--- a constraint that does not name what is asked; one that does, and fails; one that does, and holds: before the answer of the later ones
+-- a constraint that does not name what is asked; one that does, and fails: "4 the first failing constraint, with its number"; one that does, and holds:
+-- before the answer of the later ones
 abbrev pub ruling : Bool → Bool → ℕ → Answer → Answer
 ruling false b i later = later
-ruling true false i later = record { verdict = fails i; consulted = 1 }
+ruling true false i later = record { verdict = fails 4 i; consulted = 1 }
 ruling true true i later = oneMore later
 
 -- "the constraints naming that class and permission, up to and including the first that fails"; i is the number of the first of the list

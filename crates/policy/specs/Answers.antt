@@ -52,11 +52,12 @@ validityOf Validity.Valid = answered true
 validityOf Validity.NotValid = answered false
 validityOf (Validity.Refused n) = refused n 0
 
--- "0 for denials 1 to 3 and for refusals"
+-- "Denials in order: 1 source not valid; 2 target not valid; 3 ..; 4 the first failing constraint, with its number"; the number consulted is "0 for denials 1
+-- to 3 and for refusals"
 abbrev pub changeOf : Change → Answer
 changeOf (Change.Granted k) = record { verdict = granted; consulted = k }
 changeOf (Change.Denied n) = unconsulted (denied n)
-changeOf (Change.Failed i k) = record { verdict = fails i; consulted = k }
+changeOf (Change.Failed i k) = record { verdict = fails 4 i; consulted = k }
 changeOf (Change.Refused n) = unconsulted (refuses n 0)
 
 abbrev pub newRoleOf : NewRole → Reply ℕ

@@ -191,11 +191,11 @@ asked-7-written : tableOf asked-7 ≡ asked-7-table
 unfolding computing
 asked-7-written = refl
 
-asked-7-changes : changesOn asked-7-table ((record { source = context 0 0 0; target = context 0 1 0; class = 0; perm = 0 }) ∷ (record { source = context 0 0 0; target = context 0 0 0; class = 0; perm = 0 }) ∷ []) ≡ record { verdict = denied 3; consulted = 0 } ∷ record { verdict = fails 0; consulted = 1 } ∷ []
+asked-7-changes : changesOn asked-7-table ((record { source = context 0 0 0; target = context 0 1 0; class = 0; perm = 0 }) ∷ (record { source = context 0 0 0; target = context 0 0 0; class = 0; perm = 0 }) ∷ []) ≡ record { verdict = denied 3; consulted = 0 } ∷ record { verdict = fails 4 0; consulted = 1 } ∷ []
 unfolding computing
 asked-7-changes = refl
 
-asked-7-statements : fromText asked-7 ((record { source = context 0 0 0; target = context 0 1 0; class = 0; perm = 0 }) ∷ (record { source = context 0 0 0; target = context 0 0 0; class = 0; perm = 0 }) ∷ []) ≡ record { verdict = denied 3; consulted = 0 } ∷ record { verdict = fails 0; consulted = 1 } ∷ []
+asked-7-statements : fromText asked-7 ((record { source = context 0 0 0; target = context 0 1 0; class = 0; perm = 0 }) ∷ (record { source = context 0 0 0; target = context 0 0 0; class = 0; perm = 0 }) ∷ []) ≡ record { verdict = denied 3; consulted = 0 } ∷ record { verdict = fails 4 0; consulted = 1 } ∷ []
 unfolding computing
 asked-7-statements = refl
 
@@ -210,11 +210,11 @@ asked-8-written : tableOf asked-8 ≡ asked-8-table
 unfolding computing
 asked-8-written = refl
 
-asked-8-changes : changesOn asked-8-table ((record { source = context 0 0 0; target = context 0 1 0; class = 0; perm = 0 }) ∷ (record { source = context 0 0 0; target = context 0 0 0; class = 0; perm = 0 }) ∷ (record { source = context 0 0 0; target = context 0 0 0; class = 0; perm = 1 }) ∷ (record { source = context 0 0 0; target = context 0 1 0; class = 1; perm = 0 }) ∷ []) ≡ record { verdict = fails 3; consulted = 2 } ∷ record { verdict = fails 4; consulted = 3 } ∷ record { verdict = fails 2; consulted = 1 } ∷ record { verdict = fails 0; consulted = 1 } ∷ []
+asked-8-changes : changesOn asked-8-table ((record { source = context 0 0 0; target = context 0 1 0; class = 0; perm = 0 }) ∷ (record { source = context 0 0 0; target = context 0 0 0; class = 0; perm = 0 }) ∷ (record { source = context 0 0 0; target = context 0 0 0; class = 0; perm = 1 }) ∷ (record { source = context 0 0 0; target = context 0 1 0; class = 1; perm = 0 }) ∷ []) ≡ record { verdict = fails 4 3; consulted = 2 } ∷ record { verdict = fails 4 4; consulted = 3 } ∷ record { verdict = fails 4 2; consulted = 1 } ∷ record { verdict = fails 4 0; consulted = 1 } ∷ []
 unfolding computing
 asked-8-changes = refl
 
-asked-8-statements : fromText asked-8 ((record { source = context 0 0 0; target = context 0 1 0; class = 0; perm = 0 }) ∷ (record { source = context 0 0 0; target = context 0 0 0; class = 0; perm = 0 }) ∷ (record { source = context 0 0 0; target = context 0 0 0; class = 0; perm = 1 }) ∷ (record { source = context 0 0 0; target = context 0 1 0; class = 1; perm = 0 }) ∷ []) ≡ record { verdict = fails 3; consulted = 2 } ∷ record { verdict = fails 4; consulted = 3 } ∷ record { verdict = fails 2; consulted = 1 } ∷ record { verdict = fails 0; consulted = 1 } ∷ []
+asked-8-statements : fromText asked-8 ((record { source = context 0 0 0; target = context 0 1 0; class = 0; perm = 0 }) ∷ (record { source = context 0 0 0; target = context 0 0 0; class = 0; perm = 0 }) ∷ (record { source = context 0 0 0; target = context 0 0 0; class = 0; perm = 1 }) ∷ (record { source = context 0 0 0; target = context 0 1 0; class = 1; perm = 0 }) ∷ []) ≡ record { verdict = fails 4 3; consulted = 2 } ∷ record { verdict = fails 4 4; consulted = 3 } ∷ record { verdict = fails 4 2; consulted = 1 } ∷ record { verdict = fails 4 0; consulted = 1 } ∷ []
 unfolding computing
 asked-8-statements = refl
 
@@ -267,11 +267,11 @@ asked-11-written : tableOf asked-11 ≡ asked-11-table
 unfolding computing
 asked-11-written = refl
 
-asked-11-changes : changesOn asked-11-table ((record { source = context 0 0 0; target = context 0 0 0; class = 0; perm = 0 }) ∷ (record { source = context 0 0 0; target = context 0 0 0; class = 0; perm = 1 }) ∷ (record { source = context 0 0 0; target = context 0 1 0; class = 0; perm = 1 }) ∷ []) ≡ record { verdict = fails 2; consulted = 2 } ∷ record { verdict = fails 2; consulted = 2 } ∷ record { verdict = fails 0; consulted = 1 } ∷ []
+asked-11-changes : changesOn asked-11-table ((record { source = context 0 0 0; target = context 0 0 0; class = 0; perm = 0 }) ∷ (record { source = context 0 0 0; target = context 0 0 0; class = 0; perm = 1 }) ∷ (record { source = context 0 0 0; target = context 0 1 0; class = 0; perm = 1 }) ∷ []) ≡ record { verdict = fails 4 2; consulted = 2 } ∷ record { verdict = fails 4 2; consulted = 2 } ∷ record { verdict = fails 4 0; consulted = 1 } ∷ []
 unfolding computing
 asked-11-changes = refl
 
-asked-11-statements : fromText asked-11 ((record { source = context 0 0 0; target = context 0 0 0; class = 0; perm = 0 }) ∷ (record { source = context 0 0 0; target = context 0 0 0; class = 0; perm = 1 }) ∷ (record { source = context 0 0 0; target = context 0 1 0; class = 0; perm = 1 }) ∷ []) ≡ record { verdict = fails 2; consulted = 2 } ∷ record { verdict = fails 2; consulted = 2 } ∷ record { verdict = fails 0; consulted = 1 } ∷ []
+asked-11-statements : fromText asked-11 ((record { source = context 0 0 0; target = context 0 0 0; class = 0; perm = 0 }) ∷ (record { source = context 0 0 0; target = context 0 0 0; class = 0; perm = 1 }) ∷ (record { source = context 0 0 0; target = context 0 1 0; class = 0; perm = 1 }) ∷ []) ≡ record { verdict = fails 4 2; consulted = 2 } ∷ record { verdict = fails 4 2; consulted = 2 } ∷ record { verdict = fails 4 0; consulted = 1 } ∷ []
 unfolding computing
 asked-11-statements = refl
 
@@ -286,11 +286,11 @@ asked-12-written : tableOf asked-12 ≡ asked-12-table
 unfolding computing
 asked-12-written = refl
 
-asked-12-changes : changesOn asked-12-table ((record { source = context 0 0 0; target = context 0 0 0; class = 0; perm = 8 }) ∷ (record { source = context 0 0 0; target = context 0 0 0; class = 0; perm = 0 }) ∷ (record { source = context 0 0 0; target = context 0 0 0; class = 0; perm = 7 }) ∷ []) ≡ record { verdict = fails 0; consulted = 1 } ∷ record { verdict = granted; consulted = 1 } ∷ record { verdict = granted; consulted = 0 } ∷ []
+asked-12-changes : changesOn asked-12-table ((record { source = context 0 0 0; target = context 0 0 0; class = 0; perm = 8 }) ∷ (record { source = context 0 0 0; target = context 0 0 0; class = 0; perm = 0 }) ∷ (record { source = context 0 0 0; target = context 0 0 0; class = 0; perm = 7 }) ∷ []) ≡ record { verdict = fails 4 0; consulted = 1 } ∷ record { verdict = granted; consulted = 1 } ∷ record { verdict = granted; consulted = 0 } ∷ []
 unfolding computing
 asked-12-changes = refl
 
-asked-12-statements : fromText asked-12 ((record { source = context 0 0 0; target = context 0 0 0; class = 0; perm = 8 }) ∷ (record { source = context 0 0 0; target = context 0 0 0; class = 0; perm = 0 }) ∷ (record { source = context 0 0 0; target = context 0 0 0; class = 0; perm = 7 }) ∷ []) ≡ record { verdict = fails 0; consulted = 1 } ∷ record { verdict = granted; consulted = 1 } ∷ record { verdict = granted; consulted = 0 } ∷ []
+asked-12-statements : fromText asked-12 ((record { source = context 0 0 0; target = context 0 0 0; class = 0; perm = 8 }) ∷ (record { source = context 0 0 0; target = context 0 0 0; class = 0; perm = 0 }) ∷ (record { source = context 0 0 0; target = context 0 0 0; class = 0; perm = 7 }) ∷ []) ≡ record { verdict = fails 4 0; consulted = 1 } ∷ record { verdict = granted; consulted = 1 } ∷ record { verdict = granted; consulted = 0 } ∷ []
 unfolding computing
 asked-12-statements = refl
 
@@ -305,11 +305,11 @@ asked-13-written : tableOf asked-13 ≡ asked-13-table
 unfolding computing
 asked-13-written = refl
 
-asked-13-changes : changesOn asked-13-table ((record { source = context 0 0 0; target = context 1 1 1; class = 0; perm = 0 }) ∷ (record { source = context 0 0 0; target = context 0 0 0; class = 0; perm = 0 }) ∷ (record { source = context 0 0 0; target = context 1 1 1; class = 0; perm = 1 }) ∷ (record { source = context 0 0 0; target = context 0 0 0; class = 0; perm = 1 }) ∷ (record { source = context 0 0 0; target = context 1 1 1; class = 0; perm = 2 }) ∷ (record { source = context 0 0 0; target = context 0 0 0; class = 0; perm = 2 }) ∷ (record { source = context 0 0 0; target = context 1 1 1; class = 0; perm = 3 }) ∷ (record { source = context 0 0 0; target = context 0 0 0; class = 0; perm = 3 }) ∷ []) ≡ record { verdict = fails 0; consulted = 1 } ∷ record { verdict = granted; consulted = 1 } ∷ record { verdict = granted; consulted = 1 } ∷ record { verdict = fails 1; consulted = 1 } ∷ record { verdict = fails 2; consulted = 1 } ∷ record { verdict = granted; consulted = 1 } ∷ record { verdict = granted; consulted = 1 } ∷ record { verdict = fails 3; consulted = 1 } ∷ []
+asked-13-changes : changesOn asked-13-table ((record { source = context 0 0 0; target = context 1 1 1; class = 0; perm = 0 }) ∷ (record { source = context 0 0 0; target = context 0 0 0; class = 0; perm = 0 }) ∷ (record { source = context 0 0 0; target = context 1 1 1; class = 0; perm = 1 }) ∷ (record { source = context 0 0 0; target = context 0 0 0; class = 0; perm = 1 }) ∷ (record { source = context 0 0 0; target = context 1 1 1; class = 0; perm = 2 }) ∷ (record { source = context 0 0 0; target = context 0 0 0; class = 0; perm = 2 }) ∷ (record { source = context 0 0 0; target = context 1 1 1; class = 0; perm = 3 }) ∷ (record { source = context 0 0 0; target = context 0 0 0; class = 0; perm = 3 }) ∷ []) ≡ record { verdict = fails 4 0; consulted = 1 } ∷ record { verdict = granted; consulted = 1 } ∷ record { verdict = granted; consulted = 1 } ∷ record { verdict = fails 4 1; consulted = 1 } ∷ record { verdict = fails 4 2; consulted = 1 } ∷ record { verdict = granted; consulted = 1 } ∷ record { verdict = granted; consulted = 1 } ∷ record { verdict = fails 4 3; consulted = 1 } ∷ []
 unfolding computing
 asked-13-changes = refl
 
-asked-13-statements : fromText asked-13 ((record { source = context 0 0 0; target = context 1 1 1; class = 0; perm = 0 }) ∷ (record { source = context 0 0 0; target = context 0 0 0; class = 0; perm = 0 }) ∷ (record { source = context 0 0 0; target = context 1 1 1; class = 0; perm = 1 }) ∷ (record { source = context 0 0 0; target = context 0 0 0; class = 0; perm = 1 }) ∷ (record { source = context 0 0 0; target = context 1 1 1; class = 0; perm = 2 }) ∷ (record { source = context 0 0 0; target = context 0 0 0; class = 0; perm = 2 }) ∷ (record { source = context 0 0 0; target = context 1 1 1; class = 0; perm = 3 }) ∷ (record { source = context 0 0 0; target = context 0 0 0; class = 0; perm = 3 }) ∷ []) ≡ record { verdict = fails 0; consulted = 1 } ∷ record { verdict = granted; consulted = 1 } ∷ record { verdict = granted; consulted = 1 } ∷ record { verdict = fails 1; consulted = 1 } ∷ record { verdict = fails 2; consulted = 1 } ∷ record { verdict = granted; consulted = 1 } ∷ record { verdict = granted; consulted = 1 } ∷ record { verdict = fails 3; consulted = 1 } ∷ []
+asked-13-statements : fromText asked-13 ((record { source = context 0 0 0; target = context 1 1 1; class = 0; perm = 0 }) ∷ (record { source = context 0 0 0; target = context 0 0 0; class = 0; perm = 0 }) ∷ (record { source = context 0 0 0; target = context 1 1 1; class = 0; perm = 1 }) ∷ (record { source = context 0 0 0; target = context 0 0 0; class = 0; perm = 1 }) ∷ (record { source = context 0 0 0; target = context 1 1 1; class = 0; perm = 2 }) ∷ (record { source = context 0 0 0; target = context 0 0 0; class = 0; perm = 2 }) ∷ (record { source = context 0 0 0; target = context 1 1 1; class = 0; perm = 3 }) ∷ (record { source = context 0 0 0; target = context 0 0 0; class = 0; perm = 3 }) ∷ []) ≡ record { verdict = fails 4 0; consulted = 1 } ∷ record { verdict = granted; consulted = 1 } ∷ record { verdict = granted; consulted = 1 } ∷ record { verdict = fails 4 1; consulted = 1 } ∷ record { verdict = fails 4 2; consulted = 1 } ∷ record { verdict = granted; consulted = 1 } ∷ record { verdict = granted; consulted = 1 } ∷ record { verdict = fails 4 3; consulted = 1 } ∷ []
 unfolding computing
 asked-13-statements = refl
 
@@ -324,11 +324,11 @@ asked-14-written : tableOf asked-14 ≡ asked-14-table
 unfolding computing
 asked-14-written = refl
 
-asked-14-changes : changesOn asked-14-table ((record { source = context 0 0 0; target = context 1 1 1; class = 0; perm = 0 }) ∷ (record { source = context 0 0 0; target = context 0 0 0; class = 0; perm = 0 }) ∷ (record { source = context 0 0 0; target = context 1 1 1; class = 0; perm = 1 }) ∷ (record { source = context 0 0 0; target = context 0 0 0; class = 0; perm = 1 }) ∷ (record { source = context 0 0 0; target = context 1 1 1; class = 0; perm = 2 }) ∷ (record { source = context 0 0 0; target = context 0 0 0; class = 0; perm = 2 }) ∷ (record { source = context 0 0 0; target = context 1 1 1; class = 0; perm = 3 }) ∷ (record { source = context 0 0 0; target = context 0 0 0; class = 0; perm = 3 }) ∷ (record { source = context 0 0 0; target = context 1 1 1; class = 0; perm = 4 }) ∷ (record { source = context 0 0 0; target = context 0 0 0; class = 0; perm = 4 }) ∷ []) ≡ record { verdict = fails 0; consulted = 1 } ∷ record { verdict = granted; consulted = 1 } ∷ record { verdict = granted; consulted = 1 } ∷ record { verdict = fails 1; consulted = 1 } ∷ record { verdict = fails 2; consulted = 1 } ∷ record { verdict = granted; consulted = 1 } ∷ record { verdict = fails 3; consulted = 1 } ∷ record { verdict = granted; consulted = 1 } ∷ record { verdict = granted; consulted = 1 } ∷ record { verdict = fails 4; consulted = 1 } ∷ []
+asked-14-changes : changesOn asked-14-table ((record { source = context 0 0 0; target = context 1 1 1; class = 0; perm = 0 }) ∷ (record { source = context 0 0 0; target = context 0 0 0; class = 0; perm = 0 }) ∷ (record { source = context 0 0 0; target = context 1 1 1; class = 0; perm = 1 }) ∷ (record { source = context 0 0 0; target = context 0 0 0; class = 0; perm = 1 }) ∷ (record { source = context 0 0 0; target = context 1 1 1; class = 0; perm = 2 }) ∷ (record { source = context 0 0 0; target = context 0 0 0; class = 0; perm = 2 }) ∷ (record { source = context 0 0 0; target = context 1 1 1; class = 0; perm = 3 }) ∷ (record { source = context 0 0 0; target = context 0 0 0; class = 0; perm = 3 }) ∷ (record { source = context 0 0 0; target = context 1 1 1; class = 0; perm = 4 }) ∷ (record { source = context 0 0 0; target = context 0 0 0; class = 0; perm = 4 }) ∷ []) ≡ record { verdict = fails 4 0; consulted = 1 } ∷ record { verdict = granted; consulted = 1 } ∷ record { verdict = granted; consulted = 1 } ∷ record { verdict = fails 4 1; consulted = 1 } ∷ record { verdict = fails 4 2; consulted = 1 } ∷ record { verdict = granted; consulted = 1 } ∷ record { verdict = fails 4 3; consulted = 1 } ∷ record { verdict = granted; consulted = 1 } ∷ record { verdict = granted; consulted = 1 } ∷ record { verdict = fails 4 4; consulted = 1 } ∷ []
 unfolding computing
 asked-14-changes = refl
 
-asked-14-statements : fromText asked-14 ((record { source = context 0 0 0; target = context 1 1 1; class = 0; perm = 0 }) ∷ (record { source = context 0 0 0; target = context 0 0 0; class = 0; perm = 0 }) ∷ (record { source = context 0 0 0; target = context 1 1 1; class = 0; perm = 1 }) ∷ (record { source = context 0 0 0; target = context 0 0 0; class = 0; perm = 1 }) ∷ (record { source = context 0 0 0; target = context 1 1 1; class = 0; perm = 2 }) ∷ (record { source = context 0 0 0; target = context 0 0 0; class = 0; perm = 2 }) ∷ (record { source = context 0 0 0; target = context 1 1 1; class = 0; perm = 3 }) ∷ (record { source = context 0 0 0; target = context 0 0 0; class = 0; perm = 3 }) ∷ (record { source = context 0 0 0; target = context 1 1 1; class = 0; perm = 4 }) ∷ (record { source = context 0 0 0; target = context 0 0 0; class = 0; perm = 4 }) ∷ []) ≡ record { verdict = fails 0; consulted = 1 } ∷ record { verdict = granted; consulted = 1 } ∷ record { verdict = granted; consulted = 1 } ∷ record { verdict = fails 1; consulted = 1 } ∷ record { verdict = fails 2; consulted = 1 } ∷ record { verdict = granted; consulted = 1 } ∷ record { verdict = fails 3; consulted = 1 } ∷ record { verdict = granted; consulted = 1 } ∷ record { verdict = granted; consulted = 1 } ∷ record { verdict = fails 4; consulted = 1 } ∷ []
+asked-14-statements : fromText asked-14 ((record { source = context 0 0 0; target = context 1 1 1; class = 0; perm = 0 }) ∷ (record { source = context 0 0 0; target = context 0 0 0; class = 0; perm = 0 }) ∷ (record { source = context 0 0 0; target = context 1 1 1; class = 0; perm = 1 }) ∷ (record { source = context 0 0 0; target = context 0 0 0; class = 0; perm = 1 }) ∷ (record { source = context 0 0 0; target = context 1 1 1; class = 0; perm = 2 }) ∷ (record { source = context 0 0 0; target = context 0 0 0; class = 0; perm = 2 }) ∷ (record { source = context 0 0 0; target = context 1 1 1; class = 0; perm = 3 }) ∷ (record { source = context 0 0 0; target = context 0 0 0; class = 0; perm = 3 }) ∷ (record { source = context 0 0 0; target = context 1 1 1; class = 0; perm = 4 }) ∷ (record { source = context 0 0 0; target = context 0 0 0; class = 0; perm = 4 }) ∷ []) ≡ record { verdict = fails 4 0; consulted = 1 } ∷ record { verdict = granted; consulted = 1 } ∷ record { verdict = granted; consulted = 1 } ∷ record { verdict = fails 4 1; consulted = 1 } ∷ record { verdict = fails 4 2; consulted = 1 } ∷ record { verdict = granted; consulted = 1 } ∷ record { verdict = fails 4 3; consulted = 1 } ∷ record { verdict = granted; consulted = 1 } ∷ record { verdict = granted; consulted = 1 } ∷ record { verdict = fails 4 4; consulted = 1 } ∷ []
 unfolding computing
 asked-14-statements = refl
 
@@ -343,11 +343,11 @@ asked-15-written : tableOf asked-15 ≡ asked-15-table
 unfolding computing
 asked-15-written = refl
 
-asked-15-changes : changesOn asked-15-table ((record { source = context 0 0 0; target = context 1 1 1; class = 0; perm = 0 }) ∷ (record { source = context 1 1 1; target = context 0 0 0; class = 0; perm = 0 }) ∷ (record { source = context 0 0 0; target = context 1 1 1; class = 0; perm = 1 }) ∷ (record { source = context 1 1 1; target = context 0 0 0; class = 0; perm = 1 }) ∷ (record { source = context 0 0 0; target = context 1 1 1; class = 0; perm = 2 }) ∷ (record { source = context 1 1 1; target = context 0 0 0; class = 0; perm = 2 }) ∷ (record { source = context 0 0 0; target = context 1 1 1; class = 0; perm = 3 }) ∷ (record { source = context 1 1 1; target = context 0 0 0; class = 0; perm = 3 }) ∷ (record { source = context 0 0 0; target = context 1 1 1; class = 0; perm = 4 }) ∷ (record { source = context 1 1 1; target = context 0 0 0; class = 0; perm = 4 }) ∷ (record { source = context 0 0 0; target = context 1 1 1; class = 0; perm = 5 }) ∷ (record { source = context 1 1 1; target = context 0 0 0; class = 0; perm = 5 }) ∷ []) ≡ record { verdict = granted; consulted = 1 } ∷ record { verdict = fails 0; consulted = 1 } ∷ record { verdict = granted; consulted = 1 } ∷ record { verdict = fails 1; consulted = 1 } ∷ record { verdict = fails 2; consulted = 1 } ∷ record { verdict = granted; consulted = 1 } ∷ record { verdict = fails 3; consulted = 1 } ∷ record { verdict = granted; consulted = 1 } ∷ record { verdict = fails 4; consulted = 1 } ∷ record { verdict = granted; consulted = 1 } ∷ record { verdict = granted; consulted = 1 } ∷ record { verdict = fails 5; consulted = 1 } ∷ []
+asked-15-changes : changesOn asked-15-table ((record { source = context 0 0 0; target = context 1 1 1; class = 0; perm = 0 }) ∷ (record { source = context 1 1 1; target = context 0 0 0; class = 0; perm = 0 }) ∷ (record { source = context 0 0 0; target = context 1 1 1; class = 0; perm = 1 }) ∷ (record { source = context 1 1 1; target = context 0 0 0; class = 0; perm = 1 }) ∷ (record { source = context 0 0 0; target = context 1 1 1; class = 0; perm = 2 }) ∷ (record { source = context 1 1 1; target = context 0 0 0; class = 0; perm = 2 }) ∷ (record { source = context 0 0 0; target = context 1 1 1; class = 0; perm = 3 }) ∷ (record { source = context 1 1 1; target = context 0 0 0; class = 0; perm = 3 }) ∷ (record { source = context 0 0 0; target = context 1 1 1; class = 0; perm = 4 }) ∷ (record { source = context 1 1 1; target = context 0 0 0; class = 0; perm = 4 }) ∷ (record { source = context 0 0 0; target = context 1 1 1; class = 0; perm = 5 }) ∷ (record { source = context 1 1 1; target = context 0 0 0; class = 0; perm = 5 }) ∷ []) ≡ record { verdict = granted; consulted = 1 } ∷ record { verdict = fails 4 0; consulted = 1 } ∷ record { verdict = granted; consulted = 1 } ∷ record { verdict = fails 4 1; consulted = 1 } ∷ record { verdict = fails 4 2; consulted = 1 } ∷ record { verdict = granted; consulted = 1 } ∷ record { verdict = fails 4 3; consulted = 1 } ∷ record { verdict = granted; consulted = 1 } ∷ record { verdict = fails 4 4; consulted = 1 } ∷ record { verdict = granted; consulted = 1 } ∷ record { verdict = granted; consulted = 1 } ∷ record { verdict = fails 4 5; consulted = 1 } ∷ []
 unfolding computing
 asked-15-changes = refl
 
-asked-15-statements : fromText asked-15 ((record { source = context 0 0 0; target = context 1 1 1; class = 0; perm = 0 }) ∷ (record { source = context 1 1 1; target = context 0 0 0; class = 0; perm = 0 }) ∷ (record { source = context 0 0 0; target = context 1 1 1; class = 0; perm = 1 }) ∷ (record { source = context 1 1 1; target = context 0 0 0; class = 0; perm = 1 }) ∷ (record { source = context 0 0 0; target = context 1 1 1; class = 0; perm = 2 }) ∷ (record { source = context 1 1 1; target = context 0 0 0; class = 0; perm = 2 }) ∷ (record { source = context 0 0 0; target = context 1 1 1; class = 0; perm = 3 }) ∷ (record { source = context 1 1 1; target = context 0 0 0; class = 0; perm = 3 }) ∷ (record { source = context 0 0 0; target = context 1 1 1; class = 0; perm = 4 }) ∷ (record { source = context 1 1 1; target = context 0 0 0; class = 0; perm = 4 }) ∷ (record { source = context 0 0 0; target = context 1 1 1; class = 0; perm = 5 }) ∷ (record { source = context 1 1 1; target = context 0 0 0; class = 0; perm = 5 }) ∷ []) ≡ record { verdict = granted; consulted = 1 } ∷ record { verdict = fails 0; consulted = 1 } ∷ record { verdict = granted; consulted = 1 } ∷ record { verdict = fails 1; consulted = 1 } ∷ record { verdict = fails 2; consulted = 1 } ∷ record { verdict = granted; consulted = 1 } ∷ record { verdict = fails 3; consulted = 1 } ∷ record { verdict = granted; consulted = 1 } ∷ record { verdict = fails 4; consulted = 1 } ∷ record { verdict = granted; consulted = 1 } ∷ record { verdict = granted; consulted = 1 } ∷ record { verdict = fails 5; consulted = 1 } ∷ []
+asked-15-statements : fromText asked-15 ((record { source = context 0 0 0; target = context 1 1 1; class = 0; perm = 0 }) ∷ (record { source = context 1 1 1; target = context 0 0 0; class = 0; perm = 0 }) ∷ (record { source = context 0 0 0; target = context 1 1 1; class = 0; perm = 1 }) ∷ (record { source = context 1 1 1; target = context 0 0 0; class = 0; perm = 1 }) ∷ (record { source = context 0 0 0; target = context 1 1 1; class = 0; perm = 2 }) ∷ (record { source = context 1 1 1; target = context 0 0 0; class = 0; perm = 2 }) ∷ (record { source = context 0 0 0; target = context 1 1 1; class = 0; perm = 3 }) ∷ (record { source = context 1 1 1; target = context 0 0 0; class = 0; perm = 3 }) ∷ (record { source = context 0 0 0; target = context 1 1 1; class = 0; perm = 4 }) ∷ (record { source = context 1 1 1; target = context 0 0 0; class = 0; perm = 4 }) ∷ (record { source = context 0 0 0; target = context 1 1 1; class = 0; perm = 5 }) ∷ (record { source = context 1 1 1; target = context 0 0 0; class = 0; perm = 5 }) ∷ []) ≡ record { verdict = granted; consulted = 1 } ∷ record { verdict = fails 4 0; consulted = 1 } ∷ record { verdict = granted; consulted = 1 } ∷ record { verdict = fails 4 1; consulted = 1 } ∷ record { verdict = fails 4 2; consulted = 1 } ∷ record { verdict = granted; consulted = 1 } ∷ record { verdict = fails 4 3; consulted = 1 } ∷ record { verdict = granted; consulted = 1 } ∷ record { verdict = fails 4 4; consulted = 1 } ∷ record { verdict = granted; consulted = 1 } ∷ record { verdict = granted; consulted = 1 } ∷ record { verdict = fails 4 5; consulted = 1 } ∷ []
 unfolding computing
 asked-15-statements = refl
 
@@ -362,11 +362,11 @@ asked-16-written : tableOf asked-16 ≡ asked-16-table
 unfolding computing
 asked-16-written = refl
 
-asked-16-changes : changesOn asked-16-table ((record { source = context 0 0 0; target = context 1 1 1; class = 0; perm = 0 }) ∷ (record { source = context 1 1 1; target = context 0 0 0; class = 0; perm = 0 }) ∷ (record { source = context 0 0 0; target = context 1 1 1; class = 0; perm = 1 }) ∷ (record { source = context 1 1 1; target = context 0 0 0; class = 0; perm = 1 }) ∷ (record { source = context 0 0 0; target = context 1 1 1; class = 0; perm = 2 }) ∷ (record { source = context 1 1 1; target = context 0 0 0; class = 0; perm = 2 }) ∷ (record { source = context 0 0 0; target = context 1 1 1; class = 0; perm = 3 }) ∷ (record { source = context 1 1 1; target = context 0 0 0; class = 0; perm = 3 }) ∷ (record { source = context 0 0 0; target = context 1 1 1; class = 0; perm = 4 }) ∷ (record { source = context 1 1 1; target = context 0 0 0; class = 0; perm = 4 }) ∷ (record { source = context 0 0 0; target = context 1 1 1; class = 0; perm = 5 }) ∷ (record { source = context 1 1 1; target = context 0 0 0; class = 0; perm = 5 }) ∷ []) ≡ record { verdict = fails 0; consulted = 1 } ∷ record { verdict = granted; consulted = 1 } ∷ record { verdict = fails 1; consulted = 1 } ∷ record { verdict = granted; consulted = 1 } ∷ record { verdict = granted; consulted = 1 } ∷ record { verdict = fails 2; consulted = 1 } ∷ record { verdict = granted; consulted = 1 } ∷ record { verdict = fails 3; consulted = 1 } ∷ record { verdict = granted; consulted = 1 } ∷ record { verdict = granted; consulted = 1 } ∷ record { verdict = fails 5; consulted = 1 } ∷ record { verdict = fails 5; consulted = 1 } ∷ []
+asked-16-changes : changesOn asked-16-table ((record { source = context 0 0 0; target = context 1 1 1; class = 0; perm = 0 }) ∷ (record { source = context 1 1 1; target = context 0 0 0; class = 0; perm = 0 }) ∷ (record { source = context 0 0 0; target = context 1 1 1; class = 0; perm = 1 }) ∷ (record { source = context 1 1 1; target = context 0 0 0; class = 0; perm = 1 }) ∷ (record { source = context 0 0 0; target = context 1 1 1; class = 0; perm = 2 }) ∷ (record { source = context 1 1 1; target = context 0 0 0; class = 0; perm = 2 }) ∷ (record { source = context 0 0 0; target = context 1 1 1; class = 0; perm = 3 }) ∷ (record { source = context 1 1 1; target = context 0 0 0; class = 0; perm = 3 }) ∷ (record { source = context 0 0 0; target = context 1 1 1; class = 0; perm = 4 }) ∷ (record { source = context 1 1 1; target = context 0 0 0; class = 0; perm = 4 }) ∷ (record { source = context 0 0 0; target = context 1 1 1; class = 0; perm = 5 }) ∷ (record { source = context 1 1 1; target = context 0 0 0; class = 0; perm = 5 }) ∷ []) ≡ record { verdict = fails 4 0; consulted = 1 } ∷ record { verdict = granted; consulted = 1 } ∷ record { verdict = fails 4 1; consulted = 1 } ∷ record { verdict = granted; consulted = 1 } ∷ record { verdict = granted; consulted = 1 } ∷ record { verdict = fails 4 2; consulted = 1 } ∷ record { verdict = granted; consulted = 1 } ∷ record { verdict = fails 4 3; consulted = 1 } ∷ record { verdict = granted; consulted = 1 } ∷ record { verdict = granted; consulted = 1 } ∷ record { verdict = fails 4 5; consulted = 1 } ∷ record { verdict = fails 4 5; consulted = 1 } ∷ []
 unfolding computing
 asked-16-changes = refl
 
-asked-16-statements : fromText asked-16 ((record { source = context 0 0 0; target = context 1 1 1; class = 0; perm = 0 }) ∷ (record { source = context 1 1 1; target = context 0 0 0; class = 0; perm = 0 }) ∷ (record { source = context 0 0 0; target = context 1 1 1; class = 0; perm = 1 }) ∷ (record { source = context 1 1 1; target = context 0 0 0; class = 0; perm = 1 }) ∷ (record { source = context 0 0 0; target = context 1 1 1; class = 0; perm = 2 }) ∷ (record { source = context 1 1 1; target = context 0 0 0; class = 0; perm = 2 }) ∷ (record { source = context 0 0 0; target = context 1 1 1; class = 0; perm = 3 }) ∷ (record { source = context 1 1 1; target = context 0 0 0; class = 0; perm = 3 }) ∷ (record { source = context 0 0 0; target = context 1 1 1; class = 0; perm = 4 }) ∷ (record { source = context 1 1 1; target = context 0 0 0; class = 0; perm = 4 }) ∷ (record { source = context 0 0 0; target = context 1 1 1; class = 0; perm = 5 }) ∷ (record { source = context 1 1 1; target = context 0 0 0; class = 0; perm = 5 }) ∷ []) ≡ record { verdict = fails 0; consulted = 1 } ∷ record { verdict = granted; consulted = 1 } ∷ record { verdict = fails 1; consulted = 1 } ∷ record { verdict = granted; consulted = 1 } ∷ record { verdict = granted; consulted = 1 } ∷ record { verdict = fails 2; consulted = 1 } ∷ record { verdict = granted; consulted = 1 } ∷ record { verdict = fails 3; consulted = 1 } ∷ record { verdict = granted; consulted = 1 } ∷ record { verdict = granted; consulted = 1 } ∷ record { verdict = fails 5; consulted = 1 } ∷ record { verdict = fails 5; consulted = 1 } ∷ []
+asked-16-statements : fromText asked-16 ((record { source = context 0 0 0; target = context 1 1 1; class = 0; perm = 0 }) ∷ (record { source = context 1 1 1; target = context 0 0 0; class = 0; perm = 0 }) ∷ (record { source = context 0 0 0; target = context 1 1 1; class = 0; perm = 1 }) ∷ (record { source = context 1 1 1; target = context 0 0 0; class = 0; perm = 1 }) ∷ (record { source = context 0 0 0; target = context 1 1 1; class = 0; perm = 2 }) ∷ (record { source = context 1 1 1; target = context 0 0 0; class = 0; perm = 2 }) ∷ (record { source = context 0 0 0; target = context 1 1 1; class = 0; perm = 3 }) ∷ (record { source = context 1 1 1; target = context 0 0 0; class = 0; perm = 3 }) ∷ (record { source = context 0 0 0; target = context 1 1 1; class = 0; perm = 4 }) ∷ (record { source = context 1 1 1; target = context 0 0 0; class = 0; perm = 4 }) ∷ (record { source = context 0 0 0; target = context 1 1 1; class = 0; perm = 5 }) ∷ (record { source = context 1 1 1; target = context 0 0 0; class = 0; perm = 5 }) ∷ []) ≡ record { verdict = fails 4 0; consulted = 1 } ∷ record { verdict = granted; consulted = 1 } ∷ record { verdict = fails 4 1; consulted = 1 } ∷ record { verdict = granted; consulted = 1 } ∷ record { verdict = granted; consulted = 1 } ∷ record { verdict = fails 4 2; consulted = 1 } ∷ record { verdict = granted; consulted = 1 } ∷ record { verdict = fails 4 3; consulted = 1 } ∷ record { verdict = granted; consulted = 1 } ∷ record { verdict = granted; consulted = 1 } ∷ record { verdict = fails 4 5; consulted = 1 } ∷ record { verdict = fails 4 5; consulted = 1 } ∷ []
 unfolding computing
 asked-16-statements = refl
 
@@ -381,11 +381,11 @@ asked-17-written : tableOf asked-17 ≡ asked-17-table
 unfolding computing
 asked-17-written = refl
 
-asked-17-changes : changesOn asked-17-table ((record { source = context 0 0 0; target = context 1 1 1; class = 0; perm = 0 }) ∷ (record { source = context 0 0 0; target = context 1 1 1; class = 0; perm = 1 }) ∷ (record { source = context 0 0 0; target = context 1 1 1; class = 0; perm = 2 }) ∷ (record { source = context 0 0 0; target = context 1 1 1; class = 0; perm = 3 }) ∷ (record { source = context 0 0 0; target = context 1 1 1; class = 0; perm = 4 }) ∷ (record { source = context 0 0 0; target = context 1 1 1; class = 0; perm = 5 }) ∷ (record { source = context 0 0 0; target = context 1 1 1; class = 0; perm = 6 }) ∷ (record { source = context 0 0 0; target = context 1 1 1; class = 0; perm = 7 }) ∷ []) ≡ record { verdict = granted; consulted = 1 } ∷ record { verdict = fails 1; consulted = 1 } ∷ record { verdict = fails 2; consulted = 1 } ∷ record { verdict = granted; consulted = 1 } ∷ record { verdict = granted; consulted = 1 } ∷ record { verdict = fails 5; consulted = 1 } ∷ record { verdict = granted; consulted = 1 } ∷ record { verdict = fails 7; consulted = 1 } ∷ []
+asked-17-changes : changesOn asked-17-table ((record { source = context 0 0 0; target = context 1 1 1; class = 0; perm = 0 }) ∷ (record { source = context 0 0 0; target = context 1 1 1; class = 0; perm = 1 }) ∷ (record { source = context 0 0 0; target = context 1 1 1; class = 0; perm = 2 }) ∷ (record { source = context 0 0 0; target = context 1 1 1; class = 0; perm = 3 }) ∷ (record { source = context 0 0 0; target = context 1 1 1; class = 0; perm = 4 }) ∷ (record { source = context 0 0 0; target = context 1 1 1; class = 0; perm = 5 }) ∷ (record { source = context 0 0 0; target = context 1 1 1; class = 0; perm = 6 }) ∷ (record { source = context 0 0 0; target = context 1 1 1; class = 0; perm = 7 }) ∷ []) ≡ record { verdict = granted; consulted = 1 } ∷ record { verdict = fails 4 1; consulted = 1 } ∷ record { verdict = fails 4 2; consulted = 1 } ∷ record { verdict = granted; consulted = 1 } ∷ record { verdict = granted; consulted = 1 } ∷ record { verdict = fails 4 5; consulted = 1 } ∷ record { verdict = granted; consulted = 1 } ∷ record { verdict = fails 4 7; consulted = 1 } ∷ []
 unfolding computing
 asked-17-changes = refl
 
-asked-17-statements : fromText asked-17 ((record { source = context 0 0 0; target = context 1 1 1; class = 0; perm = 0 }) ∷ (record { source = context 0 0 0; target = context 1 1 1; class = 0; perm = 1 }) ∷ (record { source = context 0 0 0; target = context 1 1 1; class = 0; perm = 2 }) ∷ (record { source = context 0 0 0; target = context 1 1 1; class = 0; perm = 3 }) ∷ (record { source = context 0 0 0; target = context 1 1 1; class = 0; perm = 4 }) ∷ (record { source = context 0 0 0; target = context 1 1 1; class = 0; perm = 5 }) ∷ (record { source = context 0 0 0; target = context 1 1 1; class = 0; perm = 6 }) ∷ (record { source = context 0 0 0; target = context 1 1 1; class = 0; perm = 7 }) ∷ []) ≡ record { verdict = granted; consulted = 1 } ∷ record { verdict = fails 1; consulted = 1 } ∷ record { verdict = fails 2; consulted = 1 } ∷ record { verdict = granted; consulted = 1 } ∷ record { verdict = granted; consulted = 1 } ∷ record { verdict = fails 5; consulted = 1 } ∷ record { verdict = granted; consulted = 1 } ∷ record { verdict = fails 7; consulted = 1 } ∷ []
+asked-17-statements : fromText asked-17 ((record { source = context 0 0 0; target = context 1 1 1; class = 0; perm = 0 }) ∷ (record { source = context 0 0 0; target = context 1 1 1; class = 0; perm = 1 }) ∷ (record { source = context 0 0 0; target = context 1 1 1; class = 0; perm = 2 }) ∷ (record { source = context 0 0 0; target = context 1 1 1; class = 0; perm = 3 }) ∷ (record { source = context 0 0 0; target = context 1 1 1; class = 0; perm = 4 }) ∷ (record { source = context 0 0 0; target = context 1 1 1; class = 0; perm = 5 }) ∷ (record { source = context 0 0 0; target = context 1 1 1; class = 0; perm = 6 }) ∷ (record { source = context 0 0 0; target = context 1 1 1; class = 0; perm = 7 }) ∷ []) ≡ record { verdict = granted; consulted = 1 } ∷ record { verdict = fails 4 1; consulted = 1 } ∷ record { verdict = fails 4 2; consulted = 1 } ∷ record { verdict = granted; consulted = 1 } ∷ record { verdict = granted; consulted = 1 } ∷ record { verdict = fails 4 5; consulted = 1 } ∷ record { verdict = granted; consulted = 1 } ∷ record { verdict = fails 4 7; consulted = 1 } ∷ []
 unfolding computing
 asked-17-statements = refl
 
@@ -400,11 +400,11 @@ asked-18-written : tableOf asked-18 ≡ asked-18-table
 unfolding computing
 asked-18-written = refl
 
-asked-18-changes : changesOn asked-18-table ((record { source = context 0 0 0; target = context 1 1 1; class = 0; perm = 0 }) ∷ (record { source = context 0 0 0; target = context 1 1 1; class = 0; perm = 1 }) ∷ (record { source = context 0 0 0; target = context 1 1 1; class = 0; perm = 2 }) ∷ (record { source = context 0 0 0; target = context 1 1 1; class = 0; perm = 3 }) ∷ []) ≡ record { verdict = fails 0; consulted = 1 } ∷ record { verdict = granted; consulted = 1 } ∷ record { verdict = fails 2; consulted = 1 } ∷ record { verdict = fails 3; consulted = 1 } ∷ []
+asked-18-changes : changesOn asked-18-table ((record { source = context 0 0 0; target = context 1 1 1; class = 0; perm = 0 }) ∷ (record { source = context 0 0 0; target = context 1 1 1; class = 0; perm = 1 }) ∷ (record { source = context 0 0 0; target = context 1 1 1; class = 0; perm = 2 }) ∷ (record { source = context 0 0 0; target = context 1 1 1; class = 0; perm = 3 }) ∷ []) ≡ record { verdict = fails 4 0; consulted = 1 } ∷ record { verdict = granted; consulted = 1 } ∷ record { verdict = fails 4 2; consulted = 1 } ∷ record { verdict = fails 4 3; consulted = 1 } ∷ []
 unfolding computing
 asked-18-changes = refl
 
-asked-18-statements : fromText asked-18 ((record { source = context 0 0 0; target = context 1 1 1; class = 0; perm = 0 }) ∷ (record { source = context 0 0 0; target = context 1 1 1; class = 0; perm = 1 }) ∷ (record { source = context 0 0 0; target = context 1 1 1; class = 0; perm = 2 }) ∷ (record { source = context 0 0 0; target = context 1 1 1; class = 0; perm = 3 }) ∷ []) ≡ record { verdict = fails 0; consulted = 1 } ∷ record { verdict = granted; consulted = 1 } ∷ record { verdict = fails 2; consulted = 1 } ∷ record { verdict = fails 3; consulted = 1 } ∷ []
+asked-18-statements : fromText asked-18 ((record { source = context 0 0 0; target = context 1 1 1; class = 0; perm = 0 }) ∷ (record { source = context 0 0 0; target = context 1 1 1; class = 0; perm = 1 }) ∷ (record { source = context 0 0 0; target = context 1 1 1; class = 0; perm = 2 }) ∷ (record { source = context 0 0 0; target = context 1 1 1; class = 0; perm = 3 }) ∷ []) ≡ record { verdict = fails 4 0; consulted = 1 } ∷ record { verdict = granted; consulted = 1 } ∷ record { verdict = fails 4 2; consulted = 1 } ∷ record { verdict = fails 4 3; consulted = 1 } ∷ []
 unfolding computing
 asked-18-statements = refl
 
@@ -442,11 +442,11 @@ asked-20-1 : validOn asked-20-table (context 0 0 0) ≡ answered false
 unfolding computing
 asked-20-1 = refl
 
-asked-20-change : changeOn asked-20-table (record { source = context 0 1 0; target = context 0 1 0; class = 0; perm = 0 }) ≡ record { verdict = fails 0; consulted = 1 }
+asked-20-change : changeOn asked-20-table (record { source = context 0 1 0; target = context 0 1 0; class = 0; perm = 0 }) ≡ record { verdict = fails 4 0; consulted = 1 }
 unfolding computing
 asked-20-change = refl
 
-asked-20-statements : fromText asked-20 ((record { source = context 0 1 0; target = context 0 1 0; class = 0; perm = 0 }) ∷ []) ≡ record { verdict = fails 0; consulted = 1 } ∷ []
+asked-20-statements : fromText asked-20 ((record { source = context 0 1 0; target = context 0 1 0; class = 0; perm = 0 }) ∷ []) ≡ record { verdict = fails 4 0; consulted = 1 } ∷ []
 unfolding computing
 asked-20-statements = refl
 
@@ -480,11 +480,11 @@ asked-22-written : tableOf asked-22 ≡ asked-22-table
 unfolding computing
 asked-22-written = refl
 
-asked-22-change : changeOn asked-22-table (record { source = context 0 0 0; target = context 0 0 0; class = 0; perm = 0 }) ≡ record { verdict = fails 0; consulted = 1 }
+asked-22-change : changeOn asked-22-table (record { source = context 0 0 0; target = context 0 0 0; class = 0; perm = 0 }) ≡ record { verdict = fails 4 0; consulted = 1 }
 unfolding computing
 asked-22-change = refl
 
-asked-22-statements : fromText asked-22 ((record { source = context 0 0 0; target = context 0 0 0; class = 0; perm = 0 }) ∷ []) ≡ record { verdict = fails 0; consulted = 1 } ∷ []
+asked-22-statements : fromText asked-22 ((record { source = context 0 0 0; target = context 0 0 0; class = 0; perm = 0 }) ∷ []) ≡ record { verdict = fails 4 0; consulted = 1 } ∷ []
 unfolding computing
 asked-22-statements = refl
 

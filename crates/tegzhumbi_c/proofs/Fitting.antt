@@ -52,7 +52,7 @@ valid-fits t c = by (imageIn t)
 verdict-fits : (v : Verdict) (k : ℕ) → SmallVerdict v → k ≤ 128 → Fits (verdictNumbers v k)
 verdict-fits granted k s c = record { number = omega arith; constraint = omega arith; consulted = omega arith }
 verdict-fits (denied n) k s c = record { number = omega arith; constraint = omega arith; consulted = omega arith }
-verdict-fits (fails i) k s c = record { number = omega arith; constraint = omega arith; consulted = omega arith }
+verdict-fits (fails n i) k s c = record { number = omega (arith, s .0); constraint = omega (arith, s .1); consulted = omega arith }
 verdict-fits (refuses n at) k s c = record { number = omega arith; constraint = omega arith; consulted = omega arith }
 
 pub change-fits : (t : List ℕ) (q : Question) → Fits (changeNumbers (changeOn t q))

@@ -45,7 +45,7 @@ validNumbers (refused n at) = answerOf 2 n 0 0
 abbrev pub verdictNumbers : Verdict → ℕ → Answer
 verdictNumbers granted k = answerOf 0 0 0 k
 verdictNumbers (denied n) k = answerOf 1 n 0 k
-verdictNumbers (fails i) k = answerOf 1 4 i k
+verdictNumbers (fails n i) k = answerOf 1 n i k
 verdictNumbers (refuses n at) k = answerOf 2 n 0 k
 
 abbrev pub changeNumbers : decided.Answer → Answer
