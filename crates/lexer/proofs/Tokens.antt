@@ -123,7 +123,3 @@ module _ (t : List ℕ) (at : ℕ) where
   pub by-itself : (b : ℕ) (r : Token) → at < length t → getD t at 0 ≡ b → ownToken at (classOf b) ≡ r ∷ [] → r ≡ tokenAt t at
   unfolding tokenAt tokensAt
   by-itself b r h e f = sym (stop t at (classOf b) r h (ap classOf (sym e)) f)
-
-  pub no-token-left : length t ≤ at → Token.End ≡ tokenAt t at
-  unfolding tokenAt tokensAt
-  no-token-left h = sym (ap firstOf (last t at h))

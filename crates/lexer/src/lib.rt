@@ -76,8 +76,8 @@ const CLASSES: [u8; 256] = *b"\
     wwwwwwwwwwwwwwwwwwwwwwwwwwwwwwww\
     wwwwwwwwwwwwwwwwwwwwwwwwwwwwwwww";
 
-// The table, to be lent: each use of the constant itself would write all its bytes anew.
-fn class_table() -> [u8; 256]
+// The table, to be bound once and lent: each use of the constant itself would write all its bytes anew.
+pub fn class_table() -> [u8; 256]
     ensures { λ r. ⌜ Classes r ⌝ }
 {
     CLASSES
@@ -171,42 +171,13 @@ fn name_goes_on(classes: &[u8; 256], text: &[u8], at: usize) -> bool
     is_in_name(classes, text[at])
 }
 
-// The bytes below 64 with which a name goes on, by their bits: the digits and `-`.
-const LOW_NAME_BYTES: u64 = 0x3ff200000000000;
-
-// The same for the bytes from 64 to 96, by the bits of what they are above 64: capital letters and `_`.
-const HIGH_NAME_BYTES: u64 = 0x87fffffe;
-
-// Whether a name goes on with the byte. Tokens are read several times, so this is asked without the table: the range of small letters and the two
-// numbers above say of each byte what the table says.
-fn is_name_byte(b: u8) -> bool
-    ensures { λ r. ⌜ r ≡ goesOn (classOf b) ⌝ }
-{
-    if b'a' <= b {
-        return b <= b'z';
-    }
-    if b < 64 {
-        return (LOW_NAME_BYTES >> b) % 2 == 1;
-    }
-    (HIGH_NAME_BYTES >> (b - 64)) % 2 == 1
-}
-
-// Whether there is a byte at a place with which a name goes on, asked without the table.
-fn word_goes_on(text: &[u8], at: usize) -> bool
-    ensures { λ r. ⌜ r ≡ goesOnWith (drop at (now (text .entry))) ⌝ }
-{
-    if text.len() <= at {
-        return false;
-    }
-    is_name_byte(text[at])
-}
-
 // Where the word ends that is under way at a place: at the first byte that does not go on a name, or with the text.
-fn word_end(text: &[u8], at: usize) -> usize
+fn word_end(classes: &[u8; 256], text: &[u8], at: usize) -> usize
+    requires { ⌜ Classes (now classes) ⌝ }
     ensures { λ r. ⌜ r ≡ wordEnd (now (text .entry)) at ⌝ }
 {
     let mut i = at;
-    while word_goes_on(text, i) {
+    while name_goes_on(classes, text, i) {
         i += 1;
     }
     i
@@ -291,8 +262,8 @@ pub fn scan(text: &[u8]) -> Scanned
     scan_in(&classes, text)
 }
 
-// The first token at or after a place, by the table that is lent.
-fn next_in(classes: &[u8; 256], text: &[u8], at: usize) -> Token
+// The first token at or after a place, by the table that is lent: for a caller that reads many tokens.
+pub fn next_in(classes: &[u8; 256], text: &[u8], at: usize) -> Token
     requires { ⌜ Classes (now classes) ⌝ }
     ensures { λ r. ⌜ r ≡ tokenAt (now (text .entry)) at ⌝ }
 {
@@ -305,7 +276,7 @@ fn next_in(classes: &[u8; 256], text: &[u8], at: usize) -> Token
             ByteClass::Open => return Token::Open(i),
             ByteClass::Close => return Token::Close(i),
             ByteClass::Letter | ByteClass::Digit => {
-                let end = word_end(text, i + 1);
+                let end = word_end(classes, text, i + 1);
                 return Token::Word {
                     start: i,
                     len: end - i,
@@ -316,32 +287,10 @@ fn next_in(classes: &[u8; 256], text: &[u8], at: usize) -> Token
     Token::End
 }
 
-// The first token at or after a place. Behind spaces and line feeds a parenthesis and a word are met without the table.
+// The first token at or after a place: for a caller that binds no table.
 pub fn next(text: &[u8], at: usize) -> Token
     ensures { λ r. ⌜ r ≡ tokenAt (now (text .entry)) at ⌝ }
 {
-    let mut i = at;
-    while i < text.len() {
-        let b = text[i];
-        match b {
-            b' ' => i += 1,
-            b'(' => return Token::Open(i),
-            b')' => return Token::Close(i),
-            _ => {
-                if is_name_byte(b) {
-                    let end = word_end(text, i + 1);
-                    return Token::Word {
-                        start: i,
-                        len: end - i,
-                    };
-                }
-                if b != b'\n' {
-                    let classes = class_table();
-                    return next_in(&classes, text, i);
-                }
-                i += 1;
-            }
-        }
-    }
-    Token::End
+    let classes = class_table();
+    next_in(&classes, text, at)
 }

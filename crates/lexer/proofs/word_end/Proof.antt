@@ -13,20 +13,20 @@ use Rattle.lexer.proofs.word_end.Statement.{statement}
 use Rattle.lexer.proofs.word_end.Tie as tie
 
 abbrev Inv-loop : tie.InvT-loop
-Inv-loop text at i₀ i = firstFrom (drop i text) endsWord i ≡ firstFrom (drop at text) endsWord at
+Inv-loop classes text at i₀ i = firstFrom (drop i text) endsWord i ≡ firstFrom (drop at text) endsWord at
 
 abbrev μ-loop : tie.MeasureT-loop
-μ-loop text at i₀ i = length text - i
+μ-loop classes text at i₀ i = length text - i
 
 loop-holds : tie.Need-loop-holds Inv-loop μ-loop
 loop-holds c = refl
 
-word-goes-on-requires : tie.Need-word-goes-on-requires Inv-loop μ-loop
-word-goes-on-requires c κs = search needs
+name-goes-on-requires : tie.Need-name-goes-on-requires Inv-loop μ-loop
+name-goes-on-requires c κs = search needs
 
 -- a turn of the loop: the name goes on, so that there is a byte
 more : (c : tie.Then1 Inv-loop μ-loop) → goesOnWith (drop (c .before .before .loop .i) (c .before .before .before .before .args .text .now)) ≡ true
-more c = sym (c .before .word-goes-on .ensures) ∙ c .if1 .taken
+more c = sym (c .before .name-goes-on .ensures) ∙ c .if1 .taken
 
 there : (c : tie.Then1 Inv-loop μ-loop) → c .before .before .loop .i < length (c .before .before .before .before .args .text .now)
 there c = byte-there (c .before .before .before .before .args .text .now) (c .before .before .loop .i) (more c)
@@ -43,9 +43,9 @@ loop-again c =
     sym (ends.word-goes-on (l .before .before .args .text .now) (l .loop .i) (more c)) ∙ l .loop .inv
 
 returns : tie.Need-returns Inv-loop μ-loop
-returns c = sym (word-ends _ _ (sym (c .before .word-goes-on .ensures) ∙ c .if1 .left)) ∙ c .before .before .loop .inv
+returns c = sym (word-ends _ _ (sym (c .before .name-goes-on .ensures) ∙ c .if1 .left)) ∙ c .before .before .loop .inv
 
 pub word-end-spec : {M : Type 1} → statement M
 word-end-spec =
     tie.close
-    (tie.spec Inv-loop μ-loop loop-holds word-goes-on-requires add-i loop-less loop-again returns)
+    (tie.spec Inv-loop μ-loop loop-holds name-goes-on-requires add-i loop-less loop-again returns)
