@@ -6,9 +6,9 @@ use mathlib.Core.List.{List, [], _∷_}
 use Prim.Native.Nat.{ℕ, zero, suc, _+_, _-_, _≤_, _<_}
 use native.Mathlib.Nat.{add-zero, zero-add, add-suc, suc-add, le-of-suc-le-suc, not-suc-le-zero}
 use native.Mathlib.Omega.{arith}
-use lib.Dec.{ltb}
+use lib.Dec.{eqb, ltb}
 use lib.ListN.{getD}
-use Rattle.lexer.specs.Class.{is, goesOn}
+use Rattle.lexer.specs.Class.{is, starts, goesOn}
 use Rattle.lexer.specs.Answers.{markOf}
 use Rattle.lexer.specs.declared.ByteClass.{ByteClass}
 use Rattle.lexer.specs.declared.ByteClass.the-variants.{Blank, LineFeed, Comment, Open, Close, Letter, Digit, Wrong}
@@ -77,6 +77,20 @@ pub capital : (x : ByteClass) (k : ℕ) → k ≡ markOf x → ltb k 97 ≡ goes
 capital x k e = ap (λ (m : ℕ). ltb m 97) e ∙ go x
   where
     go : (x : ByteClass) → ltb (markOf x) 97 ≡ goesOn x
+    go Blank = refl
+    go LineFeed = refl
+    go Comment = refl
+    go Open = refl
+    go Close = refl
+    go Letter = refl
+    go Digit = refl
+    go Wrong = refl
+
+-- the mark `L` is that of the class with which a name starts
+pub letter : (x : ByteClass) (k : ℕ) → k ≡ markOf x → eqb k 76 ≡ starts x
+letter x k e = ap (λ (m : ℕ). eqb m 76) e ∙ go x
+  where
+    go : (x : ByteClass) → eqb (markOf x) 76 ≡ starts x
     go Blank = refl
     go LineFeed = refl
     go Comment = refl

@@ -2,7 +2,7 @@
 ghost use mathlib.Core.Path.{_≡_};
 ghost use Prim.Native.Nat.{ℕ};
 ghost use lib.ListN.{drop};
-ghost use Rattle.lexer.specs.Class.{classOf, goesOn, endsComment};
+ghost use Rattle.lexer.specs.Class.{classOf, starts, goesOn, endsComment};
 ghost use Rattle.lexer.specs.Scan as spec;
 ghost use Rattle.lexer.specs.Scan.{stepBetween};
 ghost use Rattle.lexer.specs.Token.{tokenAt};
@@ -152,8 +152,16 @@ fn comment_end(classes: &[u8; 256], text: &[u8], at: usize) -> usize
     i
 }
 
+// Whether a name starts with the byte, by the table that is lent.
+pub fn starts_name(classes: &[u8; 256], b: u8) -> bool
+    requires { ⌜ Classes (now classes) ⌝ }
+    ensures { λ r. ⌜ r ≡ starts (classOf b) ⌝ }
+{
+    mark_in(classes, b) == b'L'
+}
+
 // Whether a name goes on with the byte, by the table that is lent: its mark is a capital.
-fn is_in_name(classes: &[u8; 256], b: u8) -> bool
+pub fn is_in_name(classes: &[u8; 256], b: u8) -> bool
     requires { ⌜ Classes (now classes) ⌝ }
     ensures { λ r. ⌜ r ≡ goesOn (classOf b) ⌝ }
 {

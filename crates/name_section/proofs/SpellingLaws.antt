@@ -1,5 +1,4 @@
--- The table of bytes says of each byte whether a name starts or goes on with it, and of each reserved word that it may be one; and the hash of a name is that of its
--- bytes one by one. Assumes nothing.
+-- A word that does not end like a reserved word of its length is none; and the hash of a name is that of its bytes one by one. Assumes nothing.
 use mathlib.Core.Path.{_≡_, refl, sym, ap, ap₂, subst, _∙_}
 use mathlib.Core.Logic.{⊎-elim}
 use mathlib.Core.Bool.{Bool, true, false, not, _&&_, false≢true, and-true}
@@ -12,7 +11,6 @@ use lib.ListN.{length, getD, drop}
 use lib.Seq.{getD-take, getD-drop}
 use Rattle.bitset.specs.Parts.{part}
 use Rattle.lexer.specs.Class.{classOf, starts, goesOn, maxName, allGoOn, isName}
-use Rattle.lexer.proofs.Marks.{agree}
 use Rattle.lexer.proofs.Names.{name-length}
 use Rattle.lexer.specs.Spell.{bytes}
 use Rattle.policy.specs.Basics.{Name, same, any, every, isIn}
@@ -23,17 +21,7 @@ use Rattle.symbols.specs.Section.{between}
 use Rattle.symbols.proofs.PartLaws.{part-cons, part-none, length-part, drop-part, drop-last}
 use Rattle.symbols.proofs.Indexing.{same-is}
 use Rattle.name_filter.specs.Filter.{stepped, hashFrom, hashOf}
-use Rattle.name_section.specs.Spelling.{spellingOf, mayBeReserved, hashIf, goingOn, scanned, spelled}
-
--- ---- single bytes
-
-pub goes-on-by : (b : ℕ) → b < 256 → ltb (spellingOf b) 128 ≡ goesOn (classOf b)
-unfolding spellingOf classOf
-goes-on-by b l = agree (λ k. ltb (spellingOf k) 128) (λ k. goesOn (classOf k)) 0 256 refl b (omega arith) l
-
-pub starts-by : (b : ℕ) → b < 256 → (ltb (spellingOf b) 128 && eqb (spellingOf b % 2) 0) ≡ starts (classOf b)
-unfolding spellingOf classOf
-starts-by b l = agree (λ k. ltb (spellingOf k) 128 && eqb (spellingOf k % 2) 0) (λ k. starts (classOf k)) 0 256 refl b (omega arith) l
+use Rattle.name_section.specs.Spelling.{mayBeReserved, hashIf, goingOn, scanned, spelled}
 
 -- ---- reserved words
 
@@ -50,7 +38,7 @@ abbrev test : Name → Bool
 test w = mayBeReserved (length w) (getD w (length w - 1) 0)
 
 all-pass : every test reserved ≡ true
-unfolding every reserved mayBeReserved spellingOf classOf
+unfolding every reserved mayBeReserved
 all-pass = refl
 
 pub not-reserved : (w : Name) → test w ≡ false → isReserved w ≡ false

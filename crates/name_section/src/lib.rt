@@ -6,14 +6,14 @@ ghost use mathlib.Core.Path.{_≡_};
 ghost use mathlib.Core.Bool.{false, not};
 ghost use Prim.Native.Nat.{_+_, _≤_, _<_};
 ghost use lib.ListN.{length};
-ghost use Rattle.lexer.specs.Class as class;
-ghost use Rattle.lexer.specs.Class.{classOf};
+ghost use Rattle.lexer.specs.Answers.{Classes};
 ghost use Rattle.policy.specs.Words.{isReserved};
 ghost use Rattle.symbols.specs.Section.{between, entriesAt};
 ghost use Rattle.symbols.specs.Lookup.{firstNamed};
 ghost use Rattle.symbols.specs.Resolving.{isFound};
 ghost use Rattle.name_section.specs.SoundNames.{soundNames, countedOf, permissionsAfter};
-ghost use Rattle.name_section.specs.Spelling.{Spells, spellingOf, mayBeReserved, goingOn, scanned, spelled};
+ghost use Rattle.name_section.specs.Spelling as spec;
+ghost use Rattle.name_section.specs.Spelling.{mayBeReserved, goingOn, scanned, spelled};
 ghost use Rattle.name_section.specs.Tally.{mostOf, allows, counted, permitted, Room, Zeros, judgedOf, judged};
 
 // How many things of each sort a sound body 1 names.
@@ -38,30 +38,8 @@ const PERMISSION: usize = 7;
 // Behind the counts of the sorts: 0, or right after a class and its permissions 1 more than these are.
 const OPEN: usize = 7;
 
-// What each byte is to a name: 128 if no name has it; else 1 if no name starts with it, and 4, 8, 32 or 64 if a reserved word of 2, 3, 5 or 6 bytes ends
-// in it. 32 bytes to a line.
-const SPELLING: [u8; 256] = *b"\
-    \x80\x80\x80\x80\x80\x80\x80\x80\x80\x80\x80\x80\x80\x80\x80\x80\x80\x80\x80\x80\x80\x80\x80\x80\x80\x80\x80\x80\x80\x80\x80\x80\
-    \x80\x80\x80\x80\x80\x80\x80\x80\x80\x80\x80\x80\x80\x01\x80\x80\x01\x05\x05\x05\x01\x01\x01\x01\x01\x01\x80\x80\x80\x80\x80\x80\
-    \x80\x00\x00\x00\x00\x00\x00\x00\x00\x00\x00\x00\x00\x00\x00\x00\x00\x00\x00\x00\x00\x00\x00\x00\x00\x00\x00\x80\x80\x80\x80\x00\
-    \x80\x00\x00\x00\x08\x00\x00\x00\x00\x00\x00\x00\x08\x08\x00\x00\x40\x0c\x0c\x00\x08\x00\x00\x00\x00\x20\x00\x80\x80\x80\x80\x80\
-    \x80\x80\x80\x80\x80\x80\x80\x80\x80\x80\x80\x80\x80\x80\x80\x80\x80\x80\x80\x80\x80\x80\x80\x80\x80\x80\x80\x80\x80\x80\x80\x80\
-    \x80\x80\x80\x80\x80\x80\x80\x80\x80\x80\x80\x80\x80\x80\x80\x80\x80\x80\x80\x80\x80\x80\x80\x80\x80\x80\x80\x80\x80\x80\x80\x80\
-    \x80\x80\x80\x80\x80\x80\x80\x80\x80\x80\x80\x80\x80\x80\x80\x80\x80\x80\x80\x80\x80\x80\x80\x80\x80\x80\x80\x80\x80\x80\x80\x80\
-    \x80\x80\x80\x80\x80\x80\x80\x80\x80\x80\x80\x80\x80\x80\x80\x80\x80\x80\x80\x80\x80\x80\x80\x80\x80\x80\x80\x80\x80\x80\x80\x80";
-
-// The number that says that a byte is in no name.
-const NO_NAME_BYTE: u8 = 128;
-
 // What stands for the hash of bytes that are no name: one more than the greatest hash.
 const NO_NAME: usize = 4_294_967_296;
-
-// The table, to be lent: each use of the constant itself would write all its bytes anew.
-fn spelling_table() -> [u8; 256]
-    ensures { λ r. ⌜ Spells r ⌝ }
-{
-    SPELLING
-}
 
 fn wide(x: u8) -> usize
     ensures { λ r. ⌜ (r ≡ x) × (r < 256) ⌝ }
@@ -69,51 +47,42 @@ fn wide(x: u8) -> usize
     x as usize
 }
 
-// What a byte is to a name, by the table that is lent.
-fn spelling_in(spelling: &[u8; 256], b: u8) -> u8
-    requires { ⌜ Spells (now spelling) ⌝ }
-    ensures { λ r. ⌜ r ≡ spellingOf b ⌝ }
+// The lengths of the reserved words that end in a byte, as bits.
+fn endings(b: u8) -> u32
+    ensures { λ r. ⌜ r ≡ spec.endings b ⌝ }
 {
-    spelling[b as usize]
-}
-
-// Whether a name goes on with a byte.
-fn goes_on(spelling: &[u8; 256], b: u8) -> bool
-    requires { ⌜ Spells (now spelling) ⌝ }
-    ensures { λ r. ⌜ r ≡ class.goesOn (classOf b) ⌝ }
-{
-    spelling_in(spelling, b) < NO_NAME_BYTE
-}
-
-// Whether a name starts with a byte.
-fn starts(spelling: &[u8; 256], b: u8) -> bool
-    requires { ⌜ Spells (now spelling) ⌝ }
-    ensures { λ r. ⌜ r ≡ class.starts (classOf b) ⌝ }
-{
-    let is = spelling_in(spelling, b);
-    if NO_NAME_BYTE <= is {
-        return false;
+    match b {
+        b'1' => 4,
+        b'2' => 4,
+        b'3' => 4,
+        b'd' => 8,
+        b'l' => 8,
+        b'm' => 8,
+        b'p' => 64,
+        b'q' => 12,
+        b'r' => 12,
+        b't' => 8,
+        b'y' => 32,
+        _ => 0,
     }
-    is % 2 == 0
 }
 
 // Whether a word of so many bytes that ends in a byte may be a reserved one.
-fn may_be_reserved(spelling: &[u8; 256], len: usize, last: u8) -> bool
-    requires { ⌜ Spells (now spelling) ⌝ }
+fn may_be_reserved(len: usize, last: u8) -> bool
     ensures { λ r. ⌜ r ≡ mayBeReserved len last ⌝ }
 {
-    (spelling_in(spelling, last) as u32 >> (len % 32)) % 2 == 1
+    (endings(last) >> (len % 32)) % 2 == 1
 }
 
 // The hash of the bytes from a place to before another if a name goes on with all of them, from a hash on.
-fn scan_rest(spelling: &[u8; 256], table: &[u8], from: usize, past: usize, first: usize) -> usize
-    requires { ⌜ Spells (now spelling) × (past ≤ length (now table)) × (first < 4294967296) ⌝ }
+fn scan_rest(classes: &[u8; 256], table: &[u8], from: usize, past: usize, first: usize) -> usize
+    requires { ⌜ Classes (now classes) × (past ≤ length (now table)) × (first < 4294967296) ⌝ }
     ensures { λ r. ⌜ r ≡ goingOn (between (now (table .entry)) from past) first ⌝ }
 {
     let mut hash = first;
     let mut i = from;
     while i < past {
-        if !goes_on(spelling, table[i]) {
+        if !lexer::is_in_name(classes, table[i]) {
             return NO_NAME;
         }
         hash = name_filter::step(hash, wide(table[i]));
@@ -123,8 +92,8 @@ fn scan_rest(spelling: &[u8; 256], table: &[u8], from: usize, past: usize, first
 }
 
 // The hash of the bytes from a place to before another if they are a name. One pass tests and hashes them.
-fn scan(spelling: &[u8; 256], table: &[u8], from: usize, past: usize) -> usize
-    requires { ⌜ Spells (now spelling) × (from ≤ past) × (past ≤ length (now table)) ⌝ }
+fn scan(classes: &[u8; 256], table: &[u8], from: usize, past: usize) -> usize
+    requires { ⌜ Classes (now classes) × (from ≤ past) × (past ≤ length (now table)) ⌝ }
     ensures { λ r. ⌜ r ≡ scanned (between (now (table .entry)) from past) ⌝ }
 {
     if past == from {
@@ -133,11 +102,11 @@ fn scan(spelling: &[u8; 256], table: &[u8], from: usize, past: usize) -> usize
     if lexer::Name::MAX < past - from {
         return NO_NAME;
     }
-    if !starts(spelling, table[from]) {
+    if !lexer::starts_name(classes, table[from]) {
         return NO_NAME;
     }
     scan_rest(
-        spelling,
+        classes,
         table,
         from + 1,
         past,
@@ -154,15 +123,15 @@ fn is_reserved(table: &[u8], from: usize, past: usize) -> bool
 }
 
 // The hash of such bytes if they are a good name, one that is not reserved. Few names end like a reserved word of their length, so that few are compared.
-fn spell(spelling: &[u8; 256], table: &[u8], from: usize, past: usize) -> usize
-    requires { ⌜ Spells (now spelling) × (from ≤ past) × (past ≤ length (now table)) ⌝ }
+fn spell(classes: &[u8; 256], table: &[u8], from: usize, past: usize) -> usize
+    requires { ⌜ Classes (now classes) × (from ≤ past) × (past ≤ length (now table)) ⌝ }
     ensures { λ r. ⌜ r ≡ spelled (between (now (table .entry)) from past) ⌝ }
 {
-    let hash = scan(spelling, table, from, past);
+    let hash = scan(classes, table, from, past);
     if hash == NO_NAME {
         return NO_NAME;
     }
-    if !may_be_reserved(spelling, past - from, table[past - 1]) {
+    if !may_be_reserved(past - from, table[past - 1]) {
         return hash;
     }
     if is_reserved(table, from, past) {
@@ -273,14 +242,14 @@ fn walk(
     requires { ⌜ Zeros (now counts) (now permissions) ⌝ }
     ensures { λ r. ⌜ judgedOf r (now (counts .exit)) (now (permissions .exit)) ≡ judged (soundNames (between (now (table .entry)) start end)) ⌝ }
 {
-    let spelling = spelling_table();
+    let classes = lexer::class_table();
     let mut filter = [0u64; FILTER_WORDS];
     let mut at = start;
     loop {
         let k = symbols::look(table, at, end);
         match k {
             Entry::Named { sort, number, past } => {
-                let name = spell(&spelling, table, at + 4, past);
+                let name = spell(&classes, table, at + 4, past);
                 if name == NO_NAME {
                     return false;
                 }

@@ -20,16 +20,16 @@ sub-if2 c = search needs
 returns-2 : tie.Need-returns-2
 returns-2 c = sym (scanned-long (c .before .before .before .args .table .now) (c .before .before .before .args .from) (c .before .before .before .args .past) (omega (arith, c .before .before .before .pre .1, c .before .if1 .left)) (c .before .before .before .pre .2) (c .if2 .taken))
 
-shared-slice-read-starts : tie.Need-shared-slice-read-starts
-shared-slice-read-starts c = omega (arith, c .before .before .before .before .pre .1, c .before .before .before .before .pre .2, c .before .before .if1 .left)
+shared-slice-read-starts-name : tie.Need-shared-slice-read-starts-name
+shared-slice-read-starts-name c = omega (arith, c .before .before .before .before .pre .1, c .before .before .before .before .pre .2, c .before .before .if1 .left)
 
-starts-requires : tie.Need-starts-requires
-starts-requires c κs = c .before .before .before .before .pre .0
+starts-name-requires : tie.Need-starts-name-requires
+starts-name-requires c κs = c .before .before .before .before .pre .0
 
 returns-3 : tie.Need-returns-3
 returns-3 c =
     sym (scanned-other (c .before .before .before .before .before .before .args .table .now) (c .before .before .before .before .before .before .args .from) (c .before .before .before .before .before .before .args .past) (omega (arith, c .before .before .before .before .before .before .pre .1, c .before .before .before .before .if1 .left)) (c .before .before .before .before .before .before .pre .2)
-    (sym (c .before .starts .ensures) ∙ not-true _ (c .if3 .taken)))
+    (sym (c .before .starts-name .ensures) ∙ not-true _ (c .if3 .taken)))
 
 add-scan-rest : tie.Need-add-scan-rest
 add-scan-rest c = omega (arith, c .before .before .before .before .before .before .pre .1, c .before .before .before .before .before .before .pre .2, c .before .before .before .before .if1 .left)
@@ -51,7 +51,7 @@ returns-4 c =
     c .scan-rest .ensures
     ∙ ap (goingOn (between (c .before .before .before .before .before .before .before .before .before .before .args .table .now) (c .before .before .before .before .before .before .before .before .before .before .args .from + 1) (c .before .before .before .before .before .before .before .before .before .before .args .past))) (c .before .step .ensures .0 ∙ ap (stepped 0) (c .before .before .wide .ensures .0))
     ∙ sym (scanned-on (c .before .before .before .before .before .before .before .before .before .before .args .table .now) (c .before .before .before .before .before .before .before .before .before .before .args .from) (c .before .before .before .before .before .before .before .before .before .before .args .past) (omega (arith, c .before .before .before .before .before .before .before .before .before .before .pre .1, c .before .before .before .before .before .before .before .before .if1 .left)) (c .before .before .before .before .before .before .before .before .before .before .pre .2) (c .before .before .before .before .before .before .before .if2 .left)
-    (sym (c .before .before .before .before .before .starts .ensures) ∙ not-false _ (c .before .before .before .before .if3 .left)))
+    (sym (c .before .before .before .before .before .starts-name .ensures) ∙ not-false _ (c .before .before .before .before .if3 .left)))
 
 pub scan-spec : {M : Type 1} → statement M
 scan-spec =
@@ -60,8 +60,8 @@ scan-spec =
     returns
     sub-if2
     returns-2
-    shared-slice-read-starts
-    starts-requires
+    shared-slice-read-starts-name
+    starts-name-requires
     returns-3
     add-scan-rest
     shared-slice-read-wide

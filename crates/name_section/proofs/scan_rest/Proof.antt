@@ -11,25 +11,25 @@ use Rattle.name_section.proofs.scan_rest.Statement.{statement}
 use Rattle.name_section.proofs.scan_rest.Tie as tie
 
 abbrev Inv-loop : tie.InvT-loop
-Inv-loop spelling table from past first hash₀ i₀ hash i = (hash < 4294967296) × (goingOn (between table i past) hash ≡ goingOn (between table from past) first)
+Inv-loop classes table from past first hash₀ i₀ hash i = (hash < 4294967296) × (goingOn (between table i past) hash ≡ goingOn (between table from past) first)
 
 abbrev μ-loop : tie.MeasureT-loop
-μ-loop spelling table from past first hash₀ i₀ hash i = past - i
+μ-loop classes table from past first hash₀ i₀ hash i = past - i
 
 loop-holds : tie.Need-loop-holds Inv-loop μ-loop
 loop-holds c = (c .before .pre .2, refl)
 
-shared-slice-read-goes-on : tie.Need-shared-slice-read-goes-on Inv-loop μ-loop
-shared-slice-read-goes-on c = search needs
+shared-slice-read-is-in-name : tie.Need-shared-slice-read-is-in-name Inv-loop μ-loop
+shared-slice-read-is-in-name c = search needs
 
-goes-on-requires : tie.Need-goes-on-requires Inv-loop μ-loop
-goes-on-requires c κs = c .before .before .before .before .pre .0
+is-in-name-requires : tie.Need-is-in-name-requires Inv-loop μ-loop
+is-in-name-requires c κs = c .before .before .before .before .pre .0
 
 returns : tie.Need-returns Inv-loop μ-loop
 returns c =
     let l = c .before .before .before .before in
     let s = l .before .before in
-    sym (going-stops (s .args .table .now) (l .loop .i) (s .args .past) (l .loop .hash) (omega arith) (s .pre .1) (sym (c .before .goes-on .ensures) ∙ not-true _ (c .if1 .taken)))
+    sym (going-stops (s .args .table .now) (l .loop .i) (s .args .past) (l .loop .hash) (omega arith) (s .pre .1) (sym (c .before .is-in-name .ensures) ∙ not-true _ (c .if1 .taken)))
     ∙ l .loop .inv .1
 
 shared-slice-read-wide : tie.Need-shared-slice-read-wide Inv-loop μ-loop
@@ -53,7 +53,7 @@ loop-again c =
     let s = l .before .before in (
       c .step .ensures .1,
       rw (c .step .ensures .0, c .before .wide .ensures .0)
-          (sym (going-next (s .args .table .now) (l .loop .i) (s .args .past) (l .loop .hash) (omega arith) (s .pre .1) (sym (c .before .before .before .before .goes-on .ensures) ∙ not-false _ (c .before .before .before .if1 .left)))
+          (sym (going-next (s .args .table .now) (l .loop .i) (s .args .past) (l .loop .hash) (omega arith) (s .pre .1) (sym (c .before .before .before .before .is-in-name .ensures) ∙ not-false _ (c .before .before .before .if1 .left)))
           ∙ l .loop .inv .1),
     )
 
@@ -70,8 +70,8 @@ scan-rest-spec =
     Inv-loop
     μ-loop
     loop-holds
-    shared-slice-read-goes-on
-    goes-on-requires
+    shared-slice-read-is-in-name
+    is-in-name-requires
     returns
     shared-slice-read-wide
     wide-requires

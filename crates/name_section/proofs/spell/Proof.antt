@@ -24,7 +24,7 @@ shared-slice-read-may-be-reserved : tie.Need-shared-slice-read-may-be-reserved
 shared-slice-read-may-be-reserved c = omega (arith, some-bytes (c .before .before .before .before .args .table .now) (c .before .before .before .before .args .from) (c .before .before .before .before .args .past) (is-scanned (between (c .before .before .before .before .args .table .now) (c .before .before .before .before .args .from) (c .before .before .before .before .args .past)) _ (c .before .before .scan .ensures) (c .before .if1 .left) .0), c .before .before .before .before .pre .2)
 
 may-be-reserved-requires : tie.Need-may-be-reserved-requires
-may-be-reserved-requires c κs = c .before .before .before .before .pre .0
+may-be-reserved-requires c κs = search needs
 
 returns-2 : tie.Need-returns-2
 returns-2 c =

@@ -15,14 +15,14 @@ use Rattle.name_section.proofs.walk.Statement.{statement}
 use Rattle.name_section.proofs.walk.Tie as tie
 
 abbrev Inv-loop : tie.InvT-loop
-Inv-loop table start end counts₀ permissions₀ spelling filter₀ at₀ counts permissions filter at =
+Inv-loop table start end counts₀ permissions₀ classes filter₀ at₀ counts permissions filter at =
     Walk table start at end counts permissions × Knows filter (entriesAt table start at)
 
 abbrev μ-loop : tie.MeasureT-loop
-μ-loop table start end counts₀ permissions₀ spelling filter₀ at₀ counts permissions filter at = end - at
+μ-loop table start end counts₀ permissions₀ classes filter₀ at₀ counts permissions filter at = end - at
 
-spelling-table-requires : tie.Need-spelling-table-requires Inv-loop μ-loop
-spelling-table-requires c κs = search needs
+class-table-requires : tie.Need-class-table-requires Inv-loop μ-loop
+class-table-requires c κs = search needs
 
 loop-holds : tie.Need-loop-holds Inv-loop μ-loop
 loop-holds c =
@@ -45,7 +45,7 @@ add-spell c =
 spell-requires : tie.Need-spell-requires Inv-loop μ-loop
 spell-requires c κs =
     let here = rw (c .before .before .k .given .1) at (c .before .before .before .before .look .ensures) in
-    (c .before .before .before .before .before .before .spelling-table .ensures, here .within .ahead, here .within .stored)
+    (c .before .before .before .before .before .before .class-table .ensures, here .within .ahead, here .within .stored)
 
 same-length : tie.Need-same-length Inv-loop μ-loop
 same-length c = c .before .before .before .before .before .before .before .loop .inv .0 .tallied .eight ∙ sym (ap length (c .before .before .before .before .before .before .before .before .before .before .before .before .pre .none-counted))
@@ -170,7 +170,7 @@ walk-spec =
     (tie.spec
     Inv-loop
     μ-loop
-    spelling-table-requires
+    class-table-requires
     loop-holds
     look-requires
     enum-known-k
