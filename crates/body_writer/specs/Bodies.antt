@@ -8,24 +8,19 @@ use Rattle.bitset.specs.Parts.{put}
 use Rattle.bitset.specs.Relations.{joined}
 use Rattle.policy.specs.Basics.{each}
 use Rattle.policy.specs.Statements as statements
-use Rattle.policy.specs.Statements.{Family, roles, types, userrole, roletype, roleallow, fromOf, toOf, Policy, transitions, Transition}
+use Rattle.policy.specs.Statements.{Family, roles, types, fromOf, toOf, Policy, transitions, Transition}
 use Rattle.policy.specs.Meaning.{related, final}
 use Rattle.policy.specs.Image as image
 use Rattle.policy.specs.Image.{setsOf, transitionEntry}
 use Rattle.policy.specs.Encode.{transitionBytes}
 use Rattle.policy.specs.Accepted.{Accepted}
+use Rattle.policy.specs.Answers.{relationOf}
+use Rattle.policy.specs.declared.Relation.{Relation}
 use Rattle.statement_code.specs.Code.{codeOf}
 use Rattle.resolver.specs.Resolving.{finalSets}
 use Rattle.resolver.specs.Clashes.{Codes}
 use Rattle.resolver.specs.declared.Move.{Move}
-use Rattle.body_writer.specs.declared.Relation.{Relation}
 use Rattle.body_writer.specs.Writing.{Appended}
-
--- `(userrole U R)`, `(roletype R T)`, `(roleallow R R)`
-abbrev pub relationOf : Relation → statements.Relation
-relationOf Relation.UserRole = userrole
-relationOf Relation.RoleType = roletype
-relationOf Relation.RoleAllow = roleallow
 
 -- "2. Roles of each user, 16 bytes each. 3. Types of each role, 64 each. 4. Roles each role may become, 16 each."
 pub record WritesRelation (code : List ℕ) (relation : Relation) (fromSets toSets before : List ℕ) (at many width : ℕ) (after : List ℕ) : Type 0 where

@@ -10,24 +10,19 @@ ghost use lib.ListN.{length, take};
 ghost use Rattle.bitset.specs.Sets.{setOf};
 ghost use Rattle.bitset.specs.Parts.{part, put};
 ghost use Rattle.bitset.specs.Relations.{granted};
+ghost use Rattle.policy.specs.Answers.{relationOf};
 ghost use Rattle.statement_code.specs.Code.{relationNumber};
 ghost use Rattle.set_code.specs.Evaluation.{valueOf};
 ghost use Rattle.body_writer.specs.Writing.{Appended, Copies};
-ghost use Rattle.body_writer.specs.Bodies.{relationOf, WritesRelation, WritesTransition, WritesTransitions, WritesSets};
+ghost use Rattle.body_writer.specs.Bodies.{WritesRelation, WritesTransition, WritesTransitions, WritesSets};
 use policy::Attribute;
+use policy::Relation;
 use policy::Role;
 use policy::Type;
 use policy::User;
 use resolver::FAMILY_BYTES;
 use resolver::Move;
 use statement_code::Unit;
-
-// What gives roles to users, types to roles, and to roles the roles that they may become.
-pub enum Relation {
-    UserRole,
-    RoleType,
-    RoleAllow,
-}
 
 // ---- bytes
 

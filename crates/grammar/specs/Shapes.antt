@@ -3,12 +3,27 @@
 use mathlib.Core.Bool.{Bool, false, not, _&&_}
 use mathlib.Core.Option.{Option, none, some}
 use Rattle.lexer.specs.Forms.{Forms, closed, ended, word, part}
-use Rattle.policy.specs.Words.{isReserved, keywordOf, Keyword, declareK, classK, setK, relationK, transitionK, constrainK}
+use Rattle.policy.specs.Words as words
+use Rattle.policy.specs.Words.{isReserved, keywordOf, declareK, classK, setK, relationK, transitionK, constrainK}
+use Rattle.policy.specs.Statements.{thingOf, attributeOf}
+use Rattle.policy.specs.Answers.{familyOf, relationOf}
 use Rattle.policy.specs.Grammar.{setIn, expressionIn, namesIn}
 use Rattle.items.specs.Reads.{isSome, counted, isClosed}
 use Rattle.items.specs.declared.Wanted.{Wanted}
+use Rattle.grammar.specs.declared.Keyword.{Keyword}
 use Rattle.grammar.specs.declared.Content.{Content}
 use Rattle.grammar.specs.declared.Shape.{Shape}
+
+-- the keyword that an enum of src/ stands for
+abbrev pub keywordIn : Keyword → Option words.Keyword
+keywordIn (Keyword.Thing f) = some (declareK (thingOf (familyOf f)))
+keywordIn (Keyword.Attribute f) = some (declareK (attributeOf (familyOf f)))
+keywordIn Keyword.Class = some classK
+keywordIn (Keyword.Set f) = some (setK (familyOf f))
+keywordIn (Keyword.Relation r) = some (relationK (relationOf r))
+keywordIn Keyword.Transition = some transitionK
+keywordIn Keyword.Constrain = some constrainK
+keywordIn Keyword.Unknown = none
 
 -- what a part holds
 abbrev pub contentOf : Content → Forms → Bool
@@ -38,7 +53,7 @@ classAndConstraint (word s b f) = false
 classAndConstraint (part p f g) = nameAndPart Content.Permissions f && onlyPart Content.Constraint g
 
 -- the shape of what follows a keyword
-abbrev pub shapeOf : Option Keyword → Shape
+abbrev pub shapeOf : Option words.Keyword → Shape
 shapeOf none = Shape.Unknown
 shapeOf (some (declareK s)) = Shape.Names 1
 shapeOf (some classK) = Shape.Class

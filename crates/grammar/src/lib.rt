@@ -8,13 +8,28 @@ ghost use Rattle.policy.specs.Grammar.{expressionIn, written};
 ghost use Rattle.words.specs.Numbers.{wordOf};
 ghost use Rattle.items.specs.Looks.{itemAt};
 ghost use Rattle.items.specs.Reads.{isSome, Reads};
-ghost use Rattle.grammar.specs.Shapes.{contentOf, onlyPart, nameAndPart, classAndConstraint, shapeOf, byShape};
+ghost use Rattle.grammar.specs.Shapes.{keywordIn, contentOf, onlyPart, nameAndPart, classAndConstraint, shapeOf, byShape};
 use constraint_grammar::Measured;
 use items::Item;
 use items::Parsed;
 use items::Wanted;
 use lexer::Level;
+use policy::Family;
+use policy::Relation;
 use words::Word;
+
+// What a statement is by its first word: it declares a thing, an attribute or a class, fills an attribute, relates two names, is a role transition or a
+// constraint. Or the word is no keyword.
+pub enum Keyword {
+    Thing(Family),
+    Attribute(Family),
+    Class,
+    Set(Family),
+    Relation(Relation),
+    Transition,
+    Constrain,
+    Unknown,
+}
 
 // What a part of a statement holds.
 enum Content {
@@ -33,32 +48,47 @@ enum Shape {
     Unknown,
 }
 
-// The shape of what follows the word of a number.
-fn shape_of(number: usize) -> Shape
-    ensures { λ r. ⌜ r ≡ shapeOf (keywordOf (wordOf number)) ⌝ }
+// The keyword of a number.
+pub fn keyword_of(number: usize) -> Keyword
+    ensures { λ r. ⌜ keywordOf (wordOf number) ≡ keywordIn r ⌝ }
 {
     if number <= Word::LAST_RESERVED {
-        return Shape::Unknown;
+        return Keyword::Unknown;
     }
-    if number <= Word::TYPEATTRIBUTE {
-        return Shape::Names(1);
+    match number {
+        Word::USER => Keyword::Thing(Family::Users),
+        Word::ROLE => Keyword::Thing(Family::Roles),
+        Word::TYPE => Keyword::Thing(Family::Types),
+        Word::USERATTRIBUTE => Keyword::Attribute(Family::Users),
+        Word::ROLEATTRIBUTE => Keyword::Attribute(Family::Roles),
+        Word::TYPEATTRIBUTE => Keyword::Attribute(Family::Types),
+        Word::CLASS => Keyword::Class,
+        Word::USERATTRIBUTESET => Keyword::Set(Family::Users),
+        Word::ROLEATTRIBUTESET => Keyword::Set(Family::Roles),
+        Word::TYPEATTRIBUTESET => Keyword::Set(Family::Types),
+        Word::USERROLE => Keyword::Relation(Relation::UserRole),
+        Word::ROLETYPE => Keyword::Relation(Relation::RoleType),
+        Word::ROLEALLOW => Keyword::Relation(Relation::RoleAllow),
+        Word::ROLETRANSITION => Keyword::Transition,
+        Word::CONSTRAIN => Keyword::Constrain,
+        _ => Keyword::Unknown,
     }
-    if number == Word::CLASS {
-        return Shape::Class;
+}
+
+// The shape of what follows a keyword.
+fn shape_of(keyword: Keyword) -> Shape
+    ensures { λ r. ⌜ r ≡ shapeOf (keywordIn keyword) ⌝ }
+{
+    match keyword {
+        Keyword::Thing(_) => Shape::Names(1),
+        Keyword::Attribute(_) => Shape::Names(1),
+        Keyword::Class => Shape::Class,
+        Keyword::Set(_) => Shape::Set,
+        Keyword::Relation(_) => Shape::Names(2),
+        Keyword::Transition => Shape::Names(4),
+        Keyword::Constrain => Shape::Constrain,
+        Keyword::Unknown => Shape::Unknown,
     }
-    if number <= Word::TYPEATTRIBUTESET {
-        return Shape::Set;
-    }
-    if number <= Word::ROLEALLOW {
-        return Shape::Names(2);
-    }
-    if number == Word::ROLETRANSITION {
-        return Shape::Names(4);
-    }
-    if number == Word::CONSTRAIN {
-        return Shape::Constrain;
-    }
-    Shape::Unknown
 }
 
 // A constraint expression, without its measure.
@@ -158,7 +188,10 @@ pub fn statement_form(text: &[u8], first: Item) -> Parsed
         → Reads (now (text .entry)) at (isSome (written (trim (framesAt (now (text .entry)) at .here) (maxLevel - 1)))) r) ⌝ }
 {
     match first {
-        Item::Word { number, next, .. } => shape_form(text, next, shape_of(number), Level::MAX - 1),
+        Item::Word { number, next, .. } => {
+            let shape = shape_of(keyword_of(number));
+            shape_form(text, next, shape, Level::MAX - 1)
+        }
         Item::Open { .. } | Item::Close { .. } | Item::End => Parsed::Bad,
     }
 }

@@ -19,7 +19,6 @@ use Rattle.policy.specs.Maxima.{maxTransitions, maxConstraints, maxRows, maxSta
 use Rattle.policy.specs.Statements.{Declaration, class, Reference, Constraint, Written, Statement, declare, attributeset, gives, roletransition, constrain, Policy, declared, declarations, transition, Transition, transitions, Constrain, constrained, constrains, size, need}
 use Rattle.policy.specs.Grammar.{formed}
 use Rattle.policy.specs.Reading.{isNew, hasRoom, resolved, rowCount, Judged, reads, fault, sized, resolving, naming}
-use Rattle.policy.specs.Answers.{familyOf}
 use Rattle.policy.specs.Rows as rows
 use Rattle.policy.specs.Encode.{headBytes, rowBytes}
 use Rattle.policy.proofs.Lists.{both-true, each-length}
@@ -36,7 +35,8 @@ use Rattle.declarations.specs.Declaring.{DeclaresAt, Declares}
 use Rattle.declarations.specs.declared.Declared.{Declared}
 use Rattle.declarations.proofs.Holding.{holds-symbols}
 use Rattle.statement_writer.specs.Coding as coding
-use Rattle.statement_writer.specs.Coding.{relationOf, WritesStatement}
+use Rattle.policy.specs.Answers.{familyOf, relationOf}
+use Rattle.statement_writer.specs.Coding.{WritesStatement}
 use Rattle.statement_writer.specs.declared.Coded.{Coded}
 use Rattle.constrain_statement.specs.Constraining as constraining
 use Rattle.constrain_statement.specs.Constraining.{headOf, fitsBefore, WritesConstrain}

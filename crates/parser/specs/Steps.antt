@@ -9,38 +9,28 @@ use lib.ListN.{length, take}
 use Rattle.lexer.specs.Forms.{Forms, framesAt, trim, namesGood}
 use Rattle.lexer.specs.Scan.{maxLevel}
 use Rattle.policy.specs.Words as words
-use Rattle.policy.specs.Words.{declareK, classK, setK, relationK, transitionK, constrainK}
-use Rattle.policy.specs.Statements.{thingOf, attributeOf, Written, Statement, Policy, declarations, transitions, constrains}
+use Rattle.policy.specs.Words.{setK, relationK, transitionK}
+use Rattle.policy.specs.Statements.{Written, Statement, Policy, declarations, transitions, constrains}
 use Rattle.policy.specs.Maxima.{maxTransitions, maxConstraints}
 use Rattle.policy.specs.Grammar.{formed, written}
 use Rattle.policy.specs.Reading.{Judged, reads, fault, naming, rowCount}
-use Rattle.policy.specs.Answers.{familyOf}
+use Rattle.policy.specs.Answers.{familyOf, relationOf}
 use Rattle.policy.specs.Encode.{entries}
 use Rattle.symbols.specs.Index.{Indexed}
 use Rattle.statement_code.specs.Code.{statementCode, codeOf}
 use Rattle.declarations.specs.declared.Declared.{Declared}
-use Rattle.statement_writer.specs.Coding.{relationOf}
 use Rattle.statement_writer.specs.declared.Coded.{Coded}
 use Rattle.constrain_statement.specs.declared.Constrained.{Constrained}
 use Rattle.parser.specs.Memory.{Memory, symbolsOf, constraintsOf, rowsOf, Starts, Holds}
 use Rattle.parser.specs.declared.Progress.{Progress}
 use Rattle.parser.specs.declared.Step.{Step}
 use Rattle.parser.specs.declared.CodedKind.{CodedKind}
-use Rattle.parser.specs.declared.Keyword.{Keyword}
 
 -- the keyword that an enum of src/ stands for
 abbrev pub codedKeyword : CodedKind → words.Keyword
 codedKeyword (CodedKind.Set f) = setK (familyOf f)
 codedKeyword (CodedKind.Relation r) = relationK (relationOf r)
 codedKeyword CodedKind.Transition = transitionK
-
-abbrev pub keywordIn : Keyword → Option words.Keyword
-keywordIn (Keyword.Thing f) = some (declareK (thingOf (familyOf f)))
-keywordIn (Keyword.Attribute f) = some (declareK (attributeOf (familyOf f)))
-keywordIn Keyword.Class = some classK
-keywordIn (Keyword.Coded k) = some (codedKeyword k)
-keywordIn Keyword.Constrain = some constrainK
-keywordIn Keyword.Unknown = none
 
 -- the lent memory holds what the statements of p leave there
 pub record Filled (p : Policy) (lent now : Memory) (s : Progress) : Type 0 where

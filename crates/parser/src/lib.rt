@@ -5,31 +5,30 @@ ghost use mathlib.Core.List.{List};
 ghost use lib.Dec.{leb};
 ghost use lib.ListN.{length};
 ghost use Prim.Native.Nat.{ℕ, _+_, _<_};
-ghost use Rattle.policy.specs.Words.{keywordOf, declareK, classK, constrainK};
+ghost use Rattle.policy.specs.Words.{declareK, classK, constrainK};
 ghost use Rattle.policy.specs.Statements.{thingOf, attributeOf};
 ghost use Rattle.policy.specs.Encode.{sortCode};
 ghost use Rattle.policy.specs.Answers.{familyOf};
-ghost use Rattle.words.specs.Numbers.{wordOf};
 ghost use Rattle.items.specs.Looks.{itemAt};
 ghost use Rattle.statement_writer.specs.Coding.{WritesStatement};
 ghost use Rattle.parser.specs.Memory.{memory, Parses, ParsesIndexed};
-ghost use Rattle.parser.specs.Steps.{codedKeyword, keywordIn, Steps, StepsAt, declaredStep, withCode, codedStep, constrainedStep, nothingRead};
+ghost use Rattle.parser.specs.Steps.{codedKeyword, Steps, StepsAt, declaredStep, withCode, codedStep, constrainedStep, nothingRead};
 use constrain_statement::CONSTRAINT_BYTES;
 use constrain_statement::Constrained;
 use constrain_statement::ROW_BYTES;
 use declarations::Declared;
 use declarations::SYMBOL_BYTES;
+use grammar::Keyword;
 use items::Item;
 use lexer::Text;
 use policy::Constraint;
 use policy::Family;
+use policy::Relation;
 use policy::Transition;
 use statement_writer::Coded;
-use statement_writer::Relation;
-use words::Word;
 
-// Room for the code: a clean text has at most 65,535 bytes, and no statement has more units than bytes.
-pub const CODE_UNITS: usize = 65_536;
+// Room for the code: no statement has more units than bytes of the text.
+pub const CODE_UNITS: usize = Text::MAX + 1;
 
 // How far the lent memory is filled, and how many transitions and constraints there are.
 pub struct Progress {
@@ -57,43 +56,6 @@ enum CodedKind {
     Set(Family),
     Relation(Relation),
     Transition,
-}
-
-// What a statement is by its first word: a declaration of a thing, of an attribute or of a class, a statement with code, a constraint.
-enum Keyword {
-    Thing(Family),
-    Attribute(Family),
-    Class,
-    Coded(CodedKind),
-    Constrain,
-    Unknown,
-}
-
-// The keyword of a number.
-fn keyword_of(number: usize) -> Keyword
-    ensures { λ r. ⌜ keywordOf (wordOf number) ≡ keywordIn r ⌝ }
-{
-    if number <= Word::LAST_RESERVED {
-        return Keyword::Unknown;
-    }
-    match number {
-        Word::USER => Keyword::Thing(Family::Users),
-        Word::ROLE => Keyword::Thing(Family::Roles),
-        Word::TYPE => Keyword::Thing(Family::Types),
-        Word::USERATTRIBUTE => Keyword::Attribute(Family::Users),
-        Word::ROLEATTRIBUTE => Keyword::Attribute(Family::Roles),
-        Word::TYPEATTRIBUTE => Keyword::Attribute(Family::Types),
-        Word::CLASS => Keyword::Class,
-        Word::USERATTRIBUTESET => Keyword::Coded(CodedKind::Set(Family::Users)),
-        Word::ROLEATTRIBUTESET => Keyword::Coded(CodedKind::Set(Family::Roles)),
-        Word::TYPEATTRIBUTESET => Keyword::Coded(CodedKind::Set(Family::Types)),
-        Word::USERROLE => Keyword::Coded(CodedKind::Relation(Relation::UserRole)),
-        Word::ROLETYPE => Keyword::Coded(CodedKind::Relation(Relation::RoleType)),
-        Word::ROLEALLOW => Keyword::Coded(CodedKind::Relation(Relation::RoleAllow)),
-        Word::ROLETRANSITION => Keyword::Coded(CodedKind::Transition),
-        Word::CONSTRAIN => Keyword::Constrain,
-        _ => Keyword::Unknown,
-    }
 }
 
 // The number of the sort of a family's things.
@@ -334,14 +296,32 @@ fn statement(
     let Item::Word { number, next, .. } = first else {
         return Step::Fault(3);
     };
-    let keyword = keyword_of(number);
+    let keyword = grammar::keyword_of(number);
     match keyword {
         Keyword::Thing(family) => declare_thing(text, next, family, symbols, progress),
         Keyword::Attribute(family) => {
             declare_attribute(text, next, place, family, symbols, code, progress)
         }
         Keyword::Class => declare_class(text, next, symbols, progress),
-        Keyword::Coded(kind) => coded(text, next, place, kind, symbols, code, progress),
+        Keyword::Set(family) => {
+            let kind = CodedKind::Set(family);
+            coded(text, next, place, kind, symbols, code, progress)
+        }
+        Keyword::Relation(relation) => {
+            let kind = CodedKind::Relation(relation);
+            coded(text, next, place, kind, symbols, code, progress)
+        }
+        Keyword::Transition => {
+            coded(
+                text,
+                next,
+                place,
+                CodedKind::Transition,
+                symbols,
+                code,
+                progress,
+            )
+        }
         Keyword::Constrain => constrain(text, next, symbols, constraints, rows, progress),
         Keyword::Unknown => Step::Fault(3),
     }

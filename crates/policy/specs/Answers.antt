@@ -2,13 +2,14 @@
 use Prim.Native.Nat.{ℕ}
 use mathlib.Core.Bool.{Bool, true, false}
 use Rattle.policy.specs.declared.Family as theFamily
+use Rattle.policy.specs.declared.Relation as theRelation
 use Rattle.policy.specs.declared.Sort as theSort
 use Rattle.policy.specs.declared.Compiling.{Compiling}
 use Rattle.policy.specs.declared.Validity.{Validity}
 use Rattle.policy.specs.declared.Change.{Change}
 use Rattle.policy.specs.declared.NewRole.{NewRole}
 use Rattle.policy.specs.declared.Place.{Place}
-use Rattle.policy.specs.Statements.{Family, users, roles, types, Sort, thingOf, attributeOf}
+use Rattle.policy.specs.Statements.{Family, users, roles, types, Sort, thingOf, attributeOf, Relation, userrole, roletype, roleallow}
 use Rattle.policy.specs.Maxima.{maxOf, maxClasses, maxPermissions}
 use Rattle.policy.specs.Answer.{Answer, granted, denied, fails, refuses, unconsulted}
 use Rattle.policy.specs.Outcome.{Outcome, accepted, rejected}
@@ -18,6 +19,12 @@ abbrev pub familyOf : theFamily.Family → Family
 familyOf theFamily.Family.Users = users
 familyOf theFamily.Family.Roles = roles
 familyOf theFamily.Family.Types = types
+
+-- "`(userrole U R)`, `(roletype R T)`, `(roleallow R R)`"
+abbrev pub relationOf : theRelation.Relation → Relation
+relationOf theRelation.Relation.UserRole = userrole
+relationOf theRelation.Relation.RoleType = roletype
+relationOf theRelation.Relation.RoleAllow = roleallow
 
 -- "0 user, 1 role, 2 type, 3 to 5 their attributes, 6 class, 7 permission"
 abbrev pub sortNumber : theSort.Sort → ℕ

@@ -98,6 +98,13 @@ pub enum Family {
     Types,
 }
 
+// What gives roles to users, types to roles, and to roles the roles that they may become.
+pub enum Relation {
+    UserRole,
+    RoleType,
+    RoleAllow,
+}
+
 // How many names of a sort a text may declare; permissions: how many a class may have.
 pub fn most(sort: Sort) -> usize
     ensures { λ r. ⌜ r ≡ mostOf sort ⌝ }

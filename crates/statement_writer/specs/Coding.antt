@@ -6,7 +6,6 @@ use Prim.Native.Nat.{ℕ, _-_, _≤_}
 use Rattle.lexer.specs.Scan.{maxLevel}
 use Rattle.lexer.specs.Forms.{framesAt, trim}
 use Rattle.policy.specs.Words.{Keyword}
-use Rattle.policy.specs.Statements as statements
 use Rattle.policy.specs.Statements.{Declaration, Written, Statement}
 use Rattle.policy.specs.Grammar.{formed}
 use Rattle.policy.specs.Reading.{resolved}
@@ -14,13 +13,6 @@ use Rattle.statement_code.specs.Code.{statementCode}
 use Rattle.symbols.specs.Symbols.{Symbols}
 use Rattle.set_writer.specs.Writing.{Wrote, Keeps}
 use Rattle.statement_writer.specs.declared.Coded.{Coded}
-use Rattle.statement_writer.specs.declared.Relation as theRelation
-
--- "`(userrole U R)`, `(roletype R T)`, `(roleallow R R)`"
-abbrev pub relationOf : theRelation.Relation → statements.Relation
-relationOf theRelation.Relation.UserRole = statements.userrole
-relationOf theRelation.Relation.RoleType = statements.roletype
-relationOf theRelation.Relation.RoleAllow = statements.roleallow
 
 -- units are written from the place to on, and u is the place behind them
 pub record Stores (before : List ℕ) (to : ℕ) (units after : List ℕ) (u : ℕ) : Type 0 where

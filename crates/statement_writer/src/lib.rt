@@ -4,15 +4,16 @@ ghost use mathlib.Core.Path.{_≡_};
 ghost use mathlib.Core.List.{[], _∷_};
 ghost use Prim.Native.Nat.{_≤_};
 ghost use Rattle.bitset.specs.Parts.{part};
-ghost use Rattle.policy.specs.Answers.{familyOf};
+ghost use Rattle.policy.specs.Answers.{familyOf, relationOf};
 ghost use Rattle.policy.specs.Statements.{fromOf, toOf};
 ghost use Rattle.policy.specs.Words.{setK, relationK, transitionK};
 ghost use Rattle.statement_code.specs.Code.{familyNumber, relationNumber, attributeTag};
 ghost use Rattle.statement_writer.specs.Naming.{Numbers, Names, WritesNames};
-ghost use Rattle.statement_writer.specs.Coding.{relationOf, Stores, WritesStatement};
+ghost use Rattle.statement_writer.specs.Coding.{Stores, WritesStatement};
 use items::Item;
 use lexer::Level;
 use policy::Family;
+use policy::Relation;
 use set_writer::Referred;
 use set_writer::SetWritten;
 use statement_code::Unit;
@@ -22,13 +23,6 @@ use symbols::Found;
 pub enum Coded {
     Next(usize),
     Undeclared,
-}
-
-// `(userrole U R)`, `(roletype R T)`, `(roleallow R R)`.
-pub enum Relation {
-    UserRole,
-    RoleType,
-    RoleAllow,
 }
 
 // What a name of a statement may stand for: a thing or an attribute of a family; an attribute of it and no thing; a class; a role and no

@@ -11,14 +11,15 @@ use Rattle.policy.specs.Basics.{each, le}
 use Rattle.policy.specs.Statements.{Family, users, roles, types, userrole, roletype, roleallow, fromOf, toOf, Policy, transitions}
 use Rattle.policy.specs.Meaning.{countIn, related, final}
 use Rattle.policy.specs.Accepted.{Accepted}
+use Rattle.policy.specs.Answers.{relationOf}
+use Rattle.policy.specs.declared.Relation.{Relation}
 use Rattle.policy.specs.Image.{imageOf, width, setsOf, transitionEntry}
 use Rattle.policy.specs.Encode.{transitionBytes, bodies, encode}
 use Rattle.table_laws.proofs.LayoutLaws.{pairs-length}
 use Rattle.statement_code.specs.Code.{codeOf}
 use Rattle.resolver.specs.Resolving.{finalSets}
-use Rattle.body_writer.specs.declared.Relation.{Relation}
 use Rattle.body_writer.specs.Writing.{Copies}
-use Rattle.body_writer.specs.Bodies.{relationOf, WritesRelation, WritesTransitions, WritesSets}
+use Rattle.body_writer.specs.Bodies.{WritesRelation, WritesTransitions, WritesSets}
 use Rattle.table_writer.specs.declared.Starts.{Starts}
 use Rattle.table_writer.specs.Putting.{Puts}
 use Rattle.table_writer.specs.Sizing.{body, attributesIn, StartsOf, header}

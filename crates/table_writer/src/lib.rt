@@ -5,7 +5,7 @@ ghost use Rattle.policy.specs.Basics.{le};
 ghost use Rattle.table_writer.specs.Putting.{Puts, pair};
 ghost use Rattle.table_writer.specs.Sizing.{Few, Spaced, Needs, WritesPairs, WritesHeader};
 ghost use Rattle.table_writer.specs.Assembling.{WritesRoleRelations, WritesRelations, WritesRules, WritesAttributes, WritesTable};
-use body_writer::Relation;
+use policy::Relation;
 use policy::Role;
 use policy::Type;
 use policy::User;

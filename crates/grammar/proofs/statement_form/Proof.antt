@@ -1,5 +1,5 @@
 -- `grammar::statement_form` meets its contract: a row is of the shape that its keyword asks for exactly if there is something written. Assumes nothing.
-use mathlib.Core.Path.{refl}
+use mathlib.Core.Path.{refl, sym, ap, _∙_}
 use mathlib.Core.Bool.{Bool, false}
 use mathlib.Core.List.{[], _∷_}
 use borrow.Author.Needs.{needs}
@@ -8,6 +8,7 @@ use Rattle.policy.specs.Grammar.{written}
 use Rattle.items.specs.Reads.{isSome}
 use Rattle.items.proofs.Items.{sees, alike}
 use Rattle.items.proofs.Rows.{refuse, after-word}
+use Rattle.grammar.specs.Shapes.{shapeOf}
 use Rattle.grammar.proofs.Statements.{statement-row}
 use Rattle.grammar.proofs.statement_form.Statement.{statement}
 use Rattle.grammar.proofs.statement_form.Tie as tie
@@ -20,6 +21,9 @@ isWritten f = isSome (written f)
 enum-known-first : tie.Need-enum-known-first
 enum-known-first c = search needs
 
+keyword-of-requires : tie.Need-keyword-of-requires
+keyword-of-requires c κs = search needs
+
 shape-of-requires : tie.Need-shape-of-requires
 shape-of-requires c κs = search needs
 
@@ -31,8 +35,8 @@ shape-form-requires c κs = search needs
 
 returns : tie.Need-returns
 returns c = λ at e.
-    let l = sees e (c .before .before .before .first .given .1) in
-    after-word l (statement-row 31 l _ (c .before .shape-of .ensures)) (c .shape-form .ensures)
+    let l = sees e (c .before .before .before .before .first .given .1) in
+    after-word l (statement-row 31 l _ (c .before .shape-of .ensures ∙ ap shapeOf (sym (c .before .before .keyword-of .ensures)))) (c .shape-form .ensures)
 
 returns-2 : tie.Need-returns-2
 returns-2 c = λ at e. refuse (alike isWritten (λ f. false) _ _ _ (1 ∷ 2 ∷ 3 ∷ []) 31 (tt, λ x f g. refl, refl, refl) e (c .match .keys2))
@@ -40,4 +44,4 @@ returns-2 c = λ at e. refuse (alike isWritten (λ f. false) _ _ _ (1 ∷ 2 ∷ 
 pub statement-form-spec : {M : Type 1} → statement M
 statement-form-spec =
     tie.close
-    (tie.spec enum-known-first shape-of-requires sub-shape-form shape-form-requires returns returns-2)
+    (tie.spec enum-known-first keyword-of-requires shape-of-requires sub-shape-form shape-form-requires returns returns-2)

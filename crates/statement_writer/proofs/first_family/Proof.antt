@@ -5,9 +5,9 @@ use borrow.Author.Needs.{needs}
 use types.Run.{OneOf, miss}
 use denote.Enum.Declared.{tagOf}
 use Rattle.policy.specs.Statements.{roles, fromOf}
-use Rattle.statement_writer.specs.Coding.{relationOf}
-use Rattle.statement_writer.specs.declared.Relation.{Relation}
-use Rattle.statement_writer.proofs.Relation.{the-type}
+use Rattle.policy.specs.Answers.{relationOf}
+use Rattle.policy.specs.declared.Relation.{Relation}
+use Rattle.policy.proofs.Relation.{the-type}
 use Rattle.statement_writer.proofs.first_family.Statement.{statement}
 use Rattle.statement_writer.proofs.first_family.Tie as tie
 

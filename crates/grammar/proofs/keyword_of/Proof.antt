@@ -1,4 +1,4 @@
--- `parser::keyword_of` meets its contract: the keywords have the numbers 24 to 38. Assumes nothing.
+-- `grammar::keyword_of` meets its contract: the keywords have the numbers 24 to 38. Assumes nothing.
 use mathlib.Core.Path.{_≡_, refl}
 use mathlib.Core.Option.{none}
 use Prim.Native.Nat.{ℕ, _+_, _≤_, _<_}
@@ -7,8 +7,8 @@ use Rattle.policy.specs.Basics.{same, lookup}
 use Rattle.policy.specs.Words.{reserved, keywordOf}
 use Rattle.words.specs.Numbers.{keywords, words, wordOf}
 use Rattle.words.proofs.Meaning.{stretch, from-on}
-use Rattle.parser.proofs.keyword_of.Statement.{statement}
-use Rattle.parser.proofs.keyword_of.Tie as tie
+use Rattle.grammar.proofs.keyword_of.Statement.{statement}
+use Rattle.grammar.proofs.keyword_of.Tie as tie
 
 below : (n : ℕ) → n ≤ 23 → keywordOf (wordOf n) ≡ none
 unfolding same lookup reserved keywords words keywordOf
@@ -86,10 +86,28 @@ unfolding same lookup reserved keywords words wordOf keywordOf
 returns-16 c = rw (c .match .keys15)
 
 returns-17 : tie.Need-returns-17
-returns-17 c = beyond n (another n 38 ((another n 37 ((another n 36 ((another n 35 ((another n 34 ((another n 33 ((another n 32 ((another n 31 ((another n 30 ((another n 29 ((another n 28 ((another n 27 ((another n 26 ((another n 25 ((another n 24 (c .before .if1 .left) (c .match .rest .0 .0 .0 .0 .0 .0 .0 .0 .0 .0 .0 .0 .0 .0 .1))) (c .match .rest .0 .0 .0 .0 .0 .0 .0 .0 .0 .0 .0 .0 .0 .1))) (c .match .rest .0 .0 .0 .0 .0 .0 .0 .0 .0 .0 .0 .0 .1))) (c .match .rest .0 .0 .0 .0 .0 .0 .0 .0 .0 .0 .0 .1))) (c .match .rest .0 .0 .0 .0 .0 .0 .0 .0 .0 .0 .1))) (c .match .rest .0 .0 .0 .0 .0 .0 .0 .0 .0 .1))) (c .match .rest .0 .0 .0 .0 .0 .0 .0 .0 .1))) (c .match .rest .0 .0 .0 .0 .0 .0 .0 .1))) (c .match .rest .0 .0 .0 .0 .0 .0 .1))) (c .match .rest .0 .0 .0 .0 .0 .1))) (c .match .rest .0 .0 .0 .0 .1))) (c .match .rest .0 .0 .0 .1))) (c .match .rest .0 .0 .1))) (c .match .rest .0 .1))) (c .match .rest .1))
-  where
-    n : ℕ
-    n = c .before .before .args .number
+returns-17 c =
+    let n = c .before .before .args .number in
+    let other = c .match .rest in
+    let past-24 = another n 24 (c .before .if1 .left) (other .0 .0 .0 .0 .0 .0 .0 .0 .0 .0 .0 .0 .0 .0 .1) in
+    let past-25 = another n 25 past-24 (other .0 .0 .0 .0 .0 .0 .0 .0 .0 .0 .0 .0 .0 .1) in
+    let past-26 = another n 26 past-25 (other .0 .0 .0 .0 .0 .0 .0 .0 .0 .0 .0 .0 .1) in
+    let past-27 = another n 27 past-26 (other .0 .0 .0 .0 .0 .0 .0 .0 .0 .0 .0 .1) in
+    let past-28 = another n 28 past-27 (other .0 .0 .0 .0 .0 .0 .0 .0 .0 .0 .1) in
+    let past-29 = another n 29 past-28 (other .0 .0 .0 .0 .0 .0 .0 .0 .0 .1) in
+    let past-30 = another n 30 past-29 (other .0 .0 .0 .0 .0 .0 .0 .0 .1) in
+    let past-31 = another n 31 past-30 (other .0 .0 .0 .0 .0 .0 .0 .1) in
+    let past-32 = another n 32 past-31 (other .0 .0 .0 .0 .0 .0 .1) in
+    let past-33 = another n 33 past-32 (other .0 .0 .0 .0 .0 .1) in
+    let past-34 = another n 34 past-33 (other .0 .0 .0 .0 .1) in
+    let past-35 = another n 35 past-34 (other .0 .0 .0 .1) in
+    let past-36 = another n 36 past-35 (other .0 .0 .1) in
+    let past-37 = another n 37 past-36 (other .0 .1) in
+    let past-38 = another n 38 past-37 (other .1) in
+    beyond n past-38
 
 pub keyword-of-spec : {M : Type 1} → statement M
-keyword-of-spec = tie.close (tie.spec returns returns-2 returns-3 returns-4 returns-5 returns-6 returns-7 returns-8 returns-9 returns-10 returns-11 returns-12 returns-13 returns-14 returns-15 returns-16 returns-17)
+keyword-of-spec =
+    tie.close
+    (tie.spec returns returns-2 returns-3 returns-4 returns-5 returns-6 returns-7 returns-8 returns-9 returns-10 returns-11 returns-12 returns-13
+    returns-14 returns-15 returns-16 returns-17)
