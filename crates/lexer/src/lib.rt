@@ -76,7 +76,7 @@ const CLASSES: [u8; 256] = *b"\
     wwwwwwwwwwwwwwwwwwwwwwwwwwwwwwww\
     wwwwwwwwwwwwwwwwwwwwwwwwwwwwwwww";
 
-// The table, to be bound once and lent: each use of the constant itself would write all its bytes anew.
+// The table, for callers that judge many bytes: they bind it once and lend it.
 pub fn class_table() -> [u8; 256]
     ensures { λ r. ⌜ Classes r ⌝ }
 {
@@ -106,24 +106,6 @@ fn class_in(classes: &[u8; 256], b: u8) -> ByteClass
         b'L' => ByteClass::Letter,
         b'D' => ByteClass::Digit,
         _ => ByteClass::Wrong,
-    }
-}
-
-// What a byte is.
-pub fn class_of(b: u8) -> ByteClass
-    ensures { λ r. ⌜ r ≡ classOf b ⌝ }
-{
-    let classes = class_table();
-    class_in(&classes, b)
-}
-
-// Whether a name goes on with a byte of the class.
-pub fn goes_on(class: ByteClass) -> bool
-    ensures { λ r. ⌜ r ≡ goesOn class ⌝ }
-{
-    match class {
-        ByteClass::Letter | ByteClass::Digit => true,
-        _ => false,
     }
 }
 
@@ -270,8 +252,8 @@ pub fn scan(text: &[u8]) -> Scanned
     scan_in(&classes, text)
 }
 
-// The first token at or after a place, by the table that is lent: for a caller that reads many tokens.
-pub fn next_in(classes: &[u8; 256], text: &[u8], at: usize) -> Token
+// The first token at or after a place, by the table that is lent.
+fn next_in(classes: &[u8; 256], text: &[u8], at: usize) -> Token
     requires { ⌜ Classes (now classes) ⌝ }
     ensures { λ r. ⌜ r ≡ tokenAt (now (text .entry)) at ⌝ }
 {
@@ -295,7 +277,7 @@ pub fn next_in(classes: &[u8; 256], text: &[u8], at: usize) -> Token
     Token::End
 }
 
-// The first token at or after a place: for a caller that binds no table.
+// The first token at or after a place.
 pub fn next(text: &[u8], at: usize) -> Token
     ensures { λ r. ⌜ r ≡ tokenAt (now (text .entry)) at ⌝ }
 {
