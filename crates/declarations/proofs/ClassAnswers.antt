@@ -1,11 +1,11 @@
 -- What declaring a class comes to: its name among the classes and a permission that stands twice are fault 4, the count of the classes and of its
 -- permissions fault 6, and otherwise its entries have room and are written. Assumes nothing.
 use mathlib.Core.Path.{_≡_, refl, sym, ap, subst, _∙_}
-use mathlib.Core.Bool.{Bool, true, false, not, _&&_, false≢true}
+use mathlib.Core.Bool.{true, false, not, false≢true, and-false}
 use mathlib.Core.List.{List, [], _∷_, _++_}
 use Prim.Native.Nat.{ℕ, _+_, _*_, _≤_, _<_}
 use native.Mathlib.Omega.{arith}
-use borrow.Author.Tests.{lt-ltb, le-ltb, le-leb, leb-true, not-true, not-false}
+use borrow.Author.Tests.{lt-ltb, le-ltb, le-leb, lt-leb, not-true, not-false}
 use lib.Dec.{ltb, leb}
 use lib.ListN.{length, length-append}
 use Rattle.bitset.specs.Parts.{part}
@@ -31,7 +31,7 @@ use Rattle.symbols.proofs.Declaring.{entries-more}
 use Rattle.table_laws.proofs.NamesRoom.{name-short}
 use Rattle.declarations.specs.Counting.{Stands}
 use Rattle.declarations.specs.WordRows.{wordsIn, WordHere, WordIs, Inside}
-use Rattle.declarations.specs.Entering.{AllNew, Entered, Fitting, Enters, EntersRow, answerOf}
+use Rattle.declarations.specs.Entering.{AllNew, Entered, Fitting, Enters, answerOf}
 use Rattle.declarations.specs.Declaring.{Holds, Declares, DeclaresAt}
 use Rattle.declarations.specs.declared.Declared.{Declared}
 use Rattle.declarations.specs.declared.Added.{Added}
@@ -42,7 +42,7 @@ use Rattle.declarations.proofs.EnteringLaws.{bytes-append, entered-then
 use Rattle.declarations.proofs.Standings.{not-found}
 use Rattle.declarations.proofs.NewPermissions.{permissions-new}
 use Rattle.declarations.proofs.Formed.{class-has-word, class-here, class-named}
-use Rattle.declarations.proofs.NameAnswers.{taken-found, free-missing, full}
+use Rattle.declarations.proofs.NameAnswers.{taken-found, free-missing}
 
 -- ---- good names are short
 
@@ -60,10 +60,6 @@ short-permissions n (p ∷ ps) h =
     let b = both-true (isGood p) (every isGood ps) h in
     (short-name p (b .0), short-permissions (n + 1) ps (b .1))
 
-and-false : (q : Bool) → (q && false) ≡ false
-and-false true = refl
-and-false false = refl
-
 -- ---- the answers
 
 module _ (t : List ℕ) (at : ℕ) (before : List ℕ) (end : ℕ) where
@@ -78,12 +74,13 @@ module _ (t : List ℕ) (at : ℕ) (before : List ℕ) (end : ℕ) where
     found ds = firstNamed (familyNumber 6 0) w (entries ds)
 
     -- "name declared again in its family"
-    pub class-taken : (after : List ℕ) → Stands before end 6 w Standing.Taken → DeclaresAt t at classK before after end Declared.Again
-    class-taken after q = record {
+    pub class-taken : Stands before end 6 w Standing.Taken → DeclaresAt t at classK before before end Declared.Again
+    class-taken q = record {
       says = λ ds d y g f.
           let c = class-named h d f in
-          let has : isIn w (classNames ds) ≡ true = sym (class-found ds w) ∙ taken-found (found ds) (length (classNames ds)) (q .classes ds (holds-symbols y) refl) in
-          subst (λ (x : Declaration). isNew ds x ≡ false) (sym (c .1)) (rw has);
+          let has : isIn w (classNames ds) ≡ true =
+          sym (class-found ds w) ∙ taken-found (found ds) (length (classNames ds)) (q .classes ds (holds-symbols y) refl) in
+          subst (λ (x : Declaration). Declares before before end ds x Declared.Again) (sym (c .1)) (rw has, refl);
     }
 
     module _ (row : ℕ) (i : Inside t (start + len) row) where
@@ -91,11 +88,11 @@ module _ (t : List ℕ) (at : ℕ) (before : List ℕ) (end : ℕ) where
       ps = wordsIn (framesAt t row .here)
 
       -- "permission twice in a class"
-      pub class-repeats : (after : List ℕ) → not (differ ps) ≡ true → DeclaresAt t at classK before after end Declared.Again
-      class-repeats after q = record {
+      pub class-repeats : not (differ ps) ≡ true → DeclaresAt t at classK before before end Declared.Again
+      class-repeats q = record {
         says = λ ds d y g f.
-            subst (λ (x : Declaration). isNew ds x ≡ false) (sym (class-here h i d g f .0))
-            (rw (not-true (differ ps) q) (and-false (not (isIn w (classNames ds)))));
+            subst (λ (x : Declaration). Declares before before end ds x Declared.Again) (sym (class-here h i d g f .0))
+            (rw (not-true (differ ps) q) (and-false (not (isIn w (classNames ds)))), refl);
       }
 
       module _ (number : ℕ) (q : Stands before end 6 w (Standing.Free number)) (once : not (differ ps) ≡ false) where
@@ -109,13 +106,20 @@ module _ (t : List ℕ) (at : ℕ) (before : List ℕ) (end : ℕ) where
         count-is : {ds : List Declaration} → Symbols before end ds → length (classNames ds) ≡ number
         count-is y = is-free y .1
 
-        -- "classes 32"
-        pub class-full : (after : List ℕ) → 32 ≤ number → DeclaresAt t at classK before after end Declared.Full
-        class-full after l = record {
+        no-room : ((ds : List Declaration) → Symbols before end ds → hasRoom ds (class w ps) ≡ false) → DeclaresAt t at classK before before end Declared.Full
+        no-room n = record {
           says = λ ds d y g f.
-              subst (λ (x : Declaration). (isNew ds x ≡ true) × (hasRoom ds x ≡ false)) (sym (class-here h i d g f .0))
-              (is-new (holds-symbols y), rw (le-ltb (length (classNames ds)) 32 (omega (arith, count-is (holds-symbols y)))));
+              subst (λ (x : Declaration). Declares before before end ds x Declared.Full) (sym (class-here h i d g f .0))
+              (is-new (holds-symbols y), n ds (holds-symbols y), refl);
         }
+
+        -- "classes 32"
+        pub class-full : 32 ≤ number → DeclaresAt t at classK before before end Declared.Full
+        class-full l = no-room (λ ds y. rw (le-ltb (length (classNames ds)) 32 (omega (arith, count-is y))))
+
+        -- "permissions 32 per class"
+        pub class-too-long : 32 < length ps → DeclaresAt t at classK before before end Declared.Full
+        class-too-long l = no-room (λ ds y. rw (lt-leb (length ps) 32 l) (and-false (ltb (length (classNames ds)) 32)))
 
         abbrev one : List NameEntry
         one = nameEntry 6 number w ∷ []
@@ -126,71 +130,73 @@ module _ (t : List ℕ) (at : ℕ) (before : List ℕ) (end : ℕ) where
         entries-are : {ds : List Declaration} → Symbols before end ds → one ++ others ≡ entriesOf ds (class w ps)
         entries-are y = ap (λ (n : ℕ). nameEntry 6 n w ∷ permissionEntries (n * 32) ps) (sym (count-is y))
 
-        -- where the maxima allow the class, all of its entries have room
-        all-fit : (ds : List Declaration) → Holds before end ds → goodNames (class w ps) ≡ true → hasRoom ds (class w ps) ≡ true
-            → end + (length (joined (each entryBytes one)) + length (joined (each entryBytes others))) ≤ 137088
-        all-fit ds y good room =
-            let fits = room-for y (class w ps) good (is-new (holds-symbols y)) room in
-            let n : length (joined (each entryBytes (entriesOf ds (class w ps)))) ≡ length (joined (each entryBytes one)) + length (joined (each entryBytes others)) =
-            ap (λ (es : List NameEntry). length (joined (each entryBytes es))) (sym (entries-are (holds-symbols y)))
-            ∙ ap length (bytes-append one others) ∙ length-append (joined (each entryBytes one)) (joined (each entryBytes others)) in
-            omega (arith, n, fits)
+        -- where the maxima allow the class, there is room for all of its entries, so that it is not refused
+        module _ (l : number < 32) (few : length ps ≤ 32) where
+          has-room : {ds : List Declaration} → Symbols before end ds → hasRoom ds (class w ps) ≡ true
+          has-room {ds} y =
+              true-both (ltb (length (classNames ds)) 32) (leb (length ps) 32)
+              (lt-ltb (length (classNames ds)) 32 (omega (arith, count-is y))) (le-leb (length ps) 32 few)
 
-        names-of : goodNames (class w ps) ≡ true → (isGood w ≡ true) × (every isGood ps ≡ true)
-        names-of good = let b = both-true (isGood w) (someGood ps) good in (b .0, some-every ps (b .1))
+          all-fit : (ds : List Declaration) → Holds before end ds → goodNames (class w ps) ≡ true
+              → end + (length (joined (each entryBytes one)) + length (joined (each entryBytes others))) ≤ 137088
+          all-fit ds y good =
+              let s = holds-symbols y in
+              let fits = room-for y (class w ps) good (is-new s) (has-room s) in
+              let n : length (joined (each entryBytes (entriesOf ds (class w ps))))
+              ≡ length (joined (each entryBytes one)) + length (joined (each entryBytes others)) =
+              ap (λ (es : List NameEntry). length (joined (each entryBytes es))) (sym (entries-are s))
+              ∙ ap length (bytes-append one others) ∙ length-append (joined (each entryBytes one)) (joined (each entryBytes others)) in
+              omega (arith, n, fits)
 
-        pub class-no-room : (after : List ℕ) → Enters before after end one Added.NoRoom → DeclaresAt t at classK before after end Declared.Full
-        class-no-room after n = record {
-          says = λ ds d y g f.
-              let c = class-here h i d g f in
-              subst (λ (x : Declaration). (isNew ds x ≡ true) × (hasRoom ds x ≡ false)) (sym (c .0))
-              (full ds (class w ps) (is-new (holds-symbols y))
-              (λ room. n .is (record { room = omega (arith, all-fit ds y (c .1) room); short = (short-name w (names-of (c .1) .0), tt) })));
-        }
+          names-of : goodNames (class w ps) ≡ true → (isGood w ≡ true) × (every isGood ps ≡ true)
+          names-of good = let b = both-true (isGood w) (someGood ps) good in (b .0, some-every ps (b .1))
 
-        module _ (mid after : List ℕ) (past : ℕ) (l : number < 32) (n : Enters before mid end one (Added.Past past)) where
-          rest-fits : (ds : List Declaration) → Holds before end ds → goodNames (class w ps) ≡ true → hasRoom ds (class w ps) ≡ true → Fitting past others
-          rest-fits ds y good room = record {
-            room = omega (arith, all-fit ds y good room, n .is .moved);
-            short = short-permissions (number * 32) ps (names-of good .1);
-          }
-
-          entries-new : length ps ≤ 32 → {ds : List Declaration} → Symbols before end ds → AllNew (entries ds) (one ++ others)
-          unfolding AllNew
-          entries-new few {ds} y =
-              subst (λ (k : ℕ). AllNew (entries ds) (nameEntry 6 k w ∷ permissionEntries (k * 32) ps)) (count-is y) (
-                not-found (found ds) (is-free y .0),
-                omega (arith, few-classes ds (y .good)),
-                permissions-new ds w (few-permissions [] ds (y .good)) (few-classes ds (y .good)) ps few (not-false (differ ps) once),
-              )
-
-          added : (a : Added) → EntersRow mid after past (number * 32) ps a → (ds : List Declaration) → Holds before end ds
-              → goodNames (class w ps) ≡ true → Declares before after end ds (class w ps) (answerOf a)
-          added (Added.Past next) e ds y good =
-              let all = entered-then (n .is) (e .is .0) in
-              let x = subst (λ (es : List NameEntry). Entered before after end es next) (entries-are (holds-symbols y)) all in
-              record {
-                new = is-new (holds-symbols y);
-                room = true-both (ltb (length (classNames ds)) 32) (leb (length ps) 32)
-                    (lt-ltb (length (classNames ds)) 32 (omega (arith, count-is (holds-symbols y)))) (le-leb (length ps) 32 (e .is .1));
-                written = x .written;
-                long = x .long;
-                moved = x .moved;
-                fits = x .fits;
-                indexed =
-                    subst (Indexed after next) (ap (λ (es : List NameEntry). entries ds ++ es) (entries-are (holds-symbols y)) ∙ sym (entries-more ds (class w ps)))
-                    (all .indexed (entries ds) (y .indexed) (entries-new (e .is .1) (holds-symbols y)));
-              }
-          added Added.NoRoom e ds y good =
-              full ds (class w ps) (is-new (holds-symbols y))
-              (λ room.
-              e .is (rest-fits ds y good room)
-              (leb-true (length ps) 32 (both-true (ltb (length (classNames ds)) 32) (leb (length ps) 32) room .1)))
-
-          pub class-added : (a : Added) (r : Declared) → EntersRow mid after past (number * 32) ps a → r ≡ answerOf a → DeclaresAt t at classK before after end r
-          class-added a r e z = record {
+          pub class-no-room : (after : List ℕ) (r : Declared) → Enters before after end one Added.NoRoom → DeclaresAt t at classK before after end r
+          class-no-room after r n = record {
             says = λ ds d y g f.
-                let c = class-here h i d g f in
-                subst (λ (x : Declaration). Declares before after end ds x r) (sym (c .0))
-                (subst (Declares before after end ds (class w ps)) (sym z) (added a e ds y (c .1)));
+                let good = class-here h i d g f .1 in
+                absurd (n .is (record { room = omega (arith, all-fit ds y good); short = (short-name w (names-of good .0), tt) }));
           }
+
+          module _ (mid after : List ℕ) (past : ℕ) (n : Enters before mid end one (Added.Past past)) where
+            rest-fits : (ds : List Declaration) → Holds before end ds → goodNames (class w ps) ≡ true → Fitting past others
+            rest-fits ds y good = record {
+              room = omega (arith, all-fit ds y good, n .is .moved);
+              short = short-permissions (number * 32) ps (names-of good .1);
+            }
+
+            entries-new : {ds : List Declaration} → Symbols before end ds → AllNew (entries ds) (one ++ others)
+            unfolding AllNew
+            entries-new {ds} y =
+                subst (λ (k : ℕ). AllNew (entries ds) (nameEntry 6 k w ∷ permissionEntries (k * 32) ps)) (count-is y) (
+                  not-found (found ds) (is-free y .0),
+                  omega (arith, few-classes ds (y .good)),
+                  permissions-new ds w (few-permissions [] ds (y .good)) (few-classes ds (y .good)) ps few (not-false (differ ps) once),
+                )
+
+            added : (a : Added) → Enters mid after past others a → (ds : List Declaration) → Holds before end ds
+                → goodNames (class w ps) ≡ true → Declares before after end ds (class w ps) (answerOf a)
+            added (Added.Past next) e ds y good =
+                let s = holds-symbols y in
+                let all = entered-then (n .is) (e .is) in
+                let x = subst (λ (es : List NameEntry). Entered before after end es next) (entries-are s) all in
+                record {
+                  new = is-new s;
+                  room = has-room s;
+                  written = x .written;
+                  long = x .long;
+                  moved = x .moved;
+                  fits = x .fits;
+                  indexed =
+                      subst (Indexed after next) (ap (λ (es : List NameEntry). entries ds ++ es) (entries-are s) ∙ sym (entries-more ds (class w ps)))
+                      (all .indexed (entries ds) (y .indexed) (entries-new s));
+                }
+            added Added.NoRoom e ds y good = absurd (e .is (rest-fits ds y good))
+
+            pub class-added : (a : Added) (r : Declared) → Enters mid after past others a → r ≡ answerOf a → DeclaresAt t at classK before after end r
+            class-added a r e z = record {
+              says = λ ds d y g f.
+                  let c = class-here h i d g f in
+                  subst (λ (x : Declaration). Declares before after end ds x r) (sym (c .0))
+                  (subst (Declares before after end ds (class w ps)) (sym z) (added a e ds y (c .1)));
+            }

@@ -18,7 +18,7 @@ use Rattle.symbols.specs.Index.{Indexed}
 use Rattle.symbols.proofs.AppendLaws.{put-sets, length-put}
 use Rattle.symbols.proofs.Appending.{entry-length}
 use Rattle.symbols.proofs.Declaring.{permission-more}
-use Rattle.declarations.specs.Entering.{AllNew, Entered, Fitting, Enters, EntersRow}
+use Rattle.declarations.specs.Entering.{AllNew, Entered, Fitting, Enters}
 use Rattle.declarations.specs.declared.Added.{Added}
 
 -- the bytes of entries
@@ -139,39 +139,31 @@ pub record SoFar (before now : List ℕ) (end first : ℕ) (ws left : List Name)
   pub done : List Name
   pub whole : ws ≡ done ++ left
   pub many : length done ≡ place
-  pub few : place ≤ 32
   pub entered : Entered before now end (permissionEntries first done) past
 
 pub so-far-none : (a : List ℕ) (end first : ℕ) (ws : List Name) → end ≤ 137088 → 186264 ≤ length a → SoFar a a end first ws ws end 0
 unfolding permissionEntries
-so-far-none a end first ws h room = record { done = []; whole = refl; many = refl; few = omega arith; entered = entered-none a end h room }
+so-far-none a end first ws h room = record { done = []; whole = refl; many = refl; entered = entered-none a end h room }
 
 module _ {a b : List ℕ} {end first : ℕ} {ws left : List Name} {past place : ℕ} (h : SoFar a b end first ws left past place) where
   pub so-far-long : length b ≡ length a
   so-far-long = h .entered .long
 
   -- none is left
-  pub all-written : left ≡ [] → EntersRow a b end first ws (Added.Past past)
+  pub all-written : left ≡ [] → Enters a b end (permissionEntries first ws) (Added.Past past)
   all-written e =
       let all : ws ≡ h .done = h .whole ∙ ap (λ (l : List Name). h .done ++ l) e ∙ append-nil (h .done) in
-      record {
-        is = (
-          subst (λ (l : List Name). Entered a b end (permissionEntries first l) past) (sym all) (h .entered),
-          (let n : length ws ≡ length (h .done) = ap length all in omega (arith, h .many, h .few)),
-        );
-      }
+      record { is = subst (λ (l : List Name). Entered a b end (permissionEntries first l) past) (sym all) (h .entered) }
 
   module _ (w : Name) (rest : List Name) (next : left ≡ w ∷ rest) where
     split : ws ≡ h .done ++ (w ∷ rest)
     split = h .whole ∙ ap (λ (l : List Name). h .done ++ l) next
 
-    -- "permissions 32 per class"
-    pub too-many : (c : List ℕ) → 32 ≤ place → EntersRow a c end first ws Added.NoRoom
-    too-many c l = record {
-      is = λ f k.
-          let n : length ws ≡ length (h .done) + suc (length rest) = ap length split ∙ length-append (h .done) (w ∷ rest) in
-          omega (arith, h .many);
-    }
+    -- fewer than all are written
+    pub one-left : place < length ws
+    one-left =
+        let n : length ws ≡ length (h .done) + suc (length rest) = ap length split ∙ length-append (h .done) (w ∷ rest) in
+        omega (arith, h .many)
 
     -- the entries of all of them: those that are written, the next one, and the others
     parted : permissionEntries first ws ≡ permissionEntries first (h .done) ++ ((nameEntry 7 (first + place) w ∷ []) ++ permissionEntries (first + place + 1) rest)
@@ -193,16 +185,16 @@ module _ {a b : List ℕ} {end first : ℕ} {ws left : List Name} {past place : 
           short = (each .0, tt);
         }
 
-    pub next-no-room : (c : List ℕ) → Enters b c past (nameEntry 7 (first + place) w ∷ []) Added.NoRoom → EntersRow a c end first ws Added.NoRoom
-    next-no-room c g = record { is = λ f k. g .is (next-fits f) }
+    pub next-no-room : (c : List ℕ) → Enters b c past (nameEntry 7 (first + place) w ∷ []) Added.NoRoom
+        → Enters a c end (permissionEntries first ws) Added.NoRoom
+    next-no-room c g = record { is = λ f. g .is (next-fits f) }
 
-    pub next-written : (c : List ℕ) (q : ℕ) → place < 32 → Enters b c past (nameEntry 7 (first + place) w ∷ []) (Added.Past q)
+    pub next-written : (c : List ℕ) (q : ℕ) → Enters b c past (nameEntry 7 (first + place) w ∷ []) (Added.Past q)
         → SoFar a c end first ws rest q (place + 1)
-    next-written c q l g = record {
+    next-written c q g = record {
       done = h .done ++ (w ∷ []);
       whole = split ∙ sym (append-assoc (h .done) (w ∷ []) rest);
       many = length-append (h .done) (w ∷ []) ∙ omega (arith, h .many);
-      few = omega arith;
       entered =
           subst (λ (es : List NameEntry). Entered a c end es q)
           (sym (permission-more first (h .done) w ∙ ap (λ (k : ℕ). permissionEntries first (h .done) ++ (nameEntry 7 (first + k) w ∷ [])) (h .many)))

@@ -1,7 +1,7 @@
 -- What declaring a name comes to: what the walk over the symbols said of it decides fault 4, the count of its sort fault 6, and otherwise its entry
 -- has room and is written. Assumes nothing.
 use mathlib.Core.Path.{_≡_, refl, sym, ap, ap₂, subst, _∙_}
-use mathlib.Core.Bool.{Bool, true, false, not}
+use mathlib.Core.Bool.{true, false, not}
 use mathlib.Core.List.{List, [], _∷_, _++_}
 use Prim.Native.Nat.{ℕ, _≤_, _<_}
 use native.Mathlib.Omega.{arith}
@@ -47,14 +47,6 @@ pub free-missing : (f : Found) (c n : ℕ) → Standing.Free n ≡ standing f c 
 free-missing (Found.At s k) c n h = absurd (let z : _≡_ {A = ℕ} 0 1 = cc in omega arith)
 free-missing Found.Missing c n h = (refl, let z : c ≡ n = cc in z)
 
--- fault 6, where a declaration is new and not allowed
-pub full : (ds : List Declaration) (d : Declaration) → isNew ds d ≡ true → (hasRoom ds d ≡ true → ⊥) → (isNew ds d ≡ true) × (hasRoom ds d ≡ false)
-full ds d n r = (n, by (hasRoom ds d) refl)
-  where
-    by : (q : Bool) → hasRoom ds d ≡ q → q ≡ false
-    by true e = absurd (r e)
-    by false e = refl
-
 -- ---- names
 
 most-small : (s : Sort) → maxOf s ≤ 512
@@ -92,12 +84,12 @@ module _ (t : List ℕ) (at sort : ℕ) (before : List ℕ) (end : ℕ) where
     is-in s e ds = ap (λ (n : ℕ). isFound (firstNamed n w (entries ds))) (ap (λ (x : ℕ). familyNumber x 0) e ∙ code-of s) ∙ reference-found ds (familyOf s) w
 
     -- "name declared again in its family"
-    pub name-taken : (after : List ℕ) → Stands before end sort w Standing.Taken → DeclaresName t at sort before after end Declared.Again
-    name-taken after q = record {
+    pub name-taken : Stands before end sort w Standing.Taken → DeclaresName t at sort before before end Declared.Again
+    name-taken q = record {
       of = λ s e. record {
         says = λ ds d y g f.
-            subst (λ (x : Declaration). isNew ds x ≡ false) (sym (plain-here h s d g f .0))
-            (ap not (sym (is-in s e ds) ∙ taken-found (found ds) (count s ds) (q .names ds s (holds-symbols y) e)));
+            subst (λ (x : Declaration). Declares before before end ds x Declared.Again) (sym (plain-here h s d g f .0))
+            (ap not (sym (is-in s e ds) ∙ taken-found (found ds) (count s ds) (q .names ds s (holds-symbols y) e)), refl);
       };
     }
 
@@ -112,12 +104,12 @@ module _ (t : List ℕ) (at sort : ℕ) (before : List ℕ) (end : ℕ) where
       count-is s e y = is-free s e y .1
 
       -- "one of the other maxima passed"
-      pub name-full : (after : List ℕ) → most ≤ number → DeclaresName t at sort before after end Declared.Full
-      name-full after l = record {
+      pub name-full : most ≤ number → DeclaresName t at sort before before end Declared.Full
+      name-full l = record {
         of = λ s e. record {
           says = λ ds d y g f.
-              subst (λ (x : Declaration). (isNew ds x ≡ true) × (hasRoom ds x ≡ false)) (sym (plain-here h s d g f .0))
-              (is-new s e (holds-symbols y), le-ltb (count s ds) (maxOf s) (omega (arith, count-is s e (holds-symbols y), m .is s e)));
+              subst (λ (x : Declaration). Declares before before end ds x Declared.Full) (sym (plain-here h s d g f .0))
+              (is-new s e (holds-symbols y), le-ltb (count s ds) (maxOf s) (omega (arith, count-is s e (holds-symbols y), m .is s e)), refl);
         };
       }
 

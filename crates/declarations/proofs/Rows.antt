@@ -1,11 +1,11 @@
--- The words of a row, one after the other: what stands at a place, and whether a name is among the first of them.
+-- The words of a row, one after the other: what stands at a place, whether a name is among the first of them, and how many they are.
 -- Assumes nothing.
 use mathlib.Core.Path.{_≡_, sym, ap, subst, _∙_}
 use mathlib.Core.Bool.{true, false}
 use mathlib.Core.List.{List, [], _∷_}
-use Prim.Native.Nat.{ℕ, suc, _+_, _-_, _<_}
+use Prim.Native.Nat.{ℕ, suc, _+_, _-_, _<_, _≤_}
 use native.Mathlib.Omega.{arith}
-use lib.ListN.{take}
+use lib.ListN.{length, take}
 use lib.Seq.{take-nil}
 use Rattle.bitset.specs.Parts as parts
 use Rattle.lexer.specs.Token.{tokenAt}
@@ -94,3 +94,19 @@ module _ (t : List ℕ) (i k : ℕ) (w : Name) where
   pub not-among-first-none : k ≡ 0 → false ≡ isAmongFirst t i k w
   unfolding isIn any
   not-among-first-none e = rw e
+
+-- ---- how many they are
+
+-- so many of the row at a place stand before i
+pub record Counted (t : List ℕ) (at i count : ℕ) : Type 0 where
+  pub left : count + length (wordsIn (framesAt t i .here)) ≡ length (wordsIn (framesAt t at .here))
+  pub few : count ≤ i
+
+module _ {t : List ℕ} {at i count : ℕ} (c : Counted t at i count) where
+  pub counted-all : wordsIn (framesAt t i .here) ≡ [] → count ≡ length (wordsIn (framesAt t at .here))
+  counted-all e = let none : length (wordsIn (framesAt t i .here)) ≡ 0 = ap length e in omega (arith, c .left, none)
+
+  pub counted-more : {s n : ℕ} → WordHere t i s n → Counted t at (s + n) (count + 1)
+  counted-more {s} {n} h =
+      let one : length (wordsIn (framesAt t i .here)) ≡ suc (length (wordsIn (framesAt t (s + n) .here))) = ap length (words-here h) in
+      record { left = omega (arith, c .left, one); few = omega (arith, c .few, h .ahead) }

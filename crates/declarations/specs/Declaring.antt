@@ -39,12 +39,12 @@ pub record Adds (before after : List ℕ) (end past : ℕ) (ds : List Declaratio
   pub fits : past ≤ 137088
   pub indexed : Indexed after past (entries (ds ++ (d ∷ [])))
 
--- "name declared again in its family, or permission twice in a class" before "one of the other maxima passed". After a fault nothing is promised of
--- the memory
+-- "name declared again in its family, or permission twice in a class" before "one of the other maxima passed". A declaration that is refused leaves
+-- the memory as it was
 abbrev pub Declares : List ℕ → List ℕ → ℕ → List Declaration → Declaration → Declared → Type 0
 Declares before after end ds d (Declared.Next past) = Adds before after end past ds d
-Declares before after end ds d Declared.Again = isNew ds d ≡ false
-Declares before after end ds d Declared.Full = (isNew ds d ≡ true) × (hasRoom ds d ≡ false)
+Declares before after end ds d Declared.Again = (isNew ds d ≡ false) × (after ≡ before)
+Declares before after end ds d Declared.Full = (isNew ds d ≡ true) × (hasRoom ds d ≡ false) × (after ≡ before)
 
 -- the declaration behind the keyword k at a place of the text
 pub record DeclaresAt (t : List ℕ) (at : ℕ) (k : Keyword) (before after : List ℕ) (end : ℕ) (r : Declared) : Type 0 where

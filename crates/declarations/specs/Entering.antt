@@ -5,9 +5,9 @@ use mathlib.Core.List.{List, [], _∷_, _++_}
 use lib.ListN.{length, take}
 use Rattle.bitset.specs.Parts.{put}
 use Rattle.bitset.specs.Relations.{joined}
-use Rattle.policy.specs.Basics.{Name, each}
+use Rattle.policy.specs.Basics.{each}
 use Rattle.policy.specs.Accepted.{All}
-use Rattle.policy.specs.Encode.{NameEntry, entryBytes, permissionEntries}
+use Rattle.policy.specs.Encode.{NameEntry, entryBytes}
 use Rattle.symbols.specs.Lookup.{familyNumber, firstNamed}
 use Rattle.symbols.specs.Index.{Indexed}
 use Rattle.symbols.specs.declared.Found.{Found}
@@ -41,14 +41,6 @@ EntersBy before after end es Added.NoRoom = Fitting end es → ⊥
 
 pub record Enters (before after : List ℕ) (end : ℕ) (es : List NameEntry) (r : Added) : Type 0 where
   pub is : EntersBy before after end es r
-
--- the permissions ws of a class, "permissions 32 per class", the first of them with the number n
-abbrev pub RowBy : List ℕ → List ℕ → ℕ → ℕ → List Name → Added → Type 0
-RowBy before after end n ws (Added.Past past) = Entered before after end (permissionEntries n ws) past × (length ws ≤ 32)
-RowBy before after end n ws Added.NoRoom = Fitting end (permissionEntries n ws) → length ws ≤ 32 → ⊥
-
-pub record EntersRow (before after : List ℕ) (end n : ℕ) (ws : List Name) (r : Added) : Type 0 where
-  pub is : RowBy before after end n ws r
 
 -- where there is no room for a declaration's entries, a maximum is passed
 abbrev pub answerOf : Added → Declared

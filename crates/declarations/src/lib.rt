@@ -9,11 +9,11 @@ ghost use Rattle.bitset.specs.Parts.{part};
 ghost use Rattle.lexer.specs.Forms.{framesAt};
 ghost use Rattle.policy.specs.Basics as basics;
 ghost use Rattle.policy.specs.Basics.{differ};
-ghost use Rattle.policy.specs.Encode.{nameEntry};
+ghost use Rattle.policy.specs.Encode.{nameEntry, permissionEntries};
 ghost use Rattle.policy.specs.Words.{classK};
 ghost use Rattle.declarations.specs.Counting.{Counts, MostIs, Stands};
 ghost use Rattle.declarations.specs.WordRows.{wordsIn, isAmongFirst, WordIs, Inside};
-ghost use Rattle.declarations.specs.Entering.{Enters, EntersRow, answerOf};
+ghost use Rattle.declarations.specs.Entering.{Enters, answerOf};
 ghost use Rattle.declarations.specs.Declaring.{DeclaresAt, DeclaresName};
 use lexer::Token;
 use symbols::Found;
@@ -255,10 +255,27 @@ fn repeats(text: &[u8], at: usize) -> bool
     }
 }
 
-// Writes the entries of a class's permissions, the names in the row at a place, numbered from a first number on.
+// How many names stand in the row at a place.
+fn count_names(text: &[u8], at: usize) -> usize
+    ensures { λ r. ⌜ r ≡ length (wordsIn (framesAt (now (text .entry)) at .here)) ⌝ }
+{
+    let mut i = at;
+    let mut count: usize = 0;
+    loop {
+        let name = word_at(text, i);
+        let NextWord::At { start, len } = name else {
+            return count;
+        };
+        count += 1;
+        i = start + len;
+    }
+}
+
+// Writes the entries of a class's permissions, the names in the row at a place, numbered from a first number on. The caller
+// counts them before: a class with too many is refused with nothing written.
 fn add_permissions(symbols: &mut [u8], end: usize, first: usize, text: &[u8], at: usize) -> Added
-    requires { ⌜ (first ≤ 1024) × (end ≤ 137088) × (186264 ≤ length (now symbols)) ⌝ }
-    ensures { λ r. ⌜ EntersRow (now (symbols .entry)) (now (symbols .exit)) end first (wordsIn (framesAt (now (text .entry)) at .here)) r ⌝ }
+    requires { ⌜ (first ≤ 1024) × (end ≤ 137088) × (186264 ≤ length (now symbols)) × (length (wordsIn (framesAt (now text) at .here)) ≤ 32) ⌝ }
+    ensures { λ r. ⌜ Enters (now (symbols .entry)) (now (symbols .exit)) end (permissionEntries first (wordsIn (framesAt (now (text .entry)) at .here))) r ⌝ }
 {
     let mut i = at;
     let mut past = end;
@@ -268,9 +285,6 @@ fn add_permissions(symbols: &mut [u8], end: usize, first: usize, text: &[u8], at
         let NextWord::At { start, len } = name else {
             return Added::Past(past);
         };
-        if policy::Permission::MAX <= place {
-            return Added::NoRoom;
-        }
         let added = add(symbols, past, PERMISSION, first + place, text, start, len);
         let Added::Past(next) = added else {
             return Added::NoRoom;
@@ -281,7 +295,8 @@ fn add_permissions(symbols: &mut [u8], end: usize, first: usize, text: &[u8], at
     }
 }
 
-// `(class C (P ...))`, behind the keyword.
+// `(class C (P ...))`, behind the keyword. What may refuse it is tested before the first entry is written, so that a refused class leaves the symbols
+// as they were; a class that passes has room for all of its entries.
 pub fn declare_class(
     text: &[u8],
     at: usize,
@@ -303,6 +318,9 @@ pub fn declare_class(
         return Declared::Again;
     }
     if policy::Class::MAX <= number {
+        return Declared::Full;
+    }
+    if policy::Permission::MAX < count_names(text, row) {
         return Declared::Full;
     }
     let added = add(symbols, end, CLASS, number, text, start, len);

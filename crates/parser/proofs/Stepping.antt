@@ -168,7 +168,8 @@ module _ {t : List ℕ} {at place : ℕ} {k : Keyword} {sy sy' co co' cs rs : Li
           go (Declared.Next past) y =
               let e = as-declared _ (judged-declared p d true true (y .new) (y .room)) in
               stepped-as p place lent (memory sy' co' cs rs) e refl (filled-declared h place d y (o .2) (room .code (declare d) e))
-          go Declared.Again y = stepped-as p place lent (memory sy' co' cs rs) (as-declared _ (ap (λ (new : Bool). judgedBy p d new (hasRoom (declarations p) d)) y)) refl refl
+          go Declared.Again y =
+              stepped-as p place lent (memory sy' co' cs rs) (as-declared _ (ap (λ (new : Bool). judgedBy p d new (hasRoom (declarations p) d)) (y .0))) refl refl
           go Declared.Full y = stepped-as p place lent (memory sy' co' cs rs) (as-declared _ (judged-declared p d true false (y .0) (y .1))) refl refl
 
 -- STATEMENTS WITH CODE: fault 5, then 6

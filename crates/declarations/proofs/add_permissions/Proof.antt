@@ -8,7 +8,7 @@ use lib.ListN.{length}
 use Rattle.lexer.specs.Forms.{framesAt}
 use Rattle.declarations.specs.WordRows.{wordsIn}
 use Rattle.declarations.proofs.Rows.{told, words-here}
-use Rattle.declarations.proofs.EnteringLaws.{SoFar, so-far-none, so-far-long, all-written, too-many, next-no-room, next-written, enters-told}
+use Rattle.declarations.proofs.EnteringLaws.{SoFar, so-far-none, so-far-long, all-written, one-left, next-no-room, next-written, enters-told}
 use Rattle.declarations.proofs.add_permissions.Statement.{statement}
 use Rattle.declarations.proofs.add_permissions.Tie as tie
 
@@ -22,72 +22,60 @@ abbrev μ-loop : tie.MeasureT-loop
 loop-holds : tie.Need-loop-holds Inv-loop μ-loop
 loop-holds c = so-far-none _ _ _ _ (c .before .before .pre .1) (c .before .before .pre .2)
 
-word-at-requires : tie.Need-word-at-requires Inv-loop μ-loop
-word-at-requires c κs = search needs
-
-enum-known-name : tie.Need-enum-known-name Inv-loop μ-loop
-enum-known-name c = search needs
-
-enum-told : tie.Need-enum-told Inv-loop μ-loop
-enum-told c = search needs
-
 same-length : tie.Need-same-length Inv-loop μ-loop
 same-length c = so-far-long (c .before .before .before .loop .inv)
 
 returns : tie.Need-returns Inv-loop μ-loop
-returns c =
-    all-written (c .before .before .before .loop .inv) (told (c .before .before .word-at .ensures) (c .enum-told .given .1) .is)
-
-same-length-2 : tie.Need-same-length-2 Inv-loop μ-loop
-same-length-2 c = so-far-long (c .before .before .before .before .before .loop .inv)
-
-returns-2 : tie.Need-returns-2 Inv-loop μ-loop
-returns-2 c =
-    let w = told (c .before .before .before .before .word-at .ensures) (c .before .before .name .given .1) in
-    too-many (c .before .before .before .before .before .loop .inv) _ _ (words-here (w .is)) _ (c .if1 .taken)
+returns c = all-written (c .before .before .before .loop .inv) (told (c .before .before .word-at .ensures) (c .enum-told .given .1) .is)
 
 add-add : tie.Need-add-add Inv-loop μ-loop
-add-add c = omega (arith, c .before .before .before .before .before .before .before .before .before .pre .0)
+add-add c =
+    let turn = c .before .before .before .before .before in
+    let start = turn .before .before .before in
+    let w = told (c .before .before .before .before .word-at .ensures) (c .before .before .name .given .1) in
+    omega (arith, start .pre .0, start .pre .3, one-left (turn .loop .inv) _ _ (words-here (w .is)))
 
 add-requires : tie.Need-add-requires Inv-loop μ-loop
 add-requires c κs =
-    let w = told (c .before .before .before .before .before .word-at .ensures) (c .before .before .before .name .given .1) in
-    (omega arith, w .is .within, omega (arith, c .before .before .before .before .before .before .before .before .before .pre .2, so-far-long (c .before .before .before .before .before .before .loop .inv)))
+    let turn = c .before .before .before .before .before in
+    let w = told (c .before .before .before .before .word-at .ensures) (c .before .before .name .given .1) in
+    (omega arith, w .is .within, omega (arith, turn .before .before .before .pre .2, so-far-long (turn .loop .inv)))
 
-enum-known-added : tie.Need-enum-known-added Inv-loop μ-loop
-enum-known-added c = search needs
+same-length-2 : tie.Need-same-length-2 Inv-loop μ-loop
+same-length-2 c =
+    let added = c .before .before .before .before in
+    added .add .kept .0 ∙ so-far-long (added .before .before .before .before .before .before .loop .inv)
 
-enum-told-2 : tie.Need-enum-told-2 Inv-loop μ-loop
-enum-told-2 c = search needs
-
-same-length-3 : tie.Need-same-length-3 Inv-loop μ-loop
-same-length-3 c =
-    c .before .before .before .before .add .kept .0 ∙ so-far-long (c .before .before .before .before .before .before .before .before .before .before .before .loop .inv)
-
-returns-3 : tie.Need-returns-3 Inv-loop μ-loop
-returns-3 c =
-    let l = c .before .before .before .before .before .before .before .before .before .before .before .loop in
-    let w = told (c .before .before .before .before .before .before .before .before .before .before .word-at .ensures) (c .before .before .before .before .before .before .before .before .name .given .1) in
-    next-no-room (l .inv) _ _ (words-here (w .is)) _ (enters-told (c .before .before .before .before .add .ensures) (c .enum-told2 .given .1))
+returns-2 : tie.Need-returns-2 Inv-loop μ-loop
+returns-2 c =
+    let name = c .before .before .before .before .before .before .before in
+    let w = told (name .before .before .word-at .ensures) (name .name .given .1) in
+    next-no-room (name .before .before .before .loop .inv) _ _ (words-here (w .is)) _
+    (enters-told (c .before .before .before .before .add .ensures) (c .enum-told2 .given .1))
 
 add-place : tie.Need-add-place Inv-loop μ-loop
-add-place c = omega arith
+add-place c =
+    let name = c .before .before .before .before .before .before .before .before in
+    let turn = name .before .before .before in
+    let w = told (name .before .before .word-at .ensures) (name .name .given .1) in
+    omega (arith, turn .before .before .before .pre .3, one-left (turn .loop .inv) _ _ (words-here (w .is)))
 
 add-i : tie.Need-add-i Inv-loop μ-loop
 add-i c =
-    let w = told (c .before .before .before .before .before .before .before .before .before .before .before .word-at .ensures) (c .before .before .before .before .before .before .before .before .before .name .given .1) in
-    omega (arith, w .is .within)
+    let name = c .before .before .before .before .before .before .before .before in
+    omega (arith, told (name .before .before .word-at .ensures) (name .name .given .1) .is .within)
 
 loop-less : tie.Need-loop-less Inv-loop μ-loop
 loop-less c =
-    let w = told (c .before .before .before .before .before .before .before .before .before .before .before .word-at .ensures) (c .before .before .before .before .before .before .before .before .before .name .given .1) in
+    let name = c .before .before .before .before .before .before .before .before in
+    let w = told (name .before .before .word-at .ensures) (name .name .given .1) in
     omega (arith, w .is .within, w .is .ahead)
 
 loop-again : tie.Need-loop-again Inv-loop μ-loop
 loop-again c =
-    let l = c .before .before .before .before .before .before .before .before .before .before .before .before .loop in
-    let w = told (c .before .before .before .before .before .before .before .before .before .before .before .word-at .ensures) (c .before .before .before .before .before .before .before .before .before .name .given .1) in
-    next-written (l .inv) _ _ (words-here (w .is)) _ _ (c .before .before .before .before .before .before .before .if1 .left)
+    let name = c .before .before .before .before .before .before .before .before in
+    let w = told (name .before .before .word-at .ensures) (name .name .given .1) in
+    next-written (name .before .before .before .loop .inv) _ _ (words-here (w .is)) _ _
     (enters-told (c .before .before .before .before .before .add .ensures) (c .before .added .given .1))
 
 pub add-permissions-spec : {M : Type 1} → statement M
@@ -97,19 +85,17 @@ add-permissions-spec =
     Inv-loop
     μ-loop
     loop-holds
-    word-at-requires
-    enum-known-name
-    enum-told
+    (λ c κs. search needs)
+    (λ c. search needs)
+    (λ c. search needs)
     same-length
     returns
-    same-length-2
-    returns-2
     add-add
     add-requires
-    enum-known-added
-    enum-told-2
-    same-length-3
-    returns-3
+    (λ c. search needs)
+    (λ c. search needs)
+    same-length-2
+    returns-2
     add-place
     add-i
     loop-less
