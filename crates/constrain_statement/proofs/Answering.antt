@@ -35,7 +35,6 @@ use Rattle.constrain_statement.specs.Scopes.{numbersOf, ScopeForm, Scope
 use Rattle.constrain_statement.specs.Constraining.{headWith, fitsBefore, Answers, WritesConstrain, AdmitsBy, Admits}
 use Rattle.constrain_statement.specs.declared.Constrained.{Constrained}
 use Rattle.constrain_statement.specs.declared.Scope.{Scope}
-use Rattle.constrain_statement.proofs.Admitting.{half-waits}
 use Rattle.constrain_statement.proofs.Masking.{tag}
 use Rattle.constrain_statement.proofs.Shapes.{Shape, shape}
 use Rattle.constrain_statement.proofs.Scoping.{startsPart, not-there, no-part, same-parts}
@@ -101,7 +100,8 @@ room count n e = let few = leb-true n maxRows (both-true (ltb count maxConstrain
 module _ (before after rowsBefore rowsAfter : List ℕ) (count class mask row n deep : ℕ) (x : Constraint Reference) (ns : List ℕ) (p : need x ≡ deep) (q : n ≡ row + size x)
     (u : mask ≡ maskOf ns) (long : length rowsBefore ≡ 12288)
     (v : 6 * (row + size x) ≤ length rowsBefore → rowsAfter ≡ put rowsBefore (6 * row) (joined (each rowBytes (rowsOf x)))) where
-  by-answer : (b : Constrained) → AdmitsBy deep before after count class mask row n b → Answers (some (constrain class ns x)) before after count rowsBefore rowsAfter row b
+  by-answer : (b : Constrained) → AdmitsBy before after count class mask row n deep b
+      → Answers (some (constrain class ns x)) before after count rowsBefore rowsAfter row b
   by-answer (Constrained.Next o) g =
       let counted : n - row ≡ size x = omega arith in
       record {
@@ -183,17 +183,20 @@ module _ {t : List ℕ} {at : ℕ} {table : List ℕ} {end : ℕ} {before : List
             (undeclared y (expression-there l s (o .place) l2) (told v d)))
 
         -- 6 and 7, and what is written, by what the maxima and the stack need allow
-        pub answered : {a n : ℕ} → k ≡ RowsWritten.Next a n → length rowsBefore ≡ 12288 → {after : List ℕ} {b : Constrained} → Admits t z before after count class mask row n b
+        pub answered : {a n deep : ℕ} → k ≡ RowsWritten.Next a n deep → length rowsBefore ≡ 12288 → {after : List ℕ} {b : Constrained}
+            → Admits before after count class mask row n deep b
             → WritesConstrain t at table end before after count rowsBefore rowsAfter row b
-        answered {a} {n} d long {after} {b} m = record {
+        answered {a} {n} {deep} d long {after} {b} m = record {
           says = λ ds w y g f.
               let s = shape (trim (framesAt t at .here) levels) w f in
               let o = scope-told u e in
               let c = o .says ds (s .class) (s .permissions) y (scope-there l s) in
               let there = expression-there l s (o .place) l2 in
-              let i = declared y there (told v d) in
+              let written = told v d in
+              let i = declared y there written in
+              let p = need-kept ds (s .body) (i .expression) (i .refers) ∙ sym (written .needs (s .body) there) in
               subst (λ (o : Option Statement). Answers o before after count rowsBefore rowsAfter row b)
               (sym (ap (resolved ds) (s .written) ∙ resolves ds (s .class) (s .permissions) (s .body) c (i .expression) (i .refers)))
-              (by-answer before after rowsBefore rowsAfter count class mask row n (need (s .body)) (i .expression) (c .numbers) (need-kept ds (s .body) (i .expression) (i .refers)) (i .count) (c .mask-is) long (i .bytes) b
-              (m .says (s .body) there (omega (arith, i .count, half-waits (i .expression) .0, need-kept ds (s .body) (i .expression) (i .refers)))));
+              (by-answer before after rowsBefore rowsAfter count class mask row n deep (i .expression) (c .numbers) p (i .count) (c .mask-is) long (i .bytes) b
+              (m .says));
         }

@@ -2,7 +2,7 @@
 -- of 6 bytes, operands before operators, left first", or the first of the faults 5, 6 and 7. Assumes nothing.
 use Prim.Native.Nat.{ℕ, _+_, _-_, _*_, _≤_}
 use mathlib.Core.Path.{_≡_}
-use mathlib.Core.Bool.{Bool, true, false, not, _&&_}
+use mathlib.Core.Bool.{Bool, true, false, _&&_}
 use mathlib.Core.List.{List}
 use mathlib.Core.Option.{Option, none, some}
 use lib.Dec.{leb, ltb}
@@ -10,11 +10,11 @@ use Rattle.bitset.specs.Parts.{put}
 use Rattle.bitset.specs.Relations.{joined}
 use Rattle.lexer.specs.Scan.{maxLevel}
 use Rattle.lexer.specs.Forms.{framesAt, trim}
-use Rattle.policy.specs.Basics.{Name, each}
+use Rattle.policy.specs.Basics.{each}
 use Rattle.policy.specs.Words.{constrainK}
 use Rattle.policy.specs.Statements.{Declaration, Reference, Constraint, Written, Statement, declare, attributeset, gives, roletransition, constrain, size, need}
 use Rattle.policy.specs.Maxima.{maxConstraints, maxRows, maxStack}
-use Rattle.policy.specs.Grammar.{expressionIn, formed}
+use Rattle.policy.specs.Grammar.{formed}
 use Rattle.policy.specs.Reading.{resolved}
 use Rattle.policy.specs.Image.{maskOf}
 use Rattle.policy.specs.Rows.{rowsOf}
@@ -64,22 +64,13 @@ pub record WritesConstrain (t : List ℕ) (at : ℕ) (table : List ℕ) (end : �
       → formed constrainK (trim (framesAt t at .here) (maxLevel - 1)) ≡ some w
       → Answers (resolved ds w) before after count rowsBefore rowsAfter row r
 
--- "Stack need of E" at a place
-pub record Needs (t : List ℕ) (at r : ℕ) : Type 0 where
-  pub says : (e : Constraint Name) → expressionIn (trim (framesAt t at .here) (maxLevel - 2)) ≡ some e → r ≡ need e
-
--- whether the expression at a place needs more of the stack than there is, if it has so many rows that twice its need is at most one more than they are
-pub record Deepens (t : List ℕ) (at rows : ℕ) (r : Bool) : Type 0 where
-  pub says : (e : Constraint Name) → expressionIn (trim (framesAt t at .here) (maxLevel - 2)) ≡ some e → 2 * need e ≤ rows + 1 → leb (need e) maxStack ≡ not r
-
--- the maxima and the stack need allow it, and its record is written; or the first of 6 and 7
-abbrev pub AdmitsBy : ℕ → List ℕ → List ℕ → ℕ → ℕ → ℕ → ℕ → ℕ → Constrained → Type 0
-AdmitsBy deep before after count class mask row next (Constrained.Next n) =
+-- the maxima allow it and so deep a stack, and its record is written; or the first of 6 and 7
+abbrev pub AdmitsBy : List ℕ → List ℕ → ℕ → ℕ → ℕ → ℕ → ℕ → ℕ → Constrained → Type 0
+AdmitsBy before after count class mask row next deep (Constrained.Next n) =
     (fitsBefore count next ≡ true) × (leb deep maxStack ≡ true) × (after ≡ put before (10 * count) (headBytes (headWith class mask row (next - row)))) × (n ≡ next)
-AdmitsBy deep before after count class mask row next Constrained.Undeclared = ⊥
-AdmitsBy deep before after count class mask row next Constrained.Full = fitsBefore count next ≡ false
-AdmitsBy deep before after count class mask row next Constrained.Deep = (fitsBefore count next ≡ true) × (leb deep maxStack ≡ false)
+AdmitsBy before after count class mask row next deep Constrained.Undeclared = ⊥
+AdmitsBy before after count class mask row next deep Constrained.Full = fitsBefore count next ≡ false
+AdmitsBy before after count class mask row next deep Constrained.Deep = (fitsBefore count next ≡ true) × (leb deep maxStack ≡ false)
 
-pub record Admits (t : List ℕ) (at : ℕ) (before after : List ℕ) (count class mask row next : ℕ) (r : Constrained) : Type 0 where
-  pub says : (e : Constraint Name) → expressionIn (trim (framesAt t at .here) (maxLevel - 2)) ≡ some e → 2 * need e ≤ next - row + 1
-      → AdmitsBy (need e) before after count class mask row next r
+pub record Admits (before after : List ℕ) (count class mask row next deep : ℕ) (r : Constrained) : Type 0 where
+  pub says : AdmitsBy before after count class mask row next deep r

@@ -9,8 +9,7 @@ ghost use Rattle.bitset.specs.Sets.{bit, fromBits};
 ghost use Rattle.bitset.specs.Parts.{put};
 ghost use Rattle.policy.specs.Encode.{headBytes};
 ghost use Rattle.constrain_statement.specs.Scopes.{Masks, Scopes};
-ghost use Rattle.constrain_statement.specs.Constraining.{headWith, Needs, Deepens, Admits, WritesConstrain};
-use constraint_grammar::Measured;
+ghost use Rattle.constrain_statement.specs.Constraining.{headWith, Admits, WritesConstrain};
 use constraint_writer::RowsWritten;
 use items::Item;
 use lexer::Level;
@@ -132,30 +131,6 @@ fn scope_of(text: &[u8], at: usize, symbols: &[u8], end: usize) -> Scope
     }
 }
 
-// The stack need of a constraint expression, behind its open parenthesis.
-fn stack_need(text: &[u8], at: usize) -> usize
-    ensures { λ r. ⌜ Needs (now (text .entry)) at r ⌝ }
-{
-    let measured = constraint_grammar::constraint_form(text, at, LEVELS);
-    match measured {
-        Measured::Good(measure, _) => measure.need,
-        Measured::Bad => 0,
-    }
-}
-
-// An expression of so few rows needs no more of the stack than there is: each comparison that waits there has an operator behind it.
-const FEW_ROWS: usize = 2 * Constraint::MAX_STACK;
-
-// Whether a constraint expression of so many rows, behind its open parenthesis, needs more of the stack than there is.
-fn is_deep(text: &[u8], at: usize, rows: usize) -> bool
-    ensures { λ r. ⌜ Deepens (now (text .entry)) at rows r ⌝ }
-{
-    if rows <= FEW_ROWS {
-        return false;
-    }
-    Constraint::MAX_STACK < stack_need(text, at)
-}
-
 // Writes the record of a constraint: class 2, permission mask 4, first row 2, row count 2.
 fn put_head(
     constraints: &mut [u8],
@@ -182,19 +157,18 @@ fn put_head(
 }
 
 // The record of a constraint whose names are declared and whose rows go from a row to before the next, if the maxima allow both and the stack
-// need of its expression, at a place.
+// need of its expression.
 fn admit(
-    text: &[u8],
-    at: usize,
     constraints: &mut [u8; CONSTRAINT_BYTES],
     count: usize,
     class: usize,
     mask: u32,
     row: usize,
     next: usize,
+    need: usize,
 ) -> Constrained
     requires { ⌜ row ≤ next ⌝ }
-    ensures { λ r. ⌜ Admits (now (text .entry)) at (now (constraints .entry)) (now (constraints .exit)) count class mask row next r ⌝ }
+    ensures { λ r. ⌜ Admits (now (constraints .entry)) (now (constraints .exit)) count class mask row next need r ⌝ }
 {
     if Constraint::MAX <= count {
         return Constrained::Full;
@@ -202,7 +176,7 @@ fn admit(
     if Row::MAX < next {
         return Constrained::Full;
     }
-    if is_deep(text, at, next - row) {
+    if Constraint::MAX_STACK < need {
         return Constrained::Deep;
     }
     put_head(constraints, count, class, mask, row, next - row);
@@ -238,8 +212,13 @@ pub fn write_constrain(
         return Constrained::Undeclared;
     };
     let written = constraint_writer::write_constraint(text, next, LEVELS, symbols, end, rows, row);
-    let RowsWritten::Next { row: past, .. } = written else {
+    let RowsWritten::Next {
+        row: past,
+        need,
+        ..
+    } = written
+    else {
         return Constrained::Undeclared;
     };
-    admit(text, next, constraints, count, class, mask, row, past)
+    admit(constraints, count, class, mask, row, past, need)
 }

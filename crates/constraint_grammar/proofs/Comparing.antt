@@ -1,4 +1,4 @@
--- Which three words a comparison may have, by their numbers, and that a comparison needs 1 and has 1 row. Assumes nothing.
+-- Which three words a comparison may have, by their numbers. Assumes nothing.
 use mathlib.Core.Path.{_≡_, refl, sym, ap, _∙_}
 use mathlib.Core.Bool.{Bool, true, false, not, _&&_, _||_, and-false}
 use mathlib.Core.List.{[], _∷_}
@@ -11,14 +11,13 @@ use Rattle.lexer.specs.Forms.{Forms, closed, ended, word, part, trim}
 use Rattle.lexer.proofs.Trim.{cut-or-whole}
 use Rattle.policy.specs.Basics.{Name, same, any, isIn, lookup, _>>=_, given}
 use Rattle.policy.specs.Words.{reserved, isReserved, isPlain, opOf, Component, component, componentOf}
-use Rattle.policy.specs.Statements.{Family, roles, Side, source, target, Op, eq, neq, dom, domby, incomp, Constraint, sidesE, nameE, size, need}
+use Rattle.policy.specs.Statements.{Family, roles, Side, source, target, Op, eq, neq, dom, domby, incomp, Constraint, sidesE, nameE}
 use Rattle.policy.specs.Grammar.{areSides, isRoles, compared, comparison}
 use Rattle.words.specs.Numbers.{keywords, words, numberOf, wordOf}
 use Rattle.words.proofs.Meaning.{agreeing, agree, reserved-number, op-number, component-number}
 use Rattle.items.specs.Reads.{isSome}
 use Rattle.items.proofs.Rows.{trim-closed}
 use Rattle.constraint_grammar.specs.Comparisons.{plainOp, sidesOf, comparisonOf, comparing, secondSide, bothSides}
-use Rattle.constraint_grammar.specs.Measures.{measure, measureOf, compareOf}
 
 never : {X : Type 0} → true ≡ false → X
 never e = absurd (let z : _≡_ {A = ℕ} 0 1 = cc in omega arith)
@@ -226,28 +225,9 @@ by-numbers o v w =
     ∙ ap (λ (x : Option Op). isSome (comparisonOf x (componentOf v) (wordOf (numberOf w)))) (op-number o)
     ∙ ap (λ (x : Option Component). isSome (comparisonOf (opOf (wordOf (numberOf o))) x (wordOf (numberOf w)))) (component-number v)
 
--- ---- "a comparison 1"; "one per operator and comparison"
+-- ---- the row of a comparison
 
-given-one : (b : Bool) (e : Constraint Name) → measureOf (some e) ≡ some (measure 1 1) → measureOf (given b e) ≡ given (isSome (given b e)) (measure 1 1)
-given-one true e h = h
-given-one false e h = refl
-
-named-one : (b p : Bool) (w : Name) (e : Name → Constraint Name) → ((n : Name) → measureOf (some (e n)) ≡ some (measure 1 1))
-    → measureOf (given b w >>= λ n. given p (e n)) ≡ given (isSome (given b w >>= λ n. given p (e n))) (measure 1 1)
-named-one true p w e h = given-one p (e w) (h w)
-named-one false p w e h = refl
-
-one : (o : Option Op) (v : Option Component) (w : Name) → measureOf (comparisonOf o v w) ≡ given (isSome (comparisonOf o v w)) (measure 1 1)
-unfolding need size
-one none v w = refl
-one (some o) none w = refl
-one (some o) (some x) w = go (componentOf w)
-  where
-    go : (c : Option Component) → measureOf (compared o x w c) ≡ given (isSome (compared o x w c)) (measure 1 1)
-    go none = named-one (not (isReserved w)) (isPlain o) w (nameE (x .family) (x .side) o) (λ n. refl)
-    go (some y) = given-one (areSides x y && (isPlain o || isRoles (x .family))) (sidesE (x .family) o) refl
-
-wrong : (o : Option Op) → measureOf (o >>= λ x. none) ≡ none
+wrong : (o : Option Op) → isSome {A = Constraint Name} (o >>= λ x. none) ≡ false
 wrong none = refl
 wrong (some o) = refl
 
@@ -256,19 +236,17 @@ and-true true = refl
 and-true false = refl
 
 -- a comparison by the number of its first word
-pub compare-is : (w : Name) (f : Forms) → measureOf (comparison w f) ≡ compareOf (numberOf w) f
+pub compare-is : (w : Name) (f : Forms) → isSome (comparison w f) ≡ bothSides (numberOf w) f
 compare-is w closed = wrong (opOf w)
 compare-is w ended = wrong (opOf w)
 compare-is w (part p f g) = wrong (opOf w)
 compare-is w (word s v closed) = wrong (opOf w)
 compare-is w (word s v ended) = wrong (opOf w)
 compare-is w (word s v (part p f g)) = wrong (opOf w)
-compare-is w (word s v (word r u closed)) =
-    one (opOf w) (componentOf v) u
-    ∙ ap (λ (b : Bool). given b (measure 1 1)) (by-numbers w v u ∙ sym (and-true (comparing (numberOf w) (numberOf v) (numberOf u))))
-compare-is w (word s v (word r u ended)) = wrong (opOf w) ∙ rw (and-false (comparing (numberOf w) (numberOf v) (numberOf u)))
-compare-is w (word s v (word r u (word q x f))) = wrong (opOf w) ∙ rw (and-false (comparing (numberOf w) (numberOf v) (numberOf u)))
-compare-is w (word s v (word r u (part p f g))) = wrong (opOf w) ∙ rw (and-false (comparing (numberOf w) (numberOf v) (numberOf u)))
+compare-is w (word s v (word r u closed)) = by-numbers w v u ∙ sym (and-true (comparing (numberOf w) (numberOf v) (numberOf u)))
+compare-is w (word s v (word r u ended)) = wrong (opOf w) ∙ sym (and-false (comparing (numberOf w) (numberOf v) (numberOf u)))
+compare-is w (word s v (word r u (word q x f))) = wrong (opOf w) ∙ sym (and-false (comparing (numberOf w) (numberOf v) (numberOf u)))
+compare-is w (word s v (word r u (part p f g))) = wrong (opOf w) ∙ sym (and-false (comparing (numberOf w) (numberOf v) (numberOf u)))
 
 -- ---- a cut changes nothing in a comparison
 

@@ -1,2 +1,2 @@
 pub mod Comparing
-pub mod Measuring
+pub mod Expressions

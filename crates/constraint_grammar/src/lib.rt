@@ -1,6 +1,5 @@
-// The form of a constraint expression, with its stack need and its rows.
+// The form of a constraint expression.
 ghost use mathlib.Core.Path.{_≡_};
-ghost use Prim.Native.Nat.{max};
 ghost use Rattle.lexer.specs.Forms.{framesAt, trim};
 ghost use Rattle.policy.specs.Words.{expressionWord, opOf, componentOf};
 ghost use Rattle.policy.specs.Grammar.{expressionIn};
@@ -8,22 +7,11 @@ ghost use Rattle.words.specs.Numbers.{wordOf};
 ghost use Rattle.items.specs.Looks.{itemAt};
 ghost use Rattle.items.specs.Reads.{isSome, Reads};
 ghost use Rattle.constraint_grammar.specs.Comparisons.{plainOp, sidesOf, comparing, secondSide, bothSides};
-ghost use Rattle.constraint_grammar.specs.Measures.{Measures, measureOf, compareOf, joinsOf, headOf};
+ghost use Rattle.constraint_grammar.specs.Heads.{joinsOf, headOf};
 use items::Item;
 use items::Parsed;
+use items::Wanted;
 use words::Word;
-
-// The stack need of a constraint expression, and how many rows it has.
-pub struct Measure {
-    pub need: usize,
-    pub rows: usize,
-}
-
-// The measure of the constraint expression that was read and the place behind its close, or that its form is wrong.
-pub enum Measured {
-    Good(Measure, usize),
-    Bad,
-}
 
 // How a constraint expression begins: how many operands its operator joins, 0 for a comparison; the number of its first word; and where it
 // goes on.
@@ -147,17 +135,6 @@ fn both_sides(text: &[u8], at: usize, op: usize) -> Parsed
     }
 }
 
-// A comparison, behind its first word.
-fn comparison_form(text: &[u8], at: usize, op: usize) -> Measured
-    ensures { λ r. ⌜ Measures (now (text .entry)) at (compareOf op (framesAt (now (text .entry)) at .here)) r ⌝ }
-{
-    let sides = both_sides(text, at, op);
-    match sides {
-        Parsed::Next(next) => Measured::Good(Measure { need: 1, rows: 1 }, next),
-        Parsed::Bad => Measured::Bad,
-    }
-}
-
 // How a constraint expression begins.
 fn head_of(text: &[u8], at: usize) -> Head
     ensures { λ r. ⌜ r ≡ headOf at (itemAt (now (text .entry)) at) ⌝ }
@@ -177,53 +154,34 @@ fn head_of(text: &[u8], at: usize) -> Head
     }
 }
 
-fn larger(a: usize, b: usize) -> usize
-    ensures { λ r. ⌜ r ≡ max a b ⌝ }
-{
-    if a < b {
-        return b;
-    }
-    a
-}
-
-// What the parentheses of a constraint expression hold. It calls itself on each operand; the number that falls is the levels left. An operand
-// is worked out with the values of those before it on the stack.
-pub fn constraint_form(text: &[u8], at: usize, levels: usize) -> Measured
-    ensures { λ r. ⌜ Measures (now (text .entry)) at (measureOf (expressionIn (trim (framesAt (now (text .entry)) at .here) levels))) r ⌝ }
+// What the parentheses of a constraint expression hold. It calls itself on each operand; the number that falls is the levels left.
+pub fn constraint_form(text: &[u8], at: usize, levels: usize) -> Parsed
+    ensures { λ r. ⌜ Reads (now (text .entry)) at (isSome (expressionIn (trim (framesAt (now (text .entry)) at .here) levels))) r ⌝ }
 {
     let head = head_of(text, at);
     let mut i = head.next;
     if head.wanted == 0 {
-        return comparison_form(text, i, head.word);
+        return both_sides(text, i, head.word);
     }
     let mut count: usize = 0;
-    let mut need: usize = 0;
-    let mut rows: usize = 1;
     loop {
         let item = items::look(text, i);
         match item {
             Item::Open { next, .. } => {
                 if levels == 0 {
-                    return Measured::Bad;
+                    return Parsed::Bad;
                 }
                 let operand = constraint_form(text, next, levels - 1);
                 match operand {
-                    Measured::Good(measure, past) => {
-                        need = larger(need, count + measure.need);
-                        rows += measure.rows;
-                        count += 1;
+                    Parsed::Next(past) => {
                         i = past;
+                        count += 1;
                     }
-                    Measured::Bad => return Measured::Bad,
+                    Parsed::Bad => return Parsed::Bad,
                 }
             }
-            Item::Close { next } => {
-                if count == head.wanted {
-                    return Measured::Good(Measure { need, rows }, next);
-                }
-                return Measured::Bad;
-            }
-            Item::Word { .. } | Item::End => return Measured::Bad,
+            Item::Close { next } => return items::ended(Wanted::Exactly(head.wanted), count, next),
+            Item::Word { .. } | Item::End => return Parsed::Bad,
         }
     }
 }

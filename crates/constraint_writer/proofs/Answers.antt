@@ -28,7 +28,7 @@ module _ {t symbols before after : List ℕ} {at end row : ℕ} {m : Option (Con
   pub undeclared : Writes t at m symbols end before after row RowsWritten.Undeclared → referE ds e ≡ none
   undeclared w = unresolved ds e before after row (w .rows ds e h g)
 
-  pub declared : {q n : ℕ} → Writes t at m symbols end before after row (RowsWritten.Next q n) → Resolved ds e before after row n
+  pub declared : {q n d : ℕ} → Writes t at m symbols end before after row (RowsWritten.Next q n d) → Resolved ds e before after row n
   declared w =
       let r = resolved ds e before after row (w .rows ds e h g) in
       record {

@@ -12,7 +12,7 @@ use denote.Enum.Declared.{tagOf}
 use Rattle.lexer.specs.Forms.{Forms, closed, ended, word, part, framesAt, trim}
 use Rattle.policy.specs.Basics.{Name, _>>=_, given}
 use Rattle.policy.specs.Words.{isReserved, isPlain, opOf, Component, componentOf}
-use Rattle.policy.specs.Statements.{Family, Side, source, target, Op, Declaration, Reference, thing, attribute, Constraint, sidesE, nameE}
+use Rattle.policy.specs.Statements.{Family, Side, source, target, Op, Declaration, Reference, thing, attribute, Constraint, sidesE, nameE, need}
 use Rattle.policy.specs.Grammar.{areSides, isRoles, compared, comparison}
 use Rattle.policy.specs.Reading.{refer, referE}
 use Rattle.policy.specs.Rows.{Row, row, compCode, opCode, rowsOf}
@@ -87,6 +87,18 @@ module _ (ds : List Declaration) (u : Name) where
   row-of (some o) none y e h k g = never h
   row-of (some o) (some x) (some y) e h k g = of-sides o x y e h ∙ ap (rowBy (opCode o) (compCode (x .family) (x .side))) (sym (g (x .family) (x .side) refl))
   row-of (some o) (some x) none e h k g = of-name o x e h ∙ ap (rowBy (opCode o) (compCode (x .family) (x .side))) (sym (g (x .family) (x .side) refl))
+
+-- "a comparison 1"
+need-of : (o : Option Op) (x : Option Component) (u : Name) (y : Option Component) (e : Constraint Name) → byWords o x u y ≡ some e → 1 ≡ need e
+unfolding need
+need-of none x u y e h = never h
+need-of (some o) none u y e h = never h
+need-of (some o) (some x) u (some y) e h = ap need (given-is (areSides x y && (isPlain o || isRoles (x .family))) (sidesE (x .family) o) e h .1)
+need-of (some o) (some x) u none e h = go (not (isReserved u)) h
+  where
+    go : (b : Bool) → (given b u >>= λ n. given (isPlain o) (nameE (x .family) (x .side) o n)) ≡ some e → 1 ≡ need e
+    go false g = never g
+    go true g = ap need (given-is (isPlain o) (nameE (x .family) (x .side) o u) e g .1)
 
 -- ---- rows that are no comparison
 
@@ -176,12 +188,13 @@ module _ {t : List ℕ} {at s n x p r k y q j : ℕ} (l : Looked t at (Item.Word
     not-declared {before} {first} c = record {
       kept = all-kept before first;
       reads = tt;
+      needs = λ e g. tt;
       rows = λ ds e h g. unsettled ds e before before first (one-row c ds e h g);
     }
 
     pub compared-row : {before after : List ℕ} {first kind number operator : ℕ} → Compares t r k y side symbols end (Operand.Is kind number) → operator ≡ operatorOf (opOf w)
         → Wrote before after first (row kind side operator number ∷ [])
-        → Writes t at (comparison w (framesAt t at .here)) symbols end before after first (RowsWritten.Next j (first + 1))
+        → Writes t at (comparison w (framesAt t at .here)) symbols end before after first (RowsWritten.Next j (first + 1) 1)
     compared-row {before} {after} {first} {kind} {number} {operator} c b u = record {
       kept = u .kept;
       reads = record {
@@ -190,6 +203,8 @@ module _ {t : List ℕ} {at s n x p r k y q j : ℕ} (l : Looked t at (Item.Word
         fits = l3 .ahead .1;
         some-row = omega arith;
         few-rows = omega (arith, l .ahead .0, l2 .ahead .0, l3 .ahead .0);
+        few-values = omega (arith, l .ahead .0, l2 .ahead .0, l3 .ahead .0);
       };
-      rows = λ ds e h g. settled ds e before after first j (first + 1) (row kind side operator number ∷ []) (one-row c ds e h g ∙ rw (← b)) refl u;
+      needs = λ e g. need-of (opOf w) (componentOf (take n (drop s t))) (take k (drop r t)) (componentOf (take k (drop r t))) e (sym in-words ∙ g);
+      rows = λ ds e h g. settled ds e before after first j (first + 1) 1 (row kind side operator number ∷ []) (one-row c ds e h g ∙ rw (← b)) refl u;
     }

@@ -3,13 +3,13 @@
 use mathlib.Core.Path.{_≡_, refl, sym, ap, subst, _∙_}
 use mathlib.Core.List.{List, [], _∷_, _++_, append-assoc}
 use mathlib.Core.Option.{Option, none, some, Option·some-injective}
-use Prim.Native.Nat.{ℕ, _+_, _-_, _<_, _≤_}
+use Prim.Native.Nat.{ℕ, max, _+_, _-_, _<_, _≤_}
 use native.Mathlib.Omega.{arith}
 use lib.ListN.{length, take, drop, length-append}
 use Rattle.lexer.specs.Forms.{Forms, Frames, closed, ended, word, part, framesAt, trim}
 use Rattle.policy.specs.Basics.{Name, _>>=_, more}
 use Rattle.policy.specs.Words.{Connective, allC, notC, andC, orC, xorC, expressionWord, opOf}
-use Rattle.policy.specs.Statements.{Declaration, Reference, Constraint, notE, andE, orE}
+use Rattle.policy.specs.Statements.{Declaration, Reference, Constraint, notE, andE, orE, need}
 use Rattle.policy.specs.Grammar.{comparison, formE, connected, expressions, expressionIn}
 use Rattle.policy.specs.Reading.{referE}
 use Rattle.policy.specs.Rows.{Row, row, rowsOf}
@@ -26,6 +26,7 @@ use Rattle.constraint_writer.specs.declared.RowsWritten.{RowsWritten}
 use Rattle.constraint_writer.proofs.Putting.{all-kept, kept-on, none-wrote, wrote-on}
 use Rattle.constraint_writer.proofs.Resolving.{rowsNamed, never, settled, unsettled, Settled, settles, unsettles}
 use Rattle.constraint_writer.proofs.Comparisons.{cut-comparison}
+use Rattle.constraint_writer.proofs.StackNeeds.{needLeft, none-yet, part-needs, close-needs}
 
 -- ---- the rows left
 
@@ -90,13 +91,17 @@ pub record SoFar (ds : List Declaration) (e : Constraint Name) (f : Forms) (kind
   pub count : n ≡ first + length done
   pub wrote : Wrote before now first done
 
--- what holds before each operand and before the close
-pub record Loop (t : List ℕ) (at levels : ℕ) (symbols : List ℕ) (end kind first : ℕ) (before : List ℕ) (i n : ℕ) (now : List ℕ) : Type 0 where
+-- what holds before each operand and before the close: after count operands the next row is n, and d is needed of the stack
+pub record Loop (t : List ℕ) (at levels : ℕ) (symbols : List ℕ) (end kind first : ℕ) (before : List ℕ) (i n count d : ℕ) (now : List ℕ) : Type 0 where
   pub ahead : at < i
   pub rises : first ≤ n
   pub few : at + n ≤ i + first
+  pub few-operands : at + count ≤ i
+  pub few-values : at + d ≤ i
   pub around : framesAt t i .around ≡ framesAt t at .around
   pub kept : Kept before now first
+  pub needs : (e : Constraint Name) → expressionIn (trim (framesAt t at .here) levels) ≡ some e
+      → needLeft (expressions (trim (framesAt t i .here) levels)) count d ≡ some (need e)
   pub so-far : (ds : List Declaration) (e : Constraint Name) → Symbols symbols end ds → expressionIn (trim (framesAt t at .here) levels) ≡ some e
       → SoFar ds e (trim (framesAt t i .here) levels) kind first n before now
 
@@ -129,16 +134,21 @@ module _ {t : List ℕ} {at s k number q : ℕ} (l : Looked t at (Item.Word s k 
         unprefixed none = refl
         unprefixed (some rs) = refl
 
-    pub begun : (kind ≡ 3 → ⊥) → {symbols before : List ℕ} {end first : ℕ} → Loop t at levels symbols end kind first before q first before
+    kind-is : kind ≡ kindOf (expressionWord (take k (drop s t)))
+    kind-is = is ∙ ap kindOf (sym number-is)
+
+    pub begun : (kind ≡ 3 → ⊥) → {symbols before : List ℕ} {end first : ℕ} → Loop t at levels symbols end kind first before q first 0 0 before
     unfolding expressionIn
     begun h {symbols} {before} {end} {first} = record {
       ahead = l .ahead .0;
       rises = omega arith;
       few = omega (arith, l .ahead .0);
+      few-operands = omega (arith, l .ahead .0);
+      few-values = omega (arith, l .ahead .0);
       around = sym (around-of l);
       kept = all-kept before first;
+      needs = λ e g. none-yet _ _ (expressionWord (take k (drop s t))) _ e (λ z. h (kind-is ∙ z)) (sym (by-word expressionIn levels l) ∙ g);
       so-far = λ ds e y g.
-          let kind-is : kind ≡ kindOf (expressionWord (take k (drop s t))) = is ∙ ap kindOf (sym number-is) in
           subst (λ (i : ℕ). SoFar ds e (trim (framesAt t q .here) levels) i first first before before) (sym kind-is)
           (by-operator ds e (trim (framesAt t q .here) levels) first before (expressionWord (take k (drop s t))) _ refl (λ z. h (kind-is ∙ z))
           (sym (by-word expressionIn levels l) ∙ g));
@@ -232,21 +242,27 @@ module _ {ds : List Declaration} {e : Constraint Name} {f : Forms} {kind first n
 
 -- ---- the turns of the loop
 
-module _ {t symbols before now : List ℕ} {at levels end kind first i n : ℕ} (g : Loop t at levels symbols end kind first before i n now) where
+module _ {t symbols before now : List ℕ} {at levels end kind first i n count d : ℕ} (g : Loop t at levels symbols end kind first before i n count d now) where
   -- what stands at the place is no operand
   pub no-operand : expressions (trim (framesAt t i .here) levels) ≡ none
       → Writes t at (expressionIn (trim (framesAt t at .here) levels)) symbols end before now first RowsWritten.Undeclared
-  no-operand d = record { kept = g .kept; reads = tt; rows = λ ds e y h. never (sym d ∙ g .so-far ds e y h .reads) }
+  no-operand o = record { kept = g .kept; reads = tt; needs = λ e h. tt; rows = λ ds e y h. never (sym o ∙ g .so-far ds e y h .reads) }
 
   module _ {p q : ℕ} {new : List ℕ} (l : Looked t i (Item.Open p q)) (deep : levels ≡ 0 → ⊥) where
-    pub operand-done : {past m : ℕ} → Writes t q (expressionIn (trim (framesAt t q .here) (levels - 1))) symbols end now new n (RowsWritten.Next past m)
-        → Loop t at levels symbols end kind first before past m new
-    operand-done {past} {m} w = record {
+    pub operand-done : {past m a b : ℕ} → Writes t q (expressionIn (trim (framesAt t q .here) (levels - 1))) symbols end now new n (RowsWritten.Next past m a)
+        → b ≡ max d (count + a) → Loop t at levels symbols end kind first before past m (count + 1) b new
+    operand-done {past} {m} {a} {b} w f = record {
       ahead = omega (arith, g .ahead, l .ahead .0, w .reads .less);
       rises = omega (arith, g .rises, w .reads .some-row);
       few = omega (arith, g .few, l .ahead .0, w .reads .few-rows);
+      few-operands = omega (arith, g .few-operands, l .ahead .0, w .reads .less);
+      few-values = omega (arith, g .few-operands, g .few-values, l .ahead .0, w .reads .less, w .reads .few-values, f);
       around = ap (λ (x : Frames). x .around) (w .reads .rest) ∙ sym (around-of l) ∙ g .around;
       kept = kept-on (g .rises) (g .kept) (w .kept);
+      needs = λ e h.
+          rw f
+          (subst (λ (x : Frames). needLeft (expressions (trim (x .here) levels)) (count + 1) (max d (count + a)) ≡ some (need e)) (sym (w .reads .rest))
+          (part-needs count d (need e) p _ _ a (w .needs) (sym (by-part (λ f. needLeft (expressions f) count d) levels l deep) ∙ g .needs e h)));
       so-far = λ ds e y h.
           subst (λ (x : Frames). SoFar ds e (trim (x .here) levels) kind first m before new) (sym (w .reads .rest))
           (one-more (g .so-far ds e y h) p _ _ (by-part expressions levels l deep) (λ x d. settles ds x now new n (w .rows ds x y d)));
@@ -257,13 +273,14 @@ module _ {t symbols before now : List ℕ} {at levels end kind first i n : ℕ} 
     operand-undeclared w = record {
       kept = kept-on (g .rises) (g .kept) (w .kept);
       reads = tt;
+      needs = λ e h. tt;
       rows = λ ds e y h.
           unsettled ds e before new first
           (none-more (g .so-far ds e y h) p _ _ (by-part expressions levels l deep) (λ x d. unsettles ds x now new n (w .rows ds x y d)));
     }
 
   pub finished : {j : ℕ} {new : List ℕ} → Looked t i (Item.Close j) → Wrote now new n (row kind 0 0 0 ∷ [])
-      → Writes t at (expressionIn (trim (framesAt t at .here) levels)) symbols end before new first (RowsWritten.Next j (n + 1))
+      → Writes t at (expressionIn (trim (framesAt t at .here) levels)) symbols end before new first (RowsWritten.Next j (n + 1) d)
   finished {j} {new} l w = record {
     kept = kept-on (g .rises) (g .kept) (w .kept);
     reads = record {
@@ -272,9 +289,11 @@ module _ {t symbols before now : List ℕ} {at levels end kind first i n : ℕ} 
       fits = l .ahead .1;
       some-row = omega (arith, g .rises);
       few-rows = omega (arith, g .few, l .ahead .0);
+      few-values = omega (arith, g .few-values, l .ahead .0);
     };
+    needs = λ e h. close-needs count d (need e) (sym (by-close (λ f. needLeft (expressions f) count d) levels l) ∙ g .needs e h);
     rows = λ ds e y h.
         let s = g .so-far ds e y h in
-        settled ds e before new first j (n + 1) (s .done ++ (row kind 0 0 0 ∷ [])) (all-done s (by-close expressions levels l))
+        settled ds e before new first j (n + 1) d (s .done ++ (row kind 0 0 0 ∷ [])) (all-done s (by-close expressions levels l))
         (omega (arith, s .count, length-append (s .done) (row kind 0 0 0 ∷ []))) (wrote-on n (s .done) (row kind 0 0 0 ∷ []) (s .count) (s .wrote) w);
   }

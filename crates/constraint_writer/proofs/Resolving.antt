@@ -32,17 +32,19 @@ never e = absurd (let z : _≡_ {A = ℕ} 0 1 = cc in omega arith)
 module _ (ds : List Declaration) (e : Constraint Name) (before after : List ℕ) (first : ℕ) where
   -- ---- from rows to an answer
 
-  pub settled : (q n : ℕ) (rs : List Row) → rowsNamed ds e ≡ some rs → n ≡ first + length rs → Wrote before after first rs → Resolves ds e before after first (RowsWritten.Next q n)
-  settled q n rs h k w = go (referE ds e) refl h
+  pub settled : (q n d : ℕ) (rs : List Row) → rowsNamed ds e ≡ some rs → n ≡ first + length rs → Wrote before after first rs
+      → Resolves ds e before after first (RowsWritten.Next q n d)
+  settled q n d rs h k w = go (referE ds e) refl h
     where
-      go : (o : Option (Constraint Reference)) → referE ds e ≡ o → (o >>= λ x. some (rowsOf x)) ≡ some rs → Resolves ds e before after first (RowsWritten.Next q n)
+      go : (o : Option (Constraint Reference)) → referE ds e ≡ o → (o >>= λ x. some (rowsOf x)) ≡ some rs
+          → Resolves ds e before after first (RowsWritten.Next q n d)
       go none p g = never g
       go (some x) p g =
           let same : rowsOf x ≡ rs = Option·some-injective (rowsOf x) rs g in
           let many : length rs ≡ size x = ap length (sym same) ∙ rows-count x in
           record {
             answer = rw p (ap some (omega arith));
-            wrote = λ y d. subst (Wrote before after first) (sym same ∙ ap rowsOf (Option·some-injective x y (sym p ∙ d))) w;
+            wrote = λ y o. subst (Wrote before after first) (sym same ∙ ap rowsOf (Option·some-injective x y (sym p ∙ o))) w;
           }
 
   pub unsettled : rowsNamed ds e ≡ none → Resolves ds e before after first RowsWritten.Undeclared
@@ -59,7 +61,7 @@ module _ (ds : List Declaration) (e : Constraint Name) (before after : List ℕ)
     pub refers : referE ds e ≡ some expression
     pub count : n ≡ first + size expression
 
-  pub resolved : {q n : ℕ} → Resolves ds e before after first (RowsWritten.Next q n) → ResolvedBy n
+  pub resolved : {q n d : ℕ} → Resolves ds e before after first (RowsWritten.Next q n d) → ResolvedBy n
   resolved {q} {n} r = go (referE ds e) refl
     where
       go : (o : Option (Constraint Reference)) → referE ds e ≡ o → ResolvedBy n
@@ -79,7 +81,7 @@ module _ (ds : List Declaration) (e : Constraint Name) (before after : List ℕ)
     pub count : n ≡ first + length rows
     pub wrote : Wrote before after first rows
 
-  pub settles : {q n : ℕ} → Resolves ds e before after first (RowsWritten.Next q n) → Settled n
+  pub settles : {q n d : ℕ} → Resolves ds e before after first (RowsWritten.Next q n d) → Settled n
   settles {q} {n} r =
       let x = resolved r in
       record {
@@ -101,19 +103,25 @@ module _ {t symbols before after : List ℕ} {at end first : ℕ} where
 
   -- the form is not good
   pub no-form : {m : Option (Constraint Name)} → Kept before after first → m ≡ none → Writes t at m symbols end before after first RowsWritten.Undeclared
-  no-form k e = record { kept = k; reads = tt; rows = λ ds x y h. never (sym e ∙ h) }
+  no-form k e = record { kept = k; reads = tt; needs = λ x h. tt; rows = λ ds x y h. never (sym e ∙ h) }
 
   -- what is said of an expression at a place behind another where the rows around are the same
   pub moved : {q : ℕ} {m o : Option (Constraint Name)} {r : RowsWritten} → framesAt t q .around ≡ framesAt t at .around → at < q
       → ((e : Constraint Name) → m ≡ some e → o ≡ some e) → Writes t q o symbols end before after first r → Writes t at m symbols end before after first r
-  moved {q} {m} {o} {r} a h f w = record { kept = w .kept; reads = go r (w .reads); rows = λ ds e y g. w .rows ds e y (f e g) }
+  moved {q} {m} {o} {r} a h f w = record {
+    kept = w .kept;
+    reads = go r (w .reads);
+    needs = λ e g. w .needs e (f e g);
+    rows = λ ds e y g. w .rows ds e y (f e g);
+  }
     where
       go : (r : RowsWritten) → Reads t q first r → Reads t at first r
       go RowsWritten.Undeclared g = tt
-      go (RowsWritten.Next p n) g = record {
+      go (RowsWritten.Next p n d) g = record {
         rest = g .rest ∙ ap (λ (x : List Forms). record { here = head x; around = tail x }) a;
         less = omega (arith, g .less);
         fits = g .fits;
         some-row = g .some-row;
         few-rows = omega (arith, g .few-rows);
+        few-values = omega (arith, g .few-values);
       }

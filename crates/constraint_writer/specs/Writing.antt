@@ -1,21 +1,18 @@
 -- What the writing of a constraint expression promises: its rows stand in the lent memory as document 01's body 7 has them, "Rows of 6 bytes,
--- operands before operators, left first", or a name of it is not declared, fault 5. Assumes nothing.
+-- operands before operators, left first", and its stack need is told; or a name of it is not declared, fault 5. Assumes nothing.
 use Prim.Native.Nat.{ℕ, _+_, _-_, _*_, _<_, _≤_}
 use mathlib.Core.Path.{_≡_}
-use mathlib.Core.List.{List, []}
-use mathlib.Core.Bool.{true}
+use mathlib.Core.List.{List}
 use mathlib.Core.Option.{Option, none, some}
 use lib.ListN.{length, take}
 use Rattle.bitset.specs.Parts.{put}
 use Rattle.bitset.specs.Relations.{joined}
 use Rattle.lexer.specs.Forms.{out, framesAt}
 use Rattle.policy.specs.Basics.{Name, each, _>>=_}
-use Rattle.policy.specs.Statements.{Declaration, Reference, Constraint, size}
+use Rattle.policy.specs.Statements.{Declaration, Reference, Constraint, size, need}
 use Rattle.policy.specs.Reading.{referE}
 use Rattle.policy.specs.Rows.{Row, rowsOf}
-use Rattle.policy.specs.Encode.{rowBytes, entries}
-use Rattle.policy.specs.Sound.{goodFrom}
-use Rattle.symbols.specs.Section.{entriesAt}
+use Rattle.policy.specs.Encode.{rowBytes}
 use Rattle.symbols.specs.Symbols.{Symbols}
 use Rattle.constraint_writer.specs.declared.RowsWritten.{RowsWritten}
 
@@ -36,7 +33,7 @@ pub record Wrote (before after : List ℕ) (row : ℕ) (rs : List Row) : Type 0 
 
 -- the number of the row after those that were written
 abbrev pub nextRow : RowsWritten → Option ℕ
-nextRow (RowsWritten.Next q n) = some n
+nextRow (RowsWritten.Next q n d) = some n
 nextRow RowsWritten.Undeclared = none
 
 -- an expression's rows are written and counted, exactly if its names are declared
@@ -44,16 +41,23 @@ pub record Resolves (ds : List Declaration) (e : Constraint Name) (before after 
   pub answer : nextRow r ≡ (referE ds e >>= λ x. some (row + size x))
   pub wrote : (x : Constraint Reference) → referE ds e ≡ some x → Wrote before after row (rowsOf x)
 
--- q is past the close of the row of the text at the place at, and each row that was written has a byte of its own there
-pub record Past (t : List ℕ) (at row q n : ℕ) : Type 0 where
+-- "Stack need of E": that of an expression is told
+abbrev pub Needs : Constraint Name → RowsWritten → Type 0
+Needs e (RowsWritten.Next q n d) = d ≡ need e
+Needs e RowsWritten.Undeclared = Unit {0}
+
+-- q is past the close of the row of the text at the place at, and each row that was written has a byte of its own there, and so has each value on the
+-- stack
+pub record Past (t : List ℕ) (at row q n d : ℕ) : Type 0 where
   pub rest : framesAt t q ≡ out (framesAt t at)
   pub less : at < q
   pub fits : q ≤ length t
   pub some-row : row < n
   pub few-rows : at + n ≤ q + row
+  pub few-values : at + d ≤ q
 
 abbrev pub Reads : List ℕ → ℕ → ℕ → RowsWritten → Type 0
-Reads t at row (RowsWritten.Next q n) = Past t at row q n
+Reads t at row (RowsWritten.Next q n d) = Past t at row q n d
 Reads t at row RowsWritten.Undeclared = Unit {0}
 
 -- m is the expression that stands at the place at, if its form is good. If it is not, the answer is free: promised is only what is kept, and that a
@@ -61,4 +65,5 @@ Reads t at row RowsWritten.Undeclared = Unit {0}
 pub record Writes (t : List ℕ) (at : ℕ) (m : Option (Constraint Name)) (symbols : List ℕ) (end : ℕ) (before after : List ℕ) (row : ℕ) (r : RowsWritten) : Type 0 where
   pub kept : Kept before after row
   pub reads : Reads t at row r
+  pub needs : (e : Constraint Name) → m ≡ some e → Needs e r
   pub rows : (ds : List Declaration) (e : Constraint Name) → Symbols symbols end ds → m ≡ some e → Resolves ds e before after row r

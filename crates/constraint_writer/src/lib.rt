@@ -1,6 +1,7 @@
-// Writes the rows of a constraint expression, with its names resolved.
+// Writes the rows of a constraint expression, with its names resolved, and tells its stack need.
 ghost use mathlib.Core.Path.{_≡_};
 ghost use mathlib.Core.List.{[], _∷_};
+ghost use Prim.Native.Nat.{max};
 ghost use Rattle.lexer.specs.Forms.{framesAt, trim};
 ghost use Rattle.policy.specs.Words.{expressionWord, opOf, componentOf};
 ghost use Rattle.policy.specs.Grammar as grammar;
@@ -12,9 +13,9 @@ use items::Item;
 use symbols::Found;
 use words::Word;
 
-// The place past the close of the expression and the number of the row after its rows, or that a name of it is not declared.
+// The place past the close of the expression, the number of the row after its rows and its stack need; or that a name of it is not declared.
 pub enum RowsWritten {
-    Next { at: usize, row: usize },
+    Next { at: usize, row: usize, need: usize },
     Undeclared,
 }
 
@@ -239,11 +240,25 @@ fn comparison(
     };
     put_row(rows, row, kind, side, operator_of(operator), number);
     let row = row + 1;
-    RowsWritten::Next { at: next, row }
+    RowsWritten::Next {
+        at: next,
+        row,
+        need: 1,
+    }
+}
+
+fn larger(a: usize, b: usize) -> usize
+    ensures { λ r. ⌜ r ≡ max a b ⌝ }
+{
+    if a < b {
+        return b;
+    }
+    a
 }
 
 // Writes the rows of a constraint expression, behind its open parenthesis, from a row on. It calls itself on each operand; the number that
-// falls is the levels left. Rows for which there is no room are counted and not written.
+// falls is the levels left. Rows for which there is no room are counted and not written. An operand is worked out with the values of those
+// before it on the stack, so it needs as many more.
 pub fn write_constraint(
     text: &[u8],
     at: usize,
@@ -266,6 +281,8 @@ pub fn write_constraint(
     }
     let mut i = next;
     let mut n = row;
+    let mut count: usize = 0;
+    let mut need: usize = 0;
     loop {
         let item = items::look(text, i);
         match item {
@@ -274,16 +291,18 @@ pub fn write_constraint(
                     return RowsWritten::Undeclared;
                 }
                 let operand = write_constraint(text, inside, levels - 1, symbols, end, rows, n);
-                let RowsWritten::Next { at: past, row: m } = operand else {
+                let RowsWritten::Next { at, row, need: own } = operand else {
                     return RowsWritten::Undeclared;
                 };
-                i = past;
-                n = m;
+                need = larger(need, count + own);
+                count += 1;
+                i = at;
+                n = row;
             }
-            Item::Close { next: past } => {
+            Item::Close { next: at } => {
                 put_row(rows, n, kind, 0, 0, 0);
-                let m = n + 1;
-                return RowsWritten::Next { at: past, row: m };
+                let row = n + 1;
+                return RowsWritten::Next { at, row, need };
             }
             Item::Word { .. } | Item::End => return RowsWritten::Undeclared,
         }

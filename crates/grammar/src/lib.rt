@@ -4,12 +4,11 @@ ghost use Prim.Native.Nat.{ℕ, _-_};
 ghost use Rattle.lexer.specs.Forms.{framesAt, trim};
 ghost use Rattle.lexer.specs.Scan.{maxLevel};
 ghost use Rattle.policy.specs.Words.{keywordOf};
-ghost use Rattle.policy.specs.Grammar.{expressionIn, written};
+ghost use Rattle.policy.specs.Grammar.{written};
 ghost use Rattle.words.specs.Numbers.{wordOf};
 ghost use Rattle.items.specs.Looks.{itemAt};
 ghost use Rattle.items.specs.Reads.{isSome, Reads};
 ghost use Rattle.grammar.specs.Shapes.{keywordIn, contentOf, onlyPart, nameAndPart, classAndConstraint, shapeOf, byShape};
-use constraint_grammar::Measured;
 use items::Item;
 use items::Parsed;
 use items::Wanted;
@@ -91,17 +90,6 @@ fn shape_of(keyword: Keyword) -> Shape
     }
 }
 
-// A constraint expression, without its measure.
-fn expression_form(text: &[u8], at: usize, levels: usize) -> Parsed
-    ensures { λ r. ⌜ Reads (now (text .entry)) at (isSome (expressionIn (trim (framesAt (now (text .entry)) at .here) levels))) r ⌝ }
-{
-    let measured = constraint_grammar::constraint_form(text, at, levels);
-    match measured {
-        Measured::Good(_, next) => Parsed::Next(next),
-        Measured::Bad => Parsed::Bad,
-    }
-}
-
 // What a part holds, to its close.
 fn content_form(text: &[u8], at: usize, content: Content, levels: usize) -> Parsed
     ensures { λ r. ⌜ Reads (now (text .entry)) at (contentOf content (trim (framesAt (now (text .entry)) at .here) levels)) r ⌝ }
@@ -109,7 +97,7 @@ fn content_form(text: &[u8], at: usize, content: Content, levels: usize) -> Pars
     match content {
         Content::Permissions => items::names_form(text, at, Wanted::OneOrMore),
         Content::Set => set_grammar::set_form(text, at, levels),
-        Content::Constraint => expression_form(text, at, levels),
+        Content::Constraint => constraint_grammar::constraint_form(text, at, levels),
     }
 }
 

@@ -10,14 +10,8 @@ returns c = many-constraints (c .if1 .taken)
 returns-2 : tie.Need-returns-2
 returns-2 c = many-rows (c .if2 .taken)
 
-sub-is-deep : tie.Need-sub-is-deep
-sub-is-deep c = search needs
-
-is-deep-requires : tie.Need-is-deep-requires
-is-deep-requires c κs = search needs
-
 returns-3 : tie.Need-returns-3
-returns-3 c = deep (c .before .before .before .if1 .left) (c .before .before .if2 .left) (c .before .is-deep .ensures) (c .if3 .taken)
+returns-3 c = deep (c .before .before .if1 .left) (c .before .if2 .left) (c .if3 .taken)
 
 sub-put-head : tie.Need-sub-put-head
 sub-put-head c = search needs
@@ -26,17 +20,8 @@ put-head-requires : tie.Need-put-head-requires
 put-head-requires c κs = search needs
 
 returns-4 : tie.Need-returns-4
-returns-4 c = admitted (c .before .before .before .before .before .if1 .left) (c .before .before .before .before .if2 .left) (c .before .before .before .is-deep .ensures) (c .before .before .if3 .left) (c .put-head .ensures)
+returns-4 c =
+    admitted (c .before .before .before .before .if1 .left) (c .before .before .before .if2 .left) (c .before .before .if3 .left) (c .put-head .ensures)
 
 pub admit-spec : {M : Type 1} → statement M
-admit-spec =
-    tie.close
-    (tie.spec
-    returns
-    returns-2
-    sub-is-deep
-    is-deep-requires
-    returns-3
-    sub-put-head
-    put-head-requires
-    returns-4)
+admit-spec = tie.close (tie.spec returns returns-2 returns-3 sub-put-head put-head-requires returns-4)

@@ -1,31 +1,29 @@
--- `constraint_grammar::constraint_form` meets its contract. It calls itself with one level less; what is left of the row decides, with the need and
--- the rows of the operands so far. Each operand lies in bytes of its own, so that no sum passes the text's length. Assumes nothing.
+-- `constraint_grammar::constraint_form` meets its contract. It calls itself with one level less; what is left of the row decides, with the number of
+-- operands so far. Assumes nothing.
 use mathlib.Core.Path.{_≡_, refl, sym, _∙_}
+use mathlib.Core.Bool.{Bool, true, false}
 use mathlib.Core.List.{[], _∷_}
-use mathlib.Core.Option.{Option, none}
-use Prim.Native.Nat.{ℕ, max, _+_, _-_, _<_, _≤_}
-use native.Mathlib.Nat.{max-le}
+use Prim.Native.Nat.{ℕ, _+_, _-_, _<_, _≤_}
 use native.Mathlib.Omega.{arith}
 use borrow.Author.Needs.{needs}
-use borrow.Author.Tests.{eq-eqb, ne-eqb}
 use borrow.Fn.Kinds.{In}
 use borrow.Fn.PlainCycle.{Measures, is, falls, and}
 use lib.ListN.{length}
 use Rattle.lexer.specs.Forms.{Forms, framesAt, trim}
 use Rattle.policy.specs.Grammar.{expressions, expressionIn}
 use Rattle.items.specs.Looks.{rowEnd}
+use Rattle.items.specs.Reads.{isSome, counted}
+use Rattle.items.specs.declared.Wanted.{Wanted}
 use Rattle.items.proofs.Items.{sees, by-part, by-close, too-deep, alike}
-use Rattle.items.proofs.Rows.{beyond}
+use Rattle.items.proofs.Rows.{told, refuse, at-close, beyond}
+use Rattle.items.proofs.ended.Reads as ended-reads
 use Rattle.items.proofs.look.Reads as look-reads
-use Rattle.constraint_grammar.specs.Measures.{measureOf, measured}
-use Rattle.constraint_grammar.specs.declared.Measure.{Measure}
-use Rattle.constraint_grammar.proofs.Measuring.{told, give, refuse, moved, heads, part-operand, bad-operand, close-operand, end-operand, word-operand}
+use Rattle.constraint_grammar.proofs.Expressions.{heads, both-read, part-operand, close-operand, end-operand, word-operand}
 use Rattle.constraint_grammar.proofs.constraint_form.Reads as constraint-form
 use Rattle.constraint_grammar.proofs.constraint_form.Kinds as constraint-form-kinds
 use Rattle.constraint_grammar.proofs.+constraint_form.Lts-constraint_form as lts
-use Rattle.constraint_grammar.proofs.comparison_form.Reads as comparison-form-reads
+use Rattle.constraint_grammar.proofs.both_sides.Reads as both-sides-reads
 use Rattle.constraint_grammar.proofs.head_of.Reads as head-of-reads
-use Rattle.constraint_grammar.proofs.larger.Reads as larger-reads
 use Rattle.constraint_grammar.proofs.+constraint_form.{statement}
 use Rattle.constraint_grammar.proofs.+constraint_form.Tie.{close}
 
@@ -39,46 +37,46 @@ abbrev below : ℕ → In 1 constraint-form-kinds.ps
 below t = and 1 constraint-form-kinds.ps (falls 1 constraint-form-kinds.ps _<_ μ t) constraint-form.Pre
 
 abbrev claims : ℕ → lts.Claims
-claims t = (head-of-reads.Asked, head-of-reads.Learnt, comparison-form-reads.Asked, comparison-form-reads.Learnt, look-reads.Asked, look-reads.Learnt, below t, constraint-form.Post, larger-reads.Asked, larger-reads.Learnt)
+claims t = (
+  head-of-reads.Asked,
+  head-of-reads.Learnt,
+  both-sides-reads.Asked,
+  both-sides-reads.Learnt,
+  look-reads.Asked,
+  look-reads.Learnt,
+  below t,
+  constraint-form.Post,
+  ended-reads.Asked,
+  ended-reads.Learnt,
+)
 
--- what is left of the operands, after c of them
-abbrev left : ℕ → ℕ → ℕ → ℕ → Forms → Option Measure
-left w c n k f = measured w c n k (expressions f)
-
--- the larger of two needs, each within the bytes read
-within : (at i inside past count need n : ℕ) {m : ℕ} → m ≡ max need (count + n) → at + count ≤ i → at + need ≤ i → i < inside → inside + n ≤ past → inside < past → at + m ≤ past
-within at i inside past count need n e a b d f g =
-    let h = max-le {a = need} {b = count + n} {k = past - at} (omega arith) (omega arith) in
-    rw e (omega arith)
+-- what is left of w operands, after n of them
+abbrev left : ℕ → ℕ → Forms → Bool
+left w n f = counted (Wanted.Exactly w) n (expressions f)
 
 abbrev Inv-loop : lts.InvT-loop
-Inv-loop text at levels head i₀ count₀ need₀ rows₀ i count need rows =
+Inv-loop text at levels head i₀ count₀ i count =
     (at + count ≤ i)
-    × (at + need ≤ i)
-    × (at + rows ≤ i)
     × (rowEnd text i ≡ rowEnd text at)
-    × (left (head .wanted) count need rows (trim (framesAt text i .here) levels) ≡ measureOf (expressionIn (trim (framesAt text at .here) levels)))
+    × (left (head .wanted) count (trim (framesAt text i .here) levels) ≡ isSome (expressionIn (trim (framesAt text at .here) levels)))
 
 abbrev μ-loop : lts.MeasureT-loop
-μ-loop text at levels head i₀ count₀ need₀ rows₀ i count need rows = length text - i
+μ-loop text at levels head i₀ count₀ i count = length text - i
 
 module _ (t : ℕ) where
   head-of-requires : lts.Need-head-of-requires (claims t) (at-level t) constraint-form.Post Inv-loop μ-loop
   head-of-requires c κs = search needs
 
-  comparison-form-requires : lts.Need-comparison-form-requires (claims t) (at-level t) constraint-form.Post Inv-loop μ-loop
-  comparison-form-requires c κs = search needs
+  both-sides-requires : lts.Need-both-sides-requires (claims t) (at-level t) constraint-form.Post Inv-loop μ-loop
+  both-sides-requires c κs = search needs
 
   returns : lts.Need-returns (claims t) (at-level t) constraint-form.Post Inv-loop μ-loop
-  returns c =
-      let h = heads (c .before .before .before .head-of .ensures) in
-      moved _ (h .end) (h .ahead) (h .compares (c .before .if1 .taken) _) (c .comparison-form .ensures)
+  returns c = both-read _ _ (heads (c .before .before .before .head-of .ensures)) (c .before .if1 .taken) (c .both-sides .ensures)
 
   loop-holds : lts.Need-loop-holds (claims t) (at-level t) constraint-form.Post Inv-loop μ-loop
   loop-holds c =
       let h = heads (c .before .before .head-of .ensures) in
-      let l = h .further (c .if1 .left) in
-      (omega (arith, l), omega (arith, l), omega (arith, l), h .end, h .joins (c .if1 .left) _)
+      (omega (arith, h .ahead), h .end, h .joins (c .if1 .left) _)
 
   look-requires : lts.Need-look-requires (claims t) (at-level t) constraint-form.Post Inv-loop μ-loop
   look-requires c κs = search needs
@@ -89,7 +87,7 @@ module _ (t : ℕ) where
   returns-2 : lts.Need-returns-2 (claims t) (at-level t) constraint-form.Post Inv-loop μ-loop
   returns-2 c =
       let l = sees (c .before .before .before .before .look .ensures) (c .before .before .item .given .1) in
-      refuse (sym (c .before .before .before .before .before .loop .inv .4) ∙ too-deep (left _ _ _ _) _ l (c .if2 .taken) ∙ end-operand _ _ _ _)
+      refuse (sym (c .before .before .before .before .before .loop .inv .2) ∙ too-deep (left _ _) _ l (c .if2 .taken) ∙ end-operand _ _)
 
   sub-constraint-form : lts.Need-sub-constraint-form (claims t) (at-level t) constraint-form.Post Inv-loop μ-loop
   sub-constraint-form c = search needs
@@ -100,43 +98,29 @@ module _ (t : ℕ) where
   enum-known-operand : lts.Need-enum-known-operand (claims t) (at-level t) constraint-form.Post Inv-loop μ-loop
   enum-known-operand c = search needs
 
-  add-larger : lts.Need-add-larger (claims t) (at-level t) constraint-form.Post Inv-loop μ-loop
-  add-larger c =
-      let l = sees (c .before .before .before .before .before .before .before .before .before .look .ensures) (c .before .before .before .before .before .before .before .item .given .1) in
-      let g = told (c .before .before .before .before .constraint-form .ensures) (c .before .before .operand .given .1) in
-      omega (arith, c .before .before .before .before .before .before .before .before .before .before .loop .inv .0, l .ahead .0, g .deep, g .fits)
-
-  larger-requires : lts.Need-larger-requires (claims t) (at-level t) constraint-form.Post Inv-loop μ-loop
-  larger-requires c κs = search needs
-
-  add-rows : lts.Need-add-rows (claims t) (at-level t) constraint-form.Post Inv-loop μ-loop
-  add-rows c =
-      let l = sees (c .before .before .before .before .before .before .before .before .before .before .before .look .ensures) (c .before .before .before .before .before .before .before .before .before .item .given .1) in
-      let g = told (c .before .before .before .before .before .before .constraint-form .ensures) (c .before .before .before .before .operand .given .1) in
-      omega (arith, c .before .before .before .before .before .before .before .before .before .before .before .before .loop .inv .2, l .ahead .0, g .long, g .fits)
-
   add-count : lts.Need-add-count (claims t) (at-level t) constraint-form.Post Inv-loop μ-loop
   add-count c =
-      let l = sees (c .before .before .before .before .before .before .before .before .before .before .before .look .ensures) (c .before .before .before .before .before .before .before .before .before .item .given .1) in
-      let g = told (c .before .before .before .before .before .before .constraint-form .ensures) (c .before .before .before .before .operand .given .1) in
-      omega (arith, c .before .before .before .before .before .before .before .before .before .before .before .before .loop .inv .0, l .ahead .0, g .less, g .fits)
+      let at-item = c .before .before .before .before .before .before in
+      let l = sees (at-item .before .before .look .ensures) (at-item .item .given .1) in
+      let g = told (c .before .before .before .constraint-form .ensures) (c .before .operand .given .1) in
+      omega (arith, at-item .before .before .before .loop .inv .0, l .ahead .0, g .less, g .fits)
 
   loop-less : lts.Need-loop-less (claims t) (at-level t) constraint-form.Post Inv-loop μ-loop
   loop-less c =
-      let l = sees (c .before .before .before .before .before .before .before .before .before .before .before .look .ensures) (c .before .before .before .before .before .before .before .before .before .item .given .1) in
-      let g = told (c .before .before .before .before .before .before .constraint-form .ensures) (c .before .before .before .before .operand .given .1) in
+      let at-item = c .before .before .before .before .before .before in
+      let l = sees (at-item .before .before .look .ensures) (at-item .item .given .1) in
+      let g = told (c .before .before .before .constraint-form .ensures) (c .before .operand .given .1) in
       omega (arith, l .ahead .0, g .less, g .fits)
 
   loop-again : lts.Need-loop-again (claims t) (at-level t) constraint-form.Post Inv-loop μ-loop
   loop-again c =
-      let l = sees (c .before .before .before .before .before .before .before .before .before .before .before .look .ensures) (c .before .before .before .before .before .before .before .before .before .item .given .1) in
-      let g = told (c .before .before .before .before .before .before .constraint-form .ensures) (c .before .before .before .before .operand .given .1) in
-      let d = c .before .larger .ensures in (
-        omega (arith, c .before .before .before .before .before .before .before .before .before .before .before .before .loop .inv .0, l .ahead .0, g .less),
-        within _ _ _ _ _ _ _ d (c .before .before .before .before .before .before .before .before .before .before .before .before .loop .inv .0) (c .before .before .before .before .before .before .before .before .before .before .before .before .loop .inv .1) (l .ahead .0) (g .deep) (g .less),
-        omega (arith, c .before .before .before .before .before .before .before .before .before .before .before .before .loop .inv .2, l .ahead .0, g .long),
-        sym (beyond _ l (g .end)) ∙ c .before .before .before .before .before .before .before .before .before .before .before .before .loop .inv .3,
-        rw d (sym (by-part (left _ _ _ _) _ _ l (g .end) (c .before .before .before .before .before .before .before .if2 .left) ∙ part-operand _ _ _ _ _ _ _ _ (g .good)) ∙ c .before .before .before .before .before .before .before .before .before .before .before .before .loop .inv .4),
+      let at-item = c .before .before .before .before .before .before in
+      let at-loop = at-item .before .before .before in
+      let l = sees (at-item .before .before .look .ensures) (at-item .item .given .1) in
+      let g = told (c .before .before .before .constraint-form .ensures) (c .before .operand .given .1) in (
+        omega (arith, at-loop .loop .inv .0, l .ahead .0, g .less),
+        sym (beyond _ l (g .end)) ∙ at-loop .loop .inv .1,
+        sym (by-part (left _ _) _ _ l (g .end) (c .before .before .before .before .if2 .left) ∙ part-operand _ _ _ _ _ true (g .good)) ∙ at-loop .loop .inv .2,
       )
 
   enum-told : lts.Need-enum-told (claims t) (at-level t) constraint-form.Post Inv-loop μ-loop
@@ -144,45 +128,38 @@ module _ (t : ℕ) where
 
   returns-3 : lts.Need-returns-3 (claims t) (at-level t) constraint-form.Post Inv-loop μ-loop
   returns-3 c =
-      let l = sees (c .before .before .before .before .before .before .before .look .ensures) (c .before .before .before .before .before .item .given .1) in
+      let at-item = c .before .before .before .before .before in
+      let l = sees (at-item .before .before .look .ensures) (at-item .item .given .1) in
       refuse
-      (sym (c .before .before .before .before .before .before .before .before .loop .inv .4)
-      ∙ by-part (left _ _ _ _) _ _ l refl (c .before .before .before .if2 .left)
-      ∙ bad-operand _ _ _ _ _ _ _ (told (c .before .before .constraint-form .ensures) (c .enum-told .given .1)))
+      (sym (at-item .before .before .before .loop .inv .2)
+      ∙ by-part (left _ _) _ _ l refl (c .before .before .before .if2 .left)
+      ∙ part-operand _ _ _ _ _ false (told (c .before .before .constraint-form .ensures) (c .enum-told .given .1)))
 
   enum-known-item-2 : lts.Need-enum-known-item-2 (claims t) (at-level t) constraint-form.Post Inv-loop μ-loop
   enum-known-item-2 c = search needs
 
+  ended-requires : lts.Need-ended-requires (claims t) (at-level t) constraint-form.Post Inv-loop μ-loop
+  ended-requires c κs = search needs
+
   returns-4 : lts.Need-returns-4 (claims t) (at-level t) constraint-form.Post Inv-loop μ-loop
   returns-4 c =
-      let l = sees (c .before .before .before .before .before .look .ensures) (c .before .before .before .item2 .given .1) in
-      give
-      (record {
-        good = sym (c .before .before .before .before .before .before .loop .inv .4) ∙ by-close (left _ _ _ _) _ l ∙ close-operand _ _ _ _ ∙ rw (eq-eqb _ _ (c .if3 .taken));
-        end = sym (c .before .before .before .before .before .before .loop .inv .3) ∙ l .end;
-        less = omega (arith, c .before .before .before .before .before .before .loop .inv .0, l .ahead .0);
-        fits = l .ahead .1;
-        deep = omega (arith, c .before .before .before .before .before .before .loop .inv .1, l .ahead .0);
-        long = omega (arith, c .before .before .before .before .before .before .loop .inv .2, l .ahead .0);
-      })
+      let l = sees (c .before .before .before .before .look .ensures) (c .before .before .item2 .given .1) in
+      let at-loop = c .before .before .before .before .before in
+      at-close _ _ (c .ended .ensures) (sym (at-loop .loop .inv .2) ∙ by-close (left _ _) _ l ∙ close-operand _ _) (sym (at-loop .loop .inv .1) ∙ l .end)
+      (omega (arith, at-loop .loop .inv .0, l .ahead .0)) (l .ahead .1)
 
   returns-5 : lts.Need-returns-5 (claims t) (at-level t) constraint-form.Post Inv-loop μ-loop
   returns-5 c =
-      let l = sees (c .before .before .before .before .before .look .ensures) (c .before .before .before .item2 .given .1) in
-      refuse (sym (c .before .before .before .before .before .before .loop .inv .4) ∙ by-close (left _ _ _ _) _ l ∙ close-operand _ _ _ _ ∙ rw (ne-eqb _ _ (c .if3 .left)))
-
-  returns-6 : lts.Need-returns-6 (claims t) (at-level t) constraint-form.Post Inv-loop μ-loop
-  returns-6 c =
       refuse
-      (sym (c .before .before .loop .inv .4)
-      ∙ alike (left _ _ _ _) (λ f. none) _ _ _ (0 ∷ 3 ∷ []) _ (word-operand _ _ _ _, tt, tt, end-operand _ _ _ _) (c .before .look .ensures) (c .match .keys3))
+      (sym (c .before .before .loop .inv .2)
+      ∙ alike (left _ _) (λ f. false) _ _ _ (0 ∷ 3 ∷ []) _ (word-operand _ _, tt, tt, end-operand _ _) (c .before .look .ensures) (c .match .keys3))
 
 pub +constraint-form-spec : {M : Type 1} → statement M
 +constraint-form-spec =
     close μ
     (λ t. lts.spec (claims t) (at-level t) constraint-form.Post Inv-loop μ-loop
     (head-of-requires t)
-    (comparison-form-requires t)
+    (both-sides-requires t)
     (returns t)
     (loop-holds t)
     (look-requires t)
@@ -191,15 +168,12 @@ pub +constraint-form-spec : {M : Type 1} → statement M
     (sub-constraint-form t)
     (constraint-form-requires t)
     (enum-known-operand t)
-    (add-larger t)
-    (larger-requires t)
-    (add-rows t)
     (add-count t)
     (loop-less t)
     (loop-again t)
     (enum-told t)
     (returns-3 t)
     (enum-known-item-2 t)
+    (ended-requires t)
     (returns-4 t)
-    (returns-5 t)
-    (returns-6 t))
+    (returns-5 t))

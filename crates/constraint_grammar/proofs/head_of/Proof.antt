@@ -4,7 +4,7 @@ use mathlib.Core.List.{[], _∷_}
 use borrow.Author.Needs.{needs}
 use Rattle.items.specs.declared.Item.{Item}
 use Rattle.items.proofs.Items.{among}
-use Rattle.constraint_grammar.specs.Measures.{headBy, headOf}
+use Rattle.constraint_grammar.specs.Heads.{headBy, headOf}
 use Rattle.constraint_grammar.proofs.head_of.Statement.{statement}
 use Rattle.constraint_grammar.proofs.head_of.Tie as tie
 use Rattle.constraint_grammar.proofs.head_of.Reads as reads

@@ -9,7 +9,8 @@ use Rattle.items.proofs.Frames.{sees, around-of, too-deep}
 use Rattle.items.proofs.Items.{alike}
 use Rattle.constraint_writer.proofs.Putting.{all-kept}
 use Rattle.constraint_writer.proofs.Resolving.{told, no-form, moved}
-use Rattle.constraint_writer.proofs.Joining.{Loop, no-word, begun, compares, end-none, word-none, no-operand, operand-done, operand-undeclared, finished}
+use Rattle.constraint_writer.proofs.Joining.{Loop, no-word, begun, compares, end-none, word-none}
+use Rattle.constraint_writer.proofs.Joining.{no-operand, operand-done, operand-undeclared, finished}
 use borrow.Author.Needs.{needs}
 use native.Mathlib.Omega.{arith}
 use lib.ListN.{length}
@@ -22,6 +23,7 @@ use Rattle.constraint_writer.proofs.write_constraint.Kinds as write-con
 use Rattle.constraint_writer.proofs.+write_constraint.Lts-write_constraint as lts
 use Rattle.constraint_writer.proofs.comparison.Reads as comparison-reads
 use Rattle.constraint_writer.proofs.kind_of.Reads as kind-of-reads
+use Rattle.constraint_writer.proofs.larger.Reads as larger-reads
 use Rattle.constraint_writer.proofs.put_row.Reads as put-row-reads
 use Rattle.items.proofs.look.Reads as look-reads
 use Rattle.constraint_writer.proofs.+write_constraint.{statement}
@@ -37,13 +39,27 @@ abbrev below : ℕ → In 3 write-constraint-kinds.ps
 below t = and 3 write-constraint-kinds.ps (falls 3 write-constraint-kinds.ps _<_ μ t) write-constraint.Pre
 
 abbrev claims : ℕ → lts.Claims
-claims t = (look-reads.Asked, look-reads.Learnt, kind-of-reads.Asked, kind-of-reads.Learnt, comparison-reads.Asked, comparison-reads.Learnt, below t, write-constraint.Post, put-row-reads.Asked, put-row-reads.Learnt)
+claims t = (
+  look-reads.Asked,
+  look-reads.Learnt,
+  kind-of-reads.Asked,
+  kind-of-reads.Learnt,
+  comparison-reads.Asked,
+  comparison-reads.Learnt,
+  below t,
+  write-constraint.Post,
+  larger-reads.Asked,
+  larger-reads.Learnt,
+  put-row-reads.Asked,
+  put-row-reads.Learnt,
+)
 
 abbrev Inv-loop : lts.InvT-loop
-Inv-loop text at levels symbols end rows₀ row number next kind i₀ n₀ rows i n = Loop text at levels symbols end kind row rows₀ i n rows
+Inv-loop text at levels symbols end rows₀ row number next kind i₀ n₀ count₀ need₀ rows i n count need =
+    Loop text at levels symbols end kind row rows₀ i n count need rows
 
 abbrev μ-loop : lts.MeasureT-loop
-μ-loop text at levels symbols end rows₀ row number next kind i₀ n₀ rows i n = length text - i
+μ-loop text at levels symbols end rows₀ row number next kind i₀ n₀ count₀ need₀ rows i n count need = length text - i
 
 module _ (t : ℕ) where
   look-requires : lts.Need-look-requires (claims t) (at-level t) write-constraint.Post Inv-loop μ-loop
@@ -61,18 +77,24 @@ module _ (t : ℕ) where
 
   comparison-requires : lts.Need-comparison-requires (claims t) (at-level t) write-constraint.Post Inv-loop μ-loop
   comparison-requires c κs =
-      let l = sees (c .before .before .before .before .before .before .look .ensures) (c .before .before .before .before .first .given .1) in omega (arith, l .ahead .0, c .before .before .before .before .before .before .before .before .before .before .pre .1)
+      let at-first = c .before .before .before .before in
+      let l = sees (at-first .before .before .look .ensures) (at-first .first .given .1) in
+      omega (arith, l .ahead .0, at-first .before .before .before .before .before .before .pre .1)
 
   same-length : lts.Need-same-length (claims t) (at-level t) write-constraint.Post Inv-loop μ-loop
   same-length c = search needs
 
   returns-2 : lts.Need-returns-2 (claims t) (at-level t) write-constraint.Post Inv-loop μ-loop
   returns-2 c =
-      let l = sees (c .before .before .before .before .before .before .before .before .before .look .ensures) (c .before .before .before .before .before .before .before .first .given .1) in moved (sym (around-of l)) (l .ahead .0) (compares l (c .before .before .before .before .before .kind-of .ensures) _ (c .before .before .before .before .if1 .taken)) (c .before .before .comparison .ensures)
+      let at-first = c .before .before .before .before .before .before .before in
+      let l = sees (at-first .before .before .look .ensures) (at-first .first .given .1) in
+      let at-test = c .before .before .before .before in
+      moved (sym (around-of l)) (l .ahead .0) (compares l (at-test .before .kind-of .ensures) _ (at-test .if1 .taken)) (c .before .before .comparison .ensures)
 
   loop-holds : lts.Need-loop-holds (claims t) (at-level t) write-constraint.Post Inv-loop μ-loop
   loop-holds c =
-      begun (sees (c .before .before .before .before .before .look .ensures) (c .before .before .before .first .given .1)) (c .before .kind-of .ensures) _ (c .if1 .left)
+      let l = sees (c .before .before .before .before .before .look .ensures) (c .before .before .before .first .given .1) in
+      begun l (c .before .kind-of .ensures) _ (c .if1 .left)
 
   look-requires-2 : lts.Need-look-requires-2 (claims t) (at-level t) write-constraint.Post Inv-loop μ-loop
   look-requires-2 c κs = search needs
@@ -81,19 +103,22 @@ module _ (t : ℕ) where
   enum-known-item c = search needs
 
   same-length-2 : lts.Need-same-length-2 (claims t) (at-level t) write-constraint.Post Inv-loop μ-loop
-  same-length-2 c =
-      c .before .before .before .before .before .loop .inv .kept .long
+  same-length-2 c = c .before .before .before .before .before .loop .inv .kept .long
 
   returns-3 : lts.Need-returns-3 (claims t) (at-level t) write-constraint.Post Inv-loop μ-loop
   returns-3 c =
-      no-operand (c .before .before .before .before .before .loop .inv) (too-deep expressions _ (sees (c .before .before .before .before .look2 .ensures) (c .before .before .item .given .1)) (c .if2 .taken) ∙ end-none)
+      let l = sees (c .before .before .before .before .look2 .ensures) (c .before .before .item .given .1) in
+      no-operand (c .before .before .before .before .before .loop .inv) (too-deep expressions _ l (c .if2 .taken) ∙ end-none)
 
   sub-write-constraint : lts.Need-sub-write-constraint (claims t) (at-level t) write-constraint.Post Inv-loop μ-loop
   sub-write-constraint c = search needs
 
   write-constraint-requires : lts.Need-write-constraint-requires (claims t) (at-level t) write-constraint.Post Inv-loop μ-loop
   write-constraint-requires c κs =
-      let l = sees (c .before .before .before .before .before .look2 .ensures) (c .before .before .before .item .given .1) in (omega arith, omega (arith, c .before .before .before .before .before .before .loop .inv .few, c .before .before .before .before .before .before .loop .inv .ahead, l .ahead .0, l .ahead .1, c .before .before .before .before .before .before .before .before .before .before .before .before .before .before .before .before .pre .1))
+      let l = sees (c .before .before .before .before .before .look2 .ensures) (c .before .before .before .item .given .1) in
+      let at-loop = c .before .before .before .before .before .before in
+      let at-start = at-loop .before .before .before .before .before .before .before .before .before .before in
+      (omega arith, omega (arith, at-loop .loop .inv .few, at-loop .loop .inv .ahead, l .ahead .0, l .ahead .1, at-start .pre .1))
 
   enum-known-operand : lts.Need-enum-known-operand (claims t) (at-level t) write-constraint.Post Inv-loop μ-loop
   enum-known-operand c = search needs
@@ -103,21 +128,51 @@ module _ (t : ℕ) where
 
   same-length-3 : lts.Need-same-length-3 (claims t) (at-level t) write-constraint.Post Inv-loop μ-loop
   same-length-3 c =
-      c .before .before .before .before .write-constraint .ensures .kept .long ∙ c .before .before .before .before .before .before .before .before .before .before .before .loop .inv .kept .long
+      c .before .before .before .before .write-constraint .ensures .kept .long
+      ∙ c .before .before .before .before .before .before .before .before .before .before .before .loop .inv .kept .long
 
   returns-4 : lts.Need-returns-4 (claims t) (at-level t) write-constraint.Post Inv-loop μ-loop
   returns-4 c =
-      operand-undeclared (c .before .before .before .before .before .before .before .before .before .before .before .loop .inv) (sees (c .before .before .before .before .before .before .before .before .before .before .look2 .ensures) (c .before .before .before .before .before .before .before .before .item .given .1)) (c .before .before .before .before .before .before .if2 .left) (told (c .before .before .before .before .write-constraint .ensures) (c .enum-told .given .1))
+      let at-item = c .before .before .before .before .before .before .before .before in
+      let l = sees (at-item .before .before .look2 .ensures) (at-item .item .given .1) in
+      operand-undeclared (at-item .before .before .before .loop .inv) l (c .before .before .before .before .before .before .if2 .left)
+      (told (c .before .before .before .before .write-constraint .ensures) (c .enum-told .given .1))
+
+  add-larger : lts.Need-add-larger (claims t) (at-level t) write-constraint.Post Inv-loop μ-loop
+  add-larger c =
+      let at-operand = c .before in
+      let at-item = at-operand .before .before .before .before .before .before .before .before in
+      let l = sees (at-item .before .before .look2 .ensures) (at-item .item .given .1) in
+      let w = told (at-operand .before .before .before .before .write-constraint .ensures) (at-operand .operand .given .1) in
+      omega (arith, at-item .before .before .before .loop .inv .few-operands, l .ahead .0, w .reads .few-values, w .reads .fits)
+
+  larger-requires : lts.Need-larger-requires (claims t) (at-level t) write-constraint.Post Inv-loop μ-loop
+  larger-requires c κs = search needs
+
+  add-count : lts.Need-add-count (claims t) (at-level t) write-constraint.Post Inv-loop μ-loop
+  add-count c =
+      let at-operand = c .before .before in
+      let at-item = at-operand .before .before .before .before .before .before .before .before in
+      let l = sees (at-item .before .before .look2 .ensures) (at-item .item .given .1) in
+      let w = told (at-operand .before .before .before .before .write-constraint .ensures) (at-operand .operand .given .1) in
+      omega (arith, at-item .before .before .before .loop .inv .few-operands, l .ahead .0, w .reads .less, w .reads .fits)
 
   loop-less : lts.Need-loop-less (claims t) (at-level t) write-constraint.Post Inv-loop μ-loop
   loop-less c =
-      let l = sees (c .before .before .before .before .before .before .before .before .before .before .before .look2 .ensures) (c .before .before .before .before .before .before .before .before .before .item .given .1) in
-      let w = told (c .before .before .before .before .before .write-constraint .ensures) (c .before .operand .given .1) in
+      let at-operand = c .before .before in
+      let at-item = at-operand .before .before .before .before .before .before .before .before in
+      let l = sees (at-item .before .before .look2 .ensures) (at-item .item .given .1) in
+      let w = told (at-operand .before .before .before .before .write-constraint .ensures) (at-operand .operand .given .1) in
       omega (arith, l .ahead .0, w .reads .less, w .reads .fits)
 
   loop-again : lts.Need-loop-again (claims t) (at-level t) write-constraint.Post Inv-loop μ-loop
   loop-again c =
-      operand-done (c .before .before .before .before .before .before .before .before .before .before .before .before .loop .inv) (sees (c .before .before .before .before .before .before .before .before .before .before .before .look2 .ensures) (c .before .before .before .before .before .before .before .before .before .item .given .1)) (c .before .before .before .before .before .before .before .if2 .left) (told (c .before .before .before .before .before .write-constraint .ensures) (c .before .operand .given .1))
+      let at-operand = c .before .before in
+      let at-item = at-operand .before .before .before .before .before .before .before .before in
+      let l = sees (at-item .before .before .look2 .ensures) (at-item .item .given .1) in
+      let w = told (at-operand .before .before .before .before .write-constraint .ensures) (at-operand .operand .given .1) in
+      operand-done (at-item .before .before .before .loop .inv) l (at-operand .before .before .before .before .before .before .if2 .left) w
+      (c .larger .ensures)
 
   enum-known-item-2 : lts.Need-enum-known-item-2 (claims t) (at-level t) write-constraint.Post Inv-loop μ-loop
   enum-known-item-2 c = search needs
@@ -125,25 +180,30 @@ module _ (t : ℕ) where
   put-row-requires : lts.Need-put-row-requires (claims t) (at-level t) write-constraint.Post Inv-loop μ-loop
   put-row-requires c κs = search needs
 
-  add-m : lts.Need-add-m (claims t) (at-level t) write-constraint.Post Inv-loop μ-loop
-  add-m c =
-      let l = sees (c .before .before .before .before .before .before .before .look2 .ensures) (c .before .before .before .before .before .item2 .given .1) in omega (arith, c .before .before .before .before .before .before .before .before .loop .inv .few, c .before .before .before .before .before .before .before .before .loop .inv .ahead, l .ahead .0, l .ahead .1, c .before .before .before .before .before .before .before .before .before .before .before .before .before .before .before .before .before .before .pre .1)
+  add-row : lts.Need-add-row (claims t) (at-level t) write-constraint.Post Inv-loop μ-loop
+  add-row c =
+      let at-item = c .before .before .before .before .before in
+      let at-loop = at-item .before .before .before in
+      let l = sees (at-item .before .before .look2 .ensures) (at-item .item2 .given .1) in
+      let at-start = at-loop .before .before .before .before .before .before .before .before .before .before in
+      omega (arith, at-loop .loop .inv .few, at-loop .loop .inv .ahead, l .ahead .0, l .ahead .1, at-start .pre .1)
 
   same-length-4 : lts.Need-same-length-4 (claims t) (at-level t) write-constraint.Post Inv-loop μ-loop
-  same-length-4 c =
-      c .before .before .put-row .ensures .kept .long ∙ c .before .before .before .before .before .before .before .before .loop .inv .kept .long
+  same-length-4 c = c .before .before .put-row .ensures .kept .long ∙ c .before .before .before .before .before .before .before .before .loop .inv .kept .long
 
   returns-5 : lts.Need-returns-5 (claims t) (at-level t) write-constraint.Post Inv-loop μ-loop
   returns-5 c =
-      finished (c .before .before .before .before .before .before .before .before .loop .inv) (sees (c .before .before .before .before .before .before .before .look2 .ensures) (c .before .before .before .before .before .item2 .given .1)) (c .before .before .put-row .ensures)
+      let at-item = c .before .before .before .before .before in
+      let l = sees (at-item .before .before .look2 .ensures) (at-item .item2 .given .1) in
+      finished (at-item .before .before .before .loop .inv) l (c .before .before .put-row .ensures)
 
   same-length-5 : lts.Need-same-length-5 (claims t) (at-level t) write-constraint.Post Inv-loop μ-loop
-  same-length-5 c =
-      c .before .before .loop .inv .kept .long
+  same-length-5 c = c .before .before .loop .inv .kept .long
 
   returns-6 : lts.Need-returns-6 (claims t) (at-level t) write-constraint.Post Inv-loop μ-loop
   returns-6 c =
-      no-operand (c .before .before .loop .inv) (alike expressions (λ f. none) _ _ _ (0 ∷ 3 ∷ []) _ (word-none, tt, tt, end-none) (c .before .look2 .ensures) (c .match2 .keys3))
+      no-operand (c .before .before .loop .inv)
+      (alike expressions (λ f. none) _ _ _ (0 ∷ 3 ∷ []) _ (word-none, tt, tt, end-none) (c .before .look2 .ensures) (c .match2 .keys3))
 
 pub +write-constraint-spec : {M : Type 1} → statement M
 +write-constraint-spec =
@@ -167,11 +227,14 @@ pub +write-constraint-spec : {M : Type 1} → statement M
     (enum-told t)
     (same-length-3 t)
     (returns-4 t)
+    (add-larger t)
+    (larger-requires t)
+    (add-count t)
     (loop-less t)
     (loop-again t)
     (enum-known-item-2 t)
     (put-row-requires t)
-    (add-m t)
+    (add-row t)
     (same-length-4 t)
     (returns-5 t)
     (same-length-5 t)

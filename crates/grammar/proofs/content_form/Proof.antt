@@ -19,8 +19,8 @@ set-form-requires c κs = search needs
 enum-told-3 : tie.Need-enum-told-3
 enum-told-3 c = search needs
 
-expression-form-requires : tie.Need-expression-form-requires
-expression-form-requires c κs = search needs
+constraint-form-requires : tie.Need-constraint-form-requires
+constraint-form-requires c κs = search needs
 
 returns : tie.Need-returns
 returns c = rw (c .before .enum-told .given .1, trim-names) (c .names-form .ensures)
@@ -29,7 +29,7 @@ returns-2 : tie.Need-returns-2
 returns-2 c = rw (c .before .enum-told2 .given .1) (c .set-form .ensures)
 
 returns-3 : tie.Need-returns-3
-returns-3 c = rw (c .before .enum-told3 .given .1) (c .expression-form .ensures)
+returns-3 c = rw (c .before .enum-told3 .given .1) (c .constraint-form .ensures)
 
 pub content-form-spec : {M : Type 1} → statement M
 content-form-spec =
@@ -40,7 +40,7 @@ content-form-spec =
     enum-told-2
     set-form-requires
     enum-told-3
-    expression-form-requires
+    constraint-form-requires
     returns
     returns-2
     returns-3)
