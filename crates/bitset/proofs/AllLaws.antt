@@ -5,7 +5,7 @@ use mathlib.Core.Bool.{Bool, true, false, not, _&&_, _||_, xor, Bool·beq, or-tr
 use mathlib.Core.List.{List}
 use mathlib.Core.Logic.{⊎-elim}
 use Prim.Native.Nat.{ℕ, zero, suc, _+_, _-_, _*_, _≤_, _<_, max}
-use native.Mathlib.Nat.{add-zero, add-suc, not-suc-le-zero, le-of-suc-le-suc, eq-or-lt-of-le, max-eq-left, le-refl}
+use native.Mathlib.Nat.{add-zero, add-suc, not-suc-le-zero, le-of-suc-le-suc, eq-or-lt-of-le}
 use native.Mathlib.Decide.{decLt}
 use native.Mathlib.Omega.{arith}
 use lib.Bits.{bitAnd, bitOr, bitXor, or-zero-l, or-add-and, and-le-r}
@@ -30,10 +30,6 @@ beq-true true true e = refl
 beq-true true false e = sym e
 beq-true false true e = e
 beq-true false false e = refl
-
-beq-refl : (a : Bool) → Bool·beq a a ≡ true
-beq-refl true = refl
-beq-refl false = refl
 
 pub allBelow-of : (n : ℕ) (f : ℕ → Bool) → ((k : ℕ) → k < n → f k ≡ true) → allBelow n f ≡ true
 unfolding allBelow
@@ -146,7 +142,8 @@ within-below total s e n l = at (decLt n (8 * length s))
     at : Dec (n < 8 * length s) → member s n ≡ false
     at (yes h) =
         either (member s n)
-        (λ p. absurd (clash (withinRule total s n) (allBelow-at (8 * length s) (withinRule total s) e n h) (ap₂ (λ (x y : Bool). not x || y) p (le-ltb n total l))))
+        (λ p. absurd (clash (withinRule total s n) (allBelow-at (8 * length s) (withinRule total s) e n h)
+        (ap₂ (λ (x y : Bool). not x || y) p (le-ltb n total l))))
         (λ p. p)
     at (no h) = member-past s n (omega arith)
 
@@ -163,14 +160,8 @@ pub within-setOf : (total w : ℕ) (f : ℕ → Bool) → within total (setOf w 
 unfolding within
 within-setOf total w f =
     ap (λ (v : ℕ). allBelow (8 * v) (withinRule total (setOf w f))) (length-setOf w f)
-    ∙ allBelow-ext (8 * w) (withinRule total (setOf w f)) (λ n. not (f n) || ltb n total) (λ n l. ap (λ (b : Bool). not b || ltb n total) (member-setOf w f n l))
-
-pub equal-setOf : (w : ℕ) (f g : ℕ → Bool) → equal (setOf w f) (setOf w g) ≡ allBelow (8 * w) (λ n. Bool·beq (f n) (g n))
-unfolding equal
-equal-setOf w f g =
-    ap (λ (v : ℕ). allBelow (8 * v) (sameRule (setOf w f) (setOf w g)))
-    (ap₂ max (length-setOf w f) (length-setOf w g) ∙ max-eq-left (le-refl w))
-    ∙ allBelow-ext (8 * w) (sameRule (setOf w f) (setOf w g)) (λ n. Bool·beq (f n) (g n)) (λ n l. ap₂ Bool·beq (member-setOf w f n l) (member-setOf w g n l))
+    ∙ allBelow-ext (8 * w) (withinRule total (setOf w f)) (λ n. not (f n) || ltb n total)
+    (λ n l. ap (λ (b : Bool). not b || ltb n total) (member-setOf w f n l))
 
 -- the same members, whatever the number
 pub equal-members : (a b : List ℕ) → equal a b ≡ true → (n : ℕ) → member a n ≡ member b n
@@ -181,19 +172,11 @@ equal-members a b e n = at (decLt n (8 * max (length a) (length b)))
     at (yes l) = beq-true (member a n) (member b n) (allBelow-at (8 * max (length a) (length b)) (sameRule a b) e n l)
     at (no l) = member-past a n (omega arith) ∙ sym (member-past b n (omega arith))
 
-pub equal-of : (a b : List ℕ) → ((n : ℕ) → member a n ≡ member b n) → equal a b ≡ true
-unfolding equal
-equal-of a b h =
-    allBelow-of (8 * max (length a) (length b)) (sameRule a b) (λ n l. ap (λ (x : Bool). Bool·beq x (member b n)) (h n) ∙ beq-refl (member b n))
-
 -- sets of one width are equal where their bytes are the same
 pub equal-bytes : (a b : List ℕ) → length a ≡ length b → ((i : ℕ) → getD a i 0 < 256) → ((i : ℕ) → getD b i 0 < 256) → equal a b ≡ true → a ≡ b
 equal-bytes a b l p q e =
     sym (setOf-member a p) ∙ ap (λ (v : ℕ). setOf v (member a)) l
     ∙ setOf-ext (length b) (member a) (member b) (λ n m. equal-members a b e n) ∙ setOf-member b q
-
-pub equal-self : (a : List ℕ) → equal a a ≡ true
-equal-self a = equal-of a a (λ n. refl)
 
 -- ---- a number of which two rules are both true
 
@@ -226,7 +209,8 @@ meet-none n f g h = meet-apart n f g ∙ ap not (allBelow-of n (λ k. not (f k &
 -- where one of them is false from a total on, only the numbers below it count
 pub meet-bounded : (total n : ℕ) (f g : ℕ → Bool) → total ≤ n → ((k : ℕ) → total ≤ k → k < n → f k ≡ false) → meet n f g ≡ meet total f g
 meet-bounded total n f g l h =
-    meet-apart n f g ∙ ap not (either (allBelow n rule) (λ t. t ∙ sym (allBelow-of total rule (λ k m. allBelow-at n rule t k (omega arith)))) (λ e. e ∙ sym (fails e)))
+    meet-apart n f g
+    ∙ ap not (either (allBelow n rule) (λ t. t ∙ sym (allBelow-of total rule (λ k m. allBelow-at n rule t k (omega arith)))) (λ e. e ∙ sym (fails e)))
     ∙ sym (meet-apart total f g)
   where
     rule : ℕ → Bool
@@ -252,16 +236,3 @@ meets-setOf w f g =
 pub meets-apart : (a b : List ℕ) → meets a b ≡ not (allBelow (8 * length a) (apartRule a b))
 unfolding meets
 meets-apart a b = meet-apart (8 * length a) (member a) (member b)
-
--- a number that is in both, and none
-pub meets-at : (a b : List ℕ) (n : ℕ) → member a n ≡ true → member b n ≡ true → meets a b ≡ true
-unfolding meets
-meets-at a b n p q = meet-at (8 * length a) (member a) (member b) n (inside (decLt n (8 * length a))) p q
-  where
-    inside : Dec (n < 8 * length a) → n < 8 * length a
-    inside (yes l) = l
-    inside (no l) = absurd (clash (member a n) p (member-past a n (omega arith)))
-
-pub meets-none : (a b : List ℕ) → ((n : ℕ) → (member a n && member b n) ≡ false) → meets a b ≡ false
-unfolding meets
-meets-none a b h = meet-none (8 * length a) (member a) (member b) (λ k l. h k)

@@ -1,4 +1,4 @@
--- Each operator of two sets on one byte: the bits of what the machine computes are those that the operator says. Assumes nothing.
+-- Each operator of two sets on one byte: the bits of what `apply` answers are those that the operator says. Assumes nothing.
 use mathlib.Core.Path.{_≡_, refl, ap, _∙_}
 use mathlib.Core.Bool.{Bool, _&&_}
 use mathlib.Core.List.{List}

@@ -1,7 +1,7 @@
 -- A relation as rows of sets: the rows one after the other are one set, in which number m of row u is number 8 * w * u + m; a row is read back;
 -- and to grant is what logic says. Assumes nothing.
 use mathlib.Core.Path.{_≡_, refl, sym, ap, ap₂, _∙_, subst}
-use mathlib.Core.Bool.{Bool, false, _&&_, _||_, cond}
+use mathlib.Core.Bool.{Bool, true, false, _&&_, _||_, cond}
 use mathlib.Core.Logic.{_↔_}
 use lib.Dec.{eqb}
 use borrow.Author.Tests.{eq-eqb, ne-eqb}
@@ -10,12 +10,13 @@ use Prim.Native.Nat.{ℕ, zero, suc, _+_, _*_, _/_, _%_, _≤_, _<_}
 use native.Mathlib.Nat.{mul-zero, mul-suc, zero-mul, zero-add, suc-add, add-comm, div-eq-of-lt, mod-eq-of-lt, add-mod-left, add-div-left, mod-lt, mul-assoc, mul-comm, div-lt-iff-lt-mul, zero-lt-suc}
 use native.Mathlib.Numerals.{add-one}
 use native.Mathlib.Omega.{arith}
-use lib.ListN.{length, take}
-use Rattle.bitset.specs.Sets.{member, setOf, tabulate, fromBits, emptied}
+use lib.ListN.{length, getD, take}
+use Rattle.bitset.specs.Sets.{member, setOf, tabulate, fromBits, equal, emptied}
 use Rattle.bitset.specs.Parts.{part, put}
 use Rattle.bitset.specs.Relations.{joined, relation, granted}
 use Rattle.bitset.proofs.BitLaws.{fromBits-ext}
-use Rattle.bitset.proofs.SetLaws.{tabulate-ext, setOf-ext, member-setOf, length-setOf}
+use Rattle.bitset.proofs.SetLaws.{tabulate-ext, setOf-ext, member-setOf, length-setOf, small-setOf}
+use Rattle.bitset.proofs.AllLaws.{equal-bytes}
 use Rattle.bitset.proofs.PartLaws.{part-setOf, put-setOf, put-none}
 use Rattle.bitset.proofs.GrantLaws.{row-of, place-of, row-next, row-fits, member-take}
 
@@ -67,6 +68,14 @@ relation-setOf n (suc w) f = relation-wide n (suc w) f (zero-lt-suc w)
 
 pub length-relation : (n w : ℕ) (f : ℕ → ℕ → Bool) → length (relation n w f) ≡ w * n
 length-relation n w f = ap length (relation-setOf n w f) ∙ length-setOf (w * n) _
+
+-- relations that have the same numbers are the same bytes
+pub relation-equal : (n w : ℕ) (f g : ℕ → ℕ → Bool) → equal (relation n w f) (relation n w g) ≡ true → relation n w f ≡ relation n w g
+relation-equal n w f g =
+    equal-bytes (relation n w f) (relation n w g) (length-relation n w f ∙ sym (length-relation n w g)) (small f) (small g)
+  where
+    small : (h : ℕ → ℕ → Bool) (i : ℕ) → getD (relation n w h) i 0 < 256
+    small h i = rw (relation-setOf n w h) (small-setOf (w * n) (λ m. h (m / (8 * w)) (m % (8 * w))) i)
 
 -- nothing is related: all bytes are 0
 pub relation-empty : (n w : ℕ) → relation n w (λ u m. false) ≡ setOf (w * n) (λ m. false)

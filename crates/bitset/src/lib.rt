@@ -123,7 +123,7 @@ pub fn remove(set: &mut [u8], n: usize)
 
 // ---- two sets
 
-// dst becomes what op makes of it and src, which is not shorter. As no turn tests where src ends, the loop becomes vector code.
+// dst becomes what op makes of it and src, which is as long or longer.
 fn combine_whole(op: SetOp, dst: &mut [u8], src: &[u8])
     requires { ⌜ length (now dst) ≤ length (now src) ⌝ }
     ensures { λ _. ⌜ now (dst .exit) ≡ combined op (now (dst .entry)) (now (src .entry)) ⌝ }
@@ -135,7 +135,7 @@ fn combine_whole(op: SetOp, dst: &mut [u8], src: &[u8])
     }
 }
 
-// dst becomes what op makes of it and src.
+// dst becomes what op makes of it and src. Sets of one width, as nearly all are, are combined without asking at each byte where src ends.
 fn combine(op: SetOp, dst: &mut [u8], src: &[u8])
     ensures { λ _. ⌜ now (dst .exit) ≡ combined op (now (dst .entry)) (now (src .entry)) ⌝ }
 {
@@ -185,7 +185,7 @@ pub fn copy(dst: &mut [u8], src: &[u8])
     combine(SetOp::Second, dst, src);
 }
 
-// Whether a number is in both. What is found is gathered, here and in the tests below: a loop that no turn leaves early becomes vector code.
+// Whether a number is in both: the bits that both have are gathered.
 pub fn meets(a: &[u8], b: &[u8]) -> bool
     ensures { λ r. ⌜ r ≡ sets.meets (now (a .entry)) (now (b .entry)) ⌝ }
 {
@@ -198,7 +198,7 @@ pub fn meets(a: &[u8], b: &[u8]) -> bool
     common != 0
 }
 
-// Whether the same numbers are in both.
+// Whether the same numbers are in both: the bits that one has alone are gathered.
 pub fn equal(a: &[u8], b: &[u8]) -> bool
     ensures { λ r. ⌜ r ≡ sets.equal (now (a .entry)) (now (b .entry)) ⌝ }
 {
@@ -256,7 +256,7 @@ pub fn complement(set: &mut [u8], total: usize)
     keep_below(set, total);
 }
 
-// Whether every number in the set is below total.
+// Whether every number in the set is below total: the bits of those that are not are gathered.
 pub fn is_within(set: &[u8], total: usize) -> bool
     ensures { λ r. ⌜ r ≡ within total (now (set .entry)) ⌝ }
 {

@@ -1,6 +1,6 @@
 -- Closing rows of mentions adds exactly the mentions through others. Once every k below a bound is gone through, two mentions that meet
 -- below it make a third; the bound 64 is past every attribute. By induction on the bound. Assumes nothing.
-use Prim.Native.Nat.{ℕ, zero, suc, _+_, _*_, _/_, _%_, _<_, _≤_}
+use Prim.Native.Nat.{ℕ, zero, suc, _*_, _/_, _%_, _<_, _≤_}
 use native.Mathlib.Omega.{arith}
 use mathlib.Core.Path.{_≡_, refl, sym, ap, ap₂, _∙_, subst}
 use mathlib.Core.Logic.{_⊎_, inl, inr}
@@ -9,13 +9,12 @@ use mathlib.Core.List.{List}
 use lib.Dec.{eqb, ltb}
 use lib.ListN.{length, getD, take}
 use borrow.Author.Tests.{lt-ltb, ltb-true, ltb-false, eqb-true, eqb-false, not-true}
-use Rattle.bitset.specs.Sets.{bit, member, setOf, allBelow}
+use Rattle.bitset.specs.Sets.{member, setOf, allBelow, within}
+use Rattle.bitset.specs.Parts.{part}
 use Rattle.bitset.specs.Relations.{relation, granted}
-use Rattle.bitset.proofs.BitLaws.{bit-zero}
 use Rattle.bitset.proofs.SetLaws.{setOf-ext, length-setOf, member-setOf, set-eq}
-use Rattle.bitset.proofs.PartLaws.{getD-part}
 use Rattle.bitset.proofs.GrantLaws.{member-take}
-use Rattle.bitset.proofs.AllLaws.{allBelow-at}
+use Rattle.bitset.proofs.AllLaws.{allBelow-at, within-below}
 use Rattle.bitset.proofs.RelationLaws.{relation-ext, member-relation, granted-sets}
 use Rattle.policy.specs.Basics.{isAmong}
 use Rattle.policy.specs.Statements.{Family, Policy}
@@ -55,15 +54,11 @@ module _ (R : ℕ → ℕ → Bool) where
 
 -- ---- an empty row
 
-row-absent : (rows : List ℕ) (k : ℕ) → ((i : ℕ) → i < 64 → getD rows (64 * k + i) 0 ≡ 0) → (n : ℕ) → n < 512 → setsIn rows k n ≡ false
-unfolding setsIn member
-row-absent rows k none n l =
-    ap (λ (b : ℕ). bit b (n % 8)) (getD-part rows (64 * k) 64 (n / 8) (omega (arith, l)) ∙ none (n / 8) (omega (arith, l))) ∙ bit-zero (n % 8)
-
 -- gone through, it changes nothing
-pub through-empty : (rows : List ℕ) (k : ℕ) → ((i : ℕ) → getD rows i 0 < 256) → ((i : ℕ) → i < 64 → getD rows (64 * k + i) 0 ≡ 0) → throughOf rows k ≡ rows
-unfolding throughOf granted
-through-empty rows k small none = sym (set-eq rows (λ m. member rows m || gains m) small (λ m l. sym (ap (λ (b : Bool). member rows m || b) (nothing m) ∙ or-false (member rows m))))
+pub through-empty : (rows : List ℕ) (k : ℕ) → ((i : ℕ) → getD rows i 0 < 256) → within 0 (part rows (64 * k) 64) ≡ true → throughOf rows k ≡ rows
+unfolding throughOf granted setsIn
+through-empty rows k small none =
+    sym (set-eq rows (λ m. member rows m || gains m) small (λ m l. sym (ap (λ (b : Bool). member rows m || b) (nothing m) ∙ or-false (member rows m))))
   where
     gains : ℕ → Bool
     gains m = member (columnOf rows k) (m / 512) && member (take 64 (setOf 64 (setsIn rows k))) (m % 512)
@@ -72,7 +67,7 @@ through-empty rows k small none = sym (set-eq rows (λ m. member rows m || gains
     nothing m =
         ap (λ (b : Bool). member (columnOf rows k) (m / 512) && b)
         (member-take 64 (setOf 64 (setsIn rows k)) (m % 512) (omega arith) ∙ member-setOf 64 (setsIn rows k) (m % 512) (omega arith)
-        ∙ row-absent rows k none (m % 512) (omega arith))
+        ∙ within-below 0 (part rows (64 * k) 64) none (m % 512) (omega arith))
         ∙ and-false (member (columnOf rows k) (m / 512))
 
 -- ---- the rule of closed rows

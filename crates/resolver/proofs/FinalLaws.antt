@@ -9,13 +9,11 @@ use mathlib.Core.Bool.{Bool, true, false, false≢true}
 use mathlib.Core.Logic.{⊎-elim}
 use mathlib.Core.List.{List, [], _∷_}
 use lib.Dec.{eqb}
-use lib.ListN.{length, getD}
-use lib.Seq.{ext-getD}
-use borrow.Author.Tests.{eq-eqb, eqb-true}
-use Rattle.bitset.specs.Sets.{setOf, allBelow, emptied}
+use lib.ListN.{length}
+use borrow.Author.Tests.{eq-eqb}
+use Rattle.bitset.specs.Sets.{setOf, emptied, equal}
 use Rattle.bitset.specs.Relations.{relation}
-use Rattle.bitset.proofs.AllLaws.{allBelow-at}
-use Rattle.bitset.proofs.RelationLaws.{relation-ext, relation-empty, length-relation}
+use Rattle.bitset.proofs.RelationLaws.{relation-ext, relation-empty, relation-equal}
 use Rattle.policy.specs.Basics.{any, isAmong}
 use Rattle.policy.specs.Statements.{Family, Policy}
 use Rattle.policy.specs.Meaning.{ofS, countIn, unionOf, nested, final}
@@ -37,16 +35,6 @@ all-among : (P : ℕ → Type 0) (xs : List ℕ) → ((b : ℕ) → isAmong b xs
 unfolding isAmong any
 all-among P [] h = tt
 all-among P (x ∷ xs) h = (h x (or-left (eqb x x) (isAmong x xs) (eq-eqb x x refl)), all-among P xs (λ b e. h b (or-right (eqb b x) (isAmong b xs) e)))
-
--- rows are equal where their bytes are
-rows-long : (R : ℕ → ℕ → Bool) → length (relation 64 64 R) ≡ 4096
-rows-long R = length-relation 64 64 R
-
-rows-equal : (R Q : ℕ → ℕ → Bool) → allBelow 4096 (λ i. eqb (getD (relation 64 64 R) i 0) (getD (relation 64 64 Q) i 0)) ≡ true → relation 64 64 R ≡ relation 64 64 Q
-rows-equal R Q h =
-    ext-getD 0 (relation 64 64 R) (relation 64 64 Q) (rows-long R ∙ sym (rows-long Q))
-    (λ i l. eqb-true (getD (relation 64 64 R) i 0) (getD (relation 64 64 Q) i 0)
-    (allBelow-at 4096 (λ j. eqb (getD (relation 64 64 R) j 0) (getD (relation 64 64 Q) j 0)) h i (omega (arith, l, rows-long R))))
 
 -- what one round leaves is the union of the S of each attribute
 pub round-rows : (p : Policy) (f : Family) (total : ℕ) (sets rows : List ℕ) → total ≡ countIn p f
@@ -90,10 +78,10 @@ module _ (p : Policy) (ok : Accepted p) (f : Family) where
       zero-plus = omega arith
   rests k h (suc j) = ap after (suc-add j k) ∙ sym (next-rows (j + k)) ∙ ap turned (rests k h j) ∙ next-rows k ∙ sym h
 
-  pub last-rows : (k : ℕ) (sets rows : List ℕ) → k ≤ 64 → sets ≡ after k → rows ≡ after (k + 1) → allBelow 4096 (λ i. eqb (getD sets i 0) (getD rows i 0)) ≡ true → sets ≡ relation 64 64 (final p f)
+  pub last-rows : (k : ℕ) (sets rows : List ℕ) → k ≤ 64 → sets ≡ after k → rows ≡ after (k + 1) → equal sets rows ≡ true → sets ≡ relation 64 64 (final p f)
   unfolding final
   last-rows k sets rows l h e same =
-      let still : after k ≡ after (suc k) = rows-equal (nested k p f) (nested (suc k) p f) (rw (← h, ← add-one k, ← e) same) in
+      let still : after k ≡ after (suc k) = relation-equal 64 64 (nested k p f) (nested (suc k) p f) (rw (← h, ← add-one k, ← e) same) in
       let all : 64 - k + k ≡ 64 = omega (arith, l) in
       h ∙ sym (rests k still (64 - k)) ∙ ap after all
 
@@ -108,9 +96,8 @@ module _ (p : Policy) (ok : Accepted p) (f : Family) where
   direct a b = isAmong b (mentions p f a)
 
   -- rows that are equal to rows of nothing
-  pub none-mentioned : (rows sets : List ℕ) → rows ≡ relation 64 64 direct → sets ≡ after 0
-      → allBelow 4096 (λ i. eqb (getD rows i 0) (getD sets i 0)) ≡ true → rows ≡ after 0
-  none-mentioned rows sets h e same = h ∙ rows-equal direct (nested 0 p f) (rw (← h, ← e) same)
+  pub none-mentioned : (rows sets : List ℕ) → rows ≡ relation 64 64 direct → sets ≡ after 0 → equal rows sets ≡ true → rows ≡ after 0
+  none-mentioned rows sets h e same = h ∙ relation-equal 64 64 direct (nested 0 p f) (rw (← h, ← e) same)
 
   module _ (nothing : relation 64 64 direct ≡ after 0) where
     silent : (a b : ℕ) → a < 64 → b < 64 → isAmong b (mentions p f a) ≡ false
@@ -140,6 +127,7 @@ module _ (p : Policy) (ok : Accepted p) (f : Family) where
         let still : after 1 ≡ after 2 =
         sym (next-rows 0)
         ∙ relation-ext 64 64 (unionOf p f (setsIn (after 0))) (unionOf p f (setsIn (after 1)))
-        (λ a n h l. same-union p f a n (setsIn (after 0)) (setsIn (after 1)) (all-among _ (mentions p f a) (λ b m. absurd (none-directly a b (mentions-exactly p f a b .1 m)))))
+        (λ a n h l. same-union p f a n (setsIn (after 0)) (setsIn (after 1))
+        (all-among _ (mentions p f a) (λ b m. absurd (none-directly a b (mentions-exactly p f a b .1 m)))))
         ∙ next-rows 1 in
         more-rows 0 rows sets z e ∙ sym (rests 1 still 63)

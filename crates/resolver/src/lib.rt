@@ -6,9 +6,9 @@ ghost use mathlib.Core.Path.{_≡_};
 ghost use mathlib.Core.Bool.{true, not, _&&_, false};
 ghost use mathlib.Core.List.{List, [], _++_};
 ghost use Prim.Native.Nat.{ℕ, _+_, _-_, _*_, _<_, _≤_};
-ghost use lib.Dec.{eqb, ltb};
+ghost use lib.Dec.{ltb};
 ghost use lib.ListN.{length, getD, drop};
-ghost use Rattle.bitset.specs.Sets.{setOf, allBelow};
+ghost use Rattle.bitset.specs.Sets.{setOf, allBelow, equal};
 ghost use Rattle.bitset.specs.Relations.{relation};
 ghost use Rattle.policy.specs.Answers.{familyOf};
 ghost use Rattle.policy.specs.Basics.{any, isAmong};
@@ -173,20 +173,12 @@ fn column(rows: &[u8; FAMILY_BYTES], k: usize, out: &mut [u8; Type::SET_BYTES])
     }
 }
 
-// Whether row k is empty: then to go through k changes nothing. There is one test at the end and no early exit, so that many bytes are read
-// at once.
+// Whether row k is empty: every number in it is below 0. Then to go through k changes nothing.
 fn is_empty(rows: &[u8], k: usize) -> bool
-    requires { ⌜ (k < 64) × (length (now rows) ≡ 4096) ⌝ }
+    requires { ⌜ k < 64 ⌝ }
     ensures { λ r. ⌜ (r ≡ true → throughOf (now (rows .entry)) k ≡ now (rows .entry)) ⌝ }
 {
-    let at = Type::SET_BYTES * k;
-    let mut all = 0;
-    let mut i = 0;
-    while i < Type::SET_BYTES {
-        all = all | rows[at + i];
-        i += 1;
-    }
-    all == 0
+    bitset::is_within_at(rows, Type::SET_BYTES * k, Type::SET_BYTES, 0)
 }
 
 // What mentions k also mentions what k mentions.
@@ -315,19 +307,11 @@ fn round(
     }
 }
 
-// Whether the sets of all attributes are the same. There is no early exit, so that many bytes are read at once.
+// Whether the sets of all attributes are the same.
 fn same_rows(a: &[u8; FAMILY_BYTES], b: &[u8; FAMILY_BYTES]) -> bool
-    ensures { λ r. ⌜ r ≡ allBelow 4096 (λ i. eqb (getD (now (a .entry)) i 0) (getD (now (b .entry)) i 0)) ⌝ }
+    ensures { λ r. ⌜ r ≡ equal (now (a .entry)) (now (b .entry)) ⌝ }
 {
-    let mut same = true;
-    let mut i = 0;
-    while i < FAMILY_BYTES {
-        if a[i] != b[i] {
-            same = false;
-        }
-        i += 1;
-    }
-    same
+    bitset::equal(a, b)
 }
 
 // The final set of each attribute of a family. Rounds go on until one changes nothing, and 64 are always enough.
@@ -463,7 +447,7 @@ fn clash_between(
     false
 }
 
-// Whether a transition clashes with the one that stands at a place. Most are of two other roles, which is seen at once.
+// Whether a transition clashes with the one that stands at a place. Most are of two other roles, which is seen from the units alone.
 fn clashes_at(
     earlier: &[u16],
     at: usize,

@@ -1,13 +1,13 @@
 -- The laws of parts of a list: their length, their first bytes, parts of parts, and how two of them are compared byte by byte.
 -- Assumes nothing.
 use mathlib.Core.Path.{_≡_, refl, sym, ap, ap₂, _∙_}
-use mathlib.Core.Bool.{Bool, true, false, _&&_, and-true, and-false}
+use mathlib.Core.Bool.{true, false, _&&_, and-false}
 use mathlib.Core.List.{List, [], _∷_, _++_}
-use Prim.Native.Nat.{ℕ, zero, suc, min, _+_, _-_, _*_, _≤_, _<_}
+use Prim.Native.Nat.{ℕ, zero, suc, min, _+_, _-_, _≤_, _<_}
 use native.Mathlib.Numerals.{add-one}
 use native.Mathlib.Omega.{arith}
 use native.Mathlib.Nat.{sub-zero, zero-min, min-zero, suc-min-suc}
-use borrow.Author.Tests.{eq-eqb, ne-eqb, eqb-true}
+use borrow.Author.Tests.{eq-eqb, ne-eqb}
 use lib.Dec.{eqb}
 use lib.ListN.{length, getD, take, drop, length-take, length-drop, drop-of-length-le}
 use lib.Seq.{drop-cons, drop-drop, take-take, take-add, take-nil, take-all}
@@ -78,52 +78,18 @@ same-length [] (b ∷ bs) h = refl
 same-length (a ∷ xs) [] h = refl
 same-length (a ∷ xs) (b ∷ bs) h = rw (same-length xs bs (λ e. h (ap suc e))) (and-false (eqb a b))
 
--- what is left from the place before i on, where i is below the end
-pub drop-two : (t : List ℕ) (i : ℕ) → 0 < i → i < length t → drop (i - 1) t ≡ getD t (i - 1) 0 ∷ getD t i 0 ∷ drop (i + 2 - 1) t
-drop-two t i p h =
-    let e : suc (i - 1) ≡ i = omega arith in
-    let f : suc i ≡ i + 2 - 1 = omega arith in
-    drop-cons t (i - 1) 0 (omega arith) ∙ ap (λ (k : ℕ). getD t (i - 1) 0 ∷ drop k t) e
-    ∙ ap (λ (r : List ℕ). getD t (i - 1) 0 ∷ r) (drop-cons t i 0 h ∙ ap (λ (k : ℕ). getD t i 0 ∷ drop k t) f)
-
--- and where i is the end
-pub drop-last : (t : List ℕ) (i : ℕ) → 0 < i → i ≡ length t → drop (i - 1) t ≡ getD t (i - 1) 0 ∷ []
-drop-last t i p h =
-    drop-cons t (i - 1) 0 (omega arith) ∙ ap (λ (r : List ℕ). getD t (i - 1) 0 ∷ r) (drop-of-length-le t {i = suc (i - 1)} (omega arith))
-
--- the turns of `same_bytes`: the bytes before k - 1 have been compared
-module _ (a b : List ℕ) (k : ℕ) (positive : 0 < k) where
-  module _ (g : k < length a) (f : k < length b) {p q : ℕ}
-      (x : (p ≡ getD a (k - 1) 0 + 256 * getD a (k - 1 + 1) 0) × (getD a (k - 1) 0 < 256))
-      (y : (q ≡ getD b (k - 1) 0 + 256 * getD b (k - 1 + 1) 0) × (getD b (k - 1) 0 < 256)) where
-    back : k - 1 + 1 ≡ k
-    back = omega arith
-
-    by-pair : same (drop (k - 1) a) (drop (k - 1) b)
-        ≡ (eqb (getD a (k - 1) 0) (getD b (k - 1) 0) && (eqb (getD a k 0) (getD b k 0) && same (drop (k + 2 - 1) a) (drop (k + 2 - 1) b)))
-    unfolding same
-    by-pair = ap₂ same (drop-two a k positive g) (drop-two b k positive f)
-
-    pub pair-same : p ≡ q → same (drop (k + 2 - 1) a) (drop (k + 2 - 1) b) ≡ same (drop (k - 1) a) (drop (k - 1) b)
-    pair-same e =
-        let u : p ≡ getD a (k - 1) 0 + 256 * getD a k 0 = x .0 ∙ ap (λ (j : ℕ). getD a (k - 1) 0 + 256 * getD a j 0) back in
-        let v : q ≡ getD b (k - 1) 0 + 256 * getD b k 0 = y .0 ∙ ap (λ (j : ℕ). getD b (k - 1) 0 + 256 * getD b j 0) back in
-        sym (by-pair ∙ rw (eq-eqb (getD a (k - 1) 0) (getD b (k - 1) 0) (omega (arith, u, v, x .1, y .1)), eq-eqb (getD a k 0) (getD b k 0) (omega (arith, u, v, x .1, y .1))))
-
-    pub pair-other : (p ≡ q → ⊥) → false ≡ same (drop (k - 1) a) (drop (k - 1) b)
-    pair-other d = sym (by-pair ∙ by (eqb (getD a (k - 1) 0) (getD b (k - 1) 0)) refl)
-      where
-        by : (r : Bool) → eqb (getD a (k - 1) 0) (getD b (k - 1) 0) ≡ r
-            → (r && (eqb (getD a k 0) (getD b k 0) && same (drop (k + 2 - 1) a) (drop (k + 2 - 1) b))) ≡ false
-        by true e =
-            let low = eqb-true (getD a (k - 1) 0) (getD b (k - 1) 0) e in
-            rw (ne-eqb (getD a k 0) (getD b k 0) (λ z. d (x .0 ∙ ap₂ (λ (l h : ℕ). l + 256 * h) low (ap (λ (j : ℕ). getD a j 0) back ∙ z ∙ ap (λ (j : ℕ). getD b j 0) (sym back)) ∙ sym (y .0))))
-        by false e = refl
-
-  pub last-same : k ≡ length a → k ≡ length b → eqb (getD a (k - 1) 0) (getD b (k - 1) 0) ≡ same (drop (k - 1) a) (drop (k - 1) b)
+-- the turns of `same_bytes`: the bytes before k have been compared
+module _ (a b : List ℕ) (k : ℕ) where
+  by-byte : k < length a → k < length b → same (drop k a) (drop k b) ≡ (eqb (getD a k 0) (getD b k 0) && same (drop (k + 1) a) (drop (k + 1) b))
   unfolding same
-  last-same g f = sym (ap₂ same (drop-last a k positive g) (drop-last b k positive f) ∙ and-true (eqb (getD a (k - 1) 0) (getD b (k - 1) 0)))
+  by-byte g f = rw add-one (ap₂ same (drop-cons a k 0 g) (drop-cons b k 0 f))
 
-  pub none-left : length a < k → length b < k → true ≡ same (drop (k - 1) a) (drop (k - 1) b)
+  pub byte-same : k < length a → k < length b → getD a k 0 ≡ getD b k 0 → same (drop (k + 1) a) (drop (k + 1) b) ≡ same (drop k a) (drop k b)
+  byte-same g f e = sym (by-byte g f ∙ rw (eq-eqb (getD a k 0) (getD b k 0) e))
+
+  pub byte-other : k < length a → k < length b → (getD a k 0 ≡ getD b k 0 → ⊥) → false ≡ same (drop k a) (drop k b)
+  byte-other g f d = sym (by-byte g f ∙ rw (ne-eqb (getD a k 0) (getD b k 0) d))
+
+  pub none-left : length a ≤ k → length b ≤ k → true ≡ same (drop k a) (drop k b)
   unfolding same
-  none-left g f = sym (ap₂ same (drop-of-length-le a {i = k - 1} (omega arith)) (drop-of-length-le b {i = k - 1} (omega arith)))
+  none-left g f = sym (ap₂ same (drop-of-length-le a g) (drop-of-length-le b f))

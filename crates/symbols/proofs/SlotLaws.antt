@@ -4,19 +4,19 @@ use mathlib.Core.Bool.{Bool, true, false}
 use mathlib.Core.Logic.{_⊎_, inl, inr}
 use mathlib.Core.List.{List, [], _∷_}
 use Prim.Native.Nat.{ℕ, suc, _+_, _-_, _*_, _/_, _%_, _≤_, _<_}
-use native.Mathlib.Nat.{add-mul-mod-self-left}
+use native.Mathlib.Numerals.{add-one}
 use native.Mathlib.Decide.{decLt}
 use native.Mathlib.Omega.{arith}
 use borrow.Author.Tests.{eqb-true, eqb-false}
 use lib.Dec.{eqb}
 use lib.ListN.{length, getD, drop, set, drop-of-length-le}
-use lib.Seq.{sets}
+use lib.Seq.{sets, drop-cons}
 use Rattle.bitset.specs.Parts.{part, put}
 use Rattle.bitset.proofs.PartLaws.{length-put, part-put-same, part-put-before, part-put-after}
 use Rattle.policy.specs.Basics.{Name, unle}
 use Rattle.symbols.specs.Index.{slotFrom, slotOf, otherSlot, slotIn, Stored, Noted}
 use Rattle.symbols.proofs.AppendLaws.{put-sets}
-use Rattle.symbols.proofs.PartLaws.{part-none, part-cons, drop-two, drop-last}
+use Rattle.symbols.proofs.PartLaws.{part-none, part-cons}
 
 -- ---- the slot of a name
 
@@ -29,29 +29,19 @@ pub slot-below : (f : ℕ) (w : Name) → slotOf f w < 16384
 unfolding slotOf
 slot-below f w = slot-from-below w (f % 16384) (omega arith)
 
--- the turns of `slot_of`: the bytes before i - 1 are in the slot so far
+-- the turns of `slot_of`: the bytes before i are in the slot so far
 pub slot-start : (f : ℕ) (w : Name) → slotFrom (drop 0 w) (f % 16384) ≡ slotOf f w
 unfolding slotOf
 slot-start f w = refl
 
-two-turns : (s a b : ℕ) → ((s * 31 + a) % 16384 * 31 + b) % 16384 ≡ (s * 961 + a * 31 + b) % 16384
-two-turns s a b =
-    let n : ℕ = (s * 31 + a) / 16384 in
-    let e : (s * 31 + a) % 16384 * 31 + b + 16384 * (31 * n) ≡ s * 961 + a * 31 + b = omega arith in
-    sym (add-mul-mod-self-left ((s * 31 + a) % 16384 * 31 + b) 16384 (31 * n)) ∙ ap (λ (k : ℕ). k % 16384) e
-
-module _ (w : Name) (i : ℕ) (positive : 0 < i) (s : ℕ) where
-  pub slot-pair : i < length w → slotFrom (drop (i + 2 - 1) w) ((s * 961 + getD w (i - 1) 0 * 31 + getD w i 0) % 16384) ≡ slotFrom (drop (i - 1) w) s
+module _ (w : Name) (i s : ℕ) where
+  pub slot-turn : i < length w → slotFrom (drop (i + 1) w) ((s * 31 + getD w i 0) % 16384) ≡ slotFrom (drop i w) s
   unfolding slotFrom
-  slot-pair h = sym (ap (λ (l : Name). slotFrom l s) (drop-two w i positive h) ∙ ap (slotFrom (drop (i + 2 - 1) w)) (two-turns s (getD w (i - 1) 0) (getD w i 0)))
+  slot-turn h = sym (rw add-one (ap (λ (l : Name). slotFrom l s) (drop-cons w i 0 h)))
 
-  pub slot-last : i ≡ length w → (s * 31 + getD w (i - 1) 0) % 16384 ≡ slotFrom (drop (i - 1) w) s
+  pub slot-end : length w ≤ i → s ≡ slotFrom (drop i w) s
   unfolding slotFrom
-  slot-last h = sym (ap (λ (l : Name). slotFrom l s) (drop-last w i positive h))
-
-  pub slot-end : length w < i → s ≡ slotFrom (drop (i - 1) w) s
-  unfolding slotFrom
-  slot-end h = sym (ap (λ (l : Name). slotFrom l s) (drop-of-length-le w {i = i - 1} (omega arith)))
+  slot-end h = sym (ap (λ (l : Name). slotFrom l s) (drop-of-length-le w h))
 
 -- ---- what a slot holds
 
@@ -71,7 +61,8 @@ module _ (t : List ℕ) (s a b c : ℕ) (below : s < 16392) (room : 186264 ≤ l
       → (a + 256 * (b + 256 * c) ≡ slotIn t s) × (a + 256 * (b + 256 * c) < 16777216)
   unfolding slotIn
   held p q r = (
-    sym (ap unle (three t (137088 + 3 * s) (omega arith)) ∙ unle-three (getD t (137088 + 3 * s) 0) (getD t (137088 + 3 * s + 1) 0) (getD t (137088 + 3 * s + 2) 0) ∙ rw (p .0, q .0, r .0)),
+    sym (ap unle (three t (137088 + 3 * s) (omega arith))
+        ∙ unle-three (getD t (137088 + 3 * s) 0) (getD t (137088 + 3 * s + 1) 0) (getD t (137088 + 3 * s + 2) 0) ∙ rw (p .0, q .0, r .0)),
     omega arith,
   )
 

@@ -3,11 +3,11 @@
 // Parts that reach past the end of a slice are cut there, so that the searches ask nothing of their caller; what writes asks for room. Behind the
 // room for the entries the compiler's memory has an index of them, by which `lookup` finds an entry mostly without a walk.
 ghost use mathlib.Core.Path.{_≡_};
-ghost use Prim.Native.Nat.{ℕ, min, _+_, _-_, _*_, _<_, _≤_};
-ghost use lib.ListN.{length, getD};
+ghost use Prim.Native.Nat.{min, _+_, _-_, _*_, _<_, _≤_};
+ghost use lib.ListN.{length};
 ghost use Rattle.bitset.specs.Parts.{part, put};
 ghost use Rattle.policy.specs.Basics as basics;
-ghost use Rattle.policy.specs.Encode.{nameEntry, entryBytes};
+ghost use Rattle.policy.specs.Encode.{nameEntry};
 ghost use Rattle.policy.specs.Questions.{nameFrom};
 ghost use Rattle.symbols.specs.Section.{EntryIs, entriesAt, between};
 ghost use Rattle.symbols.specs.Lookup.{familyNumber, isNamed, headNamed, firstNamed, replyOf, countSort};
@@ -91,33 +91,19 @@ pub fn look(table: &[u8], at: usize, end: usize) -> Entry
     entry_at(table, at, last)
 }
 
-// The two bytes from a place on as one number.
-fn pair(bytes: &[u8], at: usize) -> usize
-    requires { ⌜ at + 1 < length (now bytes) ⌝ }
-    ensures { λ r. ⌜ (r ≡ getD (now (bytes .entry)) at 0 + 256 * getD (now (bytes .entry)) (at + 1) 0) × (getD (now (bytes .entry)) at 0 < 256) ⌝ }
-{
-    let low = wide(bytes[at]);
-    let high = wide(bytes[at + 1]);
-    low + 256 * high
-}
-
-// Whether two slices hold the same bytes. Lengths are compared first. A turn compares two bytes, since most names are short; k is the place of
-// the second.
+// Whether two slices hold the same bytes. Lengths are compared first.
 fn same_bytes(a: &[u8], b: &[u8]) -> bool
     ensures { λ r. ⌜ r ≡ basics.same (now (a .entry)) (now (b .entry)) ⌝ }
 {
     if a.len() != b.len() {
         return false;
     }
-    let mut k: usize = 1;
+    let mut k: usize = 0;
     while k < a.len() {
-        if pair(a, k - 1) != pair(b, k - 1) {
+        if a[k] != b[k] {
             return false;
         }
-        k += 2;
-    }
-    if k == a.len() {
-        return a[k - 1] == b[k - 1];
+        k += 1;
     }
     true
 }
@@ -309,18 +295,15 @@ const OTHER: usize = 385;
 // The memory of symbols with an index: 186,264 bytes.
 pub const SYMBOL_BYTES: usize = NAME_BYTES + 3 * (SLOTS + 8);
 
-// The slot of a name of a family. A turn takes two bytes, i being the place of the second; 961 is 31 times 31.
+// The slot of a name of a family.
 fn slot_of(family: usize, name: &[u8]) -> usize
     ensures { λ r. ⌜ (r ≡ slotOf family (now (name .entry))) × (r < 16384) ⌝ }
 {
     let mut slot = family % SLOTS;
-    let mut i: usize = 1;
+    let mut i: usize = 0;
     while i < name.len() {
-        slot = (slot * 961 + wide(name[i - 1]) * 31 + wide(name[i])) % SLOTS;
-        i += 2;
-    }
-    if i == name.len() {
-        return (slot * 31 + wide(name[i - 1])) % SLOTS;
+        slot = (slot * 31 + wide(name[i])) % SLOTS;
+        i += 1;
     }
     slot
 }
@@ -366,16 +349,11 @@ fn hinted(symbols: &[u8], at: usize, end: usize, family: usize, name: &[u8]) -> 
     }
 }
 
-// The lookup by the walk. The answer is built anew from the one of `find`: what another function writes lies in memory, and the answers of
-// the index would be copied through that memory too.
+// The lookup by the walk.
 fn walked(symbols: &[u8], end: usize, family: usize, name: &[u8]) -> Found
     ensures { λ r. ⌜ r ≡ firstNamed family (now (name .entry)) (entriesAt (now (symbols .entry)) 0 end) ⌝ }
 {
-    let found = find(symbols, 0, end, family, name, 0, name.len());
-    match found {
-        Found::At { sort, number } => Found::At { sort, number },
-        Found::Missing => Found::Missing,
-    }
+    find(symbols, 0, end, family, name, 0, name.len())
 }
 
 // The lookup of a name whose slot holds another entry: by its other slot, and else by the walk.

@@ -25,24 +25,40 @@ loop-holds c = (omega arith, λ p ok q n. c .clear .ensures ∙ first-rows p ok 
 
 returns : tie.Need-returns Inv-loop μ-loop
 returns c = λ p ok q n.
-    let at-loop = c .before .before .before .before .before .before .before .before .loop in
-    let f = familyOf (c .before .before .before .before .before .before .before .before .before .before .before .before .args .family) in
-    let was = at-loop .inv .1 p ok q n in
-    last-rows p ok f (at-loop .rounds) _ _ (at-loop .inv .0) was (more-rows p ok f (at-loop .rounds) _ _ was (c .before .before .before .before .round .ensures p ok q n)) (sym (c .before .same-rows .ensures) ∙ c .if1 .taken)
+    let at-round = c .before .before .before .before in
+    let at-loop = at-round .before .before .before .before in
+    let f = familyOf (at-loop .before .before .before .before .args .family) in
+    let was = at-loop .loop .inv .1 p ok q n in
+    last-rows p ok f (at-loop .loop .rounds) _ _ (at-loop .loop .inv .0) was
+    (more-rows p ok f (at-loop .loop .rounds) _ _ was (at-round .round .ensures p ok q n)) (sym (c .before .same-rows .ensures) ∙ c .if1 .taken)
 
 loop-again : tie.Need-loop-again Inv-loop μ-loop
 loop-again c = (
   omega arith,
   λ p ok q n.
-      let at-loop = c .before .before .before .before .before .before .before .before .loop in
-      let f = familyOf (c .before .before .before .before .before .before .before .before .before .before .before .before .args .family) in
-      more-rows p ok f (at-loop .rounds) _ _ (at-loop .inv .1 p ok q n) (c .before .before .before .before .round .ensures p ok q n),
+      let at-round = c .before .before .before .before in
+      let at-loop = at-round .before .before .before .before in
+      let f = familyOf (at-loop .before .before .before .before .args .family) in
+      more-rows p ok f (at-loop .loop .rounds) _ _ (at-loop .loop .inv .1 p ok q n) (at-round .round .ensures p ok q n),
 )
 
 returns-2 : tie.Need-returns-2 Inv-loop μ-loop
-returns-2 c = λ p ok q n. all-rows p ok (familyOf (c .before .before .before .before .before .args .family)) (c .before .loop .rounds) _ (omega arith) (c .before .loop .inv .1 p ok q n)
+returns-2 c = λ p ok q n.
+    let f = familyOf (c .before .before .before .before .before .args .family) in
+    all-rows p ok f (c .before .loop .rounds) _ (omega arith) (c .before .loop .inv .1 p ok q n)
 
 pub final-sets-spec : {M : Type 1} → statement M
 final-sets-spec =
     tie.close
-    (tie.spec Inv-loop μ-loop (λ c κs. search needs) loop-holds (λ c κs. search needs) (λ c κs. search needs) returns (λ c. search needs) (λ c. search needs) loop-again returns-2)
+    (tie.spec
+    Inv-loop
+    μ-loop
+    (λ c κs. search needs)
+    loop-holds
+    (λ c κs. search needs)
+    (λ c κs. search needs)
+    returns
+    (λ c. search needs)
+    (λ c. search needs)
+    loop-again
+    returns-2)
