@@ -4,7 +4,7 @@ use Prim.Native.Nat.{ℕ, zero, suc, _-_, _*_, _<_, _≤_}
 use native.Mathlib.Omega.{arith}
 use mathlib.Core.Path.{_≡_, refl, sym, ap, ap₂, _∙_}
 use mathlib.Core.Logic.{_⊎_, inl, inr}
-use mathlib.Core.Bool.{Bool, true, false, not, _&&_, _||_, and-false, and-comm}
+use mathlib.Core.Bool.{Bool, true, false, _&&_, _||_, and-false, and-comm}
 use mathlib.Core.List.{List}
 use lib.Dec.{eqb, ltb}
 use lib.ListN.{length}
@@ -16,8 +16,7 @@ use Rattle.bitset.proofs.PartLaws.{length-part-le}
 use Rattle.bitset.proofs.AllLaws.{meet-ext, meet-at, meet-none, meet-bounded, meets-setOf}
 use Rattle.set_code.specs.Evaluation.{setsIn, valueOf}
 use Rattle.meaning_laws.proofs.ListLaws.{decided}
-use Rattle.resolver.specs.Clashes.{sharesOf, clashesOf}
-use Rattle.resolver.specs.declared.Move.{Move}
+use Rattle.resolver.specs.Clashes.{sharesOf}
 
 -- where f is true of x alone, both are true of a number below n where x is such a number
 meet-one : (n x : ℕ) (f g : ℕ → Bool) → ((k : ℕ) → k < n → f k ≡ eqb k x) → meet n f g ≡ (ltb x n && g x)
@@ -45,9 +44,6 @@ module _ (sets : List ℕ) (x y : ℕ) where
   shares-first l =
       meets-setOf 64 (valueOf sets x) (valueOf sets y) ∙ meet-one 512 x (valueOf sets x) (valueOf sets y) (λ k m. rw (lt-ltb x 1024 l))
 
-  pub shares-apart : x < 1024 → y < 1024 → (x ≡ y → ⊥) → sharesOf sets x y ≡ false
-  shares-apart l m n = shares-first l ∙ rw (lt-ltb y 1024 m, ne-eqb x y n) (and-false (ltb x 512))
-
   pub shares-second : y < 1024 → sharesOf sets x y ≡ (ltb y 512 && valueOf sets x y)
   unfolding sharesOf
   shares-second l =
@@ -62,11 +58,3 @@ module _ (sets : List ℕ) (x y : ℕ) where
       meets-setOf 64 (valueOf sets x) (valueOf sets y)
       ∙ meet-ext 512 (valueOf sets x) (valueOf sets y) (member a) (member b) (λ k m. rw (le-ltb x 1024 h)) (λ k m. rw (le-ltb y 1024 l))
       ∙ meet-bounded (8 * length a) 512 (member a) (member b) (omega (arith, length-part-le sets (64 * (x - 1024)) 64)) (λ k j m. member-past a k j)
-
--- transitions of no common role do not clash
-pub roles-apart : (roleSets typeSets : List ℕ) (a b : Move) → sharesOf roleSets (a .roles) (b .roles) ≡ false → false ≡ clashesOf roleSets typeSets a b
-unfolding clashesOf
-roles-apart rs ts a b h =
-    let before = eqb (a .class) (b .class) && not (eqb (a .new) (b .new)) in
-    let after = sharesOf ts (a .types) (b .types) in
-    sym (ap (λ (t : Bool). before && t && after) h ∙ ap (λ (t : Bool). t && after) (and-false before))

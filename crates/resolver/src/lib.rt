@@ -413,19 +413,6 @@ fn share(sets: &[u8; FAMILY_BYTES], x: u16, y: u16) -> bool
     bitset::meets_at(sets, row_of(x), Type::SET_BYTES, second)
 }
 
-// Whether two references are to things that are not the same, so that they share nothing.
-fn are_apart(x: u16, y: u16) -> bool
-    ensures { λ r. ⌜ (r ≡ true → (sets : List ℕ) → sharesOf sets x y ≡ false) ⌝ }
-{
-    if Unit::ATTRIBUTE <= x {
-        return false;
-    }
-    if Unit::ATTRIBUTE <= y {
-        return false;
-    }
-    x != y
-}
-
 // Whether two transitions share a role, a type and the class, and their new roles differ.
 fn clash_between(
     a: Move,
@@ -447,7 +434,7 @@ fn clash_between(
     false
 }
 
-// Whether a transition clashes with the one that stands at a place. Most are of two other roles, which is seen from the units alone.
+// Whether a transition clashes with the one that stands at a place.
 fn clashes_at(
     earlier: &[u16],
     at: usize,
@@ -457,9 +444,6 @@ fn clashes_at(
 ) -> bool
     ensures { λ r. ⌜ r ≡ clashesOf (now («role_sets» .entry)) (now («type_sets» .entry)) later (moveAt (now (earlier .entry)) at) ⌝ }
 {
-    if are_apart(later.roles, unit(earlier, at, 2)) {
-        return false;
-    }
     clash_between(later, transition(earlier, at), role_sets, type_sets)
 }
 
