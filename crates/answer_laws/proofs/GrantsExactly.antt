@@ -12,8 +12,9 @@ use lib.Dec.{eqb}
 use lib.ListN.{length, take, getElem?}
 use borrow.Author.Tests.{eqb-true, eq-eqb}
 use Rattle.policy.specs.Statements.{Policy, declarations, Constrain, constrains, roleallow}
-use Rattle.policy.specs.Meaning.{stands, validIn, related, holds}
-use Rattle.policy.specs.Answer.{Question, Verdict, granted, denied, fails, refuses, Answer, unconsulted, oneMore, ruling, firstFailing, decide, declaredQuestion, asksRole, roleMay, namesAsked, answer}
+use Rattle.policy.specs.Meaning.{stands, related, holds}
+use Rattle.policy.specs.Deciding.{validBy, mayBecome, ruledBy, Question, Verdict, granted, denied, fails, refuses, Answer, unconsulted, oneMore, ruling, firstFailing, decide, declaredQuestion, asksRole, roleMay}
+use Rattle.policy.specs.Answer.{givenBy, namesAsked, answer}
 use Rattle.policy.specs.Accepted.{All}
 use Rattle.answer_laws.specs.Granting.{Grants, howMany, FirstFailing}
 
@@ -156,9 +157,9 @@ change-may true a b may h = by (h refl)
 
 -- DEMAND 3: "It grants exactly when ..", for a question in numbers that the policy declares
 pub grants-only : (p : Policy) (q : Question) → answer p q .verdict ≡ granted → Grants p q
-unfolding answer
+unfolding answer ruledBy mayBecome
 grants-only p q h =
-    let passed = decided (declaredQuestion (declarations p) q) (validIn p (q .source)) (validIn p (q .target)) _ _ h in
+    let passed = decided (declaredQuestion (declarations p) q) (validBy (givenBy p) (q .source)) (validBy (givenBy p) (q .target)) _ _ h in
     record {
       source-valid = passed .0;
       target-valid = passed .1;
@@ -167,7 +168,7 @@ grants-only p q h =
     }
 
 pub grants-when : (p : Policy) (q : Question) → declaredQuestion (declarations p) q ≡ true → Grants p q → answer p q .verdict ≡ granted
-unfolding answer decide
+unfolding answer ruledBy mayBecome decide
 grants-when p q d g =
     rw (d, g .source-valid, g .target-valid, change-may _ (q .source .role) (q .target .role) _ (g .role-allowed))
     (held-grants (namesAsked (q .class) (q .perm)) _ 0 (constrains p) (g .constraints-hold))

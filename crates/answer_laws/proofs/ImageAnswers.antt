@@ -1,27 +1,28 @@
 -- What the image of a policy answers to a change is what its statements answer. Assumes nothing.
 use Prim.Native.Nat.{ℕ, zero, suc, _+_, _*_, _<_, _≤_}
 use native.Mathlib.Omega.{arith}
-use mathlib.Core.Path.{_≡_, refl, sym, ap, ap₂, _∙_, subst}
-use mathlib.Core.Logic.{_⊎_, inl, inr}
-use mathlib.Core.Bool.{Bool, true, false, not, _&&_, _||_, false≢true}
+use mathlib.Core.Path.{_≡_, refl, sym, ap, _∙_}
+use mathlib.Core.Bool.{Bool, true, _&&_}
 use mathlib.Core.List.{List, [], _∷_, _++_, append-assoc, append-nil}
-use lib.Dec.{eqb, ltb, T, ltb→lt}
-use lib.ListN.{length, getD}
+use lib.Dec.{eqb}
+use lib.ListN.{getD}
 use Rattle.policy.specs.Basics.{each, isAmong}
-use Rattle.policy.specs.Statements.{Family, users, roles, types, Declaration, thingOf, attributeOf, Reference, thing, attribute, Side, source, target, Op, eq, neq, dom, domby, incomp, Constraint, sidesE, nameE, notE, andE, orE, Policy, Constrain, constrains, declarations, count, permissions, classNames, userrole, roletype, roleallow}
-use Rattle.policy.specs.Meaning.{Set, Context, countIn, final, stands, related, validIn, part, at, compares, holds}
+use Rattle.policy.specs.Statements.{Family, users, roles, types, thingOf, attributeOf, Reference, thing, attribute, Side, source, target, Op, eq, neq, dom, domby, incomp, Constraint, sidesE, nameE, notE, andE, orE, Policy, Constrain, constrains, declarations, count, Relation, userrole, roletype, roleallow, fromOf, toOf}
+use Rattle.policy.specs.Meaning.{Set, Contexts, countIn, final, stands, related, part, compares, holds}
 use Rattle.policy.specs.Faults.{attributesIn}
-use Rattle.policy.specs.Answer.{Question, Answer, ruling, firstFailing, decide, declaredContext, declaredQuestion, asksRole, roleMay, namesAsked, answer}
+use Rattle.policy.specs.Deciding.{Question, contextsOf, firstFailing, declaredQuestion}
+use Rattle.policy.specs.Answer.{givenBy, namesAsked, answer}
 use Rattle.bitset.specs.Sets.{setOf, member, bit, fromBits, tabulate}
 use Rattle.policy.specs.Rows.{Row, row, rowsOf, opCode, compCode, opTest, View, run, turn, top}
 use Rattle.policy.specs.Image.{Image, imageOf, setsOf, width, maskOf, constraintEntry, ConstraintEntry}
 use Rattle.policy.specs.Sound.{ofComp}
-use Rattle.policy.specs.Questions.{inSet, validOf, sideOf, setsIn, viewOf, entryNames, entryHolds, change}
+use Rattle.policy.specs.Questions.{inSet, givenSets, givenIn, sideOf, setsIn, viewOf, entryNames, entryHolds, change}
 use Rattle.policy.specs.Accepted.{All}
 use Rattle.image_laws.proofs.Fits.{KnownR, Known, Fits}
 use Rattle.policy.proofs.Gathered.{all-map}
 use Rattle.bitset.proofs.BitLaws.{bit-fromBits}
 use Rattle.bitset.proofs.SetLaws.{getD-tabulate, member-setOf}
+use Rattle.answer_laws.proofs.Agreement.{InRange, in-range, Declared, declared-parts, Agree, agree-rules}
 
 pub sets-law : (n : ℕ) (g : Family) (f : ℕ → Set) (k m : ℕ) → k < n → m < 8 * width g → inSet (setsOf n g f) k m ≡ f k m
 sets-law n g f k m h l = ap (λ (s : List ℕ). member s m) (getD-tabulate n (λ i. setOf (width g) (f i)) k [] h) ∙ member-setOf (width g) (f k) m l
@@ -33,18 +34,18 @@ same-op dom b = refl
 same-op domby b = refl
 same-op incomp b = refl
 
-same-side : (s t : Context) (f : Family) (x : Side) → sideOf s t (compCode f x) ≡ part f (at x s t)
-same-side s t users source = refl
-same-side s t users target = refl
-same-side s t roles source = refl
-same-side s t roles target = refl
-same-side s t types source = refl
-same-side s t types target = refl
+same-side : (on : Contexts) (f : Family) (x : Side) → sideOf on (compCode f x) ≡ part f (on x)
+same-side on users source = refl
+same-side on users target = refl
+same-side on roles source = refl
+same-side on roles target = refl
+same-side on types source = refl
+same-side on types target = refl
 
-same-sides : (s t : Context) (f : Family) → eqb (sideOf s t (compCode f source)) (sideOf s t (compCode f source + 1)) ≡ eqb (part f s) (part f t)
-same-sides s t users = refl
-same-sides s t roles = refl
-same-sides s t types = refl
+same-sides : (on : Contexts) (f : Family) → eqb (sideOf on (compCode f source)) (sideOf on (compCode f source + 1)) ≡ eqb (part f (on source)) (part f (on target))
+same-sides on users = refl
+same-sides on roles = refl
+same-sides on types = refl
 
 same-family : (f : Family) (x : Side) → ofComp (compCode f x) ≡ f
 same-family users source = refl
@@ -54,14 +55,10 @@ same-family roles target = refl
 same-family types source = refl
 same-family types target = refl
 
--- a context of declared numbers
-abbrev pub InRange : Policy → Context → Type 0
-InRange p c = (f : Family) → part f c < countIn p f
-
-module _ (p : Policy) (ok : Fits p) (s t : Context) (hs : InRange p s) (ht : InRange p t) where
-  small : (f : Family) (x : Side) → part f (at x s t) < 8 * width f
-  small f source = omega (arith, hs f, ok .few f)
-  small f target = omega (arith, ht f, ok .few f)
+module _ (p : Policy) (ok : Fits p) (on : Contexts) (known : (x : Side) → InRange (declarations p) (on x)) where
+  small : (f : Family) (x : Side) → part f (on x) < 8 * width f
+  unfolding countIn
+  small f x = omega (arith, known x f, ok .few f)
 
   attribute-law : (f : Family) (a n : ℕ) → a < attributesIn p f → n < 8 * width f → inSet (setsIn (imageOf p) f) a n ≡ final p f a n
   unfolding imageOf attributesIn
@@ -70,28 +67,28 @@ module _ (p : Policy) (ok : Fits p) (s t : Context) (hs : InRange p s) (ht : InR
   attribute-law types a n h l = sets-law (count (attributeOf types) (declarations p)) types (final p types) a n h l
 
   view : View
-  view = viewOf (imageOf p) s t
+  view = viewOf (imageOf p) on
 
   set-law : (f : Family) (x : Side) (a : ℕ) → a < attributesIn p f
-      → inSet (setsIn (imageOf p) (ofComp (compCode f x))) a (sideOf s t (compCode f x)) ≡ final p f a (part f (at x s t))
-  set-law f x a h = rw (same-family f x, same-side s t f x) (attribute-law f a (part f (at x s t)) h (small f x))
+      → inSet (setsIn (imageOf p) (ofComp (compCode f x))) a (sideOf on (compCode f x)) ≡ final p f a (part f (on x))
+  set-law f x a h = rw (same-family f x, same-side on f x) (attribute-law f a (part f (on x)) h (small f x))
 
   -- the rows of E leave the truth of E on the stack
   rows-law : (e : Constraint Reference) (rest : List Row) (st : List Bool) → Known p e
-      → run view (rowsOf e ++ rest) st ≡ run view rest (holds (stands p) s t e ∷ st)
+      → run view (rowsOf e ++ rest) st ≡ run view rest (holds (stands p) on e ∷ st)
   unfolding run rowsOf holds stands view
-  rows-law (sidesE f o) rest st h = ap (λ (b : Bool). run view rest (b ∷ st)) (same-op o _ ∙ ap (compares o) (same-sides s t f))
-  rows-law (nameE f x o (thing n)) rest st h = ap (λ (b : Bool). run view rest (b ∷ st)) (same-op o _ ∙ ap (λ (k : ℕ). compares o (eqb k n)) (same-side s t f x))
+  rows-law (sidesE f o) rest st h = ap (λ (b : Bool). run view rest (b ∷ st)) (same-op o _ ∙ ap (compares o) (same-sides on f))
+  rows-law (nameE f x o (thing n)) rest st h = ap (λ (b : Bool). run view rest (b ∷ st)) (same-op o _ ∙ ap (λ (k : ℕ). compares o (eqb k n)) (same-side on f x))
   rows-law (nameE f x o (attribute a)) rest st h = ap (λ (b : Bool). run view rest (b ∷ st)) (same-op o _ ∙ ap (compares o) (set-law f x a h))
   rows-law (notE a) rest st h = rw (append-assoc (rowsOf a) (row 0 0 0 0 ∷ []) rest) (rows-law a (row 0 0 0 0 ∷ rest) st h)
   rows-law (andE a b) rest st h =
       rw (append-assoc (rowsOf a) (rowsOf b ++ (row 1 0 0 0 ∷ [])) rest, append-assoc (rowsOf b) (row 1 0 0 0 ∷ []) rest)
-      (rows-law a (rowsOf b ++ (row 1 0 0 0 ∷ rest)) st (h .0) ∙ rows-law b (row 1 0 0 0 ∷ rest) (holds (stands p) s t a ∷ st) (h .1))
+      (rows-law a (rowsOf b ++ (row 1 0 0 0 ∷ rest)) st (h .0) ∙ rows-law b (row 1 0 0 0 ∷ rest) (holds (stands p) on a ∷ st) (h .1))
   rows-law (orE a b) rest st h =
       rw (append-assoc (rowsOf a) (rowsOf b ++ (row 2 0 0 0 ∷ [])) rest, append-assoc (rowsOf b) (row 2 0 0 0 ∷ []) rest)
-      (rows-law a (rowsOf b ++ (row 2 0 0 0 ∷ rest)) st (h .0) ∙ rows-law b (row 2 0 0 0 ∷ rest) (holds (stands p) s t a ∷ st) (h .1))
+      (rows-law a (rowsOf b ++ (row 2 0 0 0 ∷ rest)) st (h .0) ∙ rows-law b (row 2 0 0 0 ∷ rest) (holds (stands p) on a ∷ st) (h .1))
 
-  constraint-law : (c : Constrain) → Known p (c .body) → entryHolds (imageOf p) s t (constraintEntry c) ≡ holds (stands p) s t (c .body)
+  constraint-law : (c : Constrain) → Known p (c .body) → entryHolds (imageOf p) on (constraintEntry c) ≡ holds (stands p) on (c .body)
   unfolding view run
   constraint-law c h = ap top (ap (λ (rs : List Row). run view rs []) (sym (append-nil (rowsOf (c .body)))) ∙ rows-law (c .body) [] [] h)
 
@@ -107,83 +104,36 @@ unfolding firstFailing each
 failing-law names holds names′ holds′ g i [] h = refl
 failing-law names holds names′ holds′ g i (x ∷ xs) h = rw (h .0 .0, h .0 .1, failing-law names holds names′ holds′ g (i + 1) xs (h .1))
 
-both : (a b : Bool) → a && b ≡ true → (a ≡ true) × (b ≡ true)
-both true b h = (refl, h)
-both false b h = absurd (false≢true h)
-
-three : (a b c : Bool) → a && b && c ≡ true → (a ≡ true) × (b ≡ true) × (c ≡ true)
-three true true c h = (refl, refl, h)
-three true false c h = absurd (false≢true h)
-three false b c h = absurd (false≢true h)
-
-is-below : (a b : ℕ) → ltb a b ≡ true → a < b
-is-below a b h = ltb→lt a b (subst T (sym h) tt)
-
-pub in-range : (p : Policy) (c : Context) → declaredContext (declarations p) c ≡ true → InRange p c
-unfolding declaredContext countIn
-in-range p c h = λ f. by f
-  where
-    all : (ltb (c .user) (count (thingOf users) (declarations p)) ≡ true) × (ltb (c .role) (count (thingOf roles) (declarations p)) ≡ true) × (ltb (c .type) (count (thingOf types) (declarations p)) ≡ true)
-    all = three (ltb (c .user) (count (thingOf users) (declarations p))) (ltb (c .role) (count (thingOf roles) (declarations p))) (ltb (c .type) (count (thingOf types) (declarations p))) h
-
-    by : (f : Family) → part f c < countIn p f
-    by users = is-below (c .user) (count (thingOf users) (declarations p)) (all .0)
-    by roles = is-below (c .role) (count (thingOf roles) (declarations p)) (all .1)
-    by types = is-below (c .type) (count (thingOf types) (declarations p)) (all .2)
-
-pub valid-law : (p : Policy) → Fits p → (c : Context) → InRange p c → validOf (imageOf p) c ≡ validIn p c
-unfolding validOf validIn imageOf countIn
-valid-law p ok c h = ap₂ _&&_
-    (sets-law (count (thingOf users) (declarations p)) roles (related p userrole) (c .user) (c .role) (h users) (within p ok c h roles))
-    (sets-law (count (thingOf roles) (declarations p)) types (related p roletype) (c .role) (c .type) (h roles) (within p ok c h types))
-  where
-    within : (p : Policy) → Fits p → (c : Context) → InRange p c → (f : Family) → part f c < 8 * width f
-    within p ok c h f = omega (arith, h f, ok .few f)
-
-allow-law : (p : Policy) → Fits p → (s t : Context) → InRange p s → InRange p t → inSet (imageOf p .roleRoles) (s .role) (t .role) ≡ related p roleallow (s .role) (t .role)
+-- the image gives what the statements give
+pub image-agrees : (p : Policy) → Fits p → Agree (givenIn (imageOf p)) (givenBy p)
 unfolding imageOf countIn
-allow-law p ok s t hs ht = sets-law (count (thingOf roles) (declarations p)) roles (related p roleallow) (s .role) (t .role) (hs roles) (omega (arith, ht roles, ok .few roles))
-
-declared-parts : (ds : List Declaration) (q : Question) → declaredQuestion ds q ≡ true
-    → (declaredContext ds (q .source) ≡ true) × (declaredContext ds (q .target) ≡ true) × (q .perm < length (permissions ds (q .class)))
-unfolding declaredQuestion
-declared-parts ds q h = (first .0, first .1, is-below (q .perm) (length (permissions ds (q .class))) (first .2))
+image-agrees p ok = record { names = refl; gives = by }
   where
-    last : ((declaredContext ds (q .source) && declaredContext ds (q .target) && ltb (q .class) (length (classNames ds))) ≡ true) × (ltb (q .perm) (length (permissions ds (q .class))) ≡ true)
-    last = both (declaredContext ds (q .source) && declaredContext ds (q .target) && ltb (q .class) (length (classNames ds))) (ltb (q .perm) (length (permissions ds (q .class)))) h
+    by : (k : Relation) (x y : ℕ) → x < count (thingOf (fromOf k)) (declarations p) → y < count (thingOf (toOf k)) (declarations p) → inSet (givenSets (imageOf p) k) x y ≡ related p k x y
+    by userrole x y h l = sets-law (count (thingOf users) (declarations p)) roles (related p userrole) x y h (omega (arith, ok .few roles))
+    by roletype x y h l = sets-law (count (thingOf roles) (declarations p)) types (related p roletype) x y h (omega (arith, ok .few types))
+    by roleallow x y h l = sets-law (count (thingOf roles) (declarations p)) roles (related p roleallow) x y h (omega (arith, ok .few roles))
 
-    first : (declaredContext ds (q .source) ≡ true) × (declaredContext ds (q .target) ≡ true) × (ltb (q .perm) (length (permissions ds (q .class))) ≡ true)
-    first = (three (declaredContext ds (q .source)) (declaredContext ds (q .target)) (ltb (q .class) (length (classNames ds))) (last .0) .0, three (declaredContext ds (q .source)) (declaredContext ds (q .target)) (ltb (q .class) (length (classNames ds))) (last .0) .1, last .1)
-
-undeclared-answers : (p : Policy) (q : Question) → declaredQuestion (declarations p) q ≡ false → change (imageOf p) q ≡ answer p q
-unfolding change answer decide imageOf
-undeclared-answers p q h = rw h
-
-image-answers-declared : (p : Policy) → Fits p → (q : Question) → declaredQuestion (declarations p) q ≡ true → change (imageOf p) q ≡ answer p q
-unfolding change answer imageOf
-image-answers-declared p ok q h =
-    rw (
-      valid-law p ok (q .source) hs,
-      valid-law p ok (q .target) ht,
-      allow-law p ok (q .source) (q .target) hs ht,
-      failing-law (entryNames (q .class) (q .perm)) (entryHolds (imageOf p) (q .source) (q .target))
-          (namesAsked (q .class) (q .perm)) (λ s. holds (stands p) (q .source) (q .target) (s .body)) constraintEntry 0 (constrains p)
-          (all-map _ _ (λ c k. (ap (λ b. eqb (c .class) (q .class) && b) (mask-law (c .perms) (q .perm) low), constraint-law p ok (q .source) (q .target) hs ht c k)) (constrains p) (ok .known)),
-    )
+-- of a question in declared numbers the rows answer what the constrains answer
+constraints-law : (p : Policy) → Fits p → (q : Question) → declaredQuestion (declarations p) q ≡ true
+    → firstFailing (entryNames (q .class) (q .perm)) (entryHolds (imageOf p) (contextsOf q)) 0 (each constraintEntry (constrains p))
+    ≡ firstFailing (namesAsked (q .class) (q .perm)) (λ s. holds (stands p) (contextsOf q) (s .body)) 0 (constrains p)
+constraints-law p ok q h =
+    failing-law (entryNames (q .class) (q .perm)) (entryHolds (imageOf p) (contextsOf q))
+    (namesAsked (q .class) (q .perm)) (λ s. holds (stands p) (contextsOf q) (s .body)) constraintEntry 0 (constrains p)
+    (all-map _ _ (λ c k. (ap (λ b. eqb (c .class) (q .class) && b) (mask-law (c .perms) (q .perm) low), constraint-law p ok (contextsOf q) known c k)) (constrains p) (ok .known))
   where
-    hs : InRange p (q .source)
-    hs = in-range p (q .source) (declared-parts (declarations p) q h .0)
+    parts : Declared (declarations p) q
+    parts = declared-parts (declarations p) q h
 
-    ht : InRange p (q .target)
-    ht = in-range p (q .target) (declared-parts (declarations p) q h .1)
+    known : (x : Side) → InRange (declarations p) (contextsOf q x)
+    known source = in-range (declarations p) (q .source) (parts .source)
+    known target = in-range (declarations p) (q .target) (parts .target)
 
     low : q .perm < 32
-    low = omega (arith, declared-parts (declarations p) q h .2, ok .few-permissions (q .class))
+    low = omega (arith, parts .perm, ok .few-permissions (q .class))
 
 -- DEMAND 3 without bytes: the image of a policy answers every change question as its statements do
 pub image-answers : (p : Policy) → Fits p → (q : Question) → change (imageOf p) q ≡ answer p q
-image-answers p ok q = by (declaredQuestion (declarations p) q) refl
-  where
-    by : (b : Bool) → declaredQuestion (declarations p) q ≡ b → change (imageOf p) q ≡ answer p q
-    by true h = image-answers-declared p ok q h
-    by false h = undeclared-answers p q h
+unfolding change answer imageOf
+image-answers p ok q = agree-rules (givenIn (imageOf p)) (givenBy p) (image-agrees p ok) q _ _ (constraints-law p ok q)

@@ -11,15 +11,17 @@ use borrow.Author.Tests.{ltb-true}
 use Rattle.bitset.specs.Sets.{member}
 use Rattle.policy.specs.Basics.{each}
 use Rattle.policy.specs.Statements.{users, roles, types, thingOf, Policy, count, classNames, declarations, Transition, transitions}
-use Rattle.policy.specs.Meaning.{Context, countIn, stands, validIn}
-use Rattle.policy.specs.Answer.{declaredContext}
+use Rattle.policy.specs.Meaning.{Context, countIn, stands}
+use Rattle.policy.specs.Deciding.{declaredContext}
+use Rattle.policy.specs.Answer.{givenBy}
 use Rattle.policy.specs.Image.{imageOf, transitionEntry, width}
-use Rattle.policy.specs.Questions.{Reply, answered, refused, valid, validOf, matches, firstTransition, newRole}
+use Rattle.policy.specs.Questions.{Reply, answered, refused, givenIn, validReply, valid, matches, firstTransition, newRole}
 use Rattle.policy.proofs.Lists.{both-true}
 use Rattle.image_laws.proofs.Fits.{Fits}
 use Rattle.bitset.proofs.SetLaws.{member-setOf}
-use Rattle.answer_laws.specs.ByStatements.{validBy, isFor, firstFor, newRoleBy}
-use Rattle.answer_laws.proofs.ImageAnswers.{in-range, valid-law}
+use Rattle.answer_laws.specs.ByStatements.{isFor, firstFor, newRoleBy}
+use Rattle.answer_laws.proofs.Agreement.{agree-valid}
+use Rattle.answer_laws.proofs.ImageAnswers.{image-agrees}
 
 -- one arm of a test, where it passes
 arm : {A : Type 0} (b : Bool) (x y z : A) → (b ≡ true → x ≡ y) → cond b x z ≡ cond b y z
@@ -27,9 +29,9 @@ arm true x y z h = h refl
 arm false x y z h = refl
 
 module _ (p : Policy) (ok : Fits p) where
-  pub image-valid : (c : Context) → valid (imageOf p) c ≡ validBy p c
-  unfolding valid validBy imageOf
-  image-valid c = arm (declaredContext (declarations p) c) _ _ _ (λ h. ap answered (valid-law p ok c (in-range p c h)))
+  pub image-valid : (c : Context) → valid (imageOf p) c ≡ validReply (givenBy p) c
+  unfolding valid imageOf
+  image-valid c = arm (declaredContext (declarations p) c) _ _ _ (λ h. ap answered (agree-valid (givenIn (imageOf p)) (givenBy p) (image-agrees p ok) c h))
 
   module _ (r y c : ℕ) (hr : r < countIn p roles) (hy : y < countIn p types) where
     same-match : (t : Transition) → matches r y c (transitionEntry p t) ≡ isFor p r y c t

@@ -7,7 +7,8 @@ use Rattle.policy.specs.Basics.{each}
 use Rattle.policy.proofs.Lists.{gather-over, gather-last, any-over, each-append}
 use Rattle.policy.specs.Statements.{Reference, constrain, Constraint, Statement, Line, Policy, declared, declarations, setFor, setsFor, Constrain, constrained, constrains}
 use Rattle.policy.specs.Meaning.{lineGives, stands, holds}
-use Rattle.policy.specs.Answer.{Question, Verdict, granted, denied, fails, refuses, Answer, unconsulted, oneMore, ruling, firstFailing, decide, namesAsked, answer}
+use Rattle.policy.specs.Deciding.{Given, ruledBy, contextsOf, Question, Verdict, granted, denied, fails, refuses, Answer, unconsulted, oneMore, ruling, firstFailing, decide}
+use Rattle.policy.specs.Answer.{givenBy, namesAsked, answer}
 use Rattle.answer_laws.specs.Longer.{said, OneConstrainMore, isDenied}
 use Rattle.answer_laws.proofs.SameSets.{SameSets, answerWith, answer-same-sets, answer-with}
 use Rattle.answer_laws.proofs.Placeless.{answer-said}
@@ -46,11 +47,15 @@ decide-longer true true false r x y g h = refl
 decide-longer true true true false x y g h = refl
 decide-longer true true true true x y g h = g h
 
+ruled-longer : (g : Given) (q : Question) (x y : Answer) → (isDenied (x .verdict) ≡ true → y ≡ x) → isDenied (ruledBy g q x .verdict) ≡ true → ruledBy g q y ≡ ruledBy g q x
+unfolding ruledBy
+ruled-longer g q x y = decide-longer _ _ _ _ x y
+
 -- more constrains at the end, the same denial
 with-more : (p : Policy) (cs ds : List Constrain) (q : Question) → isDenied (answerWith p cs q .verdict) ≡ true → answerWith p (cs ++ ds) q ≡ answerWith p cs q
 unfolding answerWith
 with-more p cs ds q h =
-    decide-longer _ _ _ _ _ _ (failing-longer (namesAsked (q .class) (q .perm)) (λ s. holds (stands p) (q .source) (q .target) (s .body)) 0 cs ds) h
+    ruled-longer (givenBy p) q _ _ (failing-longer (namesAsked (q .class) (q .perm)) (λ s. holds (stands p) (contextsOf q) (s .body)) 0 cs ds) h
 
 -- one line more
 line-longer : (p : Policy) (l : Line) (c : ℕ) (ps : List ℕ) (e : Constraint Reference) (says : l .says ≡ constrain c ps e) (q : Question)

@@ -8,7 +8,8 @@ use mathlib.Core.Option.{Option}
 use Rattle.policy.specs.Basics.{any, keep, each, gather}
 use Rattle.policy.specs.Statements.{Family, Statement, Line, Policy, declared, declarations, setFor, setsFor, constrained, constrains, Constrain, Relation}
 use Rattle.policy.specs.Meaning.{Standing, lineGives}
-use Rattle.policy.specs.Answer.{Question, answer}
+use Rattle.policy.specs.Deciding.{Question}
+use Rattle.policy.specs.Answer.{answer}
 use Rattle.answer_laws.specs.Longer.{said}
 use Rattle.answer_laws.proofs.SameSets.{SameSets, answerWith, answer-same-sets, answer-with}
 

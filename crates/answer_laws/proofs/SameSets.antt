@@ -1,13 +1,14 @@
--- Two policies that declare the same, give attributes the same sets and relate the same things: every reference stands for the same, the same contexts are
--- valid, and the answers differ at most by the constrains. Assumes nothing.
+-- Two policies that declare the same, give attributes the same sets and relate the same things: every reference stands for the same, a decision is given the
+-- same, and the answers differ at most by the constrains. Assumes nothing.
 use Prim.Native.Nat.{ℕ, zero, suc}
-use mathlib.Core.Path.{_≡_, refl, ap, _∙_, fun-ext}
+use mathlib.Core.Path.{_≡_, refl, ap, ap₂, _∙_, fun-ext}
 use mathlib.Core.Bool.{Bool}
 use mathlib.Core.List.{List}
 use Rattle.policy.specs.Basics.{any}
-use Rattle.policy.specs.Statements.{Family, Reference, SetExpr, Policy, Declaration, declarations, setsFor, count, thingOf, Constrain, constrains, Relation, userrole, roletype, roleallow}
-use Rattle.policy.specs.Meaning.{Set, countIn, unionOf, nested, final, stands, standsIn, Standing, lineGives, related, validIn, holds, Context}
-use Rattle.policy.specs.Answer.{Question, Answer, firstFailing, decide, declaredQuestion, asksRole, roleMay, namesAsked, answer}
+use Rattle.policy.specs.Statements.{Family, Reference, SetExpr, Policy, Declaration, declarations, setsFor, count, thingOf, Constrain, constrains, Relation}
+use Rattle.policy.specs.Meaning.{Set, countIn, unionOf, nested, final, stands, standsIn, Standing, lineGives, related, holds}
+use Rattle.policy.specs.Deciding.{Question, Answer, firstFailing, contextsOf, ruledBy}
+use Rattle.policy.specs.Answer.{givenBy, namesAsked, answer}
 
 pub record SameSets (p p′ : Policy) : Type 0 where
   pub declares : declarations p′ ≡ declarations p
@@ -16,12 +17,8 @@ pub record SameSets (p p′ : Policy) : Type 0 where
 
 -- the answer of the statements of p where the constrains are these
 unfoldable pub answerWith : Policy → List Constrain → Question → Answer
-answerWith p cs q = decide
-    (declaredQuestion (declarations p) q)
-    (validIn p (q .source))
-    (validIn p (q .target))
-    (roleMay (asksRole (declarations p) (q .class) (q .perm)) (q .source .role) (q .target .role) (related p roleallow (q .source .role) (q .target .role)))
-    (firstFailing (namesAsked (q .class) (q .perm)) (λ s. holds (stands p) (q .source) (q .target) (s .body)) 0 cs)
+answerWith p cs q = ruledBy (givenBy p) q
+    (firstFailing (namesAsked (q .class) (q .perm)) (λ s. holds (stands p) (contextsOf q) (s .body)) 0 cs)
 
 module _ (p p′ : Policy) (h : SameSets p p′) where
   count-same : (f : Family) → countIn p′ f ≡ countIn p f
@@ -41,13 +38,14 @@ module _ (p p′ : Policy) (h : SameSets p p′) where
   unfolding related
   related-same k x y = h .gives (stands p′) k x y ∙ ap (λ (s : Standing). any (lineGives s k x y) p) stands-same
 
-  valid-same : (x : Context) → validIn p′ x ≡ validIn p x
-  unfolding validIn
-  valid-same x = rw (related-same userrole, related-same roletype)
+  -- both give a decision the same
+  given-same : givenBy p′ ≡ givenBy p
+  given-same =
+      ap₂ (λ (ds : List Declaration) (r : Relation → ℕ → Set). record { names = ds; gives = r }) (h .declares) (fun-ext λ k. fun-ext λ x. fun-ext λ y. related-same k x y)
 
   pub answer-same-sets : (q : Question) → answer p′ q ≡ answerWith p (constrains p′) q
   unfolding answer answerWith
-  answer-same-sets q = rw (h .declares, valid-same (q .source), valid-same (q .target), related-same roleallow, stands-same)
+  answer-same-sets q = rw (given-same, stands-same)
 
 pub answer-with : (p : Policy) (q : Question) → answer p q ≡ answerWith p (constrains p) q
 unfolding answer answerWith

@@ -1,17 +1,12 @@
--- What the statements answer to the questions valid context and new role: no table, rows or stack. Assumes nothing.
+-- What the statements answer to the question new role: no table, rows or stack. Assumes nothing.
 use Prim.Native.Nat.{ℕ}
 use mathlib.Core.Bool.{Bool, _&&_, cond}
 use mathlib.Core.List.{List, [], _∷_}
 use lib.Dec.{eqb, ltb}
 use lib.ListN.{length}
 use Rattle.policy.specs.Statements.{roles, types, thingOf, Policy, count, classNames, declarations, Transition, transitions}
-use Rattle.policy.specs.Meaning.{Context, stands, validIn}
-use Rattle.policy.specs.Answer.{declaredContext}
+use Rattle.policy.specs.Meaning.{stands}
 use Rattle.policy.specs.Questions.{Reply, answered, refused}
-
--- **Valid context**: "the role is among the user's, the type among the role's", of declared numbers
-unfoldable pub validBy : Policy → Context → Reply Bool
-validBy p c = cond (declaredContext (declarations p) c) (answered (validIn p c)) (refused 12 0)
 
 -- a roletransition is for a role, a type and a class
 abbrev pub isFor : Policy → ℕ → ℕ → ℕ → Transition → Bool

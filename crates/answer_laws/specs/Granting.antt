@@ -7,18 +7,19 @@ use mathlib.Core.List.{List, [], _∷_}
 use mathlib.Core.Option.{some}
 use lib.ListN.{length, take, getElem?}
 use Rattle.policy.specs.Statements.{Policy, declarations, Constrain, constrains, roleallow}
-use Rattle.policy.specs.Meaning.{stands, validIn, related, holds}
-use Rattle.policy.specs.Answer.{Question, asksRole, namesAsked}
+use Rattle.policy.specs.Meaning.{stands, related, holds}
+use Rattle.policy.specs.Deciding.{validBy, contextsOf, Question, asksRole}
+use Rattle.policy.specs.Answer.{givenBy, namesAsked}
 use Rattle.policy.specs.Accepted.{All}
 
 -- "It grants exactly when by the statements both contexts are valid, the role change is allowed where process transition or
 -- dyntransition asks it, and every constraint on that class and permission is true as written"
 pub record Grants (p : Policy) (q : Question) : Type 0 where
-  pub source-valid : validIn p (q .source) ≡ true
-  pub target-valid : validIn p (q .target) ≡ true
+  pub source-valid : validBy (givenBy p) (q .source) ≡ true
+  pub target-valid : validBy (givenBy p) (q .target) ≡ true
   pub role-allowed : asksRole (declarations p) (q .class) (q .perm) ≡ true
       → (q .source .role ≡ q .target .role) ⊎ (related p roleallow (q .source .role) (q .target .role) ≡ true)
-  pub constraints-hold : All (λ (c : Constrain). namesAsked (q .class) (q .perm) c ≡ true → holds (stands p) (q .source) (q .target) (c .body) ≡ true) (constrains p)
+  pub constraints-hold : All (λ (c : Constrain). namesAsked (q .class) (q .perm) c ≡ true → holds (stands p) (contextsOf q) (c .body) ≡ true) (constrains p)
 
 -- how many of them pass a test
 unfoldable pub howMany : {A : Type 0} → (A → Bool) → List A → ℕ

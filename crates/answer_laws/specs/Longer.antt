@@ -8,7 +8,7 @@ use Rattle.lexer.specs.Forms.{Forms, ended, part, formsOf}
 use Rattle.policy.specs.Basics.{Name, each}
 use Rattle.policy.specs.Statements.{Reference, Constraint, constrain, Statement, Line, Policy}
 use Rattle.policy.specs.Grammar.{written}
-use Rattle.policy.specs.Answer.{Question, Verdict, granted, denied, fails, refuses}
+use Rattle.policy.specs.Deciding.{Question, Verdict, granted, denied, fails, refuses}
 use Rattle.policy.specs.Questions.{changeOn}
 
 -- what the statements say, in text order, without the places where they stand

@@ -14,7 +14,7 @@ use Rattle.bitset.specs.Relations.{joined}
 use Rattle.policy.specs.Basics.{each}
 use Rattle.policy.specs.Statements.{roles, types, thingOf, count, classNames}
 use Rattle.policy.specs.Accepted.{All}
-use Rattle.policy.specs.Answer.{Question, Verdict, granted, denied, fails, refuses, Answer, unconsulted, ruling, firstFailing, decide}
+use Rattle.policy.specs.Deciding.{Question, Verdict, granted, denied, fails, refuses, Answer, unconsulted, ruling, firstFailing, decide, ruledBy}
 use Rattle.policy.specs.Image.{Image, TransitionEntry, ConstraintEntry}
 use Rattle.policy.specs.Encode.{NameEntry, entries, entryBytes, transitionBytes, headBytes, headsFrom, bodies, firstBody}
 use Rattle.policy.specs.Sound.{wellFormed, bodiesIn, imageFrom, imageIn, goodTransition}
@@ -96,7 +96,7 @@ decided-small true true true false rest h = record { verdict = omega arith; cons
 decided-small true true true true rest h = h
 
 pub change-small : (t : List ℕ) (q : Question) → SmallAnswer (changeOn t q)
-unfolding changeOn change
+unfolding changeOn change ruledBy
 change-small t q = by (imageIn t) refl
   where
     by : (o : Option Image) → imageIn t ≡ o → SmallAnswer (changed q o)

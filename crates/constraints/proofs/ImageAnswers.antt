@@ -12,14 +12,14 @@ use Rattle.bitset.specs.Parts.{part}
 use Rattle.bitset.specs.Relations.{joined}
 use Rattle.policy.specs.Basics.{each, every}
 use Rattle.policy.specs.Statements.{users, roles, types, attributeOf, Declaration, count, classNames, permissions}
-use Rattle.policy.specs.Meaning.{Context}
+use Rattle.policy.specs.Meaning.{Contexts}
 use Rattle.policy.specs.Accepted.{All}
 use Rattle.policy.specs.Rows.{Row, top, balanced}
 use Rattle.policy.specs.Image.{Image, ConstraintEntry, width}
 use Rattle.policy.specs.Encode.{headsFrom, headBytes, rowBytes, bodies, encode}
 use Rattle.policy.specs.Sound.{ofComp, goodRow, goodConstraint, headAt, wellFormed}
 use Rattle.policy.specs.Questions.{setsIn, viewOf, entryNames, entryHolds}
-use Rattle.policy.specs.Answer.{Answer, ruling, firstFailing}
+use Rattle.policy.specs.Deciding.{Answer, ruling, firstFailing}
 use Rattle.policy.specs.Answers.{changeOf}
 use Rattle.policy.specs.declared.Change.{Change}
 use Rattle.policy.proofs.Lists.{both-true, all-left, all-right, each-append, each-length, joined-append}
@@ -75,9 +75,9 @@ module _ (i : Image) (t : List ℕ) (b : Bodies) (laid : Laid i)
       ap (λ (n : ℕ). part t n 64) place
       ∙ set-part 64 (i .typeSets) (laid .typeSets .wide) a (omega (arith, laid .typeSets .many)) types-stand
 
-  pub same-sets : (s u : Context) (c a n : ℕ) → a < count (attributeOf (ofComp c)) (i .names)
-      → viewIn t b (sidesOf s u) .inset c a n ≡ viewOf i s u .inset c a n
-  same-sets s u c a n h = ap (λ (l : List ℕ). member l n) (set-of (ltb c 2) (ltb c 4) a h)
+  pub same-sets : (on : Contexts) (c a n : ℕ) → a < count (attributeOf (ofComp c)) (i .names)
+      → viewIn t b (sidesOf on) .inset c a n ≡ viewOf i on .inset c a n
+  same-sets on c a n h = ap (λ (l : List ℕ). member l n) (set-of (ltb c 2) (ltb c 4) a h)
 
 -- THE CONSTRAINTS
 
@@ -92,23 +92,23 @@ sound-rows ds c h =
     let p = both-true (others && every (goodRow ds) (c .rows)) (balanced (c .rows) 0) h in
     record { good = every-all (goodRow ds) (c .rows) (both-true others (every (goodRow ds) (c .rows)) (p .0) .1); even = p .1 }
 
-module _ (i : Image) (t : List ℕ) (b : Bodies) (s u : Context) (class permission : ℕ)
-    (agree : (c a n : ℕ) → a < count (attributeOf (ofComp c)) (i .names) → viewIn t b (sidesOf s u) .inset c a n ≡ viewOf i s u .inset c a n) where
+module _ (i : Image) (t : List ℕ) (b : Bodies) (on : Contexts) (class permission : ℕ)
+    (agree : (c a n : ℕ) → a < count (attributeOf (ofComp c)) (i .names) → viewIn t b (sidesOf on) .inset c a n ≡ viewOf i on .inset c a n) where
   -- a constraint whose rows stand where its head says
   head-holds : (c : ConstraintEntry) → SoundRows (i .names) c → All SmallRow (c .rows) → (r : ℕ) → Stands t (b .rows + 6 * r) (joined (each rowBytes (c .rows)))
-      → headHolds t b (sidesOf s u) (record { class = c .class; mask = c .mask; first = r; rows = length (c .rows) }) ≡ entryHolds i s u c
+      → headHolds t b (sidesOf on) (record { class = c .class; mask = c .mask; first = r; rows = length (c .rows) }) ≡ entryHolds i on c
   head-holds c sound small r stand =
-      let v = viewIn t b (sidesOf s u) in
+      let v = viewIn t b (sidesOf on) in
       ap top (
       ap (λ (rs : List Row). boundedRun v rs []) (rows-part (c .rows) small stand)
       ∙ bounded-run v (c .rows) [] (sound .even)
-      ∙ same-run (i .names) (v .side) (v .inset) (viewOf i s u .inset) agree (c .rows) (sound .good) []
+      ∙ same-run (i .names) (v .side) (v .inset) (viewOf i on .inset) agree (c .rows) (sound .good) []
       )
 
   -- "constraints take up the rows in order"
   pub heads-answer : (cs : List ConstraintEntry) → All (λ (c : ConstraintEntry). goodConstraint (i .names) c ≡ true) cs
       → All SmallRow (joined (each (λ c. c .rows) cs)) → (r : ℕ) → Stands t (b .rows + 6 * r) (joined (each rowBytes (joined (each (λ c. c .rows) cs)))) → (n : ℕ)
-      → firstFailing (headNames class permission) (headHolds t b (sidesOf s u)) n (headsFrom r cs) ≡ firstFailing (entryNames class permission) (entryHolds i s u) n cs
+      → firstFailing (headNames class permission) (headHolds t b (sidesOf on)) n (headsFrom r cs) ≡ firstFailing (entryNames class permission) (entryHolds i on) n cs
   unfolding firstFailing headsFrom joined each
   heads-answer [] good small r stand n = refl
   heads-answer (c ∷ cs) good small r stand n =
@@ -130,29 +130,29 @@ module _ (i : Image) (t : List ℕ) (b : Bodies) (s u : Context) (class permissi
 body-at : (i : Image) (rest : List ℕ) (k at : ℕ) → k < 8 → at ≡ bodyPlace i k → Stands (encode i ++ rest) at (getD (bodies i) k [])
 body-at i rest k at h e = subst (λ (n : ℕ). Stands (encode i ++ rest) n (getD (bodies i) k [])) (sym e) (body-stands i rest k h)
 
-pub image-answers : (i : Image) → wellFormed i ≡ true → (rest : List ℕ) (b : Bodies) → Placed i b → (s u : Context) (class permission : ℕ)
-    → firstFailing (headNames class permission) (headHolds (encode i ++ rest) b (sidesOf s u)) 0 (headsIn (encode i ++ rest) b)
-    ≡ firstFailing (entryNames class permission) (entryHolds i s u) 0 (i .constraints)
+pub image-answers : (i : Image) → wellFormed i ≡ true → (rest : List ℕ) (b : Bodies) → Placed i b → (on : Contexts) (class permission : ℕ)
+    → firstFailing (headNames class permission) (headHolds (encode i ++ rest) b (sidesOf on)) 0 (headsIn (encode i ++ rest) b)
+    ≡ firstFailing (entryNames class permission) (entryHolds i on) 0 (i .constraints)
 unfolding bodies
-image-answers i good rest b placed s u class permission =
+image-answers i good rest b placed on class permission =
     let t = encode i ++ rest in
     let laid = well-formed-laid i good in
     let heads : headsIn t b ≡ headsFrom 0 (i .constraints) =
     ap (λ (n : ℕ). records 10 headAt n (drop (b .constraints) t)) (placed .count ∙ sym (heads-length 0 (i .constraints)))
     ∙ heads-part (headsFrom 0 (i .constraints)) (laid .heads) (body-at i rest 5 (b .constraints) (omega arith) (placed .constraints)) in
     let start : b .rows + 6 * 0 ≡ bodyPlace i 6 = omega (arith, placed .rows) in
-    ap (firstFailing (headNames class permission) (headHolds t b (sidesOf s u)) 0) heads
-    ∙ heads-answer i t b s u class permission
-    (same-sets i t b laid (placed .userattributes) (placed .roleattributes) (body-at i rest 7 (b .sets) (omega arith) (placed .sets)) s u)
+    ap (firstFailing (headNames class permission) (headHolds t b (sidesOf on)) 0) heads
+    ∙ heads-answer i t b on class permission
+    (same-sets i t b laid (placed .userattributes) (placed .roleattributes) (body-at i rest 7 (b .sets) (omega arith) (placed .sets)) on)
     (i .constraints) (formed i good .constraints) (laid .rows) 0 (body-at i rest 6 (b .rows + 6 * 0) (omega arith) start) 0
 
 pub decides : (t : List ℕ) (b : Bodies) (class permission : ℕ) (sides : List ℕ) (r : Change)
     → changeOf r ≡ firstFailing (headNames class permission) (headHolds t b sides) 0 (headsIn t b) → Decides t b class permission sides r
 decides t b class permission sides r e = record {
   bytes = e;
-  image = λ i rest s u good table placed six. e
+  image = λ i rest on good table placed six. e
       ∙ ap₂ (λ (t : List ℕ) (l : List ℕ). firstFailing (headNames class permission) (headHolds t b l) 0 (headsIn t b)) table six
-      ∙ image-answers i good rest b placed s u class permission;
+      ∙ image-answers i good rest b placed on class permission;
 }
 
 -- the header says where the bodies are

@@ -5,7 +5,7 @@ use mathlib.Core.Bool.{Bool, true, false}
 use mathlib.Core.List.{List, [], _∷_}
 use Prim.Native.Nat.{ℕ, _+_}
 use native.Mathlib.Nat.{add-zero, zero-add, add-assoc}
-use Rattle.policy.specs.Answer.{Answer, Verdict, granted, fails, firstFailing}
+use Rattle.policy.specs.Deciding.{Answer, Verdict, granted, fails, firstFailing}
 
 -- the answer, where k were consulted before
 abbrev since : ℕ → Answer → Answer

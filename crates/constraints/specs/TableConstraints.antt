@@ -8,13 +8,14 @@ use lib.Dec.{eqb, ltb}
 use lib.ListN.{length, getD, drop}
 use Rattle.bitset.specs.Sets.{bit, member}
 use Rattle.bitset.specs.Parts.{part}
-use Rattle.policy.specs.Meaning.{Context}
+use Rattle.policy.specs.Statements.{source, target}
+use Rattle.policy.specs.Meaning.{Contexts}
 use Rattle.policy.specs.Rows.{Row, View, top}
 use Rattle.policy.specs.Image.{Image, width}
 use Rattle.policy.specs.Encode.{ConstraintHead, encode}
 use Rattle.policy.specs.Sound.{headAt, ofComp, wellFormed}
 use Rattle.policy.specs.Questions.{entryNames, entryHolds}
-use Rattle.policy.specs.Answer.{firstFailing}
+use Rattle.policy.specs.Deciding.{firstFailing}
 use Rattle.policy.specs.Answers.{changeOf}
 use Rattle.policy.specs.declared.Change.{Change}
 use Rattle.table_reader.specs.Records.{records, rowAt, bodyPlace, startIn, lengthIn}
@@ -60,8 +61,8 @@ headHolds t b sides h = top (boundedRun (viewIn t b sides) (rowsIn t b (h .first
 -- ON THE TABLE OF AN IMAGE
 
 -- the six numbers of a question, u1 u2 r1 r2 t1 t2
-abbrev pub sidesOf : Context → Context → List ℕ
-sidesOf s u = s .user ∷ u .user ∷ s .role ∷ u .role ∷ s .type ∷ u .type ∷ []
+abbrev pub sidesOf : Contexts → List ℕ
+sidesOf on = on source .user ∷ on target .user ∷ on source .role ∷ on target .role ∷ on source .type ∷ on target .type ∷ []
 
 -- the bodies 6, 7 and 8 of an image's table are where b says, and have as many entries
 pub record Placed (i : Image) (b : Bodies) : Type 0 where
@@ -81,5 +82,5 @@ pub record Located (t : List ℕ) (us rs : ℕ) (b : Bodies) : Type 0 where
 -- whatever stands behind it, what the image says
 pub record Decides (t : List ℕ) (b : Bodies) (class permission : ℕ) (sides : List ℕ) (r : Change) : Type 0 where
   pub bytes : changeOf r ≡ firstFailing (headNames class permission) (headHolds t b sides) 0 (headsIn t b)
-  pub image : (i : Image) (rest : List ℕ) (s u : Context) → wellFormed i ≡ true → t ≡ encode i ++ rest → Placed i b → sides ≡ sidesOf s u
-      → changeOf r ≡ firstFailing (entryNames class permission) (entryHolds i s u) 0 (i .constraints)
+  pub image : (i : Image) (rest : List ℕ) (on : Contexts) → wellFormed i ≡ true → t ≡ encode i ++ rest → Placed i b → sides ≡ sidesOf on
+      → changeOf r ≡ firstFailing (entryNames class permission) (entryHolds i on) 0 (i .constraints)

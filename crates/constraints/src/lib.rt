@@ -14,7 +14,7 @@ ghost use lib.ListN.{getD};
 ghost use Rattle.policy.specs.Image.{width};
 ghost use Rattle.policy.specs.Sound.{ofComp};
 ghost use Rattle.policy.specs.Rows.{notTop, andTop, orTop, top, opTest, isSame};
-ghost use Rattle.policy.specs.Answer.{firstFailing};
+ghost use Rattle.policy.specs.Deciding.{firstFailing};
 ghost use Rattle.policy.specs.Answers.{changeOf};
 ghost use Rattle.table_reader.specs.Records.{rowOf, headOf};
 ghost use Rattle.constraints.specs.Stack as stack;

@@ -11,7 +11,7 @@ use Rattle.policy.specs.Statements.{Family, attributeOf, classNames, permission
 use Rattle.policy.specs.Encode.{sortCode}
 use Rattle.policy.specs.Maxima.{maxOf}
 use Rattle.policy.specs.Image.{Image}
-use Rattle.policy.specs.Answer.{Question, Answer, decide, firstFailing, declaredContext, declaredQuestion, roleMay}
+use Rattle.policy.specs.Deciding.{mayBecome, ruledBy, contextsOf, Question, Answer, decide, firstFailing, declaredContext, declaredQuestion, roleMay}
 use Rattle.policy.specs.Questions.{entryNames, entryHolds, change, changed, changeOn}
 use Rattle.policy.proofs.Lists.{both-true}
 use Rattle.policy.proofs.Counts.{few-of}
@@ -51,7 +51,7 @@ few-attributes t s f = omega (arith, things-of t s (attributeOf f), few-of (attr
 
 -- what the constraints of the image answer
 abbrev pub constraintsSay : Image → Question → Answer
-constraintsSay i q = firstFailing (entryNames (q .class) (q .perm)) (entryHolds i (q .source) (q .target)) 0 (i .constraints)
+constraintsSay i q = firstFailing (entryNames (q .class) (q .perm)) (entryHolds i (contextsOf q)) 0 (i .constraints)
 
 module _ (t : List ℕ) (s : Sound t) (q : Question) where
   -- the numbers of a declared question
@@ -84,7 +84,7 @@ module _ (t : List ℕ) (s : Sound t) (q : Question) where
   roleMayIn = roleMay (asksRoleIn t (q .class) (q .perm)) (q .source .role) (q .target .role) (setHas t 3 16 (q .source .role) (q .target .role))
 
   pub change-of : changeOn t q ≡ decide (declaresQuestion t (countsIn t) q) (isValidIn t (q .source)) (isValidIn t (q .target)) roleMayIn (constraintsSay (s .image) q)
-  unfolding changeOn change decide
+  unfolding changeOn change ruledBy mayBecome decide
   change-of = ap (changed q) (sound-read t s) ∙ by (declaredQuestion (s .image .names) q) refl
     where
       by : (b : Bool) → declaredQuestion (s .image .names) q ≡ b

@@ -14,7 +14,7 @@ use Rattle.policy.specs.Basics.{Name, same, any, isIn}
 use Rattle.policy.specs.Statements.{classNames, permissions}
 use Rattle.policy.specs.Words.{process, transitionWords}
 use Rattle.policy.specs.Encode.{NameEntry, firstBody}
-use Rattle.policy.specs.Answer.{Question, declaredContext, declaredQuestion, asksRole}
+use Rattle.policy.specs.Deciding.{Question, declaredContext, declaredQuestion, asksRole}
 use Rattle.policy.specs.Questions.{Reply, answered, refused, Part, nameFrom, nameOf}
 use Rattle.policy.proofs.Lists.{both-true}
 use Rattle.policy.proofs.Counts.{few-permissions-of, few-classes}

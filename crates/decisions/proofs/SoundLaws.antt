@@ -18,8 +18,8 @@ use Rattle.policy.specs.Meaning.{Context}
 use Rattle.policy.specs.Image.{Image}
 use Rattle.policy.specs.Encode.{sortCode, entryBytes, entries, bodies, firstBody}
 use Rattle.policy.specs.Sound.{imageIn}
-use Rattle.policy.specs.Answer.{declaredContext}
-use Rattle.policy.specs.Questions.{Reply, answered, refused, inSet, validOf, valid, asked, validOn}
+use Rattle.policy.specs.Deciding.{validBy, declaredContext}
+use Rattle.policy.specs.Questions.{Reply, answered, refused, inSet, givenIn, valid, asked, validOn}
 use Rattle.policy.proofs.Lists.{both-true}
 use Rattle.policy.proofs.Counts.{few-of}
 use Rattle.symbols.specs.Section.{between}
@@ -153,8 +153,8 @@ declared-numbers ds c h =
     }
 
 module _ (t : List ℕ) (s : Sound t) where
-  pub is-valid-of : (c : Context) → declaredContext (s .image .names) c ≡ true → isValidIn t c ≡ validOf (s .image) c
-  unfolding isValidIn validOf
+  pub is-valid-of : (c : Context) → declaredContext (s .image .names) c ≡ true → isValidIn t c ≡ validBy (givenIn (s .image)) c
+  unfolding isValidIn validBy
   is-valid-of c h =
       let d = declared-numbers (s .image .names) c h in
       ap₂ _&&_ (user-role t s (c .role) (c .user) (d .user)) (role-type t s (c .type) (c .role) (d .role))
@@ -166,6 +166,6 @@ module _ (t : List ℕ) (s : Sound t) where
       asked-image t s (λ i. valid i c) ∙ by (declaredContext (s .image .names) c) refl
       ∙ ap (λ (b : Bool). cond b (answered (isValidIn t c)) (refused 12 0)) (sym (declares-context t s c))
     where
-      by : (b : Bool) → declaredContext (s .image .names) c ≡ b → cond b (answered (validOf (s .image) c)) (refused 12 0) ≡ cond b (answered (isValidIn t c)) (refused 12 0)
+      by : (b : Bool) → declaredContext (s .image .names) c ≡ b → cond b (answered (validBy (givenIn (s .image)) c)) (refused 12 0) ≡ cond b (answered (isValidIn t c)) (refused 12 0)
       by true q = ap answered (sym (is-valid-of c q))
       by false q = refl

@@ -1,7 +1,7 @@
 -- What is asked, by its numbers. Assumes nothing.
 use Prim.Native.Nat.{ℕ}
 use Rattle.policy.specs.Meaning.{Context}
-use Rattle.policy.specs.Answer.{Question}
+use Rattle.policy.specs.Deciding.{Question}
 use Rattle.decisions.specs.declared.Context as theContext
 
 -- "**Valid context** (user, role, type)"

@@ -13,7 +13,7 @@ use Rattle.policy.specs.Words.{process, transitionWords}
 use Rattle.policy.specs.Image.{TransitionEntry}
 use Rattle.policy.specs.Encode.{NameEntry, firstBody}
 use Rattle.policy.specs.Sound.{transitionAt}
-use Rattle.policy.specs.Answer.{Question}
+use Rattle.policy.specs.Deciding.{Question}
 use Rattle.policy.specs.Questions.{Reply, answered, refused, Part, nameFrom}
 use Rattle.symbols.specs.Section.{entriesAt}
 use Rattle.symbols.specs.Lookup.{countSort}

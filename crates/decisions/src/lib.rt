@@ -17,7 +17,7 @@ ghost use mathlib.Core.List.{List};
 ghost use Prim.Native.Nat.{ℕ, _≤_, _<_};
 ghost use lib.ListN.{drop, replicate};
 ghost use Rattle.policy.specs.Sound.{transitionAt};
-ghost use Rattle.policy.specs.Answer.{firstFailing, roleMay};
+ghost use Rattle.policy.specs.Deciding.{contextsOf, firstFailing, roleMay};
 ghost use Rattle.policy.specs.Answers.{validityOf, changeOf, newRoleOf};
 ghost use Rattle.policy.specs.Questions.{matches, firstTransition, entryNames, entryHolds, validOn, newRoleOn, changeOn};
 ghost use Rattle.policy.specs.Words.{process, transitionWords};
@@ -395,7 +395,7 @@ fn ask_constraints(
     permission: usize,
 ) -> Change
     ensures { λ r. ⌜ ((s : Sound (now (table .entry))) → counts ≡ countsIn (now (table .entry))
-        → changeOf r ≡ firstFailing (entryNames class permission) (entryHolds (s .image) (contextOf source) (contextOf target)) 0 (s .image .constraints)) ⌝ }
+        → changeOf r ≡ firstFailing (entryNames class permission) (entryHolds (s .image) (contextsOf (question source target class permission))) 0 (s .image .constraints)) ⌝ }
 {
     let sides = [
         source.user,

@@ -12,15 +12,16 @@ use lib.ListN.{length, take, drop}
 use Rattle.policy.specs.Basics.{each}
 use Rattle.policy.specs.Statements.{Policy, Line, Statement, constrain, declarations, Constrain, constrains}
 use Rattle.policy.specs.Reading.{Read, policy, refused}
-use Rattle.policy.specs.Meaning.{Context, stands, validIn, holds}
-use Rattle.policy.specs.Answer.{Question, Verdict, granted, denied, fails, refuses, Answer, unconsulted, ruling, firstFailing, decide, declaredQuestion, answer}
+use Rattle.policy.specs.Meaning.{Context}
+use Rattle.policy.specs.Deciding.{Question, Verdict, granted, denied, fails, refuses, Answer, unconsulted, ruling, firstFailing, decide, declaredQuestion, validBy, ruledBy}
+use Rattle.policy.specs.Answer.{givenBy, answer}
 use Rattle.policy.specs.Accepted.{Accepted}
 use Rattle.policy.specs.Image.{Image, imageOf}
 use Rattle.policy.specs.Encode.{encode}
 use Rattle.policy.specs.Sound.{wellFormed, imageIn}
 use Rattle.policy.specs.Outcome as outcomes
 use Rattle.policy.specs.Outcome.{policyOf, Compiled, compiles, compiled, fitted, Outcome, accepted, rejected, outcomeOf, afterOf, outcome, after}
-use Rattle.policy.specs.Questions.{Reply, changed, changeOn, asked, validOn, newRoleOn}
+use Rattle.policy.specs.Questions.{Reply, changed, changeOn, asked, validReply, validOn, newRoleOn}
 use Rattle.policy.proofs.Lists.{each-append}
 use Rattle.reading_laws.proofs.ReadAccepted.{policy-accepted, policy-read}
 use Rattle.reading_laws.proofs.ReadThen.{line}
@@ -30,7 +31,7 @@ use Rattle.image_laws.proofs.Fits.{image-fits}
 use Rattle.table_laws.proofs.WellFormedLaid.{table-back}
 use Rattle.answer_laws.proofs.ImageAnswers.{image-answers}
 use Rattle.answer_laws.proofs.ImageQuestions.{image-valid, image-new-role}
-use Rattle.answer_laws.specs.ByStatements.{validBy, newRoleBy}
+use Rattle.answer_laws.specs.ByStatements.{newRoleBy}
 use Rattle.answer_laws.specs.Granting.{Grants}
 use Rattle.answer_laws.proofs.GrantsExactly.{grants-only, grants-when}
 use Rattle.answer_laws.specs.Longer.{said, OneConstrainMore, ConstrainText, isDenied, KeepsDenials}
@@ -54,7 +55,7 @@ module _ (text : List ℕ) (p : Policy) (read : policyOf text ≡ policy p) (res
   unfolding changeOn
   table-answers q = ap (changed q) table-read ∙ image-answers p (image-fits p reads) q
 
-  pub table-valid : (c : Context) → validOn (encode (imageOf p) ++ rest) c ≡ validBy p c
+  pub table-valid : (c : Context) → validOn (encode (imageOf p) ++ rest) c ≡ validReply (givenBy p) c
   unfolding validOn
   table-valid c = rw table-read (image-valid p (image-fits p reads) c)
 
@@ -88,8 +89,8 @@ decided true true false later h = refl
 decided true true true later h = h
 
 pub declared-unrefused : (p : Policy) (q : Question) → declaredQuestion (declarations p) q ≡ true → isRefusal (answer p q .verdict) ≡ false
-unfolding answer
-declared-unrefused p q h = rw h (decided (validIn p (q .source)) (validIn p (q .target)) _ _ (unrefused _ _ 0 (constrains p)))
+unfolding answer ruledBy
+declared-unrefused p q h = rw h (decided (validBy (givenBy p) (q .source)) (validBy (givenBy p) (q .target)) _ _ (unrefused _ _ 0 (constrains p)))
 
 -- "Add one constrain statement at the end: if the longer policy is accepted, its table denies every question that the first table denies",
 -- and by the same denial, constraint and number consulted; wherever the statements stand in the two texts

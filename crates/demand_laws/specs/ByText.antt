@@ -6,7 +6,8 @@ use mathlib.Core.List.{List, _++_}
 use lib.ListN.{length, take}
 use Rattle.policy.specs.Statements.{Policy, declarations}
 use Rattle.policy.specs.Reading.{policy}
-use Rattle.policy.specs.Answer.{Question, Verdict, granted, denied, fails, refuses, Answer, declaredQuestion, answer}
+use Rattle.policy.specs.Deciding.{Question, Verdict, granted, denied, fails, refuses, Answer, declaredQuestion}
+use Rattle.policy.specs.Answer.{answer}
 use Rattle.policy.specs.Outcome.{policyOf, accepted, outcome, after}
 use Rattle.policy.specs.Questions.{changeOn}
 

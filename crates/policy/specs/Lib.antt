@@ -6,6 +6,7 @@ pub mod Grammar
 pub mod Reading
 pub mod Meaning
 pub mod Faults
+pub mod Deciding
 pub mod Answer
 pub mod Rows
 pub mod Image

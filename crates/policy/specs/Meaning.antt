@@ -89,19 +89,15 @@ pub record Context : Type 0 where
   pub role : ℕ
   pub type : ℕ
 
--- **Valid context**: "the role is among the user's, the type among the role's"
-unfoldable pub validIn : Policy → Context → Bool
-validIn p c = related p userrole (c .user) (c .role) && related p roletype (c .role) (c .type)
-
--- the component of a family; "Side 1 is the source, 2 the target"
+-- the component of a family
 abbrev pub part : Family → Context → ℕ
 part users c = c .user
 part roles c = c .role
 part types c = c .type
 
-abbrev pub at : Side → Context → Context → Context
-at source s t = s
-at target s t = t
+-- the context of each side: "Side 1 is the source, 2 the target"
+abbrev pub Contexts : Type 0
+Contexts = Side → Context
 
 -- "`eq` is sameness, or membership ..; `neq` is its opposite"; "`dom` and `domby` read as `eq`, `incomp` as `neq`"
 abbrev pub compares : Op → Bool → Bool
@@ -111,10 +107,10 @@ compares dom b = b
 compares domby b = b
 compares incomp b = not b
 
--- E by its form, of a source s and a target t
-unfoldable pub holds : Standing → Context → Context → Constraint Reference → Bool
-holds for s t (sidesE f o) = compares o (eqb (part f s) (part f t))
-holds for s t (nameE f x o r) = compares o (for f r (part f (at x s t)))
-holds for s t (notE e) = not (holds for s t e)
-holds for s t (andE e g) = holds for s t e && holds for s t g
-holds for s t (orE e g) = holds for s t e || holds for s t g
+-- E by its form, of the contexts of its sides
+unfoldable pub holds : Standing → Contexts → Constraint Reference → Bool
+holds for on (sidesE f o) = compares o (eqb (part f (on source)) (part f (on target)))
+holds for on (nameE f x o r) = compares o (for f r (part f (on x)))
+holds for on (notE e) = not (holds for on e)
+holds for on (andE e g) = holds for on e && holds for on g
+holds for on (orE e g) = holds for on e || holds for on g

@@ -7,9 +7,9 @@ use lib.Dec.{eqb, ltb}
 use lib.ListN.{length, getD, take}
 use Rattle.bitset.specs.Relations.{joined}
 use Rattle.policy.specs.Basics.{Name}
-use Rattle.policy.specs.Statements.{Family, users, roles, types, Side, source, target, thingOf, attributeOf, count, classNames}
-use Rattle.policy.specs.Meaning.{Context, part, at}
-use Rattle.policy.specs.Answer.{Question, Verdict, refuses, Answer, unconsulted, firstFailing, decide, declaredContext, declaredQuestion, asksRole, roleMay}
+use Rattle.policy.specs.Statements.{Family, users, roles, types, Side, source, target, thingOf, count, classNames, Relation, userrole, roletype, roleallow}
+use Rattle.policy.specs.Meaning.{Context, Contexts}
+use Rattle.policy.specs.Deciding.{Given, validBy, Question, contextsOf, Verdict, refuses, Answer, unconsulted, firstFailing, declaredContext, ruledBy}
 use Rattle.bitset.specs.Sets.{bit, member}
 use Rattle.policy.specs.Rows.{Row, View, run, top}
 use Rattle.policy.specs.Image.{Image, TransitionEntry, ConstraintEntry}
@@ -25,16 +25,26 @@ pub data Reply (A : Type 0) : Type 0 where
 abbrev pub inSet : List (List ℕ) → ℕ → ℕ → Bool
 inSet ss k n = member (getD ss k []) n
 
--- **Valid context**
-unfoldable pub validOf : Image → Context → Bool
-validOf i c = inSet (i .userRoles) (c .user) (c .role) && inSet (i .roleTypes) (c .role) (c .type)
+-- the sets of a relation: of each user its roles, of each role its types, of each role the roles that it may become
+abbrev pub givenSets : Image → Relation → List (List ℕ)
+givenSets i userrole = i .userRoles
+givenSets i roletype = i .roleTypes
+givenSets i roleallow = i .roleRoles
+
+-- what an image gives: its names, and what is in its sets
+abbrev pub givenIn : Image → Given
+givenIn i = record { names = i .names; gives = λ k x y. inSet (givenSets i k) x y }
+
+-- **Valid context**, of declared numbers
+abbrev pub validReply : Given → Context → Reply Bool
+validReply g c = cond (declaredContext (g .names) c) (answered (validBy g c)) (refused 12 0)
 
 unfoldable pub valid : Image → Context → Reply Bool
-valid i c = cond (declaredContext (i .names) c) (answered (validOf i c)) (refused 12 0)
+valid i c = validReply (givenIn i) c
 
 -- the number of a component: u1 u2 r1 r2 t1 t2 as 0 to 5
-abbrev pub sideOf : Context → Context → ℕ → ℕ
-sideOf s t c = getD (s .user ∷ t .user ∷ s .role ∷ t .role ∷ s .type ∷ t .type ∷ []) c 0
+abbrev pub sideOf : Contexts → ℕ → ℕ
+sideOf on c = getD (on source .user ∷ on target .user ∷ on source .role ∷ on target .role ∷ on source .type ∷ on target .type ∷ []) c 0
 
 -- the sets of a family's attributes
 abbrev pub setsIn : Image → Family → List (List ℕ)
@@ -42,24 +52,20 @@ setsIn i users = i .userSets
 setsIn i roles = i .roleSets
 setsIn i types = i .typeSets
 
-abbrev pub viewOf : Image → Context → Context → View
-viewOf i s t = record { side = sideOf s t; inset = λ c a n. inSet (setsIn i (ofComp c)) a n }
+abbrev pub viewOf : Image → Contexts → View
+viewOf i on = record { side = sideOf on; inset = λ c a n. inSet (setsIn i (ofComp c)) a n }
 
 -- a constraint names the class and permission; it holds
 abbrev pub entryNames : ℕ → ℕ → ConstraintEntry → Bool
 entryNames c k x = eqb (x .class) c && bit (x .mask) k
 
-abbrev pub entryHolds : Image → Context → Context → ConstraintEntry → Bool
-entryHolds i s t x = top (run (viewOf i s t) (x .rows) [])
+abbrev pub entryHolds : Image → Contexts → ConstraintEntry → Bool
+entryHolds i on x = top (run (viewOf i on) (x .rows) [])
 
 -- **Change**
 unfoldable pub change : Image → Question → Answer
-change i q = decide
-    (declaredQuestion (i .names) q)
-    (validOf i (q .source))
-    (validOf i (q .target))
-    (roleMay (asksRole (i .names) (q .class) (q .perm)) (q .source .role) (q .target .role) (inSet (i .roleRoles) (q .source .role) (q .target .role)))
-    (firstFailing (entryNames (q .class) (q .perm)) (entryHolds i (q .source) (q .target)) 0 (i .constraints))
+change i q = ruledBy (givenIn i) q
+    (firstFailing (entryNames (q .class) (q .perm)) (entryHolds i (contextsOf q)) 0 (i .constraints))
 
 -- **New role**: "that of the first matching transition, else the role given"
 abbrev pub matches : ℕ → ℕ → ℕ → TransitionEntry → Bool

@@ -12,7 +12,8 @@ use Rattle.policy.specs.Statements.{users, roles, Op, eq, neq, Constrain
 use Rattle.policy.specs.Reading.{policy, refused, readPolicy, Read}
 use Rattle.policy.specs.Meaning.{Context, Standing, holds, related}
 use Rattle.policy.specs.Statements.{userrole}
-use Rattle.policy.specs.Answer.{Question, Answer, granted, denied, fails, refuses, unconsulted, answer}
+use Rattle.policy.specs.Deciding.{Question, Answer, granted, denied, fails, refuses, unconsulted}
+use Rattle.policy.specs.Answer.{answer}
 use Rattle.policy.specs.Rows.{View, rowsOf, run}
 use Rattle.policy.specs.Encode.{encode}
 use Rattle.policy.specs.Questions.{changeOn, sideOf}
@@ -44,7 +45,7 @@ abbrev six : Constraint Reference
 six = andE (sidesE users neq) (toRight 4)
 
 abbrev one-context : View
-one-context = record { side = sideOf (context 0 0 0) (context 0 0 0); inset = λ c a n. false }
+one-context = record { side = sideOf (λ x. context 0 0 0); inset = λ c a n. false }
 
 -- "(constrain (c (p)) E)" with n + 1 comparisons joined by `and` to the right
 abbrev nestedRight : ℕ → List ℕ

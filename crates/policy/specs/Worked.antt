@@ -10,7 +10,8 @@ use Rattle.policy.specs.Basics.{Name, unle}
 use Rattle.policy.specs.Statements.{users, roles, types, thingOf, plain, class, thing, Op, eq, Constraint, sidesE, andE, Reference, need, userrole, roletype, declare, gives, Statement, Line, Policy}
 use Rattle.policy.specs.Reading.{Read, policy, refused, readPolicy}
 use Rattle.policy.specs.Meaning.{Context, final}
-use Rattle.policy.specs.Answer.{Question, denied, unconsulted, answer}
+use Rattle.policy.specs.Deciding.{Question, denied, unconsulted}
+use Rattle.policy.specs.Answer.{answer}
 use Rattle.bitset.specs.Sets.{setOf, tabulate}
 use Rattle.policy.specs.Outcome.{compiles, refuses, accepted, rejected, outcome, compiled, policyOf}
 use Rattle.policy.specs.Encode.{encode}

@@ -5,7 +5,7 @@ use mathlib.Core.Bool.{Bool, true, false, false≢true}
 use mathlib.Core.List.{List}
 use mathlib.Core.Option.{Option, none, some}
 use Rattle.policy.specs.Meaning.{Context}
-use Rattle.policy.specs.Answer.{Question, refuses, unconsulted}
+use Rattle.policy.specs.Deciding.{Question, refuses, unconsulted}
 use Rattle.policy.specs.Image.{Image}
 use Rattle.policy.specs.Sound.{imageIn}
 use Rattle.policy.specs.Questions.{Reply, refused, asked, valid, validOn, newRole, newRoleOn, changed, changeOn}

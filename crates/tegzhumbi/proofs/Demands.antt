@@ -8,7 +8,8 @@ use Rattle.lexer.specs.Spell.{bytes}
 use Rattle.policy.specs.declared.Compiling.{Compiling}
 use Rattle.policy.specs.Statements.{Policy}
 use Rattle.policy.specs.Reading.{Read, policy, refused}
-use Rattle.policy.specs.Answer.{Question, Answer, answer}
+use Rattle.policy.specs.Deciding.{Question, Answer}
+use Rattle.policy.specs.Answer.{answer}
 use Rattle.policy.specs.Image.{imageOf}
 use Rattle.policy.specs.Encode.{encode}
 use Rattle.policy.specs.Sound.{imageIn}

@@ -6,7 +6,8 @@ use mathlib.Core.List.{List, [], _++_}
 use lib.ListN.{length, take}
 use Rattle.policy.specs.declared.Compiling.{Compiling}
 use Rattle.policy.specs.Reading.{Read, policy, refused}
-use Rattle.policy.specs.Answer.{Question, Answer, refuses, unconsulted, answer}
+use Rattle.policy.specs.Deciding.{Question, Answer, refuses, unconsulted}
+use Rattle.policy.specs.Answer.{answer}
 use Rattle.policy.specs.Outcome.{policyOf, rejected, outcome}
 use Rattle.policy.specs.Opened.{computing}
 use Rattle.compiler.specs.Promise.{Compiles}

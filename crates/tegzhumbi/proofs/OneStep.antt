@@ -9,7 +9,8 @@ use Rattle.policy.specs.declared.Change.{Change}
 use Rattle.policy.specs.declared.Compiling.{Compiling}
 use Rattle.policy.specs.Statements.{Policy}
 use Rattle.policy.specs.Reading.{Read, policy, refused}
-use Rattle.policy.specs.Answer.{Question, Answer, answer}
+use Rattle.policy.specs.Deciding.{Question, Answer}
+use Rattle.policy.specs.Answer.{answer}
 use Rattle.policy.specs.Answers.{changeOf, compilingOf}
 use Rattle.policy.specs.Image.{Image, imageOf}
 use Rattle.policy.specs.Encode.{encode}

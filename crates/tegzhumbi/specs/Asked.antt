@@ -1,6 +1,6 @@
 -- What is asked, by the numbers of src/. Assumes nothing.
 use Rattle.policy.specs.Meaning.{Context}
-use Rattle.policy.specs.Answer.{Question}
+use Rattle.policy.specs.Deciding.{Question}
 use Rattle.policy.specs.declared.Class as theClass
 use Rattle.policy.specs.declared.Permission as thePermission
 use Rattle.tegzhumbi.specs.declared.Context as theContext

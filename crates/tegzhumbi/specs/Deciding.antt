@@ -7,7 +7,8 @@ use lib.Dec.{leb}
 use lib.ListN.{length}
 use Rattle.policy.specs.Statements.{Policy}
 use Rattle.policy.specs.Reading.{Read, policy, refused}
-use Rattle.policy.specs.Answer.{Question, Answer, answer}
+use Rattle.policy.specs.Deciding.{Question, Answer}
+use Rattle.policy.specs.Answer.{answer}
 use Rattle.policy.specs.Answers.{changeOf}
 use Rattle.policy.specs.Image.{imageOf}
 use Rattle.policy.specs.Encode.{encode}

@@ -9,12 +9,13 @@ use Rattle.policy.specs.declared.Compiling.{Compiling}
 use Rattle.policy.specs.Statements.{Policy, declarations}
 use Rattle.policy.specs.Reading.{policy}
 use Rattle.policy.specs.Meaning.{Context}
-use Rattle.policy.specs.Answer.{Question, granted, declaredQuestion, answer}
+use Rattle.policy.specs.Deciding.{Question, granted, declaredQuestion}
+use Rattle.policy.specs.Answer.{givenBy, answer}
 use Rattle.policy.specs.Image.{imageOf}
 use Rattle.policy.specs.Sound.{imageIn}
 use Rattle.policy.specs.Outcome.{policyOf}
-use Rattle.policy.specs.Questions.{validOn, newRoleOn, changeOn}
-use Rattle.answer_laws.specs.ByStatements.{validBy, newRoleBy}
+use Rattle.policy.specs.Questions.{validReply, validOn, newRoleOn, changeOn}
+use Rattle.answer_laws.specs.ByStatements.{newRoleBy}
 use Rattle.answer_laws.specs.Granting.{Grants}
 use Rattle.answer_laws.specs.Longer.{OneConstrainMore, ConstrainText, KeepsDenials}
 use Rattle.demand_laws.specs.ByText.{isRefusal}
@@ -41,7 +42,7 @@ pub record Demand3 (text table : List ℕ) : Type 0 where
   pub added-denies : (more before now : List ℕ) (n : ℕ) → Compiles (text ++ (10 ∷ more)) before now (Compiling.Accepted n) → ConstrainText more
       → KeepsDenials table (take n now)
   -- valid context and new role give back what the statements say
-  pub valid : (behind : List ℕ) (c : Context) → validOn (table ++ behind) c ≡ validBy statements c
+  pub valid : (behind : List ℕ) (c : Context) → validOn (table ++ behind) c ≡ validReply (givenBy statements) c
   pub new-role : (behind : List ℕ) (r y c : ℕ) → newRoleOn (table ++ behind) r y c ≡ newRoleBy statements r y c
   -- and so do name of and entry: they read from the image of the statements
   pub holds : (behind : List ℕ) → imageIn (table ++ behind) ≡ some (imageOf statements)

@@ -8,7 +8,7 @@ use Rattle.lexer.specs.Spell.{bytes}
 use Rattle.bitset.specs.Relations.{joined}
 use Rattle.bitset.specs.Sets.{tabulate}
 use Rattle.policy.specs.declared.Compiling.{Compiling}
-use Rattle.policy.specs.Answer.{Question, Answer, granted, denied, unconsulted}
+use Rattle.policy.specs.Deciding.{Question, Answer, granted, denied, unconsulted}
 use Rattle.policy.specs.Answers.{compilingOf}
 use Rattle.policy.specs.Questions.{changeOn}
 use Rattle.policy.specs.Outcome.{accepted, rejected}

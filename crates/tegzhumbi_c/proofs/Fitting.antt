@@ -8,9 +8,9 @@ use mathlib.Core.List.{List}
 use Rattle.policy.specs.Meaning.{Context}
 use Rattle.policy.specs.Image.{Image}
 use Rattle.policy.specs.Sound.{imageIn}
-use Rattle.policy.specs.Answer.{Question, Verdict, granted, denied, fails, refuses, declaredContext}
+use Rattle.policy.specs.Deciding.{validBy, Question, Verdict, granted, denied, fails, refuses, declaredContext}
 use Rattle.policy.specs.Questions as replies
-use Rattle.policy.specs.Questions.{Reply, answered, refused, asked, validOf, valid, validOn, newRoleOn, changeOn, nameOn, entryOn}
+use Rattle.policy.specs.Questions.{Reply, answered, refused, asked, givenIn, valid, validOn, newRoleOn, changeOn, nameOn, entryOn}
 use Rattle.policy.specs.Outcome.{Outcome, accepted, rejected, outcome}
 use Rattle.policy.specs.Answers.{compilingOf, validityOf, changeOf, newRoleOf, placeOf}
 use Rattle.policy.specs.declared.Compiling.{Compiling}
@@ -41,8 +41,8 @@ pub valid-fits : (t : List ℕ) (c : Context) → Fits (validNumbers (validOn t 
 unfolding validOn valid
 valid-fits t c = by (imageIn t)
   where
-    declared : (i : Image) (d : Bool) → Fits (validNumbers (cond d (answered (validOf i c)) (refused 12 0)))
-    declared i true = answered-fits (validOf i c)
+    declared : (i : Image) (d : Bool) → Fits (validNumbers (cond d (answered (validBy (givenIn i) c)) (refused 12 0)))
+    declared i true = answered-fits (validBy (givenIn i) c)
     declared i false = refused-fits 12 0 (omega arith)
 
     by : (o : Option Image) → Fits (validNumbers (asked (λ i. valid i c) o))

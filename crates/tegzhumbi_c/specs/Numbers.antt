@@ -2,8 +2,8 @@
 use Prim.Native.Nat.{ℕ, _<_}
 use mathlib.Core.Bool.{Bool, true, false}
 use Rattle.policy.specs.Meaning.{Context}
-use Rattle.policy.specs.Answer as decided
-use Rattle.policy.specs.Answer.{Question, Verdict, granted, denied, fails, refuses}
+use Rattle.policy.specs.Deciding as decided
+use Rattle.policy.specs.Deciding.{Question, Verdict, granted, denied, fails, refuses}
 use Rattle.policy.specs.Outcome.{Outcome, accepted, rejected}
 use Rattle.policy.specs.Questions as replies
 use Rattle.policy.specs.Questions.{Reply, answered, refused}

@@ -8,7 +8,7 @@ use borrow.Author.Tests.{not-true, not-false}
 use denote.Ref.{now}
 use lib.ListN.{drop}
 use Rattle.policy.specs.Sound.{headAt}
-use Rattle.policy.specs.Answer.{firstFailing}
+use Rattle.policy.specs.Deciding.{firstFailing}
 use Rattle.table_reader.specs.Records.{records, headOf}
 use Rattle.table_reader.proofs.RecordLaws.{records-step, records-none}
 use Rattle.constraints.specs.TableConstraints.{headsIn, headNames, headHolds}

@@ -4,7 +4,8 @@ use mathlib.Core.Path.{refl, sym, ap, _∙_}
 use mathlib.Core.Path.{subst}
 use Rattle.policy.specs.Statements.{users, roles, attributeOf}
 use Rattle.table_laws.proofs.WellFormedLaid.{well-formed-laid}
-use Rattle.decisions.specs.Asked.{contextOf}
+use Rattle.policy.specs.Deciding.{contextsOf}
+use Rattle.decisions.specs.Asked.{question}
 use Rattle.decisions.proofs.SoundLaws.{things-of}
 use Rattle.decisions.proofs.ChangeLaws.{few-attributes}
 use borrow.Author.Needs.{needs}
@@ -21,7 +22,7 @@ returns c = λ s counts.
     let placed = c .before .before .locate .ensures .image (s .image) (s .rest) (s .formed) (s .laid)
     (c .before .before .before .before .few .ensures (subst (λ (n : ℕ). n ≤ 64) (sym us) (few-attributes t s users)) ∙ us ∙ things-of t s (attributeOf users) ∙ sym (laid .userSets .many))
     (c .before .before .before .few2 .ensures (subst (λ (n : ℕ). n ≤ 64) (sym rs) (few-attributes t s roles)) ∙ rs ∙ things-of t s (attributeOf roles) ∙ sym (laid .roleSets .many)) in
-    c .first-failing .ensures .image (s .image) (s .rest) (contextOf (a .source)) (contextOf (a .target)) (s .formed) (s .laid) placed refl
+    c .first-failing .ensures .image (s .image) (s .rest) (contextsOf (question (a .source) (a .target) (a .class) (a .permission))) (s .formed) (s .laid) placed refl
 
 pub ask-constraints-spec : {M : Type 1} → statement M
 ask-constraints-spec =

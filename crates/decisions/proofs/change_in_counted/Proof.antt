@@ -3,7 +3,7 @@ use Prim.Native.Nat.{_<_}
 use Rattle.table_laws.proofs.ListLaws.{all-places}
 use mathlib.Core.Path.{sym, _∙_}
 use borrow.Author.Tests.{not-true, not-false}
-use Rattle.policy.specs.Answer.{decide}
+use Rattle.policy.specs.Deciding.{decide}
 use Rattle.decisions.proofs.SoundLaws.{sound-table}
 use Rattle.decisions.proofs.ChangeLaws.{change-of}
 use borrow.Author.Needs.{needs}

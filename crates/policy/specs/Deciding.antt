@@ -1,0 +1,103 @@
+-- Document 01, **Valid context** and **Change**: a valid context, the order of the denials and the number consulted, over what is given. The
+-- statements and a table both decide by these lines; here is neither. Assumes nothing.
+use Prim.Native.Nat.{ℕ, _+_}
+use mathlib.Core.Bool.{Bool, true, false, not, _&&_, _||_}
+use mathlib.Core.List.{List, [], _∷_}
+use lib.Dec.{eqb, ltb}
+use lib.ListN.{length, getD}
+use Rattle.policy.specs.Basics.{same, isIn}
+use Rattle.policy.specs.Words.{process, transitionWords}
+use Rattle.policy.specs.Statements.{users, roles, types, thingOf, Side, source, target, Declaration, classNames, permissions, count, Relation, userrole, roletype, roleallow}
+use Rattle.policy.specs.Meaning.{Set, Context, Contexts}
+
+-- what a decision is made from, whoever gives it: the names declared, and the relations as tests: `gives userrole u` are the roles of user u,
+-- `gives roletype r` the types of role r, `gives roleallow r` the roles that role r may become
+pub record Given : Type 0 where
+  pub names : List Declaration
+  pub gives : Relation → ℕ → Set
+
+-- **Valid context** (user, role, type): "the role is among the user's, the type among the role's"
+unfoldable pub validBy : Given → Context → Bool
+validBy g c = g .gives userrole (c .user) (c .role) && g .gives roletype (c .role) (c .type)
+
+-- "(source, target, class, permission by its place in the class)"
+pub record Question : Type 0 where
+  pub source : Context
+  pub target : Context
+  pub class : ℕ
+  pub perm : ℕ
+
+-- its contexts by their sides
+abbrev pub contextsOf : Question → Contexts
+contextsOf q source = q .source
+contextsOf q target = q .target
+
+-- granted; a denial by its number, 1, 2 or 3; a denial by its number, 4, with the number of the first failing constraint; a refusal by its number, 11 or 12,
+-- and its place, 0
+pub data Verdict : Type 0 where
+  granted : Verdict
+  denied : ℕ → Verdict
+  fails : ℕ → ℕ → Verdict
+  refuses : ℕ → ℕ → Verdict
+
+-- "With it goes the number consulted"
+pub record Answer : Type 0 where
+  pub verdict : Verdict
+  pub consulted : ℕ
+
+-- "0 for denials 1 to 3 and for refusals"
+abbrev pub unconsulted : Verdict → Answer
+unconsulted v = record { verdict = v; consulted = 0 }
+
+-- one more consulted
+abbrev pub oneMore : Answer → Answer
+oneMore a = record { verdict = a .verdict; consulted = 1 + a .consulted }
+
+-- a constraint that does not name what is asked; one that does, and fails: "4 the first failing constraint, with its number"; one that does, and holds:
+-- before the answer of the later ones
+abbrev pub ruling : Bool → Bool → ℕ → Answer → Answer
+ruling false b i later = later
+ruling true false i later = record { verdict = fails 4 i; consulted = 1 }
+ruling true true i later = oneMore later
+
+-- "the constraints naming that class and permission, up to and including the first that fails"; i is the number of the first of the list
+unfoldable pub firstFailing : {A : Type 0} → (A → Bool) → (A → Bool) → ℕ → List A → Answer
+firstFailing names holds i [] = unconsulted granted
+firstFailing names holds i (x ∷ xs) = ruling (names x) (holds x) i (firstFailing names holds (i + 1) xs)
+
+-- "Denials in order": are all numbers declared, is the source valid, is the target, may the role change; then the constraints
+unfoldable pub decide : Bool → Bool → Bool → Bool → Answer → Answer
+decide false s t r rest = unconsulted (refuses 12 0)
+decide true false t r rest = unconsulted (denied 1)
+decide true true false r rest = unconsulted (denied 2)
+decide true true true false rest = unconsulted (denied 3)
+decide true true true true rest = rest
+
+-- the numbers of a context, and of a question, are declared
+unfoldable pub declaredContext : List Declaration → Context → Bool
+declaredContext ds c =
+    ltb (c .user) (count (thingOf users) ds) && ltb (c .role) (count (thingOf roles) ds) && ltb (c .type) (count (thingOf types) ds)
+
+unfoldable pub declaredQuestion : List Declaration → Question → Bool
+declaredQuestion ds q =
+    declaredContext ds (q .source) && declaredContext ds (q .target)
+    && ltb (q .class) (length (classNames ds)) && ltb (q .perm) (length (permissions ds (q .class)))
+
+-- "class `process`, permission `transition` or `dyntransition`"
+unfoldable pub asksRole : List Declaration → ℕ → ℕ → Bool
+asksRole ds c k = same (getD (classNames ds) c []) process && isIn (getD (permissions ds c) k []) transitionWords
+
+-- not (that class and permission, "roles differ and source may not become target")
+abbrev pub roleMay : Bool → ℕ → ℕ → Bool → Bool
+roleMay asks a b may = not asks || eqb a b || may
+
+-- denial 3 is not met: "class `process`, permission `transition` or `dyntransition`, roles differ and source may not become target"
+unfoldable pub mayBecome : Given → Question → Bool
+mayBecome g q =
+    let old = q .source .role in
+    let new = q .target .role in
+    roleMay (asksRole (g .names) (q .class) (q .perm)) old new (g .gives roleallow old new)
+
+-- **Change**: the decision, where the constraints answer `rest`
+unfoldable pub ruledBy : Given → Question → Answer → Answer
+ruledBy g q rest = decide (declaredQuestion (g .names) q) (validBy g (q .source)) (validBy g (q .target)) (mayBecome g q) rest
