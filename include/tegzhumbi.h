@@ -45,7 +45,7 @@ tegzhumbi_compiled tegzhumbi_compile(const uint8_t *text, size_t text_len, uint8
 /* 1: the bytes are a sound table, with anything behind it; 0: they are not */
 uint32_t tegzhumbi_sound(const uint8_t *table, size_t table_len);
 
-/* Is the context valid? */
+/* Is the context valid? The role is among the user's and the type among the role's, or the role is named object_r. */
 tegzhumbi_answer tegzhumbi_valid(const uint8_t *table, size_t table_len, uint64_t user, uint64_t role, uint64_t type);
 
 /* May the source become the target, or do to it what the permission, by its place in the class, names? */

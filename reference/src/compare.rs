@@ -120,6 +120,7 @@ fn some_policy(random: &mut Random) -> Vec<u8> {
         deep: random.chance(10),
         crowded: random.chance(5),
         small: random.chance(50),
+        objects: random.chance(20),
         steps: if random.chance(60) { steps / 6 } else { steps },
     };
     policy_text(random, shape)

@@ -6,6 +6,7 @@
 //! * sound: u32 length, table.
 //! * questions: u32 length, table, u32 count, and for each question nine u64: its kind and eight arguments.
 
+use crate::generator::asked::objects;
 use crate::generator::cases::cases;
 use crate::generator::damage::{damage, damage_bytes};
 use crate::generator::layout::{lay_out, Gaps};
@@ -261,6 +262,24 @@ fn question_cases(random: &mut Random) -> Vec<(Vec<u8>, Vec<Question>)> {
         if let Some(table) = tables::apply(way, &bases[place % 3], random) {
             list.push((table, unsound_questions(random, place)));
         }
+    }
+    list.extend(object_cases(random));
+    list
+}
+
+/// Document 02, W-201: the listed questions on `object_r`, and random ones on random policies that have it.
+fn object_cases(random: &mut Random) -> Vec<(Vec<u8>, Vec<Question>)> {
+    let mut list = Vec::new();
+    for asked in objects() {
+        list.push((table_of(asked.text.as_bytes()).expect("an accepted text"), asked.questions));
+    }
+    for round in 0..16 {
+        let steps = random.between(15, 40);
+        let shape = Shape { objects: true, small: round % 2 == 0, ..Shape::good(steps) };
+        let table = table_of(&policy_text(random, shape)).expect("a good policy");
+        let decoded = decode(&table).expect("sound");
+        let questions = (0..40).map(|_| ask(random, &decoded)).collect();
+        list.push((table, questions));
     }
     list
 }

@@ -181,8 +181,12 @@ impl Meaning {
         gives
     }
 
-    /// "the role is among the user's, the type among the role's"
+    /// "the role is among the user's, the type among the role's"; document 02, W-201: "a context whose role is named
+    /// `object_r` is valid with any declared user and any declared type".
     fn is_valid(&self, context: &Context<usize>) -> bool {
+        if self.policy.things(Family::Role)[context.role] == b"object_r" {
+            return true;
+        }
         self.given(Relation::UserRole, context.user).contains(&context.role)
             && self.given(Relation::RoleType, context.role).contains(&context.kind)
     }

@@ -3,7 +3,7 @@
 use crate::limits;
 use crate::parser::Family;
 use crate::sound::{decode, Decoded};
-use crate::table::{Row, CLASS, CONSTRAINT, NARROW, PERMISSION, ROW, TRANSITION, WIDE};
+use crate::table::{thing_sort, Row, CLASS, CONSTRAINT, NARROW, PERMISSION, ROW, TRANSITION, WIDE};
 
 #[derive(Clone, Copy, Debug, PartialEq, Eq)]
 pub struct Context<N> {
@@ -87,8 +87,12 @@ pub fn valid_context(bytes: &[u8], context: &Context<u64>) -> ValidAnswer {
     }
 }
 
-/// "the role is among the user's, the type among the role's"
+/// "the role is among the user's, the type among the role's"; document 02, W-201: "a context whose role is named
+/// `object_r` is valid with any declared user and any declared type".
 fn is_valid(table: &Decoded, context: &Context<usize>) -> bool {
+    if name_bytes(table, thing_sort(Family::Role), context.role) == b"object_r" {
+        return true;
+    }
     table.contents.roles_of_user[context.user].contains(&context.role)
         && table.contents.types_of_role[context.role].contains(&context.kind)
 }

@@ -18,7 +18,8 @@ use reference::table::{compile, contents, table_of, Outcome};
 fn some_policy(random: &mut Random) -> Vec<u8> {
     let steps = random.between(0, 70);
     let small = random.chance(30);
-    policy_text(random, Shape { small, ..Shape::good(steps) })
+    let objects = random.chance(30);
+    policy_text(random, Shape { small, objects, ..Shape::good(steps) })
 }
 
 /// A context in declared numbers, mostly a valid one.
@@ -96,8 +97,10 @@ fn other_questions_answer_as_the_statements() {
         let table = table_of(&text).unwrap();
         for _ in 0..20 {
             let context = some_context(&mut random, &meaning);
-            let valid = meaning.given(Relation::UserRole, context.user).contains(&context.role)
-                && meaning.given(Relation::RoleType, context.role).contains(&context.kind);
+            let object = meaning.policy.things(Family::Role)[context.role] == b"object_r";
+            let valid = object
+                || meaning.given(Relation::UserRole, context.user).contains(&context.role)
+                    && meaning.given(Relation::RoleType, context.role).contains(&context.kind);
             let expected = if valid { ValidAnswer::Valid } else { ValidAnswer::NotValid };
             assert_eq!(valid_context(&table, &wide_context(&context)), expected);
             let class = random.below(meaning.policy.classes.len());

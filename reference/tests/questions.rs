@@ -34,6 +34,37 @@ fn valid_contexts() {
     assert_eq!(valid_context(&table[..50], &context(u64::MAX, 0, 0)), ValidAnswer::Refused(11));
 }
 
+/// Document 02, W-201.
+#[test]
+fn object_r_is_valid_with_any_user_and_type() {
+    let table = table("(user u)(user v)(role a)(role object_r)(type s)(type t)(class process (transition))(class c (p))\
+        (userrole u a)(roletype a s)(constrain (c (p)) (neq r1 object_r))");
+    for user in 0..2 {
+        for kind in 0..2 {
+            assert_eq!(valid_context(&table, &context(user, 1, kind)), ValidAnswer::Valid);
+        }
+    }
+    assert_eq!(valid_context(&table, &context(1, 0, 0)), ValidAnswer::NotValid);
+    assert_eq!(valid_context(&table, &context(2, 1, 0)), ValidAnswer::Refused(12));
+    assert_eq!(valid_context(&table, &context(0, 1, 2)), ValidAnswer::Refused(12));
+    let ask = |source, target, class| change(&table, &question(source, target, class, 0));
+    let denied = |number, constraint, consulted| ChangeAnswer::Denied { number, constraint, consulted };
+    assert_eq!(ask([0, 0, 0], [1, 1, 1], 1), ChangeAnswer::Granted { consulted: 1 });
+    assert_eq!(ask([1, 1, 1], [0, 0, 0], 1), denied(4, 0, 1));
+    assert_eq!(ask([1, 1, 1], [1, 0, 0], 1), denied(2, 0, 0));
+    assert_eq!(ask([0, 0, 0], [1, 1, 1], 0), denied(3, 0, 0));
+    assert_eq!(ask([0, 1, 0], [1, 1, 1], 0), ChangeAnswer::Granted { consulted: 0 });
+}
+
+/// "whose role is named": no other name, and nothing else of that name.
+#[test]
+fn only_a_role_is_object_r() {
+    let table = table("(user object_r)(role Object_r)(roleattribute object_r)(role object_rr)(type object_r)(class object_r (object_r))");
+    for role in 0..2 {
+        assert_eq!(valid_context(&table, &context(0, role, 0)), ValidAnswer::NotValid);
+    }
+}
+
 #[test]
 fn changes_with_the_number_consulted() {
     let table = table(POLICY);

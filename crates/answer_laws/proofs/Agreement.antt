@@ -2,14 +2,14 @@
 -- question. Assumes nothing.
 use Prim.Native.Nat.{ℕ, _<_}
 use mathlib.Core.Path.{_≡_, refl, sym, ap, ap₂, _∙_}
-use mathlib.Core.Bool.{Bool, true, false, _&&_, false≢true}
+use mathlib.Core.Bool.{Bool, true, false, _&&_, _||_}
 use mathlib.Core.List.{List}
 use lib.Dec.{ltb}
 use lib.ListN.{length}
 use borrow.Author.Tests.{ltb-true}
 use Rattle.policy.specs.Statements.{Family, users, roles, types, thingOf, Declaration, count, classNames, permissions, Relation, userrole, roletype, roleallow, fromOf, toOf}
 use Rattle.policy.specs.Meaning.{Context, part}
-use Rattle.policy.specs.Deciding.{Given, validBy, Question, Answer, decide, declaredContext, declaredQuestion, asksRole, roleMay, mayBecome, ruledBy}
+use Rattle.policy.specs.Deciding.{Given, isObject, validBy, Question, Answer, decide, declaredContext, declaredQuestion, asksRole, roleMay, mayBecome, ruledBy}
 use Rattle.policy.proofs.Lists.{both-true}
 
 -- THE NUMBERS
@@ -63,7 +63,9 @@ module _ (g h : Given) (same : Agree g h) where
   unfolding validBy
   agree-valid c d =
       let in-it = in-range (g .names) c d in
-      ap₂ _&&_ (same .gives userrole (c .user) (c .role) (in-it users) (in-it roles)) (same .gives roletype (c .role) (c .type) (in-it roles) (in-it types))
+      ap₂ _||_
+      (ap₂ _&&_ (same .gives userrole (c .user) (c .role) (in-it users) (in-it roles)) (same .gives roletype (c .role) (c .type) (in-it roles) (in-it types)))
+      (ap (λ (ds : List Declaration). isObject ds (c .role)) (same .names))
 
   agree-may : (q : Question) → Declared (g .names) q → mayBecome g q ≡ mayBecome h q
   unfolding mayBecome

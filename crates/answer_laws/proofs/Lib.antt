@@ -5,3 +5,4 @@ pub mod LongerPolicy
 pub mod ImageAnswers
 pub mod GrantsExactly
 pub mod ImageQuestions
+pub mod ObjectRole

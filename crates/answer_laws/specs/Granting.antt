@@ -6,7 +6,8 @@ use mathlib.Core.Bool.{Bool, true, false, cond}
 use mathlib.Core.List.{List, [], _∷_}
 use mathlib.Core.Option.{some}
 use lib.ListN.{length, take, getElem?}
-use Rattle.policy.specs.Statements.{Policy, declarations, Constrain, constrains, roleallow}
+use Rattle.policy.specs.Basics.{Name}
+use Rattle.policy.specs.Statements.{roles, thingOf, Declaration, namesOf, Policy, declarations, Constrain, constrains, roleallow}
 use Rattle.policy.specs.Meaning.{stands, related, holds}
 use Rattle.policy.specs.Deciding.{validBy, contextsOf, Question, asksRole}
 use Rattle.policy.specs.Answer.{givenBy, namesAsked}
@@ -20,6 +21,10 @@ pub record Grants (p : Policy) (q : Question) : Type 0 where
   pub role-allowed : asksRole (declarations p) (q .class) (q .perm) ≡ true
       → (q .source .role ≡ q .target .role) ⊎ (related p roleallow (q .source .role) (q .target .role) ≡ true)
   pub constraints-hold : All (λ (c : Constrain). namesAsked (q .class) (q .perm) c ≡ true → holds (stands p) (contextsOf q) (c .body) ≡ true) (constrains p)
+
+-- role r is named w
+abbrev pub RoleNamed : List Declaration → ℕ → Name → Type 0
+RoleNamed ds r w = getElem? (namesOf (thingOf roles) ds) r ≡ some w
 
 -- how many of them pass a test
 unfoldable pub howMany : {A : Type 0} → (A → Bool) → List A → ℕ

@@ -19,7 +19,8 @@ use Rattle.table_laws.specs.SoundTable.{Sound}
 use Rattle.table_laws.proofs.WellFormed.{formed}
 use Rattle.table_laws.proofs.SoundLaws.{sound-read}
 use Rattle.decisions.specs.TableAnswers.{countIn, countsIn, declaresQuestion, isValidIn, asksRoleIn, setHas}
-use Rattle.decisions.proofs.SoundLaws.{things-of, declared-numbers, is-valid-of, role-role}
+use Rattle.decisions.proofs.SoundLaws.{things-of, declared-numbers, role-role}
+use Rattle.decisions.proofs.ContextLaws.{is-valid-of}
 use Rattle.decisions.proofs.NameLaws.{declares-question, asks-role-of}
 
 -- THE ROLE, in the order in which the code asks

@@ -3,5 +3,6 @@ pub mod TallyLaws
 pub mod SoundLaws
 pub mod TransitionLaws
 pub mod NameLaws
+pub mod ContextLaws
 pub mod ChangeLaws
 pub mod CountedLaws

@@ -1,4 +1,4 @@
--- The names of classes and permissions: compared with a word in the bytes of a table, and on a sound table. Assumes nothing.
+-- The names of roles, classes and permissions: compared with a word in the bytes of a table, and on a sound table. Assumes nothing.
 use Prim.Native.Nat.{ℕ, zero, suc, _+_, _*_, _/_, _%_, _<_, _≤_}
 use native.Mathlib.Omega.{arith}
 use mathlib.Core.Path.{_≡_, refl, sym, ap, ap₂, _∙_}
@@ -11,12 +11,12 @@ use lib.Seq.{take-all}
 use borrow.Author.Tests.{lt-ltb, le-ltb, ltb-true, ltb-false}
 use Rattle.bitset.specs.Parts.{part}
 use Rattle.policy.specs.Basics.{Name, same, any, isIn}
-use Rattle.policy.specs.Statements.{classNames, permissions}
-use Rattle.policy.specs.Words.{process, transitionWords}
+use Rattle.policy.specs.Statements.{roles, thingOf, namesOf, count, classNames, permissions}
+use Rattle.policy.specs.Words.{process, transitionWords, objectR}
 use Rattle.policy.specs.Encode.{NameEntry, firstBody}
-use Rattle.policy.specs.Deciding.{Question, declaredContext, declaredQuestion, asksRole}
+use Rattle.policy.specs.Deciding.{isObject, Question, declaredContext, declaredQuestion, asksRole}
 use Rattle.policy.specs.Questions.{Reply, answered, refused, Part, nameFrom, nameOf}
-use Rattle.policy.proofs.Lists.{both-true}
+use Rattle.policy.proofs.Lists.{both-true, at-place}
 use Rattle.policy.proofs.Counts.{few-permissions-of, few-classes}
 use Rattle.symbols.proofs.PartLaws.{length-part, same-length}
 use Rattle.image_rows.specs.SoundRows.{isSome}
@@ -24,7 +24,7 @@ use Rattle.table_laws.specs.SoundTable.{Sound}
 use Rattle.table_laws.specs.Shown.{shown, orTwelve, nameIn}
 use Rattle.table_laws.proofs.NameShown.{name-shown}
 use Rattle.table_laws.proofs.WellFormed.{formed}
-use Rattle.decisions.specs.TableAnswers.{namesIn, countsIn, classIn, permissionIn, isFoundName, bears, declaresQuestion, asksRoleIn}
+use Rattle.decisions.specs.TableAnswers.{namesIn, countsIn, roleIn, classIn, permissionIn, isFoundName, bears, declaresQuestion, asksRoleIn}
 use Rattle.decisions.proofs.SoundLaws.{names-of, classes-of, declares-context}
 
 -- THE COMPARISON
@@ -77,11 +77,6 @@ module _ {A : Type 0} where
       by true q = q ∙ sym (lt-ltb (suc k) (length (x ∷ xs)) (omega (arith, ltb-true k (length xs) q)))
       by false q = q ∙ sym (le-ltb (suc k) (length (x ∷ xs)) (omega (arith, ltb-false k (length xs) q)))
 
-  at-place : (xs : List A) (k : ℕ) (d : A) → k < length xs → getElem? xs k ≡ some (getD xs k d)
-  at-place [] k d h = absurd (omega arith)
-  at-place (x ∷ xs) zero d h = refl
-  at-place (x ∷ xs) (suc k) d h = at-place xs k d (omega arith)
-
   any-same : (f g : A → Bool) → ((x : A) → f x ≡ g x) → (xs : List A) → any f xs ≡ any g xs
   unfolding any
   any-same f g e [] = refl
@@ -101,6 +96,10 @@ module _ (t : List ℕ) (s : Sound t) where
       ap (λ (es : List NameEntry). shown t (nameFrom x n firstBody es)) (names-of t s)
       ∙ ap (λ (l : List ℕ). shown l (nameOf (s .image) x n)) (s .laid)
       ∙ name-shown (s .image) (s .formed) (s .rest) x n
+
+  role-at : (r : ℕ) → shown t (roleIn t r) ≡ orTwelve (getElem? (namesOf (thingOf roles) (s .image .names)) r)
+  unfolding nameIn
+  role-at r = name-at 1 r
 
   class-at : (c : ℕ) → shown t (classIn t c) ≡ orTwelve (getElem? (classNames (s .image .names)) c)
   unfolding nameIn
@@ -160,3 +159,10 @@ module _ (t : List ℕ) (s : Sound t) where
       (any-same (bears t (permissionIn t c k)) (same (getD (permissions ds c) k []))
       (λ w. bears-by t (permissionIn t c k) (getElem? (permissions ds c) k) (permission-at c k (class-below c h) (omega (arith, few-in-class c))) w
       ∙ ap (λ (o : Option Name). isNamed o w) (at-place (permissions ds c) k [] l)) transitionWords)
+
+  -- "role is named `object_r`"
+  pub object-of : (r : ℕ) → r < count (thingOf roles) (s .image .names) → bears t (roleIn t r) objectR ≡ isObject (s .image .names) r
+  unfolding isObject count
+  object-of r h =
+      let names = namesOf (thingOf roles) (s .image .names) in
+      bears-by t (roleIn t r) (getElem? names r) (role-at r) objectR ∙ ap (λ (o : Option Name). isNamed o objectR) (at-place names r [] h)

@@ -18,8 +18,8 @@ use Rattle.policy.specs.Meaning.{Context}
 use Rattle.policy.specs.Image.{Image}
 use Rattle.policy.specs.Encode.{sortCode, entryBytes, entries, bodies, firstBody}
 use Rattle.policy.specs.Sound.{imageIn}
-use Rattle.policy.specs.Deciding.{validBy, declaredContext}
-use Rattle.policy.specs.Questions.{Reply, answered, refused, inSet, givenIn, valid, asked, validOn}
+use Rattle.policy.specs.Deciding.{declaredContext}
+use Rattle.policy.specs.Questions.{Reply, inSet, asked}
 use Rattle.policy.proofs.Lists.{both-true}
 use Rattle.policy.proofs.Counts.{few-of}
 use Rattle.symbols.specs.Section.{between}
@@ -36,7 +36,7 @@ use Rattle.table_reader.specs.Records.{bodyPlace, startIn, lengthIn}
 use Rattle.table_reader.proofs.RecordLaws.{Stands, set-part}
 use Rattle.table_reader.proofs.BodyPlaces.{body-stands, start-part, length-part}
 use Rattle.soundness.specs.IsSound.{isSound}
-use Rattle.decisions.specs.TableAnswers.{namesEnd, namesIn, countIn, countsIn, declaresContext, setHas, isValidIn}
+use Rattle.decisions.specs.TableAnswers.{namesEnd, namesIn, countIn, countsIn, declaresContext, setHas}
 use Rattle.symbols.specs.Lookup.{countSort}
 use Rattle.symbols.proofs.CountLaws.{count-things, count-classes}
 
@@ -151,21 +151,3 @@ declared-numbers ds c h =
       role = ltb-true (c .role) (count (thingOf roles) ds) (q .1);
       type = ltb-true (c .type) (count (thingOf types) ds) (p .1);
     }
-
-module _ (t : List ℕ) (s : Sound t) where
-  pub is-valid-of : (c : Context) → declaredContext (s .image .names) c ≡ true → isValidIn t c ≡ validBy (givenIn (s .image)) c
-  unfolding isValidIn validBy
-  is-valid-of c h =
-      let d = declared-numbers (s .image .names) c h in
-      ap₂ _&&_ (user-role t s (c .role) (c .user) (d .user)) (role-type t s (c .type) (c .role) (d .role))
-
-  -- **Valid context**, by what the bytes say
-  pub valid-of : (c : Context) → validOn t c ≡ cond (declaresContext (countsIn t) c) (answered (isValidIn t c)) (refused 12 0)
-  unfolding validOn valid
-  valid-of c =
-      asked-image t s (λ i. valid i c) ∙ by (declaredContext (s .image .names) c) refl
-      ∙ ap (λ (b : Bool). cond b (answered (isValidIn t c)) (refused 12 0)) (sym (declares-context t s c))
-    where
-      by : (b : Bool) → declaredContext (s .image .names) c ≡ b → cond b (answered (validBy (givenIn (s .image)) c)) (refused 12 0) ≡ cond b (answered (isValidIn t c)) (refused 12 0)
-      by true q = ap answered (sym (is-valid-of c q))
-      by false q = refl

@@ -1,7 +1,7 @@
 -- What the bytes of a table say of a question's parts, whatever the bytes are. On a sound table it is what the image says. Assumes nothing.
 use Prim.Native.Nat.{ℕ, _<_, _+_, _*_, _/_}
 use mathlib.Core.Path.{_≡_}
-use mathlib.Core.Bool.{Bool, true, false, _&&_, cond}
+use mathlib.Core.Bool.{Bool, true, false, _&&_, _||_, cond}
 use mathlib.Core.List.{List, [], _∷_}
 use lib.Dec.{eqb, ltb}
 use lib.ListN.{getD, drop}
@@ -9,7 +9,7 @@ use Rattle.bitset.specs.Sets.{member}
 use Rattle.bitset.specs.Parts.{part}
 use Rattle.policy.specs.Basics.{Name, same, any}
 use Rattle.policy.specs.Meaning.{Context}
-use Rattle.policy.specs.Words.{process, transitionWords}
+use Rattle.policy.specs.Words.{process, transitionWords, objectR}
 use Rattle.policy.specs.Image.{TransitionEntry}
 use Rattle.policy.specs.Encode.{NameEntry, firstBody}
 use Rattle.policy.specs.Sound.{transitionAt}
@@ -51,7 +51,10 @@ countsIn t = record {
 unfoldable pub declaresContext : Counts → Context → Bool
 declaresContext n c = ltb (c .user) (n .users) && ltb (c .role) (n .roles) && ltb (c .type) (n .types)
 
--- "**Name of** a sort and number": a class; a permission, "class x 32 + its place", which is below 32 as the class is
+-- "**Name of** a sort and number": a role; a class; a permission, "class x 32 + its place", which is below 32 as the class is
+abbrev pub roleIn : List ℕ → ℕ → Reply Part
+roleIn t r = nameFrom 1 r firstBody (namesIn t)
+
 abbrev pub classIn : List ℕ → ℕ → Reply Part
 classIn t c = nameFrom 6 c firstBody (namesIn t)
 
@@ -87,8 +90,12 @@ unfoldable pub setHas : List ℕ → ℕ → ℕ → ℕ → ℕ → Bool
 setHas t b w k n = cond (ltb k 65536) (member (part t (startIn t b + w * k) w) n) false
 
 -- "the role is among the user's, the type among the role's"
+unfoldable pub isGivenIn : List ℕ → Context → Bool
+isGivenIn t c = setHas t 1 16 (c .user) (c .role) && setHas t 2 64 (c .role) (c .type)
+
+-- or the "role is named `object_r`" (document 02, W-201)
 unfoldable pub isValidIn : List ℕ → Context → Bool
-isValidIn t c = setHas t 1 16 (c .user) (c .role) && setHas t 2 64 (c .role) (c .type)
+isValidIn t c = isGivenIn t c || bears t (roleIn t (c .role)) objectR
 
 -- "Transitions in text order: role set 16, type set 64, class 1, new role 1"
 abbrev pub transitionsIn : List ℕ → List TransitionEntry

@@ -20,12 +20,12 @@ ghost use Rattle.policy.specs.Sound.{transitionAt};
 ghost use Rattle.policy.specs.Deciding.{contextsOf, firstFailing, roleMay};
 ghost use Rattle.policy.specs.Answers.{validityOf, changeOf, newRoleOf};
 ghost use Rattle.policy.specs.Questions.{matches, firstTransition, entryNames, entryHolds, validOn, newRoleOn, changeOn};
-ghost use Rattle.policy.specs.Words.{process, transitionWords};
+ghost use Rattle.policy.specs.Words.{process, transitionWords, objectR};
 ghost use Rattle.symbols.specs.Lookup.{replyOf};
 ghost use Rattle.table_laws.specs.SoundTable.{Sound};
 ghost use Rattle.soundness.specs.IsSound.{isSound};
 ghost use Rattle.decisions.specs.Asked.{context, contextOf, question};
-ghost use Rattle.decisions.specs.TableAnswers.{namesEnd, countsIn, Tallied, setHas, declaresContext, isValidIn, transitionsIn, isFoundName, classIn, permissionIn, bears, bearsOne, declaresQuestion, asksRoleIn};
+ghost use Rattle.decisions.specs.TableAnswers.{namesEnd, countsIn, Tallied, setHas, declaresContext, isGivenIn, isValidIn, transitionsIn, isFoundName, roleIn, classIn, permissionIn, bears, bearsOne, declaresQuestion, asksRoleIn};
 
 // A context by its numbers. `kind` is the type: the language has another use for that word.
 pub struct Context {
@@ -49,6 +49,8 @@ const ROLE_ROLES: u8 = 3;
 const TRANSITIONS: u8 = 4;
 
 // The numbers of sorts in body 1: 0 user, 1 role, 2 type, 3 to 5 their attributes, 6 class, 7 permission.
+const ROLE: usize = 1;
+
 const CLASS: usize = 6;
 
 const PERMISSION: usize = 7;
@@ -150,8 +152,8 @@ fn set_has(table: &[u8], body: u8, width: u16, set: usize, number: usize) -> boo
 }
 
 // Whether the role is among the user's, and the type among the role's.
-fn is_valid(table: &[u8], asked: Context) -> bool
-    ensures { λ r. ⌜ r ≡ isValidIn (now (table .entry)) (contextOf asked) ⌝ }
+fn is_given(table: &[u8], asked: Context) -> bool
+    ensures { λ r. ⌜ r ≡ isGivenIn (now (table .entry)) (contextOf asked) ⌝ }
 {
     if !set_has(
         table,
@@ -171,7 +173,52 @@ fn is_valid(table: &[u8], asked: Context) -> bool
     )
 }
 
-// **Valid context**: whether the role is among the user's, and the type, `kind`, among the role's. The table is one that `isSound` finds sound.
+// The name of the role whose contexts are valid with every user and type.
+const OBJECT: [u8; 8] = *b"object_r";
+
+// Whether a name is a word. Where a table ends within a part, the part is cut there, so that a longer part is compared too.
+fn is_word(table: &[u8], place: NamePlace, word: &[u8]) -> bool
+    ensures { λ r. ⌜ r ≡ bears (now (table .entry)) (replyOf place) (now (word .entry)) ⌝ }
+{
+    match place {
+        NamePlace::At { start, length } => {
+            if length < word.len() {
+                return false;
+            }
+            symbols::same(table, start, word, 0, length)
+        }
+        NamePlace::Nowhere => false,
+    }
+}
+
+// Where the name of a role stands.
+fn role_name(table: &[u8], role: usize) -> NamePlace
+    ensures { λ r. ⌜ replyOf r ≡ roleIn (now (table .entry)) role ⌝ }
+{
+    symbols::name_of(table, FIRST_BODY, names_end(table), ROLE, role)
+}
+
+// Whether a role is `object_r`.
+fn is_object(table: &[u8], role: usize) -> bool
+    ensures { λ r. ⌜ r ≡ bears (now (table .entry)) (roleIn (now (table .entry)) role) objectR ⌝ }
+{
+    let word = OBJECT;
+    let place = role_name(table, role);
+    is_word(table, place, &word)
+}
+
+// Whether a context is valid. The name comes last, since it is found by a walk.
+fn is_valid(table: &[u8], asked: Context) -> bool
+    ensures { λ r. ⌜ r ≡ isValidIn (now (table .entry)) (contextOf asked) ⌝ }
+{
+    if is_given(table, asked) {
+        return true;
+    }
+    is_object(table, asked.role)
+}
+
+// **Valid context**: whether the role is among the user's, and the type, `kind`, among the role's, or the role is `object_r`. The table is one that `isSound`
+// finds sound.
 pub fn valid_in_sound(table: &[u8], user: usize, role: usize, kind: usize) -> Validity
     requires { ⌜ isSound (now table) ≡ true ⌝ }
     ensures { λ r. ⌜ validityOf r ≡ validOn (now (table .entry)) (context user role kind) ⌝ }
@@ -312,21 +359,6 @@ const PROCESS: [u8; 7] = *b"process";
 const TRANSITION: [u8; 10] = *b"transition";
 
 const DYNTRANSITION: [u8; 13] = *b"dyntransition";
-
-// Whether a name is a word. Where a table ends within a part, the part is cut there, so that a longer part is compared too.
-fn is_word(table: &[u8], place: NamePlace, word: &[u8]) -> bool
-    ensures { λ r. ⌜ r ≡ bears (now (table .entry)) (replyOf place) (now (word .entry)) ⌝ }
-{
-    match place {
-        NamePlace::At { start, length } => {
-            if length < word.len() {
-                return false;
-            }
-            symbols::same(table, start, word, 0, length)
-        }
-        NamePlace::Nowhere => false,
-    }
-}
 
 // Whether a class is `process`.
 fn is_process(table: &[u8], class: usize) -> bool

@@ -11,9 +11,8 @@ use lib.Seq.{take-add, drop-drop}
 use Rattle.bitset.specs.Parts.{part}
 use Rattle.lexer.specs.Forms.{framesAt}
 use Rattle.policy.specs.Basics.{Name, same, any, isIn, differ}
-use Rattle.policy.proofs.Lists.{either-true, any-append}
+use Rattle.policy.proofs.Lists.{either-true, any-append, same-is}
 use Rattle.symbols.specs.Section.{between}
-use Rattle.symbols.proofs.Indexing.{same-is}
 use Rattle.name_filter.specs.Filter.{hashOf, isMarked, marked, Covers}
 use Rattle.name_filter.proofs.FilterLaws.{covers-none, covers-more, unmarked, marked-long}
 use Rattle.name_filter.proofs.Differing.{differ-more, differ-new}

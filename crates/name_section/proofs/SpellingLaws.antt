@@ -16,10 +16,9 @@ use Rattle.lexer.specs.Spell.{bytes}
 use Rattle.policy.specs.Basics.{Name, same, any, every, isIn}
 use Rattle.policy.specs.Words.{reserved, isReserved}
 use Rattle.policy.specs.Sound.{isGood}
-use Rattle.policy.proofs.Lists.{both-true, either-true}
+use Rattle.policy.proofs.Lists.{both-true, either-true, same-is}
 use Rattle.symbols.specs.Section.{between}
 use Rattle.symbols.proofs.PartLaws.{part-cons, part-none, length-part, drop-part}
-use Rattle.symbols.proofs.Indexing.{same-is}
 use Rattle.name_filter.specs.Filter.{stepped, hashFrom, hashOf}
 use Rattle.name_section.specs.Spelling.{mayBeReserved, hashIf, goingOn, scanned, spelled}
 

@@ -1,14 +1,17 @@
 -- Laws of the small words of specs/Basics that every other proof uses: lists one after the other, tests over lists, values gathered.
 -- Each is by induction on the first list. Assumes nothing.
-use Prim.Native.Nat.{ℕ, suc, _+_}
+use Prim.Native.Nat.{ℕ, zero, suc, _+_, _<_}
 use mathlib.Core.Path.{_≡_, refl, sym, ap, _∙_}
 use mathlib.Core.Logic.{_⊎_, inl, inr}
 use mathlib.Core.Bool.{Bool, true, false, _&&_, _||_, or-assoc, and-assoc, false≢true}
 use mathlib.Core.List.{List, [], _∷_, _++_, append-assoc}
 use mathlib.Core.Option.{Option, none, some}
-use lib.ListN.{length}
+use native.Mathlib.Omega.{arith}
+use lib.Dec.{eqb}
+use lib.ListN.{length, getD, getElem?}
+use borrow.Author.Tests.{eq-eqb, eqb-true}
 use Rattle.bitset.specs.Relations.{joined}
-use Rattle.policy.specs.Basics.{gather, any, every, keep, each}
+use Rattle.policy.specs.Basics.{Name, same, gather, any, every, keep, each}
 use Rattle.policy.specs.Accepted.{All}
 
 -- what a test of two parts says of each
@@ -30,7 +33,30 @@ pub neither : (a b : Bool) → (a || b) ≡ false → (a ≡ false) × (b ≡ fa
 neither false b h = (refl, h)
 neither true b h = absurd (false≢true (sym h))
 
+-- names are the same exactly where the test says so
+pub same-is : (v w : Name) → same v w ≡ true → v ≡ w
+unfolding same
+same-is [] [] e = refl
+same-is [] (y ∷ w) e = absurd (let z : _≡_ {A = ℕ} 0 1 = cc in omega arith)
+same-is (x ∷ v) [] e = absurd (let z : _≡_ {A = ℕ} 0 1 = cc in omega arith)
+same-is (x ∷ v) (y ∷ w) e =
+    let b = both-true (eqb x y) (same v w) e in
+    let h = eqb-true x y (b .0) in
+    let t = same-is v w (b .1) in
+    cc
+
+pub same-self : (w : Name) → same w w ≡ true
+unfolding same
+same-self [] = refl
+same-self (x ∷ w) = rw (eq-eqb x x refl, same-self w)
+
 module _ {A : Type 0} where
+  -- what stands at a place
+  pub at-place : (xs : List A) (k : ℕ) (d : A) → k < length xs → getElem? xs k ≡ some (getD xs k d)
+  at-place [] k d h = absurd (omega arith)
+  at-place (x ∷ xs) zero d h = refl
+  at-place (x ∷ xs) (suc k) d h = at-place xs k d (omega arith)
+
   pub any-append : (f : A → Bool) (xs ys : List A) → any f (xs ++ ys) ≡ (any f xs || any f ys)
   unfolding any
   any-append f [] ys = refl

@@ -1,4 +1,4 @@
--- Document 01, **Valid context** and **Change**: a valid context, the order of the denials and the number consulted, over what is given. The
+-- Documents 01 and 02 (W-201), **Valid context** and **Change**: a valid context, the order of the denials and the number consulted, over what is given. The
 -- statements and a table both decide by these lines; here is neither. Assumes nothing.
 use Prim.Native.Nat.{ℕ, _+_}
 use mathlib.Core.Bool.{Bool, true, false, not, _&&_, _||_}
@@ -6,8 +6,8 @@ use mathlib.Core.List.{List, [], _∷_}
 use lib.Dec.{eqb, ltb}
 use lib.ListN.{length, getD}
 use Rattle.policy.specs.Basics.{same, isIn}
-use Rattle.policy.specs.Words.{process, transitionWords}
-use Rattle.policy.specs.Statements.{users, roles, types, thingOf, Side, source, target, Declaration, classNames, permissions, count, Relation, userrole, roletype, roleallow}
+use Rattle.policy.specs.Words.{process, transitionWords, objectR}
+use Rattle.policy.specs.Statements.{users, roles, types, thingOf, Side, source, target, Declaration, namesOf, classNames, permissions, count, Relation, userrole, roletype, roleallow}
 use Rattle.policy.specs.Meaning.{Set, Context, Contexts}
 
 -- what a decision is made from, whoever gives it: the names declared, and the relations as tests: `gives userrole u` are the roles of user u,
@@ -16,9 +16,14 @@ pub record Given : Type 0 where
   pub names : List Declaration
   pub gives : Relation → ℕ → Set
 
--- **Valid context** (user, role, type): "the role is among the user's, the type among the role's"
+-- the role is named `object_r`: by its own name, whatever its number
+unfoldable pub isObject : List Declaration → ℕ → Bool
+isObject ds r = same (getD (namesOf (thingOf roles) ds) r []) objectR
+
+-- **Valid context** (user, role, type): "the role is among the user's, the type among the role's"; document 02, W-201: "a context whose role is
+-- named `object_r` is valid with any declared user and any declared type". That the numbers are declared is asked before
 unfoldable pub validBy : Given → Context → Bool
-validBy g c = g .gives userrole (c .user) (c .role) && g .gives roletype (c .role) (c .type)
+validBy g c = (g .gives userrole (c .user) (c .role) && g .gives roletype (c .role) (c .type)) || isObject (g .names) (c .role)
 
 -- "(source, target, class, permission by its place in the class)"
 pub record Question : Type 0 where

@@ -20,3 +20,4 @@ pub mod Answers
 pub mod Opened
 pub mod Worked
 pub mod Slips
+pub mod Objects

@@ -98,3 +98,7 @@ process = bytes "process"
 
 abbrev pub transitionWords : List Name
 transitionWords = bytes "transition" ∷ bytes "dyntransition" ∷ []
+
+-- document 02, W-201: the role that is treated apart
+abbrev pub objectR : Name
+objectR = bytes "object_r"

@@ -19,7 +19,7 @@ ghost use Rattle.decisions.specs.Asked.{context, question};
 // The refusal of bytes that are no sound table.
 const NOT_SOUND: usize = 11;
 
-// **Valid context**: whether the role is among the user's, and the type, `kind`, among the role's.
+// **Valid context**: whether the role is among the user's, and the type, `kind`, among the role's, or the role is named `object_r`.
 pub fn valid(table: &[u8], user: usize, role: usize, kind: usize) -> Validity
     ensures { λ r. ⌜ validityOf r ≡ validOn (now (table .entry)) (context user role kind) ⌝ }
 {

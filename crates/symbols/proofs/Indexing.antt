@@ -10,7 +10,7 @@ use lib.ListN.{length}
 use Rattle.bitset.specs.Parts.{part}
 use Rattle.policy.specs.Basics.{Name, same}
 use Rattle.policy.specs.Encode.{NameEntry, nameEntry, entryBytes}
-use Rattle.policy.proofs.Lists.{both-true}
+use Rattle.policy.proofs.Lists.{both-true, same-is, same-self}
 use Rattle.symbols.specs.Section.{Section, entry, sectionIn, sectionAt, entriesRead, between, entriesAt, EntryIs}
 use Rattle.symbols.specs.Lookup.{familyNumber, isNamed, headNamed, firstNamed}
 use Rattle.symbols.specs.Index.{slotOf, otherSlot, slotIn, Pointed}
@@ -21,22 +21,6 @@ use Rattle.symbols.proofs.PartLaws.{part-join}
 use Rattle.symbols.proofs.ReadBack.{entry-back}
 
 -- ---- names
-
-pub same-is : (v w : Name) → same v w ≡ true → v ≡ w
-unfolding same
-same-is [] [] e = refl
-same-is [] (y ∷ w) e = absurd (let z : _≡_ {A = ℕ} 0 1 = cc in omega arith)
-same-is (x ∷ v) [] e = absurd (let z : _≡_ {A = ℕ} 0 1 = cc in omega arith)
-same-is (x ∷ v) (y ∷ w) e =
-    let b = both-true (eqb x y) (same v w) e in
-    let h = eqb-true x y (b .0) in
-    let t = same-is v w (b .1) in
-    cc
-
-same-self : (w : Name) → same w w ≡ true
-unfolding same
-same-self [] = refl
-same-self (x ∷ w) = rw (eq-eqb x x refl, same-self w)
 
 pub named-is : (f : ℕ) (w : Name) (e : NameEntry) → isNamed f w e ≡ true → (familyNumber (e .sort) (e .number) ≡ f) × (w ≡ e .name)
 named-is f w e h =

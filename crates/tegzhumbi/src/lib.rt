@@ -68,7 +68,7 @@ fn asked(context: Context) -> decisions::Context
     }
 }
 
-// Valid context: whether the role is among the user's, and the type among the role's.
+// Valid context: whether the role is among the user's, and the type among the role's, or the role is named `object_r`.
 //
 //     tegzhumbi::valid(&table, Context { user: User(0), role: Role(2), kind: Type(5) })   // Valid, NotValid or Refused { number }
 pub fn valid(table: &[u8], context: Context) -> Validity

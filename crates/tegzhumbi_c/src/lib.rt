@@ -186,7 +186,7 @@ pub extern "C" fn tegzhumbi_sound(table: &[u8]) -> u32
     0
 }
 
-// **Valid context**: whether the role is among the user's, and the type, `kind`, among the role's.
+// **Valid context**: whether the role is among the user's, and the type, `kind`, among the role's, or the role is named `object_r`.
 #[no_mangle]
 pub extern "C" fn tegzhumbi_valid(table: &[u8], user: u64, role: u64, kind: u64) -> Answer
     ensures { λ r. ⌜ r ≡ validNumbers (validOn (now (table .entry)) (context user role kind)) ⌝ }

@@ -11,10 +11,9 @@ use lib.ListN.{length, getD, take, drop}
 use Rattle.lexer.proofs.Marks.{tabulate}
 use Rattle.policy.specs.Basics.{Name, same, every, unle}
 use Rattle.policy.specs.Words.{reserved}
-use Rattle.policy.proofs.Lists.{both-true}
+use Rattle.policy.proofs.Lists.{both-true, same-is}
 use Rattle.words.specs.Numbers.{keywords, words, numberIn, numberOf}
 use Rattle.words.specs.Keys.{numberAmong, numberBy}
-use Rattle.words.proofs.Meaning.{same-is}
 
 -- the letters are bytes
 abbrev pub Small : Name → Type 0

@@ -14,7 +14,7 @@ use lib.ListN.{length, getD, take, drop, replicate, getD-replicate, List·getD-m
 use lib.Seq.{getD-take, getD-drop}
 use Rattle.policy.specs.Basics.{Name, same, any, every, isIn, Under, lookup}
 use Rattle.policy.specs.Words.{reserved, isReserved, keywordOf, setWord, expressionWord, opOf, componentOf}
-use Rattle.policy.proofs.Lists.{both-true, neither, any-append}
+use Rattle.policy.proofs.Lists.{both-true, neither, any-append, same-is}
 use Rattle.words.specs.Numbers.{keywords, words, numberIn, numberOf, wordOf}
 
 -- how many there are
@@ -23,17 +23,6 @@ unfolding reserved keywords words
 counted = refl
 
 -- ---- from a word to its number
-
-pub same-is : (v w : Name) → same v w ≡ true → v ≡ w
-unfolding same
-same-is [] [] e = refl
-same-is [] (y ∷ w) e = absurd (let z : _≡_ {A = ℕ} 0 1 = cc in omega arith)
-same-is (x ∷ v) [] e = absurd (let z : _≡_ {A = ℕ} 0 1 = cc in omega arith)
-same-is (x ∷ v) (y ∷ w) e =
-    let b = both-true (eqb x y) (same v w) e in
-    let h = eqb-true x y (b .0) in
-    let t = same-is v w (b .1) in
-    cc
 
 -- what holds at 0 if w is none of them, and at the number of each of them that is w, holds at the number of w
 by-cases : (P : ℕ → Type 0) (xs : List Name) (w : Name) (n : ℕ) → (isIn w xs ≡ false → P 0)

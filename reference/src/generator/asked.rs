@@ -18,6 +18,7 @@ pub fn asked() -> Vec<Asked> {
     list.extend(new_roles());
     list.extend(parts());
     list.extend(undeclared());
+    list.extend(objects());
     list
 }
 
@@ -279,4 +280,46 @@ fn undeclared() -> Vec<Asked> {
     questions.extend([valid(0, 0, 1), valid(1, 0, 0), valid(0, 256, 0), valid(u64::MAX, 0, 0)]);
     questions.extend([change(A, A, 1 << 32), new_role(1 << 16, 0, 0)]);
     vec![of("12 before any denial", text, &questions)]
+}
+
+/// Document 02, W-201: "a context whose role is named `object_r` is valid with any declared user and any declared type.
+/// Denials 1 and 2 and demand 3 follow this. Elsewhere `object_r` is a role like any other."
+pub fn objects() -> Vec<Asked> {
+    let lease = "(user u)(role a)(role object_r)(role b)(type t)(userrole u a)(roletype a t)(class process(transition fork))\
+                 (class file(read write))(constrain(file(write))(neq r2 object_r))";
+    let alone = "(user u)(user v)(role object_r)(type s)(type t)(class c(p))";
+    let others = "(user object_r)(roleattribute object_r)(role Object_r)(role object_r-)(type object_r)\
+                  (class object_r(object_r))(roleattributeset object_r(all))";
+    let object = [0, 1, 0];
+    let b = [0, 2, 0];
+    vec![
+        of(
+            "object_r is valid and needs a role allow as others do; constraints apply",
+            lease,
+            &[
+                valid(0, 1, 0),
+                valid(0, 2, 0),
+                change_in(object, A, 1, 0),
+                change_in(A, object, 1, 0),
+                change_in(object, object, 1, 0),
+                change_in(b, object, 1, 0),
+                change_in(object, b, 1, 0),
+                change_in(A, object, 0, 0),
+                change_in(object, A, 0, 0),
+                change_in(A, object, 0, 1),
+                change_in(object, object, 0, 0),
+                change_in(A, object, 1, 1),
+            ],
+        ),
+        of(
+            "object_r by its name, whatever its number; 12 before",
+            alone,
+            &[valid(0, 0, 0), valid(1, 0, 1), valid(2, 0, 0), valid(0, 0, 2), change([0, 0, 1], [1, 0, 0], 0)],
+        ),
+        of(
+            "no role is named object_r, but all else is",
+            others,
+            &[valid(0, 0, 0), valid(0, 1, 0), change([0, 0, 0], [0, 1, 0], 0)],
+        ),
+    ]
 }

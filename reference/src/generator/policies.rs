@@ -18,11 +18,13 @@ pub struct Shape {
     pub crowded: bool,
     /// Few roles, so that the table stays small.
     pub small: bool,
+    /// Names are often `object_r`, be they of a role or of something else.
+    pub objects: bool,
 }
 
 impl Shape {
     pub fn good(steps: usize) -> Shape {
-        Shape { steps, cycles: false, clashes: false, deep: false, crowded: false, small: false }
+        Shape { steps, cycles: false, clashes: false, deep: false, crowded: false, small: false, objects: false }
     }
 
     pub fn small(steps: usize) -> Shape {
@@ -98,6 +100,7 @@ impl Writer<'_> {
     fn name(&mut self, taken: &[String]) -> String {
         loop {
             let name = match self.random.below(12) {
+                0..=3 if self.shape.objects => "object_r".to_string(),
                 0 => self.random.pick(&ODD_NAMES).to_string(),
                 1 if !self.shape.small => self.random.pick(&["a", "Z", "_"]).repeat(self.random.between(2, 64)),
                 _ => format!("{}{}", self.random.pick(&["a", "b", "c", "d", "e", "f"]), self.random.below(10)),

@@ -28,8 +28,19 @@ pub fn undeclared(random: &mut Random, count: u64) -> u64 {
     }
 }
 
+/// The number of the role `object_r`, if there is one.
+fn object_role(table: &Decoded) -> Option<u64> {
+    let mut names = table.contents.names.iter();
+    names.find(|e| e.sort == 1 && e.name == b"object_r").map(|e| e.number as u64)
+}
+
 /// A context, valid in most cases if the table has a valid one.
 fn context(random: &mut Random, table: &Decoded) -> [u64; 3] {
+    if let Some(role) = object_role(table) {
+        if random.chance(35) {
+            return [number(random, table.counts.users()), role, number(random, table.counts.types())];
+        }
+    }
     let users = &table.contents.roles_of_user;
     if random.chance(85) && !users.is_empty() {
         for _ in 0..10 {

@@ -1,6 +1,5 @@
--- `decisions::is_valid` meets its contract: the role, then the type. Assumes nothing.
+-- `decisions::is_valid` meets its contract: the two sets, then the role's name. Assumes nothing.
 use mathlib.Core.Path.{sym, _∙_}
-use borrow.Author.Tests.{not-true, not-false}
 use Rattle.decisions.specs.TableAnswers.{isValidIn}
 use borrow.Author.Needs.{needs}
 use Rattle.decisions.proofs.is_valid.Statement.{statement}
@@ -8,19 +7,17 @@ use Rattle.decisions.proofs.is_valid.Tie as tie
 
 returns : tie.Need-returns
 unfolding isValidIn
-returns c = rw (sym (c .before .set-has .ensures) ∙ not-true _ (c .if1 .taken))
+returns c = rw (sym (c .before .is-given .ensures) ∙ c .if1 .taken)
 
 returns-2 : tie.Need-returns-2
 unfolding isValidIn
-returns-2 c = rw (sym (c .before .before .set-has .ensures) ∙ not-false _ (c .before .if1 .left)) (c .set-has2 .ensures)
+returns-2 c = rw (sym (c .before .before .is-given .ensures) ∙ c .before .if1 .left) (c .is-object .ensures)
 
 pub is-valid-spec : {M : Type 1} → statement M
 is-valid-spec =
     tie.close
     (tie.spec
-    (λ c. search needs)
     (λ c κs. search needs)
     returns
-    (λ c. search needs)
     (λ c κs. search needs)
     returns-2)

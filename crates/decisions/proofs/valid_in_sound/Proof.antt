@@ -1,9 +1,10 @@
--- `decisions::valid_in_sound` meets its contract: 12 first, then the two sets. Assumes nothing.
+-- `decisions::valid_in_sound` meets its contract: 12 first, then whether it is valid. Assumes nothing.
 use Prim.Native.Nat.{_<_}
 use Rattle.table_laws.proofs.ListLaws.{all-places}
 use mathlib.Core.Path.{sym, _∙_}
 use borrow.Author.Tests.{not-true, not-false}
-use Rattle.decisions.proofs.SoundLaws.{sound-table, valid-of}
+use Rattle.decisions.proofs.SoundLaws.{sound-table}
+use Rattle.decisions.proofs.ContextLaws.{valid-of}
 use borrow.Author.Needs.{needs}
 use Rattle.decisions.proofs.valid_in_sound.Statement.{statement}
 use Rattle.decisions.proofs.valid_in_sound.Tie as tie
