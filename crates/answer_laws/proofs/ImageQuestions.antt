@@ -12,10 +12,10 @@ use Rattle.bitset.specs.Sets.{member}
 use Rattle.policy.specs.Basics.{each}
 use Rattle.policy.specs.Statements.{users, roles, types, thingOf, Policy, count, classNames, declarations, Transition, transitions}
 use Rattle.policy.specs.Meaning.{Context, countIn, stands}
-use Rattle.policy.specs.Deciding.{declaredContext}
+use Rattle.policy.specs.Deciding.{declaredContext, Reply, answered, refused, validReply}
 use Rattle.policy.specs.Answer.{givenBy}
 use Rattle.policy.specs.Image.{imageOf, transitionEntry, width}
-use Rattle.policy.specs.Questions.{Reply, answered, refused, givenIn, validReply, valid, matches, firstTransition, newRole}
+use Rattle.policy.specs.Questions.{givenIn, valid, matches, firstTransition, newRole}
 use Rattle.policy.proofs.Lists.{both-true}
 use Rattle.image_laws.proofs.Fits.{Fits}
 use Rattle.bitset.proofs.SetLaws.{member-setOf}

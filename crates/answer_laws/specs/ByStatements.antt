@@ -6,7 +6,7 @@ use lib.Dec.{eqb, ltb}
 use lib.ListN.{length}
 use Rattle.policy.specs.Statements.{roles, types, thingOf, Policy, count, classNames, declarations, Transition, transitions}
 use Rattle.policy.specs.Meaning.{stands}
-use Rattle.policy.specs.Questions.{Reply, answered, refused}
+use Rattle.policy.specs.Deciding.{Reply, answered, refused}
 
 -- a roletransition is for a role, a type and a class
 abbrev pub isFor : Policy → ℕ → ℕ → ℕ → Transition → Bool

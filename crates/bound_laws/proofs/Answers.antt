@@ -14,11 +14,11 @@ use Rattle.bitset.specs.Relations.{joined}
 use Rattle.policy.specs.Basics.{each}
 use Rattle.policy.specs.Statements.{roles, types, thingOf, count, classNames}
 use Rattle.policy.specs.Accepted.{All}
-use Rattle.policy.specs.Deciding.{Question, Verdict, granted, denied, fails, refuses, Answer, unconsulted, ruling, firstFailing, decide, ruledBy}
+use Rattle.policy.specs.Deciding.{Question, Verdict, granted, denied, fails, refuses, Answer, unconsulted, ruling, firstFailing, decide, ruledBy, Reply, answered, refused}
 use Rattle.policy.specs.Image.{Image, TransitionEntry, ConstraintEntry}
 use Rattle.policy.specs.Encode.{NameEntry, entries, entryBytes, transitionBytes, headBytes, headsFrom, bodies, firstBody}
 use Rattle.policy.specs.Sound.{wellFormed, bodiesIn, imageFrom, imageIn, goodTransition}
-use Rattle.policy.specs.Questions.{Reply, answered, refused, change, changed, changeOn, matches, firstTransition, newRole, newRoleOn, asked, Part, nameFrom, nameOf, nameOn, Run, recordFrom, records, entryOf, entryOn}
+use Rattle.policy.specs.Questions.{change, changed, changeOn, matches, firstTransition, newRole, newRoleOn, asked, Part, nameFrom, nameOf, nameOn, Run, recordFrom, records, entryOf, entryOn}
 use Rattle.policy.proofs.Lists.{both-true, each-length}
 use Rattle.policy.proofs.Counts.{few-of}
 use Rattle.policy.proofs.Gathered.{all-map}

@@ -4,8 +4,8 @@ use mathlib.Core.Path.{_≡_, refl, sym, ap, ap₂, _∙_}
 use mathlib.Core.Bool.{Bool, true, false, _&&_, _||_, cond}
 use mathlib.Core.List.{List}
 use Rattle.policy.specs.Meaning.{Context}
-use Rattle.policy.specs.Deciding.{validBy, declaredContext}
-use Rattle.policy.specs.Questions.{answered, refused, givenIn, valid, validOn}
+use Rattle.policy.specs.Deciding.{validBy, declaredContext, answered, refused}
+use Rattle.policy.specs.Questions.{givenIn, valid, validOn}
 use Rattle.table_laws.specs.SoundTable.{Sound}
 use Rattle.decisions.specs.TableAnswers.{countsIn, declaresContext, isGivenIn, isValidIn}
 use Rattle.decisions.proofs.SoundLaws.{asked-image, declares-context, declared-numbers, user-role, role-type}

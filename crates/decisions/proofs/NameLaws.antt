@@ -14,8 +14,8 @@ use Rattle.policy.specs.Basics.{Name, same, any, isIn}
 use Rattle.policy.specs.Statements.{roles, thingOf, namesOf, count, classNames, permissions}
 use Rattle.policy.specs.Words.{process, transitionWords, objectR}
 use Rattle.policy.specs.Encode.{NameEntry, firstBody}
-use Rattle.policy.specs.Deciding.{isObject, Question, declaredContext, declaredQuestion, asksRole}
-use Rattle.policy.specs.Questions.{Reply, answered, refused, Part, nameFrom, nameOf}
+use Rattle.policy.specs.Deciding.{isObject, Question, declaredContext, declaredQuestion, asksRole, Reply, answered, refused}
+use Rattle.policy.specs.Questions.{Part, nameFrom, nameOf}
 use Rattle.policy.proofs.Lists.{both-true, at-place}
 use Rattle.policy.proofs.Counts.{few-permissions-of, few-classes}
 use Rattle.symbols.proofs.PartLaws.{length-part, same-length}

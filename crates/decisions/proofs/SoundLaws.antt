@@ -18,8 +18,8 @@ use Rattle.policy.specs.Meaning.{Context}
 use Rattle.policy.specs.Image.{Image}
 use Rattle.policy.specs.Encode.{sortCode, entryBytes, entries, bodies, firstBody}
 use Rattle.policy.specs.Sound.{imageIn}
-use Rattle.policy.specs.Deciding.{declaredContext}
-use Rattle.policy.specs.Questions.{Reply, inSet, asked}
+use Rattle.policy.specs.Deciding.{declaredContext, Reply}
+use Rattle.policy.specs.Questions.{inSet, asked}
 use Rattle.policy.proofs.Lists.{both-true}
 use Rattle.policy.proofs.Counts.{few-of}
 use Rattle.symbols.specs.Section.{between}

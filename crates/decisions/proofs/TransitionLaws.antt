@@ -14,7 +14,8 @@ use Rattle.policy.specs.Statements.{roles, types, thingOf}
 use Rattle.policy.specs.Image.{TransitionEntry}
 use Rattle.policy.specs.Encode.{transitionBytes, bodies}
 use Rattle.policy.specs.Sound.{transitionAt}
-use Rattle.policy.specs.Questions.{answered, refused, matches, firstTransition, newRole, newRoleOn}
+use Rattle.policy.specs.Deciding.{answered, refused}
+use Rattle.policy.specs.Questions.{matches, firstTransition, newRole, newRoleOn}
 use Rattle.policy.proofs.Lists.{each-length}
 use Rattle.table_laws.specs.SoundTable.{Sound}
 use Rattle.table_laws.proofs.Pieces.{wide-length}

@@ -13,8 +13,8 @@ use Rattle.policy.specs.Words.{process, transitionWords, objectR}
 use Rattle.policy.specs.Image.{TransitionEntry}
 use Rattle.policy.specs.Encode.{NameEntry, firstBody}
 use Rattle.policy.specs.Sound.{transitionAt}
-use Rattle.policy.specs.Deciding.{Question}
-use Rattle.policy.specs.Questions.{Reply, answered, refused, Part, nameFrom}
+use Rattle.policy.specs.Deciding.{Question, Reply, answered, refused}
+use Rattle.policy.specs.Questions.{Part, nameFrom}
 use Rattle.symbols.specs.Section.{entriesAt}
 use Rattle.symbols.specs.Lookup.{countSort}
 use Rattle.table_reader.specs.Records.{records, startIn, lengthIn}

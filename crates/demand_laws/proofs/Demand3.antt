@@ -13,7 +13,7 @@ use Rattle.policy.specs.Basics.{each}
 use Rattle.policy.specs.Statements.{Policy, Line, Statement, constrain, declarations, Constrain, constrains}
 use Rattle.policy.specs.Reading.{Read, policy, refused}
 use Rattle.policy.specs.Meaning.{Context}
-use Rattle.policy.specs.Deciding.{Question, Verdict, granted, denied, fails, refuses, Answer, unconsulted, ruling, firstFailing, decide, declaredQuestion, validBy, ruledBy}
+use Rattle.policy.specs.Deciding.{Question, Verdict, granted, denied, fails, refuses, Answer, unconsulted, ruling, firstFailing, decide, declaredQuestion, validBy, ruledBy, Reply, validReply}
 use Rattle.policy.specs.Answer.{givenBy, answer}
 use Rattle.policy.specs.Accepted.{Accepted}
 use Rattle.policy.specs.Image.{Image, imageOf}
@@ -21,7 +21,7 @@ use Rattle.policy.specs.Encode.{encode}
 use Rattle.policy.specs.Sound.{wellFormed, imageIn}
 use Rattle.policy.specs.Outcome as outcomes
 use Rattle.policy.specs.Outcome.{policyOf, Compiled, compiles, compiled, fitted, Outcome, accepted, rejected, outcomeOf, afterOf, outcome, after}
-use Rattle.policy.specs.Questions.{Reply, changed, changeOn, asked, validReply, validOn, newRoleOn}
+use Rattle.policy.specs.Questions.{changed, changeOn, asked, validOn, newRoleOn}
 use Rattle.policy.proofs.Lists.{each-append}
 use Rattle.reading_laws.proofs.ReadAccepted.{policy-accepted, policy-read}
 use Rattle.reading_laws.proofs.ReadThen.{line}

@@ -11,9 +11,9 @@ use Rattle.policy.specs.declared.NewRole.{NewRole}
 use Rattle.policy.specs.declared.Place.{Place}
 use Rattle.policy.specs.Statements.{Family, users, roles, types, Sort, thingOf, attributeOf, Relation, userrole, roletype, roleallow}
 use Rattle.policy.specs.Maxima.{maxOf, maxClasses, maxPermissions}
-use Rattle.policy.specs.Deciding.{Answer, granted, denied, fails, refuses, unconsulted}
+use Rattle.policy.specs.Deciding.{Answer, granted, denied, fails, refuses, unconsulted, Reply, answered, refused}
 use Rattle.policy.specs.Outcome.{Outcome, accepted, rejected}
-use Rattle.policy.specs.Questions.{Reply, answered, refused, Part}
+use Rattle.policy.specs.Questions.{Part}
 
 abbrev pub familyOf : theFamily.Family → Family
 familyOf theFamily.Family.Users = users

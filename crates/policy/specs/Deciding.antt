@@ -1,7 +1,7 @@
 -- Documents 01 and 02 (W-201), **Valid context** and **Change**: a valid context, the order of the denials and the number consulted, over what is given. The
 -- statements and a table both decide by these lines; here is neither. Assumes nothing.
 use Prim.Native.Nat.{ℕ, _+_}
-use mathlib.Core.Bool.{Bool, true, false, not, _&&_, _||_}
+use mathlib.Core.Bool.{Bool, true, false, not, _&&_, _||_, cond}
 use mathlib.Core.List.{List, [], _∷_}
 use lib.Dec.{eqb, ltb}
 use lib.ListN.{length, getD}
@@ -24,6 +24,11 @@ isObject ds r = same (getD (namesOf (thingOf roles) ds) r []) objectR
 -- named `object_r` is valid with any declared user and any declared type". That the numbers are declared is asked before
 unfoldable pub validBy : Given → Context → Bool
 validBy g c = (g .gives userrole (c .user) (c .role) && g .gives roletype (c .role) (c .type)) || isObject (g .names) (c .role)
+
+-- an answer, or a refusal's number and place
+pub data Reply (A : Type 0) : Type 0 where
+  answered : A → Reply A
+  refused : ℕ → ℕ → Reply A
 
 -- "(source, target, class, permission by its place in the class)"
 pub record Question : Type 0 where
@@ -87,6 +92,10 @@ unfoldable pub declaredQuestion : List Declaration → Question → Bool
 declaredQuestion ds q =
     declaredContext ds (q .source) && declaredContext ds (q .target)
     && ltb (q .class) (length (classNames ds)) && ltb (q .perm) (length (permissions ds (q .class)))
+
+-- **Valid context**, of declared numbers
+abbrev pub validReply : Given → Context → Reply Bool
+validReply g c = cond (declaredContext (g .names) c) (answered (validBy g c)) (refused 12 0)
 
 -- "class `process`, permission `transition` or `dyntransition`"
 unfoldable pub asksRole : List Declaration → ℕ → ℕ → Bool

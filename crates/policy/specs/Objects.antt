@@ -7,8 +7,8 @@ use lib.Dec.{eqb}
 use lib.ListN.{drop, replicate}
 use Rattle.lexer.specs.Spell.{bytes}
 use Rattle.policy.specs.Statements.{users, roles, types, thingOf, attributeOf, Declaration, plain, class}
-use Rattle.policy.specs.Deciding.{Given, validBy, Question, Answer, denied, refuses, unconsulted, ruledBy}
-use Rattle.policy.specs.Questions.{answered, validOn}
+use Rattle.policy.specs.Deciding.{Given, validBy, Question, Answer, denied, refuses, unconsulted, ruledBy, answered}
+use Rattle.policy.specs.Questions.{validOn}
 use Rattle.policy.specs.Worked.{tableOf, context}
 use Rattle.policy.specs.Opened.{computing}
 

@@ -9,17 +9,12 @@ use Rattle.bitset.specs.Relations.{joined}
 use Rattle.policy.specs.Basics.{Name}
 use Rattle.policy.specs.Statements.{Family, users, roles, types, Side, source, target, thingOf, count, classNames, Relation, userrole, roletype, roleallow}
 use Rattle.policy.specs.Meaning.{Context, Contexts}
-use Rattle.policy.specs.Deciding.{Given, validBy, Question, contextsOf, Verdict, refuses, Answer, unconsulted, firstFailing, declaredContext, ruledBy}
+use Rattle.policy.specs.Deciding.{Given, Reply, answered, refused, validReply, Question, contextsOf, refuses, Answer, unconsulted, firstFailing, ruledBy}
 use Rattle.bitset.specs.Sets.{bit, member}
 use Rattle.policy.specs.Rows.{Row, View, run, top}
 use Rattle.policy.specs.Image.{Image, TransitionEntry, ConstraintEntry}
 use Rattle.policy.specs.Encode.{NameEntry, entries, entryBytes, bodies, firstBody}
 use Rattle.policy.specs.Sound.{imageIn, ofComp}
-
--- an answer, or a refusal's number and place
-pub data Reply (A : Type 0) : Type 0 where
-  answered : A → Reply A
-  refused : ℕ → ℕ → Reply A
 
 -- whether n is in set k of a list of sets
 abbrev pub inSet : List (List ℕ) → ℕ → ℕ → Bool
@@ -35,10 +30,7 @@ givenSets i roleallow = i .roleRoles
 abbrev pub givenIn : Image → Given
 givenIn i = record { names = i .names; gives = λ k x y. inSet (givenSets i k) x y }
 
--- **Valid context**, of declared numbers
-abbrev pub validReply : Given → Context → Reply Bool
-validReply g c = cond (declaredContext (g .names) c) (answered (validBy g c)) (refused 12 0)
-
+-- **Valid context**
 unfoldable pub valid : Image → Context → Reply Bool
 valid i c = validReply (givenIn i) c
 

@@ -5,10 +5,10 @@ use mathlib.Core.Bool.{Bool, true, false, false≢true}
 use mathlib.Core.List.{List}
 use mathlib.Core.Option.{Option, none, some}
 use Rattle.policy.specs.Meaning.{Context}
-use Rattle.policy.specs.Deciding.{Question, refuses, unconsulted}
+use Rattle.policy.specs.Deciding.{Question, refuses, unconsulted, Reply, refused}
 use Rattle.policy.specs.Image.{Image}
 use Rattle.policy.specs.Sound.{imageIn}
-use Rattle.policy.specs.Questions.{Reply, refused, asked, valid, validOn, newRole, newRoleOn, changed, changeOn}
+use Rattle.policy.specs.Questions.{asked, valid, validOn, newRole, newRoleOn, changed, changeOn}
 use Rattle.image_rows.specs.SoundRows.{isSome}
 use Rattle.soundness.specs.IsSound.{isSound}
 

@@ -14,7 +14,8 @@ use Rattle.bitset.proofs.PartLaws.{put-none}
 use Rattle.policy.specs.Basics.{Name}
 use Rattle.policy.specs.Image.{Image}
 use Rattle.policy.specs.Sound.{imageIn}
-use Rattle.policy.specs.Questions.{answered, refused, Part, nameOn, entryOn}
+use Rattle.policy.specs.Deciding.{answered, refused}
+use Rattle.policy.specs.Questions.{Part, nameOn, entryOn}
 use Rattle.policy.specs.Roll.{decimal, rollLine, rollLines}
 use Rattle.table_laws.specs.SoundTable.{Bytes}
 use Rattle.table_laws.specs.Shown.{orTwelve, recordsIn}

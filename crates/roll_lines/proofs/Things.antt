@@ -16,7 +16,8 @@ use Rattle.policy.specs.Statements.{users, roles, Sort, thingOf, Declaration, p
 use Rattle.policy.specs.Accepted.{All}
 use Rattle.policy.specs.Image.{Image}
 use Rattle.policy.specs.Sound.{wellFormed, goodNames, goodFrom, imageIn}
-use Rattle.policy.specs.Questions.{Reply, answered, refused, Part, nameOn, entryOn}
+use Rattle.policy.specs.Deciding.{Reply, answered, refused}
+use Rattle.policy.specs.Questions.{Part, nameOn, entryOn}
 use Rattle.policy.proofs.Lists.{both-true}
 use Rattle.policy.proofs.Good.{good-first, good-rest}
 use Rattle.policy.proofs.Counts.{few-of}

@@ -9,7 +9,8 @@ use lib.Dec.{eqb, leb}
 use lib.ListN.{length}
 use Rattle.policy.specs.Basics.{Name, le}
 use Rattle.policy.specs.Encode.{NameEntry, nameEntry, entryBytes}
-use Rattle.policy.specs.Questions.{refused, nameFrom}
+use Rattle.policy.specs.Deciding.{refused}
+use Rattle.policy.specs.Questions.{nameFrom}
 use Rattle.symbols.specs.Section.{entriesRead, entriesAt, between, EntryIs}
 use Rattle.symbols.specs.Lookup.{isNamed, firstNamed, replyOf}
 use Rattle.symbols.specs.declared.Entry.{Entry}

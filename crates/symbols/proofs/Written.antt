@@ -13,7 +13,8 @@ use Rattle.bitset.specs.Parts.{part}
 use Rattle.bitset.specs.Relations.{joined}
 use Rattle.policy.specs.Basics.{each, le}
 use Rattle.policy.specs.Encode.{NameEntry, entryBytes}
-use Rattle.policy.specs.Questions.{answered, Part, nameFrom}
+use Rattle.policy.specs.Deciding.{answered}
+use Rattle.policy.specs.Questions.{Part, nameFrom}
 use Rattle.policy.specs.Sound.{entriesIn}
 use Rattle.symbols.specs.Section.{between, sectionIn, sectionAt, entriesAt, exactEntries, exactEntriesAt}
 use Rattle.symbols.specs.Lookup.{nameNumbered}

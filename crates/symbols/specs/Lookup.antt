@@ -6,7 +6,8 @@ use Prim.Native.Nat.{ℕ, _+_, _-_, _/_}
 use lib.Dec.{eqb, ltb}
 use Rattle.policy.specs.Basics.{Name, same}
 use Rattle.policy.specs.Encode.{NameEntry}
-use Rattle.policy.specs.Questions.{Reply, answered, refused, Part}
+use Rattle.policy.specs.Deciding.{Reply, answered, refused}
+use Rattle.policy.specs.Questions.{Part}
 use Rattle.symbols.specs.declared.Found.{Found}
 use Rattle.symbols.specs.declared.NamePlace.{NamePlace}
 

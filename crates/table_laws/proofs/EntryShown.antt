@@ -16,7 +16,8 @@ use Rattle.policy.specs.Basics.{each, le}
 use Rattle.policy.specs.Image.{Image}
 use Rattle.policy.specs.Encode.{transitionBytes, headBytes, headsFrom, rowBytes, bodies, pairs, layout, encode}
 use Rattle.policy.specs.Sound.{wellFormed}
-use Rattle.policy.specs.Questions.{answered, Run, runOf, recordFrom, entryOf}
+use Rattle.policy.specs.Deciding.{answered}
+use Rattle.policy.specs.Questions.{Run, runOf, recordFrom, entryOf}
 use Rattle.policy.proofs.Lists.{joined-append, each-length}
 use Rattle.table_laws.specs.SoundTable.{allRows}
 use Rattle.table_laws.specs.Shown.{shown, orTwelve, recordsIn}

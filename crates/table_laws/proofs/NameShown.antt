@@ -16,7 +16,8 @@ use Rattle.policy.specs.Accepted.{All}
 use Rattle.policy.specs.Image.{Image}
 use Rattle.policy.specs.Encode.{NameEntry, entryBytes, entries, bodies, encode}
 use Rattle.policy.specs.Sound.{goodFrom, sortOf, wellFormed}
-use Rattle.policy.specs.Questions.{answered, nameFrom, nameOf}
+use Rattle.policy.specs.Deciding.{answered}
+use Rattle.policy.specs.Questions.{nameFrom, nameOf}
 use Rattle.table_laws.specs.Shown.{shown, orTwelve, nameIn}
 use Rattle.policy.proofs.Gathered.{all-map}
 use Rattle.table_laws.proofs.NamesFit.{GoodEntry, entries-fit}

@@ -6,7 +6,8 @@ use mathlib.Core.List.{List}
 use lib.ListN.{getElem?}
 use Rattle.policy.specs.Image.{Image}
 use Rattle.policy.specs.Sound.{imageIn}
-use Rattle.policy.specs.Questions.{Reply, refused, asked, nameOf, nameOn, entryOf, entryOn}
+use Rattle.policy.specs.Deciding.{Reply, refused}
+use Rattle.policy.specs.Questions.{asked, nameOf, nameOn, entryOf, entryOn}
 use Rattle.table_laws.specs.SoundTable.{Bytes, Sound}
 use Rattle.table_laws.specs.Shown.{shown, orTwelve, nameIn, recordsIn}
 use Rattle.table_laws.proofs.SoundLaws.{sound-read, unsound-exactly}

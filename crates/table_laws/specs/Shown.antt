@@ -11,7 +11,8 @@ use Rattle.policy.specs.Statements.{Declaration, namesOf, classNames, permissio
 use Rattle.policy.specs.Image.{Image}
 use Rattle.policy.specs.Encode.{transitionBytes, headBytes, headsFrom, rowBytes}
 use Rattle.policy.specs.Sound.{sortOf}
-use Rattle.policy.specs.Questions.{Reply, answered, refused, Part}
+use Rattle.policy.specs.Deciding.{Reply, answered, refused}
+use Rattle.policy.specs.Questions.{Part}
 use Rattle.table_laws.specs.SoundTable.{allRows}
 
 -- "the part of the lent table that holds it": its bytes

@@ -17,7 +17,8 @@ use Rattle.policy.specs.Image.{Image}
 use Rattle.policy.specs.Accepted.{All}
 use Rattle.policy.specs.Encode.{NameEntry, nameEntry, sortCode, entryBytes, entries}
 use Rattle.policy.specs.Sound.{namesAt, transitionAt, headAt, rowAt, assignRows}
-use Rattle.policy.specs.Questions.{Reply, answered, refused, Part, nameFrom, nameOf, nameOn, asked}
+use Rattle.policy.specs.Deciding.{Reply, answered, refused}
+use Rattle.policy.specs.Questions.{Part, nameFrom, nameOf, nameOn, asked}
 use Rattle.policy.proofs.Lists.{both-true}
 use Rattle.policy.proofs.Gathered.{all-map}
 use Rattle.table_laws.specs.SoundTable.{Sound}

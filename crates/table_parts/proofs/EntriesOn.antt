@@ -10,7 +10,8 @@ use Rattle.policy.specs.Statements.{users, roles, types, Sort, attributeOf, cou
 use Rattle.policy.specs.Maxima.{maxOf}
 use Rattle.policy.specs.Image.{Image}
 use Rattle.policy.specs.Encode.{transitionBytes, headBytes, headsFrom, sortCode, bodies}
-use Rattle.policy.specs.Questions.{refused, Run, runOf, records, recordFrom, entryOf, asked, entryOn}
+use Rattle.policy.specs.Deciding.{refused}
+use Rattle.policy.specs.Questions.{Run, runOf, records, recordFrom, entryOf, asked, entryOn}
 use Rattle.policy.proofs.Lists.{each-length}
 use Rattle.policy.proofs.Counts.{few-of}
 use Rattle.symbols.specs.Section.{entriesAt}

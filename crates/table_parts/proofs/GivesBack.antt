@@ -13,7 +13,8 @@ use Rattle.policy.specs.Rows.{Row}
 use Rattle.policy.specs.Image.{Image}
 use Rattle.policy.specs.Encode.{sortCode, transitionBytes, ConstraintHead, headBytes, headsFrom, rowBytes, encode}
 use Rattle.policy.specs.Sound.{wellFormed, transitionAt, headAt, rowAt, assignRows}
-use Rattle.policy.specs.Questions.{Reply, nameOn, entryOn}
+use Rattle.policy.specs.Deciding.{Reply}
+use Rattle.policy.specs.Questions.{nameOn, entryOn}
 use Rattle.policy.proofs.Lists.{each-length}
 use Rattle.policy.proofs.Counts.{few-of, few-classes, few-permissions-of}
 use Rattle.table_laws.specs.SoundTable.{Sound, allRows}

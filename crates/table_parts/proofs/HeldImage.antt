@@ -10,7 +10,8 @@ use Rattle.bitset.specs.Parts.{part}
 use Rattle.policy.specs.Image.{Image}
 use Rattle.policy.specs.Encode.{entries, bodies}
 use Rattle.policy.specs.Sound.{wellFormed, goodFrom, imageIn}
-use Rattle.policy.specs.Questions.{nameFrom, nameOn, nameOf, entryOn, entryOf, refused, asked}
+use Rattle.policy.specs.Deciding.{refused}
+use Rattle.policy.specs.Questions.{nameFrom, nameOn, nameOf, entryOn, entryOf, asked}
 use Rattle.symbols.specs.Section.{between, entriesAt}
 use Rattle.symbols.proofs.Written.{entries-written}
 use Rattle.table_laws.specs.SoundTable.{Bytes}

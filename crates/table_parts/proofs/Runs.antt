@@ -3,7 +3,8 @@ use Prim.Native.Nat.{ℕ, _+_, _-_, _*_, _<_, _≤_}
 use mathlib.Core.Path.{_≡_, refl, sym, _∙_}
 use mathlib.Core.List.{List, [], _∷_}
 use borrow.Author.Tests.{lt-ltb, le-ltb}
-use Rattle.policy.specs.Questions.{answered, refused, Run, runOf, recordFrom}
+use Rattle.policy.specs.Deciding.{answered, refused}
+use Rattle.policy.specs.Questions.{Run, runOf, recordFrom}
 
 module _ (k o n w : ℕ) (rs : List Run) where
   pub run-here : k < n → recordFrom k o (runOf n w ∷ rs) ≡ answered (record { start = o + k * w; long = w })

@@ -6,7 +6,8 @@ use mathlib.Core.List.{List, [], _∷_}
 use lib.ListN.{drop, replicate}
 use Rattle.bitset.specs.Parts.{part}
 use Rattle.lexer.specs.Spell.{bytes}
-use Rattle.policy.specs.Questions.{Reply, answered, refused, Part, nameOn, entryOn}
+use Rattle.policy.specs.Deciding.{Reply, answered, refused}
+use Rattle.policy.specs.Questions.{Part, nameOn, entryOn}
 use Rattle.policy.specs.Worked.{rollText, tableOf}
 use Rattle.policy.specs.Opened.{computing}
 use Rattle.soundness.specs.IsSound.{isSound}

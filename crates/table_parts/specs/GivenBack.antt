@@ -9,7 +9,8 @@ use Rattle.policy.specs.Statements.{Sort, namesOf, classNames, permissions}
 use Rattle.policy.specs.Image.{Image}
 use Rattle.policy.specs.Encode.{sortCode}
 use Rattle.policy.specs.Sound.{transitionAt, headAt, rowAt, assignRows}
-use Rattle.policy.specs.Questions.{Reply, answered, refused, nameOn, entryOn}
+use Rattle.policy.specs.Deciding.{Reply, answered, refused}
+use Rattle.policy.specs.Questions.{nameOn, entryOn}
 use Rattle.table_laws.specs.Shown as parts
 
 -- an answer goes before the others; a refusal ends them

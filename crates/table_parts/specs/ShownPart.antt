@@ -3,7 +3,8 @@
 use Prim.Native.Nat.{ℕ}
 use mathlib.Core.List.{List, []}
 use Rattle.bitset.specs.Parts.{part}
-use Rattle.policy.specs.Questions.{Reply, answered, refused, Part}
+use Rattle.policy.specs.Deciding.{Reply, answered, refused}
+use Rattle.policy.specs.Questions.{Part}
 
 -- "an empty part on refusal": it holds no bytes, and where it points is free
 abbrev pub shownPart : Reply Part → List ℕ → List ℕ

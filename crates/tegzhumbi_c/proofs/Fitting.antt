@@ -8,9 +8,9 @@ use mathlib.Core.List.{List}
 use Rattle.policy.specs.Meaning.{Context}
 use Rattle.policy.specs.Image.{Image}
 use Rattle.policy.specs.Sound.{imageIn}
-use Rattle.policy.specs.Deciding.{validBy, Question, Verdict, granted, denied, fails, refuses, declaredContext}
+use Rattle.policy.specs.Deciding.{validBy, Question, Verdict, granted, denied, fails, refuses, declaredContext, Reply, answered, refused}
 use Rattle.policy.specs.Questions as replies
-use Rattle.policy.specs.Questions.{Reply, answered, refused, asked, givenIn, valid, validOn, newRoleOn, changeOn, nameOn, entryOn}
+use Rattle.policy.specs.Questions.{asked, givenIn, valid, validOn, newRoleOn, changeOn, nameOn, entryOn}
 use Rattle.policy.specs.Outcome.{Outcome, accepted, rejected, outcome}
 use Rattle.policy.specs.Answers.{compilingOf, validityOf, changeOf, newRoleOf, placeOf}
 use Rattle.policy.specs.declared.Compiling.{Compiling}

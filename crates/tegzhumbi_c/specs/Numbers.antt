@@ -3,10 +3,9 @@ use Prim.Native.Nat.{ℕ, _<_}
 use mathlib.Core.Bool.{Bool, true, false}
 use Rattle.policy.specs.Meaning.{Context}
 use Rattle.policy.specs.Deciding as decided
-use Rattle.policy.specs.Deciding.{Question, Verdict, granted, denied, fails, refuses}
+use Rattle.policy.specs.Deciding.{Question, Verdict, granted, denied, fails, refuses, Reply, answered, refused}
 use Rattle.policy.specs.Outcome.{Outcome, accepted, rejected}
 use Rattle.policy.specs.Questions as replies
-use Rattle.policy.specs.Questions.{Reply, answered, refused}
 use Rattle.tegzhumbi_c.specs.declared.Compiled.{Compiled}
 use Rattle.tegzhumbi_c.specs.declared.Answer.{Answer}
 use Rattle.tegzhumbi_c.specs.declared.Part.{Part}

@@ -1,7 +1,8 @@
 -- `decisions::is_object` meets its contract: the constant is the word, by computing. Assumes nothing.
 use mathlib.Core.Path.{ap, _∙_}
 use Rattle.policy.specs.Words.{objectR}
-use Rattle.policy.specs.Questions.{Reply, Part}
+use Rattle.policy.specs.Deciding.{Reply}
+use Rattle.policy.specs.Questions.{Part}
 use Rattle.decisions.specs.TableAnswers.{bears}
 use borrow.Author.Needs.{needs}
 use Rattle.decisions.proofs.is_object.Statement.{statement}

@@ -2,7 +2,8 @@
 use mathlib.Core.Path.{sym, ap, _∙_}
 use Rattle.policy.specs.Basics.{any}
 use Rattle.policy.specs.Words.{transitionWords}
-use Rattle.policy.specs.Questions.{Reply, Part}
+use Rattle.policy.specs.Deciding.{Reply}
+use Rattle.policy.specs.Questions.{Part}
 use Rattle.decisions.specs.TableAnswers.{bearsOne}
 use Rattle.decisions.proofs.NameLaws.{or-second}
 use borrow.Author.Needs.{needs}
