@@ -1,61 +1,98 @@
 -- Document 02, W-201, in its words: a context whose role is named `object_r` is valid, so that it is never denied by 1 or 2; where the role is not
--- so named, the two relations decide alone. By cases on the tests of `decide`. Assumes nothing.
-use Prim.Native.Nat.{ℕ, zero, suc, _+_, _<_}
+-- so named, the two relations decide alone, as they did before. By cases on the tests of `decide`. Assumes nothing.
+use Prim.Native.Nat.{ℕ, zero, suc, _+_}
 use native.Mathlib.Omega.{arith}
-use mathlib.Core.Path.{_≡_, refl, sym, ap, _∙_}
-use mathlib.Core.Bool.{Bool, true, false, _&&_, _||_, or-true}
+use mathlib.Core.Path.{_≡_, refl, ap, _∙_}
+use mathlib.Core.Bool.{Bool, true, false, _&&_, _||_, or-true, cond}
 use mathlib.Core.List.{List, [], _∷_}
-use mathlib.Core.Option.{Option, none, some}
+use mathlib.Core.Option.{Option, none, some, Option·some-injective}
 use lib.ListN.{getD, getElem?}
 use Rattle.policy.specs.Basics.{Name, same}
 use Rattle.policy.specs.Words.{objectR}
-use Rattle.policy.specs.Statements.{roles, thingOf, Declaration, namesOf, count, Policy, declarations, constrains, userrole, roletype}
+use Rattle.policy.specs.Statements.{roles, thingOf, Declaration, namesOf, Policy, declarations, constrains, userrole, roletype}
 use Rattle.policy.specs.Meaning.{Context}
-use Rattle.policy.specs.Deciding.{Given, isObject, validBy, Question, Verdict, granted, denied, fails, refuses, Answer, ruling, firstFailing, decide, ruledBy}
+use Rattle.policy.specs.Deciding.{Given, isObject, validBy, answered, refused, Question, Verdict, granted, denied, fails, refuses, Answer, ruling, firstFailing, decide, declaredContext, ruledBy}
 use Rattle.policy.specs.Answer.{givenBy, answer}
-use Rattle.policy.proofs.Lists.{same-is, at-place}
+use Rattle.policy.specs.Image.{Image}
+use Rattle.policy.specs.Questions.{givenIn, valid, change}
+use Rattle.policy.proofs.Lists.{same-is}
 use Rattle.answer_laws.specs.Granting.{RoleNamed}
+use Rattle.answer_laws.specs.Before.{NoRoleNamed, validBefore, ruledBefore, answerBefore, validInBefore, changeBefore}
 
 -- THE NAME
 
+-- a role without a name is not so named
+nameless : same [] objectR ≡ false
+unfolding same
+nameless = refl
+
+-- what stands at a place, and the given value where nothing does
 found-there : {A : Type 0} (xs : List A) (k : ℕ) (d x : A) → getElem? xs k ≡ some x → getD xs k d ≡ x
 found-there [] k d x h = let z : _≡_ {A = ℕ} 0 1 = cc in absurd (omega arith)
-found-there (y ∷ ys) zero d x h = some-same y x h
-  where
-    some-same : {A : Type 0} (y x : A) → some y ≡ some x → y ≡ x
-    some-same y x e = cc
+found-there (y ∷ ys) zero d x h = Option·some-injective y x h
 found-there (y ∷ ys) (suc k) d x h = found-there ys k d x h
 
-object-named : (ds : List Declaration) (r : ℕ) → RoleNamed ds r objectR → isObject ds r ≡ true
-unfolding isObject same
-object-named ds r h = ap (λ (w : Name). same w objectR) (found-there (namesOf (thingOf roles) ds) r [] objectR h)
+nothing-there : {A : Type 0} (xs : List A) (k : ℕ) (d : A) → getElem? xs k ≡ none → getD xs k d ≡ d
+nothing-there [] k d h = refl
+nothing-there (y ∷ ys) zero d h = let z : _≡_ {A = ℕ} 0 1 = cc in absurd (omega arith)
+nothing-there (y ∷ ys) (suc k) d h = nothing-there ys k d h
 
-other-named : (ds : List Declaration) (r : ℕ) → r < count (thingOf roles) ds → (RoleNamed ds r objectR → ⊥) → isObject ds r ≡ false
-unfolding isObject count
-other-named ds r h not-so = by (isObject ds r) refl
-  where
-    names : List Name
-    names = namesOf (thingOf roles) ds
+module _ (ds : List Declaration) (r : ℕ) where
+  object-named : RoleNamed ds r objectR → isObject ds r ≡ true
+  unfolding isObject same
+  object-named h = ap (λ (w : Name). same w objectR) (found-there (namesOf (thingOf roles) ds) r [] objectR h)
 
-    by : (b : Bool) → isObject ds r ≡ b → isObject ds r ≡ false
-    by true e = absurd (not-so (at-place names r [] h ∙ ap {B = Option Name} some (same-is (getD names r []) objectR e)))
-    by false e = e
+  other-named : (RoleNamed ds r objectR → ⊥) → isObject ds r ≡ false
+  unfolding isObject
+  other-named not-so = by (getElem? (namesOf (thingOf roles) ds) r) refl
+    where
+      named : (x : Name) → getElem? (namesOf (thingOf roles) ds) r ≡ some x → (b : Bool) → same x objectR ≡ b → same x objectR ≡ false
+      named x e true h = absurd (not-so (e ∙ ap {B = Option Name} some (same-is x objectR h)))
+      named x e false h = h
+
+      by : (o : Option Name) → getElem? (namesOf (thingOf roles) ds) r ≡ o → same (getD (namesOf (thingOf roles) ds) r []) objectR ≡ false
+      by none e = ap (λ (w : Name). same w objectR) (nothing-there (namesOf (thingOf roles) ds) r [] e) ∙ nameless
+      by (some x) e = ap (λ (w : Name). same w objectR) (found-there (namesOf (thingOf roles) ds) r [] x e) ∙ named x e (same x objectR) refl
+
+-- A VALID CONTEXT
 
 module _ (g : Given) (c : Context) where
   -- "a context whose role is named `object_r` is valid"
   pub object-valid : RoleNamed (g .names) (c .role) objectR → validBy g c ≡ true
   unfolding validBy
-  object-valid h = rw (object-named (g .names) (c .role) h) (or-true (g .gives userrole (c .user) (c .role) && g .gives roletype (c .role) (c .type)))
+  object-valid h = rw (object-named (g .names) (c .role) h) (or-true (validBefore g c))
 
   -- a role of another name: "the role is among the user's, the type among the role's"
-  pub other-valid : c .role < count (thingOf roles) (g .names) → (RoleNamed (g .names) (c .role) objectR → ⊥)
-      → validBy g c ≡ (g .gives userrole (c .user) (c .role) && g .gives roletype (c .role) (c .type))
+  pub other-valid : (RoleNamed (g .names) (c .role) objectR → ⊥) → validBy g c ≡ validBefore g c
   unfolding validBy
-  other-valid h not-so = rw (other-named (g .names) (c .role) h not-so) (by (g .gives userrole (c .user) (c .role) && g .gives roletype (c .role) (c .type)))
+  other-valid not-so = rw (other-named (g .names) (c .role) not-so) (or-false (validBefore g c))
     where
-      by : (b : Bool) → (b || false) ≡ b
-      by true = refl
-      by false = refl
+      or-false : (b : Bool) → (b || false) ≡ b
+      or-false true = refl
+      or-false false = refl
+
+-- AS BEFORE, where no role has the name
+
+module _ (g : Given) (no-such : NoRoleNamed (g .names) objectR) where
+  valid-before : (c : Context) → validBy g c ≡ validBefore g c
+  valid-before c = other-valid g c (no-such (c .role))
+
+  ruled-before : (q : Question) (rest : Answer) → ruledBy g q rest ≡ ruledBefore g q rest
+  unfolding ruledBy
+  ruled-before q rest = rw (valid-before (q .source), valid-before (q .target))
+
+pub answer-before : (p : Policy) → NoRoleNamed (declarations p) objectR → (q : Question) → answer p q ≡ answerBefore p q
+unfolding answer
+answer-before p no-such q = ruled-before (givenBy p) no-such q _
+
+module _ (i : Image) (no-such : NoRoleNamed (i .names) objectR) where
+  pub change-before : (q : Question) → change i q ≡ changeBefore i q
+  unfolding change
+  change-before q = ruled-before (givenIn i) no-such q _
+
+  pub valid-in-before : (c : Context) → valid i c ≡ validInBefore i c
+  unfolding valid
+  valid-in-before c = ap (λ (b : Bool). cond (declaredContext (i .names) c) (answered b) (refused 12 0)) (valid-before (givenIn i) no-such c)
 
 -- THE DENIALS
 
@@ -93,8 +130,8 @@ target-passed true true false r rest e z h = let z : _≡_ {A = ℕ} 0 1 = cc in
 target-passed true true true false rest e z h = absurd (omega arith)
 target-passed true true true true rest e z h = absurd (omega arith)
 
+-- "Denials 1 and 2 .. follow this", of the statements and of an image
 module _ (p : Policy) (q : Question) where
-  -- "Denials 1 and 2 .. follow this"
   pub object-source : RoleNamed (declarations p) (q .source .role) objectR → denialOf (answer p q .verdict) ≡ 1 → ⊥
   unfolding answer ruledBy
   object-source h = source-passed _ _ _ _ _ (object-valid (givenBy p) (q .source) h) (none-of-them _ _ 0 (constrains p))
@@ -102,3 +139,12 @@ module _ (p : Policy) (q : Question) where
   pub object-target : RoleNamed (declarations p) (q .target .role) objectR → denialOf (answer p q .verdict) ≡ 2 → ⊥
   unfolding answer ruledBy
   object-target h = target-passed _ _ _ _ _ (object-valid (givenBy p) (q .target) h) (none-of-them _ _ 0 (constrains p))
+
+module _ (i : Image) (q : Question) where
+  pub object-source-in : RoleNamed (i .names) (q .source .role) objectR → denialOf (change i q .verdict) ≡ 1 → ⊥
+  unfolding change ruledBy
+  object-source-in h = source-passed _ _ _ _ _ (object-valid (givenIn i) (q .source) h) (none-of-them _ _ 0 (i .constraints))
+
+  pub object-target-in : RoleNamed (i .names) (q .target .role) objectR → denialOf (change i q .verdict) ≡ 2 → ⊥
+  unfolding change ruledBy
+  object-target-in h = target-passed _ _ _ _ _ (object-valid (givenIn i) (q .target) h) (none-of-them _ _ 0 (i .constraints))

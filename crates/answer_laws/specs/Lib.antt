@@ -1,3 +1,4 @@
 pub mod Granting
 pub mod ByStatements
 pub mod Longer
+pub mod Before

@@ -8,9 +8,9 @@ use mathlib.Core.Option.{none, some}
 use Rattle.lexer.specs.Spell.{bytes}
 use Rattle.policy.specs.Basics.{each}
 use Rattle.policy.specs.Reading.{policy, refused}
-use Rattle.policy.specs.Deciding.{Question, Answer, granted, denied, fails, refuses}
+use Rattle.policy.specs.Deciding.{Question, Answer, granted, denied, fails, refuses, answered, refused}
 use Rattle.policy.specs.Answer.{answer}
-use Rattle.policy.specs.Questions.{answered, refused, changed, changeOn, validOn, newRoleOn, nameOn, entryOn}
+use Rattle.policy.specs.Questions.{changed, changeOn, validOn, newRoleOn, nameOn, entryOn}
 use Rattle.policy.specs.Sound.{imageIn}
 use Rattle.policy.specs.Outcome.{policyOf}
 use Rattle.policy.specs.Worked.{tableOf, context}

@@ -8,9 +8,9 @@ use mathlib.Core.Option.{none, some}
 use Rattle.lexer.specs.Spell.{bytes}
 use Rattle.policy.specs.Basics.{each}
 use Rattle.policy.specs.Reading.{policy, refused}
-use Rattle.policy.specs.Deciding.{Question, Answer, granted, denied, fails, refuses}
+use Rattle.policy.specs.Deciding.{Question, Answer, granted, denied, fails, refuses, answered, refused}
 use Rattle.policy.specs.Answer.{answer}
-use Rattle.policy.specs.Questions.{answered, refused, changed, changeOn, validOn, newRoleOn, nameOn, entryOn}
+use Rattle.policy.specs.Questions.{changed, changeOn, validOn, newRoleOn, nameOn, entryOn}
 use Rattle.policy.specs.Sound.{imageIn}
 use Rattle.policy.specs.Outcome.{policyOf}
 use Rattle.policy.specs.Worked.{tableOf, context}
@@ -287,141 +287,160 @@ asked-28-statements : fromText asked-28 ((record { source = context 0 1 0; targe
 unfolding computing
 asked-28-statements = refl
 
--- object_r by its name, whatever its number; 12 before
+-- object_r where its role allow is said, one way only
 abbrev asked-29 : List ℕ
-asked-29 = bytes "(user u)(user v)(role object_r)(type s)(type t)(class c(p))"
+asked-29 = bytes "(user u)(role a)(role object_r)(type t)(userrole u a)(roletype a t)(roleallow a object_r)(class process(dyntransition))(constrain(process(dyntransition))(not(eq r1 object_r)))"
 
 abbrev asked-29-table : List ℕ
-asked-29-table = 1 ∷ 0 ∷ 8 ∷ 0 ∷ 68 ∷ 0 ∷ 0 ∷ 0 ∷ 42 ∷ 0 ∷ 0 ∷ 0 ∷ 110 ∷ 0 ∷ 0 ∷ 0 ∷ 32 ∷ 0 ∷ 0 ∷ 0 ∷ 142 ∷ 0 ∷ 0 ∷ 0 ∷ 64 ∷ 0 ∷ 0 ∷ 0 ∷ 206 ∷ 0 ∷ 0 ∷ 0 ∷ 16 ∷ 0 ∷ 0 ∷ 0 ∷ 222 ∷ 0 ∷ 0 ∷ 0 ∷ 0 ∷ 0 ∷ 0 ∷ 0 ∷ 222 ∷ 0 ∷ 0 ∷ 0 ∷ 0 ∷ 0 ∷ 0 ∷ 0 ∷ 222 ∷ 0 ∷ 0 ∷ 0 ∷ 0 ∷ 0 ∷ 0 ∷ 0 ∷ 222 ∷ 0 ∷ 0 ∷ 0 ∷ 0 ∷ 0 ∷ 0 ∷ 0 ∷ 0 ∷ 0 ∷ 0 ∷ 1 ∷ 117 ∷ 0 ∷ 1 ∷ 0 ∷ 1 ∷ 118 ∷ 1 ∷ 0 ∷ 0 ∷ 8 ∷ 111 ∷ 98 ∷ 106 ∷ 101 ∷ 99 ∷ 116 ∷ 95 ∷ 114 ∷ 2 ∷ 0 ∷ 0 ∷ 1 ∷ 115 ∷ 2 ∷ 1 ∷ 0 ∷ 1 ∷ 116 ∷ 6 ∷ 0 ∷ 0 ∷ 1 ∷ 99 ∷ 7 ∷ 0 ∷ 0 ∷ 1 ∷ 112 ∷ 0 ∷ 0 ∷ 0 ∷ 0 ∷ 0 ∷ 0 ∷ 0 ∷ 0 ∷ 0 ∷ 0 ∷ 0 ∷ 0 ∷ 0 ∷ 0 ∷ 0 ∷ 0 ∷ 0 ∷ 0 ∷ 0 ∷ 0 ∷ 0 ∷ 0 ∷ 0 ∷ 0 ∷ 0 ∷ 0 ∷ 0 ∷ 0 ∷ 0 ∷ 0 ∷ 0 ∷ 0 ∷ 0 ∷ 0 ∷ 0 ∷ 0 ∷ 0 ∷ 0 ∷ 0 ∷ 0 ∷ 0 ∷ 0 ∷ 0 ∷ 0 ∷ 0 ∷ 0 ∷ 0 ∷ 0 ∷ 0 ∷ 0 ∷ 0 ∷ 0 ∷ 0 ∷ 0 ∷ 0 ∷ 0 ∷ 0 ∷ 0 ∷ 0 ∷ 0 ∷ 0 ∷ 0 ∷ 0 ∷ 0 ∷ 0 ∷ 0 ∷ 0 ∷ 0 ∷ 0 ∷ 0 ∷ 0 ∷ 0 ∷ 0 ∷ 0 ∷ 0 ∷ 0 ∷ 0 ∷ 0 ∷ 0 ∷ 0 ∷ 0 ∷ 0 ∷ 0 ∷ 0 ∷ 0 ∷ 0 ∷ 0 ∷ 0 ∷ 0 ∷ 0 ∷ 0 ∷ 0 ∷ 0 ∷ 0 ∷ 0 ∷ 0 ∷ 0 ∷ 0 ∷ 0 ∷ 0 ∷ 0 ∷ 0 ∷ 0 ∷ 0 ∷ 0 ∷ 0 ∷ 0 ∷ 0 ∷ 0 ∷ 0 ∷ 0 ∷ 0 ∷ []
+asked-29-table = 1 ∷ 0 ∷ 8 ∷ 0 ∷ 68 ∷ 0 ∷ 0 ∷ 0 ∷ 55 ∷ 0 ∷ 0 ∷ 0 ∷ 123 ∷ 0 ∷ 0 ∷ 0 ∷ 16 ∷ 0 ∷ 0 ∷ 0 ∷ 139 ∷ 0 ∷ 0 ∷ 0 ∷ 128 ∷ 0 ∷ 0 ∷ 0 ∷ 11 ∷ 1 ∷ 0 ∷ 0 ∷ 32 ∷ 0 ∷ 0 ∷ 0 ∷ 43 ∷ 1 ∷ 0 ∷ 0 ∷ 0 ∷ 0 ∷ 0 ∷ 0 ∷ 43 ∷ 1 ∷ 0 ∷ 0 ∷ 10 ∷ 0 ∷ 0 ∷ 0 ∷ 53 ∷ 1 ∷ 0 ∷ 0 ∷ 12 ∷ 0 ∷ 0 ∷ 0 ∷ 65 ∷ 1 ∷ 0 ∷ 0 ∷ 0 ∷ 0 ∷ 0 ∷ 0 ∷ 0 ∷ 0 ∷ 0 ∷ 1 ∷ 117 ∷ 1 ∷ 0 ∷ 0 ∷ 1 ∷ 97 ∷ 1 ∷ 1 ∷ 0 ∷ 8 ∷ 111 ∷ 98 ∷ 106 ∷ 101 ∷ 99 ∷ 116 ∷ 95 ∷ 114 ∷ 2 ∷ 0 ∷ 0 ∷ 1 ∷ 116 ∷ 6 ∷ 0 ∷ 0 ∷ 7 ∷ 112 ∷ 114 ∷ 111 ∷ 99 ∷ 101 ∷ 115 ∷ 115 ∷ 7 ∷ 0 ∷ 0 ∷ 13 ∷ 100 ∷ 121 ∷ 110 ∷ 116 ∷ 114 ∷ 97 ∷ 110 ∷ 115 ∷ 105 ∷ 116 ∷ 105 ∷ 111 ∷ 110 ∷ 1 ∷ 0 ∷ 0 ∷ 0 ∷ 0 ∷ 0 ∷ 0 ∷ 0 ∷ 0 ∷ 0 ∷ 0 ∷ 0 ∷ 0 ∷ 0 ∷ 0 ∷ 0 ∷ 1 ∷ 0 ∷ 0 ∷ 0 ∷ 0 ∷ 0 ∷ 0 ∷ 0 ∷ 0 ∷ 0 ∷ 0 ∷ 0 ∷ 0 ∷ 0 ∷ 0 ∷ 0 ∷ 0 ∷ 0 ∷ 0 ∷ 0 ∷ 0 ∷ 0 ∷ 0 ∷ 0 ∷ 0 ∷ 0 ∷ 0 ∷ 0 ∷ 0 ∷ 0 ∷ 0 ∷ 0 ∷ 0 ∷ 0 ∷ 0 ∷ 0 ∷ 0 ∷ 0 ∷ 0 ∷ 0 ∷ 0 ∷ 0 ∷ 0 ∷ 0 ∷ 0 ∷ 0 ∷ 0 ∷ 0 ∷ 0 ∷ 0 ∷ 0 ∷ 0 ∷ 0 ∷ 0 ∷ 0 ∷ 0 ∷ 0 ∷ 0 ∷ 0 ∷ 0 ∷ 0 ∷ 0 ∷ 0 ∷ 0 ∷ 0 ∷ 0 ∷ 0 ∷ 0 ∷ 0 ∷ 0 ∷ 0 ∷ 0 ∷ 0 ∷ 0 ∷ 0 ∷ 0 ∷ 0 ∷ 0 ∷ 0 ∷ 0 ∷ 0 ∷ 0 ∷ 0 ∷ 0 ∷ 0 ∷ 0 ∷ 0 ∷ 0 ∷ 0 ∷ 0 ∷ 0 ∷ 0 ∷ 0 ∷ 0 ∷ 0 ∷ 0 ∷ 0 ∷ 0 ∷ 0 ∷ 0 ∷ 0 ∷ 0 ∷ 0 ∷ 0 ∷ 0 ∷ 0 ∷ 0 ∷ 0 ∷ 0 ∷ 0 ∷ 0 ∷ 0 ∷ 0 ∷ 0 ∷ 0 ∷ 0 ∷ 0 ∷ 0 ∷ 0 ∷ 0 ∷ 0 ∷ 0 ∷ 0 ∷ 0 ∷ 0 ∷ 0 ∷ 0 ∷ 0 ∷ 2 ∷ 0 ∷ 0 ∷ 0 ∷ 0 ∷ 0 ∷ 0 ∷ 0 ∷ 0 ∷ 0 ∷ 0 ∷ 0 ∷ 0 ∷ 0 ∷ 0 ∷ 0 ∷ 0 ∷ 0 ∷ 0 ∷ 0 ∷ 0 ∷ 0 ∷ 0 ∷ 0 ∷ 0 ∷ 0 ∷ 0 ∷ 0 ∷ 0 ∷ 0 ∷ 0 ∷ 0 ∷ 0 ∷ 0 ∷ 1 ∷ 0 ∷ 0 ∷ 0 ∷ 0 ∷ 0 ∷ 2 ∷ 0 ∷ 4 ∷ 2 ∷ 0 ∷ 0 ∷ 1 ∷ 0 ∷ 0 ∷ 0 ∷ 0 ∷ 0 ∷ 0 ∷ 0 ∷ []
 
 asked-29-written : tableOf asked-29 ≡ asked-29-table
 unfolding computing
 asked-29-written = refl
 
-asked-29-0 : validOn asked-29-table (context 0 0 0) ≡ answered true
+asked-29-changes : changesOn asked-29-table ((record { source = context 0 0 0; target = context 0 1 0; class = 0; perm = 0 }) ∷ (record { source = context 0 1 0; target = context 0 0 0; class = 0; perm = 0 }) ∷ (record { source = context 0 1 0; target = context 0 1 0; class = 0; perm = 0 }) ∷ (record { source = context 0 0 0; target = context 0 0 0; class = 0; perm = 0 }) ∷ []) ≡ record { verdict = granted; consulted = 1 } ∷ record { verdict = denied 3; consulted = 0 } ∷ record { verdict = fails 4 0; consulted = 1 } ∷ record { verdict = granted; consulted = 1 } ∷ []
 unfolding computing
-asked-29-0 = refl
+asked-29-changes = refl
 
-asked-29-1 : validOn asked-29-table (context 1 0 1) ≡ answered true
-unfolding computing
-asked-29-1 = refl
-
-asked-29-2 : validOn asked-29-table (context 2 0 0) ≡ refused 12 0
-unfolding computing
-asked-29-2 = refl
-
-asked-29-3 : validOn asked-29-table (context 0 0 2) ≡ refused 12 0
-unfolding computing
-asked-29-3 = refl
-
-asked-29-change : changeOn asked-29-table (record { source = context 0 0 1; target = context 1 0 0; class = 0; perm = 0 }) ≡ record { verdict = granted; consulted = 0 }
-unfolding computing
-asked-29-change = refl
-
-asked-29-statements : fromText asked-29 ((record { source = context 0 0 1; target = context 1 0 0; class = 0; perm = 0 }) ∷ []) ≡ record { verdict = granted; consulted = 0 } ∷ []
+asked-29-statements : fromText asked-29 ((record { source = context 0 0 0; target = context 0 1 0; class = 0; perm = 0 }) ∷ (record { source = context 0 1 0; target = context 0 0 0; class = 0; perm = 0 }) ∷ (record { source = context 0 1 0; target = context 0 1 0; class = 0; perm = 0 }) ∷ (record { source = context 0 0 0; target = context 0 0 0; class = 0; perm = 0 }) ∷ []) ≡ record { verdict = granted; consulted = 1 } ∷ record { verdict = denied 3; consulted = 0 } ∷ record { verdict = fails 4 0; consulted = 1 } ∷ record { verdict = granted; consulted = 1 } ∷ []
 unfolding computing
 asked-29-statements = refl
 
--- no role is named object_r, but all else is
+-- object_r by its name, whatever its number; 12 before
 abbrev asked-30 : List ℕ
-asked-30 = bytes "(user object_r)(roleattribute object_r)(role Object_r)(role object_r-)(type object_r)(class object_r(object_r))(roleattributeset object_r(all))"
+asked-30 = bytes "(user u)(user v)(role object_r)(type s)(type t)(class c(p))"
 
 abbrev asked-30-table : List ℕ
-asked-30-table = 1 ∷ 0 ∷ 8 ∷ 0 ∷ 68 ∷ 0 ∷ 0 ∷ 0 ∷ 85 ∷ 0 ∷ 0 ∷ 0 ∷ 153 ∷ 0 ∷ 0 ∷ 0 ∷ 16 ∷ 0 ∷ 0 ∷ 0 ∷ 169 ∷ 0 ∷ 0 ∷ 0 ∷ 128 ∷ 0 ∷ 0 ∷ 0 ∷ 41 ∷ 1 ∷ 0 ∷ 0 ∷ 32 ∷ 0 ∷ 0 ∷ 0 ∷ 73 ∷ 1 ∷ 0 ∷ 0 ∷ 0 ∷ 0 ∷ 0 ∷ 0 ∷ 73 ∷ 1 ∷ 0 ∷ 0 ∷ 0 ∷ 0 ∷ 0 ∷ 0 ∷ 73 ∷ 1 ∷ 0 ∷ 0 ∷ 0 ∷ 0 ∷ 0 ∷ 0 ∷ 73 ∷ 1 ∷ 0 ∷ 0 ∷ 16 ∷ 0 ∷ 0 ∷ 0 ∷ 0 ∷ 0 ∷ 0 ∷ 8 ∷ 111 ∷ 98 ∷ 106 ∷ 101 ∷ 99 ∷ 116 ∷ 95 ∷ 114 ∷ 4 ∷ 0 ∷ 0 ∷ 8 ∷ 111 ∷ 98 ∷ 106 ∷ 101 ∷ 99 ∷ 116 ∷ 95 ∷ 114 ∷ 1 ∷ 0 ∷ 0 ∷ 8 ∷ 79 ∷ 98 ∷ 106 ∷ 101 ∷ 99 ∷ 116 ∷ 95 ∷ 114 ∷ 1 ∷ 1 ∷ 0 ∷ 9 ∷ 111 ∷ 98 ∷ 106 ∷ 101 ∷ 99 ∷ 116 ∷ 95 ∷ 114 ∷ 45 ∷ 2 ∷ 0 ∷ 0 ∷ 8 ∷ 111 ∷ 98 ∷ 106 ∷ 101 ∷ 99 ∷ 116 ∷ 95 ∷ 114 ∷ 6 ∷ 0 ∷ 0 ∷ 8 ∷ 111 ∷ 98 ∷ 106 ∷ 101 ∷ 99 ∷ 116 ∷ 95 ∷ 114 ∷ 7 ∷ 0 ∷ 0 ∷ 8 ∷ 111 ∷ 98 ∷ 106 ∷ 101 ∷ 99 ∷ 116 ∷ 95 ∷ 114 ∷ 0 ∷ 0 ∷ 0 ∷ 0 ∷ 0 ∷ 0 ∷ 0 ∷ 0 ∷ 0 ∷ 0 ∷ 0 ∷ 0 ∷ 0 ∷ 0 ∷ 0 ∷ 0 ∷ 0 ∷ 0 ∷ 0 ∷ 0 ∷ 0 ∷ 0 ∷ 0 ∷ 0 ∷ 0 ∷ 0 ∷ 0 ∷ 0 ∷ 0 ∷ 0 ∷ 0 ∷ 0 ∷ 0 ∷ 0 ∷ 0 ∷ 0 ∷ 0 ∷ 0 ∷ 0 ∷ 0 ∷ 0 ∷ 0 ∷ 0 ∷ 0 ∷ 0 ∷ 0 ∷ 0 ∷ 0 ∷ 0 ∷ 0 ∷ 0 ∷ 0 ∷ 0 ∷ 0 ∷ 0 ∷ 0 ∷ 0 ∷ 0 ∷ 0 ∷ 0 ∷ 0 ∷ 0 ∷ 0 ∷ 0 ∷ 0 ∷ 0 ∷ 0 ∷ 0 ∷ 0 ∷ 0 ∷ 0 ∷ 0 ∷ 0 ∷ 0 ∷ 0 ∷ 0 ∷ 0 ∷ 0 ∷ 0 ∷ 0 ∷ 0 ∷ 0 ∷ 0 ∷ 0 ∷ 0 ∷ 0 ∷ 0 ∷ 0 ∷ 0 ∷ 0 ∷ 0 ∷ 0 ∷ 0 ∷ 0 ∷ 0 ∷ 0 ∷ 0 ∷ 0 ∷ 0 ∷ 0 ∷ 0 ∷ 0 ∷ 0 ∷ 0 ∷ 0 ∷ 0 ∷ 0 ∷ 0 ∷ 0 ∷ 0 ∷ 0 ∷ 0 ∷ 0 ∷ 0 ∷ 0 ∷ 0 ∷ 0 ∷ 0 ∷ 0 ∷ 0 ∷ 0 ∷ 0 ∷ 0 ∷ 0 ∷ 0 ∷ 0 ∷ 0 ∷ 0 ∷ 0 ∷ 0 ∷ 0 ∷ 0 ∷ 0 ∷ 0 ∷ 0 ∷ 0 ∷ 0 ∷ 0 ∷ 0 ∷ 0 ∷ 0 ∷ 0 ∷ 0 ∷ 0 ∷ 0 ∷ 0 ∷ 0 ∷ 0 ∷ 0 ∷ 0 ∷ 0 ∷ 0 ∷ 0 ∷ 0 ∷ 0 ∷ 0 ∷ 0 ∷ 0 ∷ 0 ∷ 0 ∷ 0 ∷ 0 ∷ 0 ∷ 0 ∷ 0 ∷ 0 ∷ 0 ∷ 0 ∷ 0 ∷ 0 ∷ 0 ∷ 0 ∷ 0 ∷ 0 ∷ 0 ∷ 0 ∷ 3 ∷ 0 ∷ 0 ∷ 0 ∷ 0 ∷ 0 ∷ 0 ∷ 0 ∷ 0 ∷ 0 ∷ 0 ∷ 0 ∷ 0 ∷ 0 ∷ 0 ∷ 0 ∷ []
+asked-30-table = 1 ∷ 0 ∷ 8 ∷ 0 ∷ 68 ∷ 0 ∷ 0 ∷ 0 ∷ 42 ∷ 0 ∷ 0 ∷ 0 ∷ 110 ∷ 0 ∷ 0 ∷ 0 ∷ 32 ∷ 0 ∷ 0 ∷ 0 ∷ 142 ∷ 0 ∷ 0 ∷ 0 ∷ 64 ∷ 0 ∷ 0 ∷ 0 ∷ 206 ∷ 0 ∷ 0 ∷ 0 ∷ 16 ∷ 0 ∷ 0 ∷ 0 ∷ 222 ∷ 0 ∷ 0 ∷ 0 ∷ 0 ∷ 0 ∷ 0 ∷ 0 ∷ 222 ∷ 0 ∷ 0 ∷ 0 ∷ 0 ∷ 0 ∷ 0 ∷ 0 ∷ 222 ∷ 0 ∷ 0 ∷ 0 ∷ 0 ∷ 0 ∷ 0 ∷ 0 ∷ 222 ∷ 0 ∷ 0 ∷ 0 ∷ 0 ∷ 0 ∷ 0 ∷ 0 ∷ 0 ∷ 0 ∷ 0 ∷ 1 ∷ 117 ∷ 0 ∷ 1 ∷ 0 ∷ 1 ∷ 118 ∷ 1 ∷ 0 ∷ 0 ∷ 8 ∷ 111 ∷ 98 ∷ 106 ∷ 101 ∷ 99 ∷ 116 ∷ 95 ∷ 114 ∷ 2 ∷ 0 ∷ 0 ∷ 1 ∷ 115 ∷ 2 ∷ 1 ∷ 0 ∷ 1 ∷ 116 ∷ 6 ∷ 0 ∷ 0 ∷ 1 ∷ 99 ∷ 7 ∷ 0 ∷ 0 ∷ 1 ∷ 112 ∷ 0 ∷ 0 ∷ 0 ∷ 0 ∷ 0 ∷ 0 ∷ 0 ∷ 0 ∷ 0 ∷ 0 ∷ 0 ∷ 0 ∷ 0 ∷ 0 ∷ 0 ∷ 0 ∷ 0 ∷ 0 ∷ 0 ∷ 0 ∷ 0 ∷ 0 ∷ 0 ∷ 0 ∷ 0 ∷ 0 ∷ 0 ∷ 0 ∷ 0 ∷ 0 ∷ 0 ∷ 0 ∷ 0 ∷ 0 ∷ 0 ∷ 0 ∷ 0 ∷ 0 ∷ 0 ∷ 0 ∷ 0 ∷ 0 ∷ 0 ∷ 0 ∷ 0 ∷ 0 ∷ 0 ∷ 0 ∷ 0 ∷ 0 ∷ 0 ∷ 0 ∷ 0 ∷ 0 ∷ 0 ∷ 0 ∷ 0 ∷ 0 ∷ 0 ∷ 0 ∷ 0 ∷ 0 ∷ 0 ∷ 0 ∷ 0 ∷ 0 ∷ 0 ∷ 0 ∷ 0 ∷ 0 ∷ 0 ∷ 0 ∷ 0 ∷ 0 ∷ 0 ∷ 0 ∷ 0 ∷ 0 ∷ 0 ∷ 0 ∷ 0 ∷ 0 ∷ 0 ∷ 0 ∷ 0 ∷ 0 ∷ 0 ∷ 0 ∷ 0 ∷ 0 ∷ 0 ∷ 0 ∷ 0 ∷ 0 ∷ 0 ∷ 0 ∷ 0 ∷ 0 ∷ 0 ∷ 0 ∷ 0 ∷ 0 ∷ 0 ∷ 0 ∷ 0 ∷ 0 ∷ 0 ∷ 0 ∷ 0 ∷ 0 ∷ 0 ∷ 0 ∷ []
 
 asked-30-written : tableOf asked-30 ≡ asked-30-table
 unfolding computing
 asked-30-written = refl
 
-asked-30-0 : validOn asked-30-table (context 0 0 0) ≡ answered false
+asked-30-0 : validOn asked-30-table (context 0 0 0) ≡ answered true
 unfolding computing
 asked-30-0 = refl
 
-asked-30-1 : validOn asked-30-table (context 0 1 0) ≡ answered false
+asked-30-1 : validOn asked-30-table (context 1 0 1) ≡ answered true
 unfolding computing
 asked-30-1 = refl
 
-asked-30-change : changeOn asked-30-table (record { source = context 0 0 0; target = context 0 1 0; class = 0; perm = 0 }) ≡ record { verdict = denied 1; consulted = 0 }
+asked-30-2 : validOn asked-30-table (context 2 0 0) ≡ refused 12 0
+unfolding computing
+asked-30-2 = refl
+
+asked-30-3 : validOn asked-30-table (context 0 0 2) ≡ refused 12 0
+unfolding computing
+asked-30-3 = refl
+
+asked-30-change : changeOn asked-30-table (record { source = context 0 0 1; target = context 1 0 0; class = 0; perm = 0 }) ≡ record { verdict = granted; consulted = 0 }
 unfolding computing
 asked-30-change = refl
 
-asked-30-statements : fromText asked-30 ((record { source = context 0 0 0; target = context 0 1 0; class = 0; perm = 0 }) ∷ []) ≡ record { verdict = denied 1; consulted = 0 } ∷ []
+asked-30-statements : fromText asked-30 ((record { source = context 0 0 1; target = context 1 0 0; class = 0; perm = 0 }) ∷ []) ≡ record { verdict = granted; consulted = 0 } ∷ []
 unfolding computing
 asked-30-statements = refl
 
--- a random policy and random questions
+-- no role is named object_r, but all else is
 abbrev asked-31 : List ℕ
-asked-31 = bytes "(user c1)(userattribute b5)(role c2)(roleattribute f1)(type __-)(class d1(a7 e6 d3))(userrole b5 f1)(roletype c2 __-)(userattributeset b5(not c1))(userrole c1 c2)(roleattributeset f1(or c2 c2))(userrole b5 c2)(role b8)(user d6)"
+asked-31 = bytes "(user object_r)(roleattribute object_r)(role Object_r)(role object_r-)(type object_r)(class object_r(object_r))(roleattributeset object_r(all))"
 
 abbrev asked-31-table : List ℕ
-asked-31-table = 1 ∷ 0 ∷ 8 ∷ 0 ∷ 68 ∷ 0 ∷ 0 ∷ 0 ∷ 67 ∷ 0 ∷ 0 ∷ 0 ∷ 135 ∷ 0 ∷ 0 ∷ 0 ∷ 32 ∷ 0 ∷ 0 ∷ 0 ∷ 167 ∷ 0 ∷ 0 ∷ 0 ∷ 128 ∷ 0 ∷ 0 ∷ 0 ∷ 39 ∷ 1 ∷ 0 ∷ 0 ∷ 32 ∷ 0 ∷ 0 ∷ 0 ∷ 71 ∷ 1 ∷ 0 ∷ 0 ∷ 0 ∷ 0 ∷ 0 ∷ 0 ∷ 71 ∷ 1 ∷ 0 ∷ 0 ∷ 0 ∷ 0 ∷ 0 ∷ 0 ∷ 71 ∷ 1 ∷ 0 ∷ 0 ∷ 0 ∷ 0 ∷ 0 ∷ 0 ∷ 71 ∷ 1 ∷ 0 ∷ 0 ∷ 32 ∷ 0 ∷ 0 ∷ 0 ∷ 0 ∷ 0 ∷ 0 ∷ 2 ∷ 99 ∷ 49 ∷ 3 ∷ 0 ∷ 0 ∷ 2 ∷ 98 ∷ 53 ∷ 1 ∷ 0 ∷ 0 ∷ 2 ∷ 99 ∷ 50 ∷ 4 ∷ 0 ∷ 0 ∷ 2 ∷ 102 ∷ 49 ∷ 2 ∷ 0 ∷ 0 ∷ 3 ∷ 95 ∷ 95 ∷ 45 ∷ 6 ∷ 0 ∷ 0 ∷ 2 ∷ 100 ∷ 49 ∷ 7 ∷ 0 ∷ 0 ∷ 2 ∷ 97 ∷ 55 ∷ 7 ∷ 1 ∷ 0 ∷ 2 ∷ 101 ∷ 54 ∷ 7 ∷ 2 ∷ 0 ∷ 2 ∷ 100 ∷ 51 ∷ 1 ∷ 1 ∷ 0 ∷ 2 ∷ 98 ∷ 56 ∷ 0 ∷ 1 ∷ 0 ∷ 2 ∷ 100 ∷ 54 ∷ 1 ∷ 0 ∷ 0 ∷ 0 ∷ 0 ∷ 0 ∷ 0 ∷ 0 ∷ 0 ∷ 0 ∷ 0 ∷ 0 ∷ 0 ∷ 0 ∷ 0 ∷ 0 ∷ 1 ∷ 0 ∷ 0 ∷ 0 ∷ 0 ∷ 0 ∷ 0 ∷ 0 ∷ 0 ∷ 0 ∷ 0 ∷ 0 ∷ 0 ∷ 0 ∷ 0 ∷ 0 ∷ 1 ∷ 0 ∷ 0 ∷ 0 ∷ 0 ∷ 0 ∷ 0 ∷ 0 ∷ 0 ∷ 0 ∷ 0 ∷ 0 ∷ 0 ∷ 0 ∷ 0 ∷ 0 ∷ 0 ∷ 0 ∷ 0 ∷ 0 ∷ 0 ∷ 0 ∷ 0 ∷ 0 ∷ 0 ∷ 0 ∷ 0 ∷ 0 ∷ 0 ∷ 0 ∷ 0 ∷ 0 ∷ 0 ∷ 0 ∷ 0 ∷ 0 ∷ 0 ∷ 0 ∷ 0 ∷ 0 ∷ 0 ∷ 0 ∷ 0 ∷ 0 ∷ 0 ∷ 0 ∷ 0 ∷ 0 ∷ 0 ∷ 0 ∷ 0 ∷ 0 ∷ 0 ∷ 0 ∷ 0 ∷ 0 ∷ 0 ∷ 0 ∷ 0 ∷ 0 ∷ 0 ∷ 0 ∷ 0 ∷ 0 ∷ 0 ∷ 0 ∷ 0 ∷ 0 ∷ 0 ∷ 0 ∷ 0 ∷ 0 ∷ 0 ∷ 0 ∷ 0 ∷ 0 ∷ 0 ∷ 0 ∷ 0 ∷ 0 ∷ 0 ∷ 0 ∷ 0 ∷ 0 ∷ 0 ∷ 0 ∷ 0 ∷ 0 ∷ 0 ∷ 0 ∷ 0 ∷ 0 ∷ 0 ∷ 0 ∷ 0 ∷ 0 ∷ 0 ∷ 0 ∷ 0 ∷ 0 ∷ 0 ∷ 0 ∷ 0 ∷ 0 ∷ 0 ∷ 0 ∷ 0 ∷ 0 ∷ 0 ∷ 0 ∷ 0 ∷ 0 ∷ 0 ∷ 0 ∷ 0 ∷ 0 ∷ 0 ∷ 0 ∷ 0 ∷ 0 ∷ 0 ∷ 0 ∷ 0 ∷ 0 ∷ 0 ∷ 0 ∷ 0 ∷ 0 ∷ 0 ∷ 0 ∷ 0 ∷ 0 ∷ 0 ∷ 0 ∷ 0 ∷ 0 ∷ 0 ∷ 0 ∷ 0 ∷ 0 ∷ 0 ∷ 0 ∷ 0 ∷ 0 ∷ 0 ∷ 0 ∷ 0 ∷ 0 ∷ 0 ∷ 0 ∷ 0 ∷ 0 ∷ 0 ∷ 0 ∷ 0 ∷ 0 ∷ 0 ∷ 0 ∷ 0 ∷ 0 ∷ 2 ∷ 0 ∷ 0 ∷ 0 ∷ 0 ∷ 0 ∷ 0 ∷ 0 ∷ 0 ∷ 0 ∷ 0 ∷ 0 ∷ 0 ∷ 0 ∷ 0 ∷ 0 ∷ 1 ∷ 0 ∷ 0 ∷ 0 ∷ 0 ∷ 0 ∷ 0 ∷ 0 ∷ 0 ∷ 0 ∷ 0 ∷ 0 ∷ 0 ∷ 0 ∷ 0 ∷ 0 ∷ []
+asked-31-table = 1 ∷ 0 ∷ 8 ∷ 0 ∷ 68 ∷ 0 ∷ 0 ∷ 0 ∷ 85 ∷ 0 ∷ 0 ∷ 0 ∷ 153 ∷ 0 ∷ 0 ∷ 0 ∷ 16 ∷ 0 ∷ 0 ∷ 0 ∷ 169 ∷ 0 ∷ 0 ∷ 0 ∷ 128 ∷ 0 ∷ 0 ∷ 0 ∷ 41 ∷ 1 ∷ 0 ∷ 0 ∷ 32 ∷ 0 ∷ 0 ∷ 0 ∷ 73 ∷ 1 ∷ 0 ∷ 0 ∷ 0 ∷ 0 ∷ 0 ∷ 0 ∷ 73 ∷ 1 ∷ 0 ∷ 0 ∷ 0 ∷ 0 ∷ 0 ∷ 0 ∷ 73 ∷ 1 ∷ 0 ∷ 0 ∷ 0 ∷ 0 ∷ 0 ∷ 0 ∷ 73 ∷ 1 ∷ 0 ∷ 0 ∷ 16 ∷ 0 ∷ 0 ∷ 0 ∷ 0 ∷ 0 ∷ 0 ∷ 8 ∷ 111 ∷ 98 ∷ 106 ∷ 101 ∷ 99 ∷ 116 ∷ 95 ∷ 114 ∷ 4 ∷ 0 ∷ 0 ∷ 8 ∷ 111 ∷ 98 ∷ 106 ∷ 101 ∷ 99 ∷ 116 ∷ 95 ∷ 114 ∷ 1 ∷ 0 ∷ 0 ∷ 8 ∷ 79 ∷ 98 ∷ 106 ∷ 101 ∷ 99 ∷ 116 ∷ 95 ∷ 114 ∷ 1 ∷ 1 ∷ 0 ∷ 9 ∷ 111 ∷ 98 ∷ 106 ∷ 101 ∷ 99 ∷ 116 ∷ 95 ∷ 114 ∷ 45 ∷ 2 ∷ 0 ∷ 0 ∷ 8 ∷ 111 ∷ 98 ∷ 106 ∷ 101 ∷ 99 ∷ 116 ∷ 95 ∷ 114 ∷ 6 ∷ 0 ∷ 0 ∷ 8 ∷ 111 ∷ 98 ∷ 106 ∷ 101 ∷ 99 ∷ 116 ∷ 95 ∷ 114 ∷ 7 ∷ 0 ∷ 0 ∷ 8 ∷ 111 ∷ 98 ∷ 106 ∷ 101 ∷ 99 ∷ 116 ∷ 95 ∷ 114 ∷ 0 ∷ 0 ∷ 0 ∷ 0 ∷ 0 ∷ 0 ∷ 0 ∷ 0 ∷ 0 ∷ 0 ∷ 0 ∷ 0 ∷ 0 ∷ 0 ∷ 0 ∷ 0 ∷ 0 ∷ 0 ∷ 0 ∷ 0 ∷ 0 ∷ 0 ∷ 0 ∷ 0 ∷ 0 ∷ 0 ∷ 0 ∷ 0 ∷ 0 ∷ 0 ∷ 0 ∷ 0 ∷ 0 ∷ 0 ∷ 0 ∷ 0 ∷ 0 ∷ 0 ∷ 0 ∷ 0 ∷ 0 ∷ 0 ∷ 0 ∷ 0 ∷ 0 ∷ 0 ∷ 0 ∷ 0 ∷ 0 ∷ 0 ∷ 0 ∷ 0 ∷ 0 ∷ 0 ∷ 0 ∷ 0 ∷ 0 ∷ 0 ∷ 0 ∷ 0 ∷ 0 ∷ 0 ∷ 0 ∷ 0 ∷ 0 ∷ 0 ∷ 0 ∷ 0 ∷ 0 ∷ 0 ∷ 0 ∷ 0 ∷ 0 ∷ 0 ∷ 0 ∷ 0 ∷ 0 ∷ 0 ∷ 0 ∷ 0 ∷ 0 ∷ 0 ∷ 0 ∷ 0 ∷ 0 ∷ 0 ∷ 0 ∷ 0 ∷ 0 ∷ 0 ∷ 0 ∷ 0 ∷ 0 ∷ 0 ∷ 0 ∷ 0 ∷ 0 ∷ 0 ∷ 0 ∷ 0 ∷ 0 ∷ 0 ∷ 0 ∷ 0 ∷ 0 ∷ 0 ∷ 0 ∷ 0 ∷ 0 ∷ 0 ∷ 0 ∷ 0 ∷ 0 ∷ 0 ∷ 0 ∷ 0 ∷ 0 ∷ 0 ∷ 0 ∷ 0 ∷ 0 ∷ 0 ∷ 0 ∷ 0 ∷ 0 ∷ 0 ∷ 0 ∷ 0 ∷ 0 ∷ 0 ∷ 0 ∷ 0 ∷ 0 ∷ 0 ∷ 0 ∷ 0 ∷ 0 ∷ 0 ∷ 0 ∷ 0 ∷ 0 ∷ 0 ∷ 0 ∷ 0 ∷ 0 ∷ 0 ∷ 0 ∷ 0 ∷ 0 ∷ 0 ∷ 0 ∷ 0 ∷ 0 ∷ 0 ∷ 0 ∷ 0 ∷ 0 ∷ 0 ∷ 0 ∷ 0 ∷ 0 ∷ 0 ∷ 0 ∷ 0 ∷ 0 ∷ 0 ∷ 0 ∷ 0 ∷ 0 ∷ 0 ∷ 0 ∷ 0 ∷ 0 ∷ 0 ∷ 0 ∷ 0 ∷ 3 ∷ 0 ∷ 0 ∷ 0 ∷ 0 ∷ 0 ∷ 0 ∷ 0 ∷ 0 ∷ 0 ∷ 0 ∷ 0 ∷ 0 ∷ 0 ∷ 0 ∷ 0 ∷ []
 
 asked-31-written : tableOf asked-31 ≡ asked-31-table
 unfolding computing
 asked-31-written = refl
 
-asked-31-3 : newRoleOn asked-31-table 0 0 0 ≡ answered 0
+asked-31-0 : validOn asked-31-table (context 0 0 0) ≡ answered false
 unfolding computing
-asked-31-3 = refl
+asked-31-0 = refl
 
-asked-31-5 : nameOn asked-31-table 2 0 ≡ answered (record { start = 96; long = 3 })
+asked-31-1 : validOn asked-31-table (context 0 1 0) ≡ answered false
 unfolding computing
-asked-31-5 = refl
+asked-31-1 = refl
 
-asked-31-changes : changesOn asked-31-table ((record { source = context 0 0 0; target = context 0 0 0; class = 0; perm = 1 }) ∷ (record { source = context 0 0 0; target = context 1 0 0; class = 0; perm = 0 }) ∷ (record { source = context 0 0 0; target = context 0 0 0; class = 0; perm = 2 }) ∷ (record { source = context 0 0 0; target = context 1 0 0; class = 0; perm = 2 }) ∷ []) ≡ record { verdict = granted; consulted = 0 } ∷ record { verdict = granted; consulted = 0 } ∷ record { verdict = granted; consulted = 0 } ∷ record { verdict = granted; consulted = 0 } ∷ []
+asked-31-change : changeOn asked-31-table (record { source = context 0 0 0; target = context 0 1 0; class = 0; perm = 0 }) ≡ record { verdict = denied 1; consulted = 0 }
 unfolding computing
-asked-31-changes = refl
+asked-31-change = refl
 
-asked-31-statements : fromText asked-31 ((record { source = context 0 0 0; target = context 0 0 0; class = 0; perm = 1 }) ∷ (record { source = context 0 0 0; target = context 1 0 0; class = 0; perm = 0 }) ∷ (record { source = context 0 0 0; target = context 0 0 0; class = 0; perm = 2 }) ∷ (record { source = context 0 0 0; target = context 1 0 0; class = 0; perm = 2 }) ∷ []) ≡ record { verdict = granted; consulted = 0 } ∷ record { verdict = granted; consulted = 0 } ∷ record { verdict = granted; consulted = 0 } ∷ record { verdict = granted; consulted = 0 } ∷ []
+asked-31-statements : fromText asked-31 ((record { source = context 0 0 0; target = context 0 1 0; class = 0; perm = 0 }) ∷ []) ≡ record { verdict = denied 1; consulted = 0 } ∷ []
 unfolding computing
 asked-31-statements = refl
 
 -- a random policy and random questions
 abbrev asked-32 : List ℕ
-asked-32 = bytes "(user d6)(role c2)(roleattribute f6)(type a1)(class process(transition e1))(constrain(process(transition e1 e1))(or(domby r1 r2)(and(neq r1 c2)(or(incomp r1 r2)(or(neq r2 c2)(neq r2 f6))))))(roletype f6 a1)(userrole d6 f6)(class e4(b5 e6 d7))(constrain(e4(d7))(not(dom r1 r2)))(userrole d6 c2)(userattribute c9)(user a3)(user a5)(role b7)"
+asked-32 = bytes "(user c1)(userattribute b5)(role c2)(roleattribute f1)(type __-)(class d1(a7 e6 d3))(userrole b5 f1)(roletype c2 __-)(userattributeset b5(not c1))(userrole c1 c2)(roleattributeset f1(or c2 c2))(userrole b5 c2)(role b8)(user d6)"
 
 abbrev asked-32-table : List ℕ
-asked-32-table = 1 ∷ 0 ∷ 8 ∷ 0 ∷ 68 ∷ 0 ∷ 0 ∷ 0 ∷ 103 ∷ 0 ∷ 0 ∷ 0 ∷ 171 ∷ 0 ∷ 0 ∷ 0 ∷ 48 ∷ 0 ∷ 0 ∷ 0 ∷ 219 ∷ 0 ∷ 0 ∷ 0 ∷ 128 ∷ 0 ∷ 0 ∷ 0 ∷ 91 ∷ 1 ∷ 0 ∷ 0 ∷ 32 ∷ 0 ∷ 0 ∷ 0 ∷ 123 ∷ 1 ∷ 0 ∷ 0 ∷ 0 ∷ 0 ∷ 0 ∷ 0 ∷ 123 ∷ 1 ∷ 0 ∷ 0 ∷ 20 ∷ 0 ∷ 0 ∷ 0 ∷ 143 ∷ 1 ∷ 0 ∷ 0 ∷ 66 ∷ 0 ∷ 0 ∷ 0 ∷ 209 ∷ 1 ∷ 0 ∷ 0 ∷ 32 ∷ 0 ∷ 0 ∷ 0 ∷ 0 ∷ 0 ∷ 0 ∷ 2 ∷ 100 ∷ 54 ∷ 1 ∷ 0 ∷ 0 ∷ 2 ∷ 99 ∷ 50 ∷ 4 ∷ 0 ∷ 0 ∷ 2 ∷ 102 ∷ 54 ∷ 2 ∷ 0 ∷ 0 ∷ 2 ∷ 97 ∷ 49 ∷ 6 ∷ 0 ∷ 0 ∷ 7 ∷ 112 ∷ 114 ∷ 111 ∷ 99 ∷ 101 ∷ 115 ∷ 115 ∷ 7 ∷ 0 ∷ 0 ∷ 10 ∷ 116 ∷ 114 ∷ 97 ∷ 110 ∷ 115 ∷ 105 ∷ 116 ∷ 105 ∷ 111 ∷ 110 ∷ 7 ∷ 1 ∷ 0 ∷ 2 ∷ 101 ∷ 49 ∷ 6 ∷ 1 ∷ 0 ∷ 2 ∷ 101 ∷ 52 ∷ 7 ∷ 32 ∷ 0 ∷ 2 ∷ 98 ∷ 53 ∷ 7 ∷ 33 ∷ 0 ∷ 2 ∷ 101 ∷ 54 ∷ 7 ∷ 34 ∷ 0 ∷ 2 ∷ 100 ∷ 55 ∷ 3 ∷ 0 ∷ 0 ∷ 2 ∷ 99 ∷ 57 ∷ 0 ∷ 1 ∷ 0 ∷ 2 ∷ 97 ∷ 51 ∷ 0 ∷ 2 ∷ 0 ∷ 2 ∷ 97 ∷ 53 ∷ 1 ∷ 1 ∷ 0 ∷ 2 ∷ 98 ∷ 55 ∷ 1 ∷ 0 ∷ 0 ∷ 0 ∷ 0 ∷ 0 ∷ 0 ∷ 0 ∷ 0 ∷ 0 ∷ 0 ∷ 0 ∷ 0 ∷ 0 ∷ 0 ∷ 0 ∷ 0 ∷ 0 ∷ 0 ∷ 0 ∷ 0 ∷ 0 ∷ 0 ∷ 0 ∷ 0 ∷ 0 ∷ 0 ∷ 0 ∷ 0 ∷ 0 ∷ 0 ∷ 0 ∷ 0 ∷ 0 ∷ 0 ∷ 0 ∷ 0 ∷ 0 ∷ 0 ∷ 0 ∷ 0 ∷ 0 ∷ 0 ∷ 0 ∷ 0 ∷ 0 ∷ 0 ∷ 0 ∷ 0 ∷ 0 ∷ 0 ∷ 0 ∷ 0 ∷ 0 ∷ 0 ∷ 0 ∷ 0 ∷ 0 ∷ 0 ∷ 0 ∷ 0 ∷ 0 ∷ 0 ∷ 0 ∷ 0 ∷ 0 ∷ 0 ∷ 0 ∷ 0 ∷ 0 ∷ 0 ∷ 0 ∷ 0 ∷ 0 ∷ 0 ∷ 0 ∷ 0 ∷ 0 ∷ 0 ∷ 0 ∷ 0 ∷ 0 ∷ 0 ∷ 0 ∷ 0 ∷ 0 ∷ 0 ∷ 0 ∷ 0 ∷ 0 ∷ 0 ∷ 0 ∷ 0 ∷ 0 ∷ 0 ∷ 0 ∷ 0 ∷ 0 ∷ 0 ∷ 0 ∷ 0 ∷ 0 ∷ 0 ∷ 0 ∷ 0 ∷ 0 ∷ 0 ∷ 0 ∷ 0 ∷ 0 ∷ 0 ∷ 0 ∷ 0 ∷ 0 ∷ 0 ∷ 0 ∷ 0 ∷ 0 ∷ 0 ∷ 0 ∷ 0 ∷ 0 ∷ 0 ∷ 0 ∷ 0 ∷ 0 ∷ 0 ∷ 0 ∷ 0 ∷ 0 ∷ 0 ∷ 0 ∷ 0 ∷ 0 ∷ 0 ∷ 0 ∷ 0 ∷ 0 ∷ 0 ∷ 0 ∷ 0 ∷ 0 ∷ 0 ∷ 0 ∷ 0 ∷ 0 ∷ 0 ∷ 0 ∷ 0 ∷ 0 ∷ 0 ∷ 0 ∷ 0 ∷ 0 ∷ 0 ∷ 0 ∷ 0 ∷ 0 ∷ 0 ∷ 0 ∷ 0 ∷ 0 ∷ 0 ∷ 0 ∷ 0 ∷ 0 ∷ 0 ∷ 0 ∷ 0 ∷ 0 ∷ 0 ∷ 0 ∷ 0 ∷ 0 ∷ 0 ∷ 0 ∷ 0 ∷ 0 ∷ 0 ∷ 0 ∷ 0 ∷ 0 ∷ 0 ∷ 0 ∷ 0 ∷ 0 ∷ 0 ∷ 0 ∷ 0 ∷ 0 ∷ 0 ∷ 0 ∷ 0 ∷ 0 ∷ 0 ∷ 0 ∷ 0 ∷ 0 ∷ 0 ∷ 0 ∷ 0 ∷ 0 ∷ 0 ∷ 0 ∷ 0 ∷ 0 ∷ 0 ∷ 0 ∷ 0 ∷ 0 ∷ 3 ∷ 0 ∷ 0 ∷ 0 ∷ 0 ∷ 0 ∷ 9 ∷ 0 ∷ 1 ∷ 0 ∷ 4 ∷ 0 ∷ 0 ∷ 0 ∷ 9 ∷ 0 ∷ 2 ∷ 0 ∷ 3 ∷ 2 ∷ 3 ∷ 0 ∷ 0 ∷ 0 ∷ 4 ∷ 2 ∷ 1 ∷ 0 ∷ 0 ∷ 0 ∷ 3 ∷ 2 ∷ 4 ∷ 0 ∷ 0 ∷ 0 ∷ 4 ∷ 3 ∷ 1 ∷ 0 ∷ 0 ∷ 0 ∷ 5 ∷ 3 ∷ 1 ∷ 0 ∷ 0 ∷ 0 ∷ 2 ∷ 0 ∷ 0 ∷ 0 ∷ 0 ∷ 0 ∷ 2 ∷ 0 ∷ 0 ∷ 0 ∷ 0 ∷ 0 ∷ 1 ∷ 0 ∷ 0 ∷ 0 ∷ 0 ∷ 0 ∷ 2 ∷ 0 ∷ 0 ∷ 0 ∷ 0 ∷ 0 ∷ 3 ∷ 2 ∷ 2 ∷ 0 ∷ 0 ∷ 0 ∷ 0 ∷ 0 ∷ 0 ∷ 0 ∷ 0 ∷ 0 ∷ 0 ∷ 0 ∷ 0 ∷ 0 ∷ 0 ∷ 0 ∷ 0 ∷ 0 ∷ 0 ∷ 0 ∷ 0 ∷ 0 ∷ 0 ∷ 0 ∷ 0 ∷ 0 ∷ 0 ∷ 0 ∷ 0 ∷ 0 ∷ 0 ∷ 0 ∷ 0 ∷ 0 ∷ 0 ∷ 0 ∷ 0 ∷ 0 ∷ 0 ∷ 0 ∷ 0 ∷ 0 ∷ []
+asked-32-table = 1 ∷ 0 ∷ 8 ∷ 0 ∷ 68 ∷ 0 ∷ 0 ∷ 0 ∷ 67 ∷ 0 ∷ 0 ∷ 0 ∷ 135 ∷ 0 ∷ 0 ∷ 0 ∷ 32 ∷ 0 ∷ 0 ∷ 0 ∷ 167 ∷ 0 ∷ 0 ∷ 0 ∷ 128 ∷ 0 ∷ 0 ∷ 0 ∷ 39 ∷ 1 ∷ 0 ∷ 0 ∷ 32 ∷ 0 ∷ 0 ∷ 0 ∷ 71 ∷ 1 ∷ 0 ∷ 0 ∷ 0 ∷ 0 ∷ 0 ∷ 0 ∷ 71 ∷ 1 ∷ 0 ∷ 0 ∷ 0 ∷ 0 ∷ 0 ∷ 0 ∷ 71 ∷ 1 ∷ 0 ∷ 0 ∷ 0 ∷ 0 ∷ 0 ∷ 0 ∷ 71 ∷ 1 ∷ 0 ∷ 0 ∷ 32 ∷ 0 ∷ 0 ∷ 0 ∷ 0 ∷ 0 ∷ 0 ∷ 2 ∷ 99 ∷ 49 ∷ 3 ∷ 0 ∷ 0 ∷ 2 ∷ 98 ∷ 53 ∷ 1 ∷ 0 ∷ 0 ∷ 2 ∷ 99 ∷ 50 ∷ 4 ∷ 0 ∷ 0 ∷ 2 ∷ 102 ∷ 49 ∷ 2 ∷ 0 ∷ 0 ∷ 3 ∷ 95 ∷ 95 ∷ 45 ∷ 6 ∷ 0 ∷ 0 ∷ 2 ∷ 100 ∷ 49 ∷ 7 ∷ 0 ∷ 0 ∷ 2 ∷ 97 ∷ 55 ∷ 7 ∷ 1 ∷ 0 ∷ 2 ∷ 101 ∷ 54 ∷ 7 ∷ 2 ∷ 0 ∷ 2 ∷ 100 ∷ 51 ∷ 1 ∷ 1 ∷ 0 ∷ 2 ∷ 98 ∷ 56 ∷ 0 ∷ 1 ∷ 0 ∷ 2 ∷ 100 ∷ 54 ∷ 1 ∷ 0 ∷ 0 ∷ 0 ∷ 0 ∷ 0 ∷ 0 ∷ 0 ∷ 0 ∷ 0 ∷ 0 ∷ 0 ∷ 0 ∷ 0 ∷ 0 ∷ 0 ∷ 1 ∷ 0 ∷ 0 ∷ 0 ∷ 0 ∷ 0 ∷ 0 ∷ 0 ∷ 0 ∷ 0 ∷ 0 ∷ 0 ∷ 0 ∷ 0 ∷ 0 ∷ 0 ∷ 1 ∷ 0 ∷ 0 ∷ 0 ∷ 0 ∷ 0 ∷ 0 ∷ 0 ∷ 0 ∷ 0 ∷ 0 ∷ 0 ∷ 0 ∷ 0 ∷ 0 ∷ 0 ∷ 0 ∷ 0 ∷ 0 ∷ 0 ∷ 0 ∷ 0 ∷ 0 ∷ 0 ∷ 0 ∷ 0 ∷ 0 ∷ 0 ∷ 0 ∷ 0 ∷ 0 ∷ 0 ∷ 0 ∷ 0 ∷ 0 ∷ 0 ∷ 0 ∷ 0 ∷ 0 ∷ 0 ∷ 0 ∷ 0 ∷ 0 ∷ 0 ∷ 0 ∷ 0 ∷ 0 ∷ 0 ∷ 0 ∷ 0 ∷ 0 ∷ 0 ∷ 0 ∷ 0 ∷ 0 ∷ 0 ∷ 0 ∷ 0 ∷ 0 ∷ 0 ∷ 0 ∷ 0 ∷ 0 ∷ 0 ∷ 0 ∷ 0 ∷ 0 ∷ 0 ∷ 0 ∷ 0 ∷ 0 ∷ 0 ∷ 0 ∷ 0 ∷ 0 ∷ 0 ∷ 0 ∷ 0 ∷ 0 ∷ 0 ∷ 0 ∷ 0 ∷ 0 ∷ 0 ∷ 0 ∷ 0 ∷ 0 ∷ 0 ∷ 0 ∷ 0 ∷ 0 ∷ 0 ∷ 0 ∷ 0 ∷ 0 ∷ 0 ∷ 0 ∷ 0 ∷ 0 ∷ 0 ∷ 0 ∷ 0 ∷ 0 ∷ 0 ∷ 0 ∷ 0 ∷ 0 ∷ 0 ∷ 0 ∷ 0 ∷ 0 ∷ 0 ∷ 0 ∷ 0 ∷ 0 ∷ 0 ∷ 0 ∷ 0 ∷ 0 ∷ 0 ∷ 0 ∷ 0 ∷ 0 ∷ 0 ∷ 0 ∷ 0 ∷ 0 ∷ 0 ∷ 0 ∷ 0 ∷ 0 ∷ 0 ∷ 0 ∷ 0 ∷ 0 ∷ 0 ∷ 0 ∷ 0 ∷ 0 ∷ 0 ∷ 0 ∷ 0 ∷ 0 ∷ 0 ∷ 0 ∷ 0 ∷ 0 ∷ 0 ∷ 0 ∷ 0 ∷ 0 ∷ 0 ∷ 0 ∷ 0 ∷ 0 ∷ 0 ∷ 0 ∷ 0 ∷ 0 ∷ 0 ∷ 2 ∷ 0 ∷ 0 ∷ 0 ∷ 0 ∷ 0 ∷ 0 ∷ 0 ∷ 0 ∷ 0 ∷ 0 ∷ 0 ∷ 0 ∷ 0 ∷ 0 ∷ 0 ∷ 1 ∷ 0 ∷ 0 ∷ 0 ∷ 0 ∷ 0 ∷ 0 ∷ 0 ∷ 0 ∷ 0 ∷ 0 ∷ 0 ∷ 0 ∷ 0 ∷ 0 ∷ 0 ∷ []
 
 asked-32-written : tableOf asked-32 ≡ asked-32-table
 unfolding computing
 asked-32-written = refl
 
-asked-32-2 : entryOn asked-32-table 5 0 ≡ refused 12 0
-unfolding computing
-asked-32-2 = refl
-
-asked-32-3 : entryOn asked-32-table 3 0 ≡ answered (record { start = 219; long = 64 })
+asked-32-3 : newRoleOn asked-32-table 0 0 0 ≡ answered 0
 unfolding computing
 asked-32-3 = refl
 
-asked-32-changes : changesOn asked-32-table ((record { source = context 0 1 0; target = context 1 0 0; class = 0; perm = 0 }) ∷ (record { source = context 0 1 2147483648; target = context 2 1 0; class = 0; perm = 0 }) ∷ (record { source = context 0 0 0; target = context 1 0 0; class = 1; perm = 0 }) ∷ (record { source = context 0 1 0; target = context 1 0 0; class = 0; perm = 0 }) ∷ []) ≡ record { verdict = denied 1; consulted = 0 } ∷ record { verdict = refuses 12 0; consulted = 0 } ∷ record { verdict = denied 1; consulted = 0 } ∷ record { verdict = denied 1; consulted = 0 } ∷ []
+asked-32-5 : nameOn asked-32-table 2 0 ≡ answered (record { start = 96; long = 3 })
+unfolding computing
+asked-32-5 = refl
+
+asked-32-changes : changesOn asked-32-table ((record { source = context 0 0 0; target = context 0 0 0; class = 0; perm = 1 }) ∷ (record { source = context 0 0 0; target = context 1 0 0; class = 0; perm = 0 }) ∷ (record { source = context 0 0 0; target = context 0 0 0; class = 0; perm = 2 }) ∷ (record { source = context 0 0 0; target = context 1 0 0; class = 0; perm = 2 }) ∷ []) ≡ record { verdict = granted; consulted = 0 } ∷ record { verdict = granted; consulted = 0 } ∷ record { verdict = granted; consulted = 0 } ∷ record { verdict = granted; consulted = 0 } ∷ []
 unfolding computing
 asked-32-changes = refl
 
-asked-32-statements : fromText asked-32 ((record { source = context 0 1 0; target = context 1 0 0; class = 0; perm = 0 }) ∷ (record { source = context 0 0 0; target = context 1 0 0; class = 1; perm = 0 }) ∷ (record { source = context 0 1 0; target = context 1 0 0; class = 0; perm = 0 }) ∷ []) ≡ record { verdict = denied 1; consulted = 0 } ∷ record { verdict = denied 1; consulted = 0 } ∷ record { verdict = denied 1; consulted = 0 } ∷ []
+asked-32-statements : fromText asked-32 ((record { source = context 0 0 0; target = context 0 0 0; class = 0; perm = 1 }) ∷ (record { source = context 0 0 0; target = context 1 0 0; class = 0; perm = 0 }) ∷ (record { source = context 0 0 0; target = context 0 0 0; class = 0; perm = 2 }) ∷ (record { source = context 0 0 0; target = context 1 0 0; class = 0; perm = 2 }) ∷ []) ≡ record { verdict = granted; consulted = 0 } ∷ record { verdict = granted; consulted = 0 } ∷ record { verdict = granted; consulted = 0 } ∷ record { verdict = granted; consulted = 0 } ∷ []
 unfolding computing
 asked-32-statements = refl
 
 -- a random policy and random questions
 abbrev asked-33 : List ℕ
-asked-33 = bytes "(user f3)(userattribute f2)(role b3)(roleattribute e5)(type f8)(typeattribute d9)(class c5(e5))(userrole f3 b3)(userrole f2 e5)(userattributeset f2(not f3))(role b1)(type r)(type d2)(userattributeset f2(f3 f3))(type f7)(userrole f2 e5)"
+asked-33 = bytes "(user d6)(role c2)(roleattribute f6)(type a1)(class process(transition e1))(constrain(process(transition e1 e1))(or(domby r1 r2)(and(neq r1 c2)(or(incomp r1 r2)(or(neq r2 c2)(neq r2 f6))))))(roletype f6 a1)(userrole d6 f6)(class e4(b5 e6 d7))(constrain(e4(d7))(not(dom r1 r2)))(userrole d6 c2)(userattribute c9)(user a3)(user a5)(role b7)"
 
 abbrev asked-33-table : List ℕ
-asked-33-table = 1 ∷ 0 ∷ 8 ∷ 0 ∷ 68 ∷ 0 ∷ 0 ∷ 0 ∷ 71 ∷ 0 ∷ 0 ∷ 0 ∷ 139 ∷ 0 ∷ 0 ∷ 0 ∷ 16 ∷ 0 ∷ 0 ∷ 0 ∷ 155 ∷ 0 ∷ 0 ∷ 0 ∷ 128 ∷ 0 ∷ 0 ∷ 0 ∷ 27 ∷ 1 ∷ 0 ∷ 0 ∷ 32 ∷ 0 ∷ 0 ∷ 0 ∷ 59 ∷ 1 ∷ 0 ∷ 0 ∷ 0 ∷ 0 ∷ 0 ∷ 0 ∷ 59 ∷ 1 ∷ 0 ∷ 0 ∷ 0 ∷ 0 ∷ 0 ∷ 0 ∷ 59 ∷ 1 ∷ 0 ∷ 0 ∷ 0 ∷ 0 ∷ 0 ∷ 0 ∷ 59 ∷ 1 ∷ 0 ∷ 0 ∷ 96 ∷ 0 ∷ 0 ∷ 0 ∷ 0 ∷ 0 ∷ 0 ∷ 2 ∷ 102 ∷ 51 ∷ 3 ∷ 0 ∷ 0 ∷ 2 ∷ 102 ∷ 50 ∷ 1 ∷ 0 ∷ 0 ∷ 2 ∷ 98 ∷ 51 ∷ 4 ∷ 0 ∷ 0 ∷ 2 ∷ 101 ∷ 53 ∷ 2 ∷ 0 ∷ 0 ∷ 2 ∷ 102 ∷ 56 ∷ 5 ∷ 0 ∷ 0 ∷ 2 ∷ 100 ∷ 57 ∷ 6 ∷ 0 ∷ 0 ∷ 2 ∷ 99 ∷ 53 ∷ 7 ∷ 0 ∷ 0 ∷ 2 ∷ 101 ∷ 53 ∷ 1 ∷ 1 ∷ 0 ∷ 2 ∷ 98 ∷ 49 ∷ 2 ∷ 1 ∷ 0 ∷ 1 ∷ 114 ∷ 2 ∷ 2 ∷ 0 ∷ 2 ∷ 100 ∷ 50 ∷ 2 ∷ 3 ∷ 0 ∷ 2 ∷ 102 ∷ 55 ∷ 1 ∷ 0 ∷ 0 ∷ 0 ∷ 0 ∷ 0 ∷ 0 ∷ 0 ∷ 0 ∷ 0 ∷ 0 ∷ 0 ∷ 0 ∷ 0 ∷ 0 ∷ 0 ∷ 0 ∷ 0 ∷ 0 ∷ 0 ∷ 0 ∷ 0 ∷ 0 ∷ 0 ∷ 0 ∷ 0 ∷ 0 ∷ 0 ∷ 0 ∷ 0 ∷ 0 ∷ 0 ∷ 0 ∷ 0 ∷ 0 ∷ 0 ∷ 0 ∷ 0 ∷ 0 ∷ 0 ∷ 0 ∷ 0 ∷ 0 ∷ 0 ∷ 0 ∷ 0 ∷ 0 ∷ 0 ∷ 0 ∷ 0 ∷ 0 ∷ 0 ∷ 0 ∷ 0 ∷ 0 ∷ 0 ∷ 0 ∷ 0 ∷ 0 ∷ 0 ∷ 0 ∷ 0 ∷ 0 ∷ 0 ∷ 0 ∷ 0 ∷ 0 ∷ 0 ∷ 0 ∷ 0 ∷ 0 ∷ 0 ∷ 0 ∷ 0 ∷ 0 ∷ 0 ∷ 0 ∷ 0 ∷ 0 ∷ 0 ∷ 0 ∷ 0 ∷ 0 ∷ 0 ∷ 0 ∷ 0 ∷ 0 ∷ 0 ∷ 0 ∷ 0 ∷ 0 ∷ 0 ∷ 0 ∷ 0 ∷ 0 ∷ 0 ∷ 0 ∷ 0 ∷ 0 ∷ 0 ∷ 0 ∷ 0 ∷ 0 ∷ 0 ∷ 0 ∷ 0 ∷ 0 ∷ 0 ∷ 0 ∷ 0 ∷ 0 ∷ 0 ∷ 0 ∷ 0 ∷ 0 ∷ 0 ∷ 0 ∷ 0 ∷ 0 ∷ 0 ∷ 0 ∷ 0 ∷ 0 ∷ 0 ∷ 0 ∷ 0 ∷ 0 ∷ 0 ∷ 0 ∷ 0 ∷ 0 ∷ 0 ∷ 0 ∷ 0 ∷ 0 ∷ 0 ∷ 0 ∷ 0 ∷ 0 ∷ 0 ∷ 0 ∷ 0 ∷ 0 ∷ 0 ∷ 0 ∷ 0 ∷ 0 ∷ 0 ∷ 0 ∷ 0 ∷ 0 ∷ 0 ∷ 0 ∷ 0 ∷ 0 ∷ 0 ∷ 0 ∷ 0 ∷ 0 ∷ 0 ∷ 0 ∷ 0 ∷ 0 ∷ 0 ∷ 0 ∷ 0 ∷ 0 ∷ 0 ∷ 0 ∷ 0 ∷ 0 ∷ 0 ∷ 0 ∷ 0 ∷ 0 ∷ 0 ∷ 1 ∷ 0 ∷ 0 ∷ 0 ∷ 0 ∷ 0 ∷ 0 ∷ 0 ∷ 0 ∷ 0 ∷ 0 ∷ 0 ∷ 0 ∷ 0 ∷ 0 ∷ 0 ∷ 0 ∷ 0 ∷ 0 ∷ 0 ∷ 0 ∷ 0 ∷ 0 ∷ 0 ∷ 0 ∷ 0 ∷ 0 ∷ 0 ∷ 0 ∷ 0 ∷ 0 ∷ 0 ∷ 0 ∷ 0 ∷ 0 ∷ 0 ∷ 0 ∷ 0 ∷ 0 ∷ 0 ∷ 0 ∷ 0 ∷ 0 ∷ 0 ∷ 0 ∷ 0 ∷ 0 ∷ 0 ∷ 0 ∷ 0 ∷ 0 ∷ 0 ∷ 0 ∷ 0 ∷ 0 ∷ 0 ∷ 0 ∷ 0 ∷ 0 ∷ 0 ∷ 0 ∷ 0 ∷ 0 ∷ 0 ∷ 0 ∷ 0 ∷ 0 ∷ 0 ∷ 0 ∷ 0 ∷ 0 ∷ 0 ∷ 0 ∷ 0 ∷ 0 ∷ 0 ∷ 0 ∷ 0 ∷ 0 ∷ 0 ∷ 0 ∷ 0 ∷ 0 ∷ 0 ∷ 0 ∷ 0 ∷ 0 ∷ 0 ∷ 0 ∷ 0 ∷ 0 ∷ 0 ∷ 0 ∷ 0 ∷ 0 ∷ 0 ∷ []
+asked-33-table = 1 ∷ 0 ∷ 8 ∷ 0 ∷ 68 ∷ 0 ∷ 0 ∷ 0 ∷ 103 ∷ 0 ∷ 0 ∷ 0 ∷ 171 ∷ 0 ∷ 0 ∷ 0 ∷ 48 ∷ 0 ∷ 0 ∷ 0 ∷ 219 ∷ 0 ∷ 0 ∷ 0 ∷ 128 ∷ 0 ∷ 0 ∷ 0 ∷ 91 ∷ 1 ∷ 0 ∷ 0 ∷ 32 ∷ 0 ∷ 0 ∷ 0 ∷ 123 ∷ 1 ∷ 0 ∷ 0 ∷ 0 ∷ 0 ∷ 0 ∷ 0 ∷ 123 ∷ 1 ∷ 0 ∷ 0 ∷ 20 ∷ 0 ∷ 0 ∷ 0 ∷ 143 ∷ 1 ∷ 0 ∷ 0 ∷ 66 ∷ 0 ∷ 0 ∷ 0 ∷ 209 ∷ 1 ∷ 0 ∷ 0 ∷ 32 ∷ 0 ∷ 0 ∷ 0 ∷ 0 ∷ 0 ∷ 0 ∷ 2 ∷ 100 ∷ 54 ∷ 1 ∷ 0 ∷ 0 ∷ 2 ∷ 99 ∷ 50 ∷ 4 ∷ 0 ∷ 0 ∷ 2 ∷ 102 ∷ 54 ∷ 2 ∷ 0 ∷ 0 ∷ 2 ∷ 97 ∷ 49 ∷ 6 ∷ 0 ∷ 0 ∷ 7 ∷ 112 ∷ 114 ∷ 111 ∷ 99 ∷ 101 ∷ 115 ∷ 115 ∷ 7 ∷ 0 ∷ 0 ∷ 10 ∷ 116 ∷ 114 ∷ 97 ∷ 110 ∷ 115 ∷ 105 ∷ 116 ∷ 105 ∷ 111 ∷ 110 ∷ 7 ∷ 1 ∷ 0 ∷ 2 ∷ 101 ∷ 49 ∷ 6 ∷ 1 ∷ 0 ∷ 2 ∷ 101 ∷ 52 ∷ 7 ∷ 32 ∷ 0 ∷ 2 ∷ 98 ∷ 53 ∷ 7 ∷ 33 ∷ 0 ∷ 2 ∷ 101 ∷ 54 ∷ 7 ∷ 34 ∷ 0 ∷ 2 ∷ 100 ∷ 55 ∷ 3 ∷ 0 ∷ 0 ∷ 2 ∷ 99 ∷ 57 ∷ 0 ∷ 1 ∷ 0 ∷ 2 ∷ 97 ∷ 51 ∷ 0 ∷ 2 ∷ 0 ∷ 2 ∷ 97 ∷ 53 ∷ 1 ∷ 1 ∷ 0 ∷ 2 ∷ 98 ∷ 55 ∷ 1 ∷ 0 ∷ 0 ∷ 0 ∷ 0 ∷ 0 ∷ 0 ∷ 0 ∷ 0 ∷ 0 ∷ 0 ∷ 0 ∷ 0 ∷ 0 ∷ 0 ∷ 0 ∷ 0 ∷ 0 ∷ 0 ∷ 0 ∷ 0 ∷ 0 ∷ 0 ∷ 0 ∷ 0 ∷ 0 ∷ 0 ∷ 0 ∷ 0 ∷ 0 ∷ 0 ∷ 0 ∷ 0 ∷ 0 ∷ 0 ∷ 0 ∷ 0 ∷ 0 ∷ 0 ∷ 0 ∷ 0 ∷ 0 ∷ 0 ∷ 0 ∷ 0 ∷ 0 ∷ 0 ∷ 0 ∷ 0 ∷ 0 ∷ 0 ∷ 0 ∷ 0 ∷ 0 ∷ 0 ∷ 0 ∷ 0 ∷ 0 ∷ 0 ∷ 0 ∷ 0 ∷ 0 ∷ 0 ∷ 0 ∷ 0 ∷ 0 ∷ 0 ∷ 0 ∷ 0 ∷ 0 ∷ 0 ∷ 0 ∷ 0 ∷ 0 ∷ 0 ∷ 0 ∷ 0 ∷ 0 ∷ 0 ∷ 0 ∷ 0 ∷ 0 ∷ 0 ∷ 0 ∷ 0 ∷ 0 ∷ 0 ∷ 0 ∷ 0 ∷ 0 ∷ 0 ∷ 0 ∷ 0 ∷ 0 ∷ 0 ∷ 0 ∷ 0 ∷ 0 ∷ 0 ∷ 0 ∷ 0 ∷ 0 ∷ 0 ∷ 0 ∷ 0 ∷ 0 ∷ 0 ∷ 0 ∷ 0 ∷ 0 ∷ 0 ∷ 0 ∷ 0 ∷ 0 ∷ 0 ∷ 0 ∷ 0 ∷ 0 ∷ 0 ∷ 0 ∷ 0 ∷ 0 ∷ 0 ∷ 0 ∷ 0 ∷ 0 ∷ 0 ∷ 0 ∷ 0 ∷ 0 ∷ 0 ∷ 0 ∷ 0 ∷ 0 ∷ 0 ∷ 0 ∷ 0 ∷ 0 ∷ 0 ∷ 0 ∷ 0 ∷ 0 ∷ 0 ∷ 0 ∷ 0 ∷ 0 ∷ 0 ∷ 0 ∷ 0 ∷ 0 ∷ 0 ∷ 0 ∷ 0 ∷ 0 ∷ 0 ∷ 0 ∷ 0 ∷ 0 ∷ 0 ∷ 0 ∷ 0 ∷ 0 ∷ 0 ∷ 0 ∷ 0 ∷ 0 ∷ 0 ∷ 0 ∷ 0 ∷ 0 ∷ 0 ∷ 0 ∷ 0 ∷ 0 ∷ 0 ∷ 0 ∷ 0 ∷ 0 ∷ 0 ∷ 0 ∷ 0 ∷ 0 ∷ 0 ∷ 0 ∷ 0 ∷ 0 ∷ 0 ∷ 0 ∷ 0 ∷ 0 ∷ 0 ∷ 0 ∷ 0 ∷ 0 ∷ 0 ∷ 0 ∷ 0 ∷ 0 ∷ 0 ∷ 0 ∷ 0 ∷ 0 ∷ 0 ∷ 0 ∷ 0 ∷ 0 ∷ 0 ∷ 0 ∷ 0 ∷ 0 ∷ 3 ∷ 0 ∷ 0 ∷ 0 ∷ 0 ∷ 0 ∷ 9 ∷ 0 ∷ 1 ∷ 0 ∷ 4 ∷ 0 ∷ 0 ∷ 0 ∷ 9 ∷ 0 ∷ 2 ∷ 0 ∷ 3 ∷ 2 ∷ 3 ∷ 0 ∷ 0 ∷ 0 ∷ 4 ∷ 2 ∷ 1 ∷ 0 ∷ 0 ∷ 0 ∷ 3 ∷ 2 ∷ 4 ∷ 0 ∷ 0 ∷ 0 ∷ 4 ∷ 3 ∷ 1 ∷ 0 ∷ 0 ∷ 0 ∷ 5 ∷ 3 ∷ 1 ∷ 0 ∷ 0 ∷ 0 ∷ 2 ∷ 0 ∷ 0 ∷ 0 ∷ 0 ∷ 0 ∷ 2 ∷ 0 ∷ 0 ∷ 0 ∷ 0 ∷ 0 ∷ 1 ∷ 0 ∷ 0 ∷ 0 ∷ 0 ∷ 0 ∷ 2 ∷ 0 ∷ 0 ∷ 0 ∷ 0 ∷ 0 ∷ 3 ∷ 2 ∷ 2 ∷ 0 ∷ 0 ∷ 0 ∷ 0 ∷ 0 ∷ 0 ∷ 0 ∷ 0 ∷ 0 ∷ 0 ∷ 0 ∷ 0 ∷ 0 ∷ 0 ∷ 0 ∷ 0 ∷ 0 ∷ 0 ∷ 0 ∷ 0 ∷ 0 ∷ 0 ∷ 0 ∷ 0 ∷ 0 ∷ 0 ∷ 0 ∷ 0 ∷ 0 ∷ 0 ∷ 0 ∷ 0 ∷ 0 ∷ 0 ∷ 0 ∷ 0 ∷ 0 ∷ 0 ∷ 0 ∷ 0 ∷ 0 ∷ []
 
 asked-33-written : tableOf asked-33 ≡ asked-33-table
 unfolding computing
 asked-33-written = refl
 
-asked-33-1 : newRoleOn asked-33-table 0 0 0 ≡ answered 0
+asked-33-2 : entryOn asked-33-table 5 0 ≡ refused 12 0
 unfolding computing
-asked-33-1 = refl
+asked-33-2 = refl
 
-asked-33-changes : changesOn asked-33-table ((record { source = context 0 0 1; target = context 0 1 2; class = 0; perm = 0 }) ∷ (record { source = context 0 0 3; target = context 0 1 0; class = 0; perm = 0 }) ∷ (record { source = context 0 1 1; target = context 0 0 3; class = 0; perm = 0 }) ∷ (record { source = context 0 1 2; target = context 0 1 0; class = 0; perm = 0 }) ∷ (record { source = context 0 1 2; target = context 0 0 1; class = 0; perm = 0 }) ∷ []) ≡ record { verdict = denied 1; consulted = 0 } ∷ record { verdict = denied 1; consulted = 0 } ∷ record { verdict = denied 1; consulted = 0 } ∷ record { verdict = denied 1; consulted = 0 } ∷ record { verdict = denied 1; consulted = 0 } ∷ []
+asked-33-3 : entryOn asked-33-table 3 0 ≡ answered (record { start = 219; long = 64 })
+unfolding computing
+asked-33-3 = refl
+
+asked-33-changes : changesOn asked-33-table ((record { source = context 0 1 0; target = context 1 0 0; class = 0; perm = 0 }) ∷ (record { source = context 0 1 2147483648; target = context 2 1 0; class = 0; perm = 0 }) ∷ (record { source = context 0 0 0; target = context 1 0 0; class = 1; perm = 0 }) ∷ (record { source = context 0 1 0; target = context 1 0 0; class = 0; perm = 0 }) ∷ []) ≡ record { verdict = denied 1; consulted = 0 } ∷ record { verdict = refuses 12 0; consulted = 0 } ∷ record { verdict = denied 1; consulted = 0 } ∷ record { verdict = denied 1; consulted = 0 } ∷ []
 unfolding computing
 asked-33-changes = refl
 
-asked-33-statements : fromText asked-33 ((record { source = context 0 0 1; target = context 0 1 2; class = 0; perm = 0 }) ∷ (record { source = context 0 0 3; target = context 0 1 0; class = 0; perm = 0 }) ∷ (record { source = context 0 1 1; target = context 0 0 3; class = 0; perm = 0 }) ∷ (record { source = context 0 1 2; target = context 0 1 0; class = 0; perm = 0 }) ∷ (record { source = context 0 1 2; target = context 0 0 1; class = 0; perm = 0 }) ∷ []) ≡ record { verdict = denied 1; consulted = 0 } ∷ record { verdict = denied 1; consulted = 0 } ∷ record { verdict = denied 1; consulted = 0 } ∷ record { verdict = denied 1; consulted = 0 } ∷ record { verdict = denied 1; consulted = 0 } ∷ []
+asked-33-statements : fromText asked-33 ((record { source = context 0 1 0; target = context 1 0 0; class = 0; perm = 0 }) ∷ (record { source = context 0 0 0; target = context 1 0 0; class = 1; perm = 0 }) ∷ (record { source = context 0 1 0; target = context 1 0 0; class = 0; perm = 0 }) ∷ []) ≡ record { verdict = denied 1; consulted = 0 } ∷ record { verdict = denied 1; consulted = 0 } ∷ record { verdict = denied 1; consulted = 0 } ∷ []
 unfolding computing
 asked-33-statements = refl
+
+-- a random policy and random questions
+abbrev asked-34 : List ℕ
+asked-34 = bytes "(user f3)(userattribute f2)(role b3)(roleattribute e5)(type f8)(typeattribute d9)(class c5(e5))(userrole f3 b3)(userrole f2 e5)(userattributeset f2(not f3))(role b1)(type r)(type d2)(userattributeset f2(f3 f3))(type f7)(userrole f2 e5)"
+
+abbrev asked-34-table : List ℕ
+asked-34-table = 1 ∷ 0 ∷ 8 ∷ 0 ∷ 68 ∷ 0 ∷ 0 ∷ 0 ∷ 71 ∷ 0 ∷ 0 ∷ 0 ∷ 139 ∷ 0 ∷ 0 ∷ 0 ∷ 16 ∷ 0 ∷ 0 ∷ 0 ∷ 155 ∷ 0 ∷ 0 ∷ 0 ∷ 128 ∷ 0 ∷ 0 ∷ 0 ∷ 27 ∷ 1 ∷ 0 ∷ 0 ∷ 32 ∷ 0 ∷ 0 ∷ 0 ∷ 59 ∷ 1 ∷ 0 ∷ 0 ∷ 0 ∷ 0 ∷ 0 ∷ 0 ∷ 59 ∷ 1 ∷ 0 ∷ 0 ∷ 0 ∷ 0 ∷ 0 ∷ 0 ∷ 59 ∷ 1 ∷ 0 ∷ 0 ∷ 0 ∷ 0 ∷ 0 ∷ 0 ∷ 59 ∷ 1 ∷ 0 ∷ 0 ∷ 96 ∷ 0 ∷ 0 ∷ 0 ∷ 0 ∷ 0 ∷ 0 ∷ 2 ∷ 102 ∷ 51 ∷ 3 ∷ 0 ∷ 0 ∷ 2 ∷ 102 ∷ 50 ∷ 1 ∷ 0 ∷ 0 ∷ 2 ∷ 98 ∷ 51 ∷ 4 ∷ 0 ∷ 0 ∷ 2 ∷ 101 ∷ 53 ∷ 2 ∷ 0 ∷ 0 ∷ 2 ∷ 102 ∷ 56 ∷ 5 ∷ 0 ∷ 0 ∷ 2 ∷ 100 ∷ 57 ∷ 6 ∷ 0 ∷ 0 ∷ 2 ∷ 99 ∷ 53 ∷ 7 ∷ 0 ∷ 0 ∷ 2 ∷ 101 ∷ 53 ∷ 1 ∷ 1 ∷ 0 ∷ 2 ∷ 98 ∷ 49 ∷ 2 ∷ 1 ∷ 0 ∷ 1 ∷ 114 ∷ 2 ∷ 2 ∷ 0 ∷ 2 ∷ 100 ∷ 50 ∷ 2 ∷ 3 ∷ 0 ∷ 2 ∷ 102 ∷ 55 ∷ 1 ∷ 0 ∷ 0 ∷ 0 ∷ 0 ∷ 0 ∷ 0 ∷ 0 ∷ 0 ∷ 0 ∷ 0 ∷ 0 ∷ 0 ∷ 0 ∷ 0 ∷ 0 ∷ 0 ∷ 0 ∷ 0 ∷ 0 ∷ 0 ∷ 0 ∷ 0 ∷ 0 ∷ 0 ∷ 0 ∷ 0 ∷ 0 ∷ 0 ∷ 0 ∷ 0 ∷ 0 ∷ 0 ∷ 0 ∷ 0 ∷ 0 ∷ 0 ∷ 0 ∷ 0 ∷ 0 ∷ 0 ∷ 0 ∷ 0 ∷ 0 ∷ 0 ∷ 0 ∷ 0 ∷ 0 ∷ 0 ∷ 0 ∷ 0 ∷ 0 ∷ 0 ∷ 0 ∷ 0 ∷ 0 ∷ 0 ∷ 0 ∷ 0 ∷ 0 ∷ 0 ∷ 0 ∷ 0 ∷ 0 ∷ 0 ∷ 0 ∷ 0 ∷ 0 ∷ 0 ∷ 0 ∷ 0 ∷ 0 ∷ 0 ∷ 0 ∷ 0 ∷ 0 ∷ 0 ∷ 0 ∷ 0 ∷ 0 ∷ 0 ∷ 0 ∷ 0 ∷ 0 ∷ 0 ∷ 0 ∷ 0 ∷ 0 ∷ 0 ∷ 0 ∷ 0 ∷ 0 ∷ 0 ∷ 0 ∷ 0 ∷ 0 ∷ 0 ∷ 0 ∷ 0 ∷ 0 ∷ 0 ∷ 0 ∷ 0 ∷ 0 ∷ 0 ∷ 0 ∷ 0 ∷ 0 ∷ 0 ∷ 0 ∷ 0 ∷ 0 ∷ 0 ∷ 0 ∷ 0 ∷ 0 ∷ 0 ∷ 0 ∷ 0 ∷ 0 ∷ 0 ∷ 0 ∷ 0 ∷ 0 ∷ 0 ∷ 0 ∷ 0 ∷ 0 ∷ 0 ∷ 0 ∷ 0 ∷ 0 ∷ 0 ∷ 0 ∷ 0 ∷ 0 ∷ 0 ∷ 0 ∷ 0 ∷ 0 ∷ 0 ∷ 0 ∷ 0 ∷ 0 ∷ 0 ∷ 0 ∷ 0 ∷ 0 ∷ 0 ∷ 0 ∷ 0 ∷ 0 ∷ 0 ∷ 0 ∷ 0 ∷ 0 ∷ 0 ∷ 0 ∷ 0 ∷ 0 ∷ 0 ∷ 0 ∷ 0 ∷ 0 ∷ 0 ∷ 0 ∷ 0 ∷ 0 ∷ 0 ∷ 0 ∷ 0 ∷ 0 ∷ 0 ∷ 0 ∷ 0 ∷ 0 ∷ 1 ∷ 0 ∷ 0 ∷ 0 ∷ 0 ∷ 0 ∷ 0 ∷ 0 ∷ 0 ∷ 0 ∷ 0 ∷ 0 ∷ 0 ∷ 0 ∷ 0 ∷ 0 ∷ 0 ∷ 0 ∷ 0 ∷ 0 ∷ 0 ∷ 0 ∷ 0 ∷ 0 ∷ 0 ∷ 0 ∷ 0 ∷ 0 ∷ 0 ∷ 0 ∷ 0 ∷ 0 ∷ 0 ∷ 0 ∷ 0 ∷ 0 ∷ 0 ∷ 0 ∷ 0 ∷ 0 ∷ 0 ∷ 0 ∷ 0 ∷ 0 ∷ 0 ∷ 0 ∷ 0 ∷ 0 ∷ 0 ∷ 0 ∷ 0 ∷ 0 ∷ 0 ∷ 0 ∷ 0 ∷ 0 ∷ 0 ∷ 0 ∷ 0 ∷ 0 ∷ 0 ∷ 0 ∷ 0 ∷ 0 ∷ 0 ∷ 0 ∷ 0 ∷ 0 ∷ 0 ∷ 0 ∷ 0 ∷ 0 ∷ 0 ∷ 0 ∷ 0 ∷ 0 ∷ 0 ∷ 0 ∷ 0 ∷ 0 ∷ 0 ∷ 0 ∷ 0 ∷ 0 ∷ 0 ∷ 0 ∷ 0 ∷ 0 ∷ 0 ∷ 0 ∷ 0 ∷ 0 ∷ 0 ∷ 0 ∷ 0 ∷ 0 ∷ []
+
+asked-34-written : tableOf asked-34 ≡ asked-34-table
+unfolding computing
+asked-34-written = refl
+
+asked-34-1 : newRoleOn asked-34-table 0 0 0 ≡ answered 0
+unfolding computing
+asked-34-1 = refl
+
+asked-34-changes : changesOn asked-34-table ((record { source = context 0 0 1; target = context 0 1 2; class = 0; perm = 0 }) ∷ (record { source = context 0 0 3; target = context 0 1 0; class = 0; perm = 0 }) ∷ (record { source = context 0 1 1; target = context 0 0 3; class = 0; perm = 0 }) ∷ (record { source = context 0 1 2; target = context 0 1 0; class = 0; perm = 0 }) ∷ (record { source = context 0 1 2; target = context 0 0 1; class = 0; perm = 0 }) ∷ []) ≡ record { verdict = denied 1; consulted = 0 } ∷ record { verdict = denied 1; consulted = 0 } ∷ record { verdict = denied 1; consulted = 0 } ∷ record { verdict = denied 1; consulted = 0 } ∷ record { verdict = denied 1; consulted = 0 } ∷ []
+unfolding computing
+asked-34-changes = refl
+
+asked-34-statements : fromText asked-34 ((record { source = context 0 0 1; target = context 0 1 2; class = 0; perm = 0 }) ∷ (record { source = context 0 0 3; target = context 0 1 0; class = 0; perm = 0 }) ∷ (record { source = context 0 1 1; target = context 0 0 3; class = 0; perm = 0 }) ∷ (record { source = context 0 1 2; target = context 0 1 0; class = 0; perm = 0 }) ∷ (record { source = context 0 1 2; target = context 0 0 1; class = 0; perm = 0 }) ∷ []) ≡ record { verdict = denied 1; consulted = 0 } ∷ record { verdict = denied 1; consulted = 0 } ∷ record { verdict = denied 1; consulted = 0 } ∷ record { verdict = denied 1; consulted = 0 } ∷ record { verdict = denied 1; consulted = 0 } ∷ []
+unfolding computing
+asked-34-statements = refl

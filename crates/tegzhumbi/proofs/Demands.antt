@@ -6,20 +6,17 @@ use mathlib.Core.List.{List, [], _∷_, _++_}
 use lib.ListN.{take}
 use Rattle.lexer.specs.Spell.{bytes}
 use Rattle.policy.specs.declared.Compiling.{Compiling}
-use Rattle.policy.specs.Statements.{roles, Policy, declarations}
+use Rattle.policy.specs.Statements.{Policy}
 use Rattle.policy.specs.Reading.{Read, policy, refused}
-use Rattle.policy.specs.Meaning.{Context}
 use Rattle.policy.specs.Deciding.{Question, Answer}
-use Rattle.policy.specs.Answer.{givenBy, answer}
+use Rattle.policy.specs.Answer.{answer}
 use Rattle.policy.specs.Image.{imageOf}
 use Rattle.policy.specs.Encode.{encode}
 use Rattle.policy.specs.Sound.{imageIn}
 use Rattle.policy.specs.Outcome.{policyOf}
-use Rattle.policy.specs.Questions.{validReply, validOn, newRoleOn, changeOn}
+use Rattle.policy.specs.Questions.{validOn, newRoleOn, changeOn}
 use Rattle.policy.specs.Opened.{computing}
 use Rattle.answer_laws.specs.Longer.{OneConstrainMore, ConstrainText, KeepsDenials}
-use Rattle.answer_laws.proofs.Agreement.{in-range}
-use Rattle.answer_laws.proofs.ObjectRole.{object-valid, other-valid, denialOf, object-source, object-target}
 use Rattle.demand_laws.specs.ByText.{isRefusal}
 use Rattle.demand_laws.proofs.Demand3.{Accepts, accepted-table, table-read, table-answers, table-valid, table-new-role, table-grants-only, table-grants-when, declared-unrefused, longer-table-denies, constrain-added}
 use Rattle.compiler.specs.Promise.{Compiles}
@@ -54,7 +51,6 @@ demand-3 {text} {before} {now} {n} c =
     let p = accepts c .statements in
     let r = accepts c .read in
     let answers : (behind : List ℕ) (q : Question) → changeOn (take n now ++ behind) q ≡ _ = λ behind q. moved c (λ t. changeOn t q) behind ∙ table-answers text p r behind q in
-    let valid : (behind : List ℕ) (x : Context) → validOn (take n now ++ behind) x ≡ validReply (givenBy p) x = λ behind x. moved c (λ t. validOn t x) behind ∙ table-valid text p r behind x in
     record {
       statements = p;
       read = r;
@@ -64,12 +60,8 @@ demand-3 {text} {before} {now} {n} c =
       grants-when = λ behind q d g. moved c (λ t. changeOn t q .verdict) behind ∙ table-grants-when text p r behind q d g;
       longer-denies = λ longer before′ now′ n′ c′ said r′ m. keeps c c′ (subst (OneConstrainMore p) (ap statementsOf (sym r′ ∙ accepts c′ .read)) m);
       added-denies = λ more before′ now′ n′ c′ u. keeps c c′ (constrain-added text more p (accepts c′ .statements) u r (accepts c′ .read));
-      valid = valid;
+      valid = λ behind x. moved c (λ t. validOn t x) behind ∙ table-valid text p r behind x;
       new-role = λ behind x y z. moved c (λ t. newRoleOn t x y z) behind ∙ table-new-role text p r behind x y z;
-      object-valid = λ behind x d named. valid behind x ∙ rw (d, object-valid (givenBy p) x named);
-      object-source = λ behind q named e. object-source p q named (ap (λ (a : Answer). denialOf (a .verdict)) (sym (answers behind q)) ∙ ap denialOf e);
-      object-target = λ behind q named e. object-target p q named (ap (λ (a : Answer). denialOf (a .verdict)) (sym (answers behind q)) ∙ ap denialOf e);
-      other-valid = λ behind x d named. valid behind x ∙ rw (d, other-valid (givenBy p) x (in-range (declarations p) x d roles) named);
       holds = λ behind. moved c imageIn behind ∙ table-read text p r behind;
     }
 

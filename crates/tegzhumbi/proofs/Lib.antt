@@ -2,3 +2,4 @@ pub mod Asking
 pub mod OneStep
 pub mod Demands
 pub mod NoSlips
+pub mod ObjectRoles

@@ -1,23 +1,22 @@
 -- DEMAND 3, word for word, of a text that was accepted and of the table that was written for it. Assumes nothing.
 use Prim.Native.Nat.{ℕ}
 use mathlib.Core.Path.{_≡_}
-use mathlib.Core.Bool.{true, false, _&&_}
+use mathlib.Core.Bool.{true, false}
 use mathlib.Core.List.{List, _∷_, _++_}
 use mathlib.Core.Option.{some}
 use lib.ListN.{take}
-use Rattle.lexer.specs.Spell.{bytes}
 use Rattle.policy.specs.declared.Compiling.{Compiling}
-use Rattle.policy.specs.Statements.{Policy, declarations, userrole, roletype}
+use Rattle.policy.specs.Statements.{Policy, declarations}
 use Rattle.policy.specs.Reading.{policy}
-use Rattle.policy.specs.Meaning.{Context, related}
-use Rattle.policy.specs.Deciding.{Question, granted, denied, declaredContext, declaredQuestion}
+use Rattle.policy.specs.Meaning.{Context}
+use Rattle.policy.specs.Deciding.{validReply, Question, granted, declaredQuestion}
 use Rattle.policy.specs.Answer.{givenBy, answer}
 use Rattle.policy.specs.Image.{imageOf}
 use Rattle.policy.specs.Sound.{imageIn}
 use Rattle.policy.specs.Outcome.{policyOf}
-use Rattle.policy.specs.Questions.{answered, validReply, validOn, newRoleOn, changeOn}
+use Rattle.policy.specs.Questions.{validOn, newRoleOn, changeOn}
 use Rattle.answer_laws.specs.ByStatements.{newRoleBy}
-use Rattle.answer_laws.specs.Granting.{Grants, RoleNamed}
+use Rattle.answer_laws.specs.Granting.{Grants}
 use Rattle.answer_laws.specs.Longer.{OneConstrainMore, ConstrainText, KeepsDenials}
 use Rattle.demand_laws.specs.ByText.{isRefusal}
 use Rattle.compiler.specs.Promise.{Compiles}
@@ -45,13 +44,5 @@ pub record Demand3 (text table : List ℕ) : Type 0 where
   -- valid context and new role give back what the statements say
   pub valid : (behind : List ℕ) (c : Context) → validOn (table ++ behind) c ≡ validReply (givenBy statements) c
   pub new-role : (behind : List ℕ) (r y c : ℕ) → newRoleOn (table ++ behind) r y c ≡ newRoleBy statements r y c
-  -- document 02, W-201: "a context whose role is named `object_r` is valid with any declared user and any declared type. Denials 1 and 2 .. follow
-  -- this"; and where a role has another name, the two relations decide alone
-  pub object-valid : (behind : List ℕ) (c : Context) → declaredContext (declarations statements) c ≡ true → RoleNamed (declarations statements) (c .role) (bytes "object_r")
-      → validOn (table ++ behind) c ≡ answered true
-  pub object-source : (behind : List ℕ) (q : Question) → RoleNamed (declarations statements) (q .source .role) (bytes "object_r") → changeOn (table ++ behind) q .verdict ≡ denied 1 → ⊥
-  pub object-target : (behind : List ℕ) (q : Question) → RoleNamed (declarations statements) (q .target .role) (bytes "object_r") → changeOn (table ++ behind) q .verdict ≡ denied 2 → ⊥
-  pub other-valid : (behind : List ℕ) (c : Context) → declaredContext (declarations statements) c ≡ true → (RoleNamed (declarations statements) (c .role) (bytes "object_r") → ⊥)
-      → validOn (table ++ behind) c ≡ answered (related statements userrole (c .user) (c .role) && related statements roletype (c .role) (c .type))
   -- and so do name of and entry: they read from the image of the statements
   pub holds : (behind : List ℕ) → imageIn (table ++ behind) ≡ some (imageOf statements)

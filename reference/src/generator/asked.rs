@@ -287,6 +287,8 @@ fn undeclared() -> Vec<Asked> {
 pub fn objects() -> Vec<Asked> {
     let lease = "(user u)(role a)(role object_r)(role b)(type t)(userrole u a)(roletype a t)(class process(transition fork))\
                  (class file(read write))(constrain(file(write))(neq r2 object_r))";
+    let allowed = "(user u)(role a)(role object_r)(type t)(userrole u a)(roletype a t)(roleallow a object_r)(class process(dyntransition))\
+                   (constrain(process(dyntransition))(not(eq r1 object_r)))";
     let alone = "(user u)(user v)(role object_r)(type s)(type t)(class c(p))";
     let others = "(user object_r)(roleattribute object_r)(role Object_r)(role object_r-)(type object_r)\
                   (class object_r(object_r))(roleattributeset object_r(all))";
@@ -310,6 +312,11 @@ pub fn objects() -> Vec<Asked> {
                 change_in(object, object, 0, 0),
                 change_in(A, object, 1, 1),
             ],
+        ),
+        of(
+            "object_r where its role allow is said, one way only",
+            allowed,
+            &[change_in(A, object, 0, 0), change_in(object, A, 0, 0), change_in(object, object, 0, 0), change_in(A, A, 0, 0)],
         ),
         of(
             "object_r by its name, whatever its number; 12 before",
