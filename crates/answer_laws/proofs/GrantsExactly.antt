@@ -15,7 +15,7 @@ use Rattle.policy.specs.Statements.{Policy, declarations, Constrain, constrains
 use Rattle.policy.specs.Meaning.{stands, related, holds}
 use Rattle.policy.specs.Deciding.{validBy, mayBecome, ruledBy, Question, Verdict, granted, denied, fails, refuses, Answer, unconsulted, oneMore, ruling, firstFailing, decide, declaredQuestion, asksRole, roleMay}
 use Rattle.policy.specs.Answer.{givenBy, namesAsked, answer}
-use Rattle.policy.specs.Accepted.{All}
+use Rattle.policy.specs.Basics.{All}
 use Rattle.answer_laws.specs.Granting.{Grants, howMany, FirstFailing}
 
 -- a granted verdict is none of the others

@@ -6,7 +6,7 @@ use mathlib.Core.Bool.{Bool, true, _&&_}
 use mathlib.Core.List.{List, [], _∷_, _++_, append-assoc, append-nil}
 use lib.Dec.{eqb}
 use lib.ListN.{getD}
-use Rattle.policy.specs.Basics.{each, isAmong}
+use Rattle.policy.specs.Basics.{each, isAmong, All}
 use Rattle.policy.specs.Statements.{Family, users, roles, types, thingOf, attributeOf, Reference, thing, attribute, Side, source, target, Op, eq, neq, dom, domby, incomp, Constraint, sidesE, nameE, notE, andE, orE, Policy, Constrain, constrains, declarations, count, Relation, userrole, roletype, roleallow, fromOf, toOf}
 use Rattle.policy.specs.Meaning.{Set, Contexts, countIn, final, stands, related, part, compares, holds}
 use Rattle.policy.specs.Faults.{attributesIn}
@@ -17,7 +17,6 @@ use Rattle.policy.specs.Rows.{Row, row, rowsOf, opCode, compCode, opTest, View,
 use Rattle.policy.specs.Image.{Image, imageOf, setsOf, width, maskOf, constraintEntry, ConstraintEntry}
 use Rattle.policy.specs.Sound.{ofComp}
 use Rattle.policy.specs.Questions.{inSet, givenSets, givenIn, sideOf, setsIn, viewOf, entryNames, entryHolds, change}
-use Rattle.policy.specs.Accepted.{All}
 use Rattle.image_laws.proofs.Fits.{KnownR, Known, Fits}
 use Rattle.policy.proofs.Gathered.{all-map}
 use Rattle.bitset.proofs.BitLaws.{bit-fromBits}

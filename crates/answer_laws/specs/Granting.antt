@@ -6,12 +6,11 @@ use mathlib.Core.Bool.{Bool, true, false, cond}
 use mathlib.Core.List.{List, [], _∷_}
 use mathlib.Core.Option.{some}
 use lib.ListN.{length, take, getElem?}
-use Rattle.policy.specs.Basics.{Name}
+use Rattle.policy.specs.Basics.{Name, All}
 use Rattle.policy.specs.Statements.{roles, thingOf, Declaration, namesOf, Policy, declarations, Constrain, constrains, roleallow}
 use Rattle.policy.specs.Meaning.{stands, related, holds}
 use Rattle.policy.specs.Deciding.{validBy, contextsOf, Question, asksRole}
 use Rattle.policy.specs.Answer.{givenBy, namesAsked}
-use Rattle.policy.specs.Accepted.{All}
 
 -- "It grants exactly when by the statements both contexts are valid, the role change is allowed where process transition or
 -- dyntransition asks it, and every constraint on that class and permission is true as written"

@@ -7,10 +7,9 @@ use mathlib.Core.List.{List, [], _∷_, _++_, append-assoc}
 use lib.ListN.{length}
 use Rattle.lexer.specs.Forms.{Forms, closed, ended, word, part, formsOf}
 use Rattle.bitset.specs.Relations.{joined}
-use Rattle.policy.specs.Basics.{each, gather, keep}
+use Rattle.policy.specs.Basics.{each, gather, keep, All}
 use Rattle.policy.specs.Statements.{thingOf, attributeOf, Declaration, plain, class, Statement, declare, attributeset, gives, roletransition, constrain, Line, Policy}
 use Rattle.policy.specs.Reading.{Judged, reads, fault, judge, policy, readFrom, readPolicy}
-use Rattle.policy.specs.Accepted.{All}
 use Rattle.policy.proofs.Lists.{all-append}
 use Rattle.policy.proofs.Gathered.{OfValue, all-gather}
 use Rattle.reading_laws.proofs.ReadThen.{line, judgedAt, read-part}

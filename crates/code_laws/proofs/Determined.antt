@@ -4,9 +4,8 @@ use Prim.Native.Nat.{ℕ}
 use mathlib.Core.Path.{_≡_, refl, sym, ap, ap₂, _∙_, subst}
 use mathlib.Core.List.{List, [], _∷_, _++_, append-assoc}
 use Rattle.bitset.specs.Relations.{joined}
-use Rattle.policy.specs.Basics.{each}
+use Rattle.policy.specs.Basics.{each, All}
 use Rattle.policy.specs.Statements.{Reference, SetExpr, nameS, allS, notS, andS, orS, xorS, unionS, emptyS}
-use Rattle.policy.specs.Accepted.{All}
 use Rattle.statement_code.specs.Code.{referenceUnit, endUnit, setCode, rowCode}
 use Rattle.code_laws.specs.Shape.{IsRow}
 use Rattle.statement_code.specs.Numbered.{NumberedR}

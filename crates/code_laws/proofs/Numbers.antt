@@ -7,12 +7,12 @@ use mathlib.Core.List.{List, [], _∷_, _++_, append-assoc, append-nil}
 use lib.Dec.{ltb, leb}
 use lib.ListN.{length, length-append}
 use borrow.Author.Tests.{ltb-true}
-use Rattle.policy.specs.Basics.{gather}
+use Rattle.policy.specs.Basics.{gather, All}
 use Rattle.policy.specs.Statements.{Family, users, roles, types, Sort, thingOf, attributeOf, Declaration, plain, class, ofClass, Reference, thing, attribute, SetExpr, nameS, allS, notS, andS, orS, xorS, unionS, emptyS, Statement, declare, attributeset, gives, roletransition, constrain, fromOf, toOf, Line, Policy, classNames, declarations}
 use Rattle.policy.specs.Maxima.{maxOf, maxClasses, maxPermissions}
 use Rattle.policy.specs.Reading.{isNew, hasRoom}
 use Rattle.policy.specs.Sound.{goodNames, goodFrom}
-use Rattle.policy.specs.Accepted.{All, ReferenceIn, SetIn, StatementIn, Accepted}
+use Rattle.policy.specs.Accepted.{ReferenceIn, SetIn, StatementIn, Accepted}
 use Rattle.policy.proofs.Lists.{both-true, gather-over, gather-last}
 use Rattle.policy.proofs.Counts.{few-of, few-classes}
 use Rattle.policy.proofs.Gathered.{all-map}

@@ -7,12 +7,11 @@ use mathlib.Core.List.{List, [], _∷_}
 use mathlib.Core.Option.{Option, none, some}
 use lib.ListN.{length, length-append}
 use Rattle.lexer.specs.Forms.{Forms, closed, ended, word, part}
-use Rattle.policy.specs.Basics.{Name, _>>=_, more, ofNone, ofOne, ofTwo}
+use Rattle.policy.specs.Basics.{Name, _>>=_, more, ofNone, ofOne, ofTwo, All}
 use Rattle.policy.specs.Words.{asName, Connective, allC, notC, andC, orC, xorC, setWord}
 use Rattle.policy.specs.Statements.{Family, Declaration, Reference, SetExpr, nameS, allS, notS, andS, orS, xorS, unionS, emptyS}
 use Rattle.policy.specs.Grammar.{operandRow, unionOf, formS, headed, operands, setIn}
 use Rattle.policy.specs.Reading.{refer, referS}
-use Rattle.policy.specs.Accepted.{All}
 use Rattle.reading_laws.proofs.IfAny.{IfAny, nothing, just, and-then, whatever}
 use Rattle.statement_code.specs.Code.{setCode, rowCode}
 use Rattle.code_laws.specs.Weight.{weight}

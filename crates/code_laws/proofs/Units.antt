@@ -10,10 +10,10 @@ use borrow.Author.Tests.{leb-true, leb-false}
 use Rattle.lexer.specs.Forms.{Forms, closed, ended, word, part, namesGood, formsOf}
 use Rattle.lexer.proofs.Clean.{clean-short}
 use Rattle.bitset.specs.Relations.{joined}
-use Rattle.policy.specs.Basics.{each}
+use Rattle.policy.specs.Basics.{each, All}
 use Rattle.policy.specs.Statements.{Family, users, roles, types, thingOf, attributeOf, Declaration, plain, class, Reference, thing, attribute, SetExpr, nameS, allS, notS, andS, orS, xorS, unionS, emptyS, Relation, userrole, roletype, roleallow, Statement, declare, attributeset, gives, roletransition, constrain, Policy, declarations}
 use Rattle.policy.specs.Reading.{reads, judge, policy, readPolicy}
-use Rattle.policy.specs.Accepted.{All, Accepted}
+use Rattle.policy.specs.Accepted.{Accepted}
 use Rattle.policy.proofs.Lists.{all-append}
 use Rattle.policy.proofs.Gathered.{all-map}
 use Rattle.reading_laws.proofs.Judging.{judge-passes}

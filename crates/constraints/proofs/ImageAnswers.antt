@@ -10,10 +10,9 @@ use lib.ListN.{length, getD, drop}
 use Rattle.bitset.specs.Sets.{member}
 use Rattle.bitset.specs.Parts.{part}
 use Rattle.bitset.specs.Relations.{joined}
-use Rattle.policy.specs.Basics.{each, every}
+use Rattle.policy.specs.Basics.{each, every, All}
 use Rattle.policy.specs.Statements.{users, roles, types, attributeOf, Declaration, count, classNames, permissions}
 use Rattle.policy.specs.Meaning.{Contexts}
-use Rattle.policy.specs.Accepted.{All}
 use Rattle.policy.specs.Rows.{Row, top, balanced}
 use Rattle.policy.specs.Image.{Image, ConstraintEntry, width}
 use Rattle.policy.specs.Encode.{headsFrom, headBytes, rowBytes, bodies, encode}

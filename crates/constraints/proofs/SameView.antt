@@ -8,7 +8,7 @@ use lib.Dec.{ltb}
 use native.Mathlib.Omega.{arith}
 use borrow.Author.Tests.{ltb-true, le-ltb, ne-eqb}
 use Rattle.policy.specs.Statements.{attributeOf, Declaration, count}
-use Rattle.policy.specs.Accepted.{All}
+use Rattle.policy.specs.Basics.{All}
 use Rattle.policy.specs.Rows.{Row, row, View, opTest, turn, run}
 use Rattle.policy.specs.Sound.{ofComp, goodRow}
 use Rattle.policy.proofs.Lists.{both-true}

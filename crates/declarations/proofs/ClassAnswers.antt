@@ -12,11 +12,10 @@ use Rattle.bitset.specs.Parts.{part}
 use Rattle.bitset.specs.Relations.{joined}
 use Rattle.lexer.specs.Class.{isName}
 use Rattle.lexer.specs.Forms.{framesAt}
-use Rattle.policy.specs.Basics.{Name, isIn, differ, every, each}
+use Rattle.policy.specs.Basics.{Name, isIn, differ, every, each, All}
 use Rattle.policy.specs.Statements.{Declaration, class, classNames}
 use Rattle.policy.specs.Words.{isReserved, classK}
 use Rattle.policy.specs.Reading.{isNew, hasRoom}
-use Rattle.policy.specs.Accepted.{All}
 use Rattle.policy.specs.Encode.{NameEntry, nameEntry, permissionEntries, entriesOf, entries, entryBytes}
 use Rattle.policy.specs.Sound.{isGood, someGood, goodNames}
 use Rattle.policy.proofs.Lists.{both-true, true-both}

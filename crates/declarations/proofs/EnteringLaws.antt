@@ -9,8 +9,7 @@ use lib.Seq.{sets, length-take-le}
 use Rattle.bitset.specs.Parts.{part, put}
 use Rattle.bitset.specs.Relations.{joined}
 use Rattle.bitset.proofs.PartLaws.{length-part, put-none}
-use Rattle.policy.specs.Basics.{Name, each}
-use Rattle.policy.specs.Accepted.{All}
+use Rattle.policy.specs.Basics.{Name, each, All}
 use Rattle.policy.specs.Encode.{NameEntry, nameEntry, entryBytes, permissionEntries}
 use Rattle.policy.proofs.Lists.{each-append, joined-append, all-right}
 use Rattle.symbols.specs.Index as symbol

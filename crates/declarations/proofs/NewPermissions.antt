@@ -5,9 +5,8 @@ use mathlib.Core.List.{List, [], _∷_, _++_, append-assoc}
 use Prim.Native.Nat.{ℕ, _+_, _*_, _≤_}
 use native.Mathlib.Omega.{arith}
 use lib.ListN.{length, length-append}
-use Rattle.policy.specs.Basics.{Name, differ}
+use Rattle.policy.specs.Basics.{Name, differ, All}
 use Rattle.policy.specs.Statements.{Declaration, classNames}
-use Rattle.policy.specs.Accepted.{All}
 use Rattle.policy.specs.Encode.{NameEntry, nameEntry, permissionEntries, entries}
 use Rattle.symbols.specs.Lookup.{familyNumber, firstNamed}
 use Rattle.symbols.specs.Resolving.{FewPermissions}

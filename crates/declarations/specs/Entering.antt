@@ -5,8 +5,7 @@ use mathlib.Core.List.{List, [], _∷_, _++_}
 use lib.ListN.{length, take}
 use Rattle.bitset.specs.Parts.{put}
 use Rattle.bitset.specs.Relations.{joined}
-use Rattle.policy.specs.Basics.{each}
-use Rattle.policy.specs.Accepted.{All}
+use Rattle.policy.specs.Basics.{each, All}
 use Rattle.policy.specs.Encode.{NameEntry, entryBytes}
 use Rattle.symbols.specs.Lookup.{familyNumber, firstNamed}
 use Rattle.symbols.specs.Index.{Indexed}

@@ -11,9 +11,8 @@ use lib.ListN.{length, getD, take, drop, length-append, length-drop, take-append
 use lib.Seq.{drop-drop, length-take-le}
 use borrow.Author.Tests.{eqb-true, eqb-false, eq-eqb}
 use Rattle.bitset.specs.Sets.{within}
-use Rattle.policy.specs.Basics.{_>>=_, each, eachOf, every}
+use Rattle.policy.specs.Basics.{_>>=_, each, eachOf, every, All}
 use Rattle.policy.specs.Statements.{Family, users, roles, types, thingOf, attributeOf, Declaration, count}
-use Rattle.policy.specs.Accepted.{All}
 use Rattle.policy.specs.Maxima.{maxTransitions, maxConstraints, maxRows}
 use Rattle.policy.specs.Rows.{Row}
 use Rattle.policy.specs.Image.{ConstraintEntry, width}

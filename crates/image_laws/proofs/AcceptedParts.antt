@@ -4,9 +4,9 @@ use mathlib.Core.Path.{_≡_, refl, sym, subst}
 use mathlib.Core.Bool.{Bool, true, false, _&&_, cond}
 use mathlib.Core.Option.{Option, none, some}
 use lib.Dec.{eqb}
-use Rattle.policy.specs.Basics.{gather}
+use Rattle.policy.specs.Basics.{gather, All}
 use Rattle.policy.specs.Statements.{Family, sameFamily, Statement, declare, attributeset, gives, roletransition, constrain, Line, Policy, declarations, setFor, setsFor, Transition, transition, transitions, Constrain, constrained, constrains}
-use Rattle.policy.specs.Accepted.{All, SetIn, StatementIn, Accepted}
+use Rattle.policy.specs.Accepted.{SetIn, StatementIn, Accepted}
 use Rattle.policy.proofs.Lists.{both-true}
 use Rattle.policy.proofs.Gathered.{OfValue, all-gather}
 use Rattle.policy.proofs.Sameness.{family-same}

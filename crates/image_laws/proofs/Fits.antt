@@ -6,7 +6,8 @@ use Rattle.policy.specs.Statements.{Family, users, roles, types, thingOf, Refer
 use Rattle.policy.specs.Meaning.{countIn}
 use Rattle.policy.specs.Faults.{attributesIn}
 use Rattle.policy.specs.Image.{width}
-use Rattle.policy.specs.Accepted.{All, ReferenceIn, ConstraintIn, Accepted}
+use Rattle.policy.specs.Basics.{All}
+use Rattle.policy.specs.Accepted.{ReferenceIn, ConstraintIn, Accepted}
 use Rattle.policy.proofs.Gathered.{all-map}
 use Rattle.image_laws.proofs.AcceptedParts.{ConstrainIn, constrains-in}
 use Rattle.policy.proofs.Counts.{few-of, few-permissions-of}

@@ -6,12 +6,12 @@ use mathlib.Core.List.{List, [], _∷_}
 use lib.ListN.{length}
 use borrow.Author.Tests.{lt-ltb, eq-eqb}
 use Rattle.bitset.specs.Sets.{tabulate, setOf}
-use Rattle.policy.specs.Basics.{each, every}
+use Rattle.policy.specs.Basics.{each, every, All}
 use Rattle.policy.specs.Statements.{Family, roles, types, thingOf, Relation, toOf, Policy, count, classNames, permissions, declarations, Transition, transitions, Constrain, constrains}
 use Rattle.policy.specs.Meaning.{Set, countIn, stands, related, final}
 use Rattle.policy.specs.Image.{width, setsOf, maskOf, transitionEntry, constraintEntry}
 use Rattle.policy.specs.Sound.{goodSet, goodSets, goodTransition, goodConstraint}
-use Rattle.policy.specs.Accepted.{All, Accepted}
+use Rattle.policy.specs.Accepted.{Accepted}
 use Rattle.image_laws.proofs.AcceptedParts.{TransitionIn, ConstrainIn, transitions-in, constrains-in}
 use Rattle.policy.proofs.Counts.{few-permissions-of}
 use Rattle.bitset.proofs.SetLaws.{length-tabulate, length-setOf}

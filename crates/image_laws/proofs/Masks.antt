@@ -10,9 +10,8 @@ use lib.ListN.{length}
 use lib.Arith.{digits-lt}
 use borrow.Author.Tests.{eqb-true, eq-eqb}
 use Rattle.bitset.specs.Sets.{one, fromBits}
-use Rattle.policy.specs.Basics.{any, isAmong}
+use Rattle.policy.specs.Basics.{any, isAmong, All}
 use Rattle.policy.specs.Image.{maskOf}
-use Rattle.policy.specs.Accepted.{All}
 use Rattle.bitset.proofs.BitLaws.{one-lt}
 use Rattle.policy.proofs.Gathered.{any-holds}
 

@@ -6,10 +6,10 @@ use mathlib.Core.Logic.{_⊎_, inl, inr, _↔_}
 use mathlib.Core.Bool.{true, false, cond, true≢false}
 use mathlib.Core.List.{[], _∷_, _++_}
 use mathlib.Core.Option.{none, some}
-use Rattle.policy.specs.Basics.{any, gather}
+use Rattle.policy.specs.Basics.{any, gather, All}
 use Rattle.policy.specs.Statements.{Statement, declare, attributeset, gives, roletransition, constrain, Line, Policy, declarations, Transition, transition, transitions}
 use Rattle.policy.specs.Faults.{clashes, firstClash, clash}
-use Rattle.policy.specs.Accepted.{All, StatementIn, Accepted}
+use Rattle.policy.specs.Accepted.{StatementIn, Accepted}
 use Rattle.policy.proofs.Lists.{gather-over, gather-last, all-left, all-right}
 use Rattle.meaning_laws.specs.Clashing.{ClashFree, ClashAt}
 use Rattle.meaning_laws.proofs.ListLaws.{decided, chosen}

@@ -6,11 +6,10 @@ use mathlib.Core.Bool.{Bool, true, false, not, _&&_, _||_, true≢false}
 use mathlib.Core.List.{List, [], _∷_, _++_}
 use lib.Dec.{ltb}
 use Rattle.bitset.specs.Relations.{joined}
-use Rattle.policy.specs.Basics.{any, each}
+use Rattle.policy.specs.Basics.{any, each, All}
 use Rattle.policy.specs.Statements.{Family, Policy, Reference, thing, attribute, SetExpr, nameS, allS, notS, andS, orS, xorS, unionS, emptyS, setsFor}
 use Rattle.policy.specs.Meaning.{Set, standsIn, oneOf, ofS, countIn, unionOf, nested}
 use Rattle.policy.specs.Faults.{mentionsR, mentionsS, mentions}
-use Rattle.policy.specs.Accepted.{All}
 use Rattle.policy.proofs.Lists.{neither, all-left, all-right}
 
 -- two ways to fill the attributes agree on what S mentions, so on S

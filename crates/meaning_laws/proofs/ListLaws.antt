@@ -7,8 +7,7 @@ use mathlib.Core.List.{List, [], _∷_}
 use mathlib.Core.Option.{Option, none, some, Option·none-ne-some, Option·some-injective}
 use lib.Dec.{eqb}
 use borrow.Author.Tests.{eq-eqb, eqb-true}
-use Rattle.policy.specs.Basics.{any, gather, keep, isAmong}
-use Rattle.policy.specs.Accepted.{All}
+use Rattle.policy.specs.Basics.{any, gather, keep, isAmong, All}
 use Rattle.meaning_laws.specs.Mentioning.{Some}
 
 pub decided : (t : Bool) → (t ≡ true) ⊎ (t ≡ false)

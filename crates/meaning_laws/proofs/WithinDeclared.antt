@@ -9,7 +9,8 @@ use lib.Dec.{eqb, ltb}
 use borrow.Author.Tests.{eqb-true, ltb-true}
 use Rattle.policy.specs.Statements.{Family, Reference, thing, attribute, SetExpr, nameS, allS, notS, andS, orS, xorS, unionS, emptyS, thingOf, Declaration, Statement, declare, attributeset, gives, roletransition, constrain, Relation, fromOf, toOf, sameFamily, Line, Policy, count, declarations, setFor, setsFor}
 use Rattle.policy.specs.Meaning.{Set, standsIn, oneOf, ofS, countIn, unionOf, nested, final, stands, sameRelation, lineGives, related}
-use Rattle.policy.specs.Accepted.{All, ReferenceIn, SetIn, StatementIn, Accepted}
+use Rattle.policy.specs.Basics.{All}
+use Rattle.policy.specs.Accepted.{ReferenceIn, SetIn, StatementIn, Accepted}
 use Rattle.policy.proofs.Lists.{both-true}
 use Rattle.policy.proofs.Sameness.{family-same, relation-same}
 use Rattle.meaning_laws.proofs.ListLaws.{from-either, given-some, any-of, all-gathered}

@@ -11,9 +11,8 @@ use borrow.Author.Tests.{eqb-true, ltb-true, leb-true, leb-false}
 use lib.Dec.{eqb, ltb, leb}
 use lib.ListN.{length, getD, drop, set, replicate, length-set, length-replicate}
 use Rattle.bitset.specs.Parts.{part}
-use Rattle.policy.specs.Basics.{Name, isIn, _>>=_, given}
+use Rattle.policy.specs.Basics.{Name, isIn, _>>=_, given, All}
 use Rattle.policy.specs.Statements.{users, roles, types, Sort, thingOf, attributeOf, Declaration, class, familyOf, classNames}
-use Rattle.policy.specs.Accepted.{All}
 use Rattle.policy.specs.Encode.{NameEntry, nameEntry, sortCode, entries}
 use Rattle.policy.specs.Sound.{isGood}
 use Rattle.policy.proofs.Lists.{both-true, all-append}

@@ -9,12 +9,11 @@ use mathlib.Core.Option.{none, some}
 use lib.Dec.{ltb, leb}
 use lib.ListN.{length, length-append}
 use borrow.Author.Tests.{ltb-true, leb-true}
-use Rattle.policy.specs.Basics.{Name, gather}
+use Rattle.policy.specs.Basics.{Name, gather, All}
 use Rattle.policy.specs.Statements.{Family, users, roles, types, Sort, thingOf, attributeOf, Declaration, plain, class, sameFamily, sameSort, ofSort, withPermissions, ofClass, namesOf, classNames, count, permissions}
 use Rattle.policy.specs.Maxima.{maxOf, maxClasses, maxPermissions}
 use Rattle.policy.specs.Reading.{isNew, hasRoom}
 use Rattle.policy.specs.Sound.{goodNames, goodFrom}
-use Rattle.policy.specs.Accepted.{All}
 use Rattle.policy.proofs.Lists.{both-true, gather-over, gather-last}
 use Rattle.policy.proofs.Good.{good-first, good-rest}
 use Rattle.policy.proofs.Sameness.{sort-same}

@@ -6,8 +6,7 @@ use mathlib.Core.Bool.{Bool, true, false≢true}
 use mathlib.Core.List.{List, [], _∷_}
 use mathlib.Core.Option.{Option, none, some}
 use lib.ListN.{getD}
-use Rattle.policy.specs.Basics.{any, gather, keep}
-use Rattle.policy.specs.Accepted.{All}
+use Rattle.policy.specs.Basics.{any, gather, keep, All}
 use Rattle.policy.proofs.Lists.{either-true}
 
 -- a property of the value, if there is one

@@ -11,8 +11,7 @@ use lib.Dec.{eqb}
 use lib.ListN.{length, getD, getElem?}
 use borrow.Author.Tests.{eq-eqb, eqb-true}
 use Rattle.bitset.specs.Relations.{joined}
-use Rattle.policy.specs.Basics.{Name, same, gather, any, every, keep, each}
-use Rattle.policy.specs.Accepted.{All}
+use Rattle.policy.specs.Basics.{Name, same, gather, any, every, keep, each, All}
 
 -- what a test of two parts says of each
 pub both-true : (a b : Bool) → (a && b) ≡ true → (a ≡ true) × (b ≡ true)

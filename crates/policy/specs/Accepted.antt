@@ -7,17 +7,13 @@ use mathlib.Core.Path.{_≡_}
 use mathlib.Core.Bool.{true, _||_}
 use mathlib.Core.List.{List, [], _∷_}
 use lib.ListN.{length}
+use Rattle.policy.specs.Basics.{All}
 use Rattle.policy.specs.Statements.{Family, roles, types, Reference, thing, attribute, SetExpr, nameS, allS, notS, andS, orS, xorS, unionS, emptyS, Constraint, sidesE, nameE, notE, andE, orE, thingOf, attributeOf, Declaration, Statement, declare, attributeset, gives, roletransition, constrain, fromOf, toOf, Line, Policy, count, classNames, permissions, declarations, transitions, constrains, need}
 use Rattle.policy.specs.Maxima.{maxTransitions, maxConstraints, maxRows, maxStack}
 use Rattle.policy.specs.Words.{isPlain}
 use Rattle.policy.specs.Grammar.{isRoles}
 use Rattle.policy.specs.Reading.{rowCount}
 use Rattle.policy.specs.Sound.{goodFrom}
-
--- a property of every element of a list
-abbrev pub All : {A : Type 0} → (A → Type 0) → List A → Type 0
-All P [] = Unit {0}
-All P (x ∷ xs) = P x × All P xs
 
 module _ (ds : List Declaration) where
   -- a thing or an attribute that ds declares

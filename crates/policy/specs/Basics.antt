@@ -26,6 +26,11 @@ some a >>= f = f a
 abbrev pub given : {A : Type 0} → Bool → A → Option A
 given b a = cond b (some a) none
 
+-- a property of every element of a list
+abbrev pub All : {A : Type 0} → (A → Type 0) → List A → Type 0
+All P [] = Unit {0}
+All P (x ∷ xs) = P x × All P xs
+
 module _ {A : Type 0} where
   -- the test passes for one of them; for every one of them
   unfoldable pub any : (A → Bool) → List A → Bool

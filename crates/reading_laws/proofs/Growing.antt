@@ -6,9 +6,9 @@ use mathlib.Core.Path.{_≡_, refl, sym, ap, _∙_, subst}
 use mathlib.Core.List.{List, [], _∷_, _++_}
 use mathlib.Core.Option.{Option}
 use lib.ListN.{length, getD, length-append, List·getD-append}
-use Rattle.policy.specs.Basics.{Name, gather}
+use Rattle.policy.specs.Basics.{Name, gather, All}
 use Rattle.policy.specs.Statements.{Family, roles, types, Sort, thingOf, attributeOf, Declaration, plain, class, ofSort, ofClass, withPermissions, Reference, thing, attribute, SetExpr, nameS, allS, notS, andS, orS, xorS, unionS, emptyS, Constraint, sidesE, nameE, notE, andE, orE, Statement, declare, attributeset, gives, roletransition, constrain, fromOf, toOf, namesOf, classNames, permissions, count}
-use Rattle.policy.specs.Accepted.{All, ReferenceIn, SetIn, ConstraintIn, StatementIn}
+use Rattle.policy.specs.Accepted.{ReferenceIn, SetIn, ConstraintIn, StatementIn}
 use Rattle.policy.proofs.Lists.{gather-append}
 
 gather-grows : {A B : Type 0} (f : A → Option B) (xs ys : List A) → length (gather f xs) ≤ length (gather f (xs ++ ys))

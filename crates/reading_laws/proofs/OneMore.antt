@@ -7,12 +7,12 @@ use mathlib.Core.List.{List, [], _∷_, _++_, append-nil, append-assoc}
 use mathlib.Core.Option.{Option, none, some}
 use lib.ListN.{length, length-append}
 use borrow.Author.Tests.{ltb-true, leb-true}
-use Rattle.policy.specs.Basics.{gather, keep}
+use Rattle.policy.specs.Basics.{gather, keep, All}
 use Rattle.policy.specs.Statements.{Declaration, Statement, declare, attributeset, gives, roletransition, constrain, Line, Policy, declared, declarations, transition, transitions, constrained, constrains, Constrain, size}
 use Rattle.policy.specs.Maxima.{maxTransitions, maxConstraints, maxRows}
 use Rattle.policy.specs.Reading.{isNew, hasRoom, rowCount}
 use Rattle.policy.specs.Sound.{goodNames, goodFrom}
-use Rattle.policy.specs.Accepted.{All, StatementIn, Accepted}
+use Rattle.policy.specs.Accepted.{StatementIn, Accepted}
 use Rattle.policy.proofs.Lists.{both-true, true-both, gather-append, all-append}
 use Rattle.reading_laws.proofs.IfAny.{IfAny, nothing, just}
 use Rattle.reading_laws.proofs.Growing.{statement-grows}

@@ -17,7 +17,7 @@ use Rattle.lexer.specs.Class.{classOf, goesOn, is, isBlank, isLetter, isDigit}
 use Rattle.lexer.specs.Scan.{Mode, between, inComment, inName}
 use Rattle.lexer.specs.Token.{ownToken, modeThen, ending, endingLast, tokensFrom, tokensAt}
 use Rattle.lexer.specs.Forms.{Forms, closed, ended, word, part, Frames, head, tail, step, build, framesAt, formsOf}
-use Rattle.policy.specs.Accepted.{All}
+use Rattle.policy.specs.Basics.{All}
 use Rattle.policy.proofs.Lists.{all-append}
 use Rattle.reading_laws.proofs.ReadThen.{_then_}
 use Rattle.reading_laws.proofs.FaultOrder.{RefusedFor, too-long, wrong-byte, at-statement}

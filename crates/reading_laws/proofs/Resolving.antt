@@ -9,14 +9,14 @@ use mathlib.Core.List.{List, [], _∷_}
 use mathlib.Core.Option.{Option, none, some}
 use lib.ListN.{length}
 use borrow.Author.Tests.{leb-true, not-false}
-use Rattle.policy.specs.Basics.{Name, same, next, indexOf, eachOf}
+use Rattle.policy.specs.Basics.{Name, same, next, indexOf, eachOf, All}
 use Rattle.policy.specs.Statements.{Family, roles, types, thingOf, attributeOf, Declaration, SetExpr, nameS, allS, notS, andS, orS, xorS, unionS, emptyS, Constraint, sidesE, nameE, notE, andE, orE, declare, attributeset, gives, roletransition, constrain, fromOf, toOf, Written, Statement, namesOf, classNames, permissions, count, need}
 use Rattle.policy.specs.Maxima.{maxStack}
 use Rattle.policy.specs.Words.{isPlain}
 use Rattle.policy.specs.Grammar.{isRoles}
 use Rattle.policy.specs.Reading.{isNew, again, refer, referS, referE, resolved, shallow}
 use Rattle.policy.specs.Sound.{goodNames}
-use Rattle.policy.specs.Accepted.{All, ReferenceIn, SetIn, ConstraintIn, StatementIn}
+use Rattle.policy.specs.Accepted.{ReferenceIn, SetIn, ConstraintIn, StatementIn}
 use Rattle.reading_laws.proofs.IfAny.{IfAny, nothing, just, or-else, and-then, if-each, some-more}
 
 -- E's operators are those that its forms allow: "op: `eq neq`; rop: also `dom domby incomp`"

@@ -10,12 +10,11 @@ use mathlib.Core.Option.{Option, none, some}
 use lib.ListN.{length}
 use Rattle.lexer.specs.Class.{isName}
 use Rattle.lexer.specs.Forms.{Forms, closed, ended, word, part, namesGood}
-use Rattle.policy.specs.Basics.{Name, every}
+use Rattle.policy.specs.Basics.{Name, every, All}
 use Rattle.policy.specs.Words.{isReserved, asName, Keyword, declareK, classK, setK, relationK, transitionK, constrainK, Connective, allC, notC, andC, orC, xorC, keywordOf, expressionWord, opOf, isPlain, Component, componentOf}
 use Rattle.policy.specs.Grammar.{setIn, areSides, isRoles, compared, atClose, wordThen, partThen, twoWords, wordAndPart, comparison, formE, connected, expressions, expressionIn, namesIn, oneOrMore, classIn, ofFour, formed, written}
 use Rattle.policy.specs.Statements.{Op, Constraint, notE, andE, orE}
 use Rattle.policy.specs.Sound.{isGood, someGood}
-use Rattle.policy.specs.Accepted.{All}
 use Rattle.policy.proofs.Lists.{both-true, true-both}
 use Rattle.reading_laws.proofs.IfAny.{IfAny, nothing, just, and-then, whatever, if-given, if-one, if-two, if-more}
 use Rattle.reading_laws.proofs.Resolving.{Allowed, WellWritten}

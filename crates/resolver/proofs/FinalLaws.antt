@@ -14,11 +14,11 @@ use borrow.Author.Tests.{eq-eqb}
 use Rattle.bitset.specs.Sets.{setOf, emptied, equal}
 use Rattle.bitset.specs.Relations.{relation}
 use Rattle.bitset.proofs.RelationLaws.{relation-ext, relation-empty, relation-equal}
-use Rattle.policy.specs.Basics.{any, isAmong}
+use Rattle.policy.specs.Basics.{any, isAmong, All}
 use Rattle.policy.specs.Statements.{Family, Policy}
 use Rattle.policy.specs.Meaning.{ofS, countIn, unionOf, nested, final}
 use Rattle.policy.specs.Faults.{mentions, attributesIn, onCycle}
-use Rattle.policy.specs.Accepted.{All, Accepted}
+use Rattle.policy.specs.Accepted.{Accepted}
 use Rattle.set_code.specs.Evaluation.{setsIn}
 use Rattle.meaning_laws.specs.Mentioning.{MentionsDirectly, Mentions, directly, through}
 use Rattle.meaning_laws.proofs.ListLaws.{or-left, or-right, decided}

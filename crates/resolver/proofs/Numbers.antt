@@ -8,13 +8,13 @@ use mathlib.Core.List.{List, [], _∷_, _++_, append-assoc, append-nil}
 use lib.Dec.{eqb}
 use lib.ListN.{length, length-append}
 use borrow.Author.Tests.{ltb-true, ne-eqb}
-use Rattle.policy.specs.Basics.{any, gather, isAmong}
+use Rattle.policy.specs.Basics.{any, gather, isAmong, All}
 use Rattle.policy.specs.Statements.{Family, users, roles, types, thingOf, attributeOf, Declaration, plain, class, ofClass, classNames, Reference, thing, attribute, SetExpr, nameS, allS, notS, andS, orS, xorS, unionS, emptyS, Line, Policy, count, declarations, fromOf, toOf}
 use Rattle.policy.specs.Maxima.{maxOf, maxClasses}
 use Rattle.policy.specs.Reading.{isNew, hasRoom}
 use Rattle.policy.specs.Sound.{goodNames, goodFrom}
 use Rattle.policy.specs.Faults.{mentionsR, mentionsS}
-use Rattle.policy.specs.Accepted.{All, ReferenceIn, SetIn, StatementIn, Accepted}
+use Rattle.policy.specs.Accepted.{ReferenceIn, SetIn, StatementIn, Accepted}
 use Rattle.policy.proofs.Lists.{both-true, gather-over, gather-last, all-append, any-append}
 use Rattle.statement_code.specs.Code.{referenceUnit, endUnit, setCode, rowCode}
 use Rattle.statement_code.specs.Numbered.{NumberedR, Numbered}

@@ -12,8 +12,7 @@ use lib.Seq.{drop-cons}
 use borrow.Author.Tests.{lt-ltb, le-ltb, eqb-true, eqb-false, eq-eqb, ne-eqb}
 use Rattle.bitset.specs.Sets.{setOf, inserted, emptied}
 use Rattle.bitset.proofs.SetLaws.{setOf-ext, inserted-setOf}
-use Rattle.policy.specs.Basics.{any, isAmong}
-use Rattle.policy.specs.Accepted.{All}
+use Rattle.policy.specs.Basics.{any, isAmong, All}
 use Rattle.meaning_laws.proofs.ListLaws.{decided}
 use Rattle.resolver.specs.Reading.{operandsOf}
 

@@ -8,7 +8,8 @@ use lib.Dec.{leb, ltb, eqb}
 use lib.ListN.{length, getD, drop, length-append, length-drop}
 use borrow.Author.Tests.{leb-true, ltb-true, eqb-true}
 use Rattle.policy.specs.Statements.{Policy, declarations}
-use Rattle.policy.specs.Accepted.{All, Accepted}
+use Rattle.policy.specs.Basics.{All}
+use Rattle.policy.specs.Accepted.{Accepted}
 use Rattle.policy.proofs.Lists.{all-right}
 use Rattle.set_code.proofs.Places.{here, behind}
 use Rattle.resolver.specs.Reading.{operandsOf, stepOf}

@@ -4,9 +4,9 @@ use mathlib.Core.Path.{_≡_, refl, sym, ap, ap₂, _∙_, subst}
 use mathlib.Core.List.{List, [], _∷_, _++_, append-assoc, append-nil}
 use lib.ListN.{length, getD, drop}
 use lib.Seq.{drop-at}
-use Rattle.policy.specs.Basics.{gather}
+use Rattle.policy.specs.Basics.{gather, All}
 use Rattle.policy.specs.Statements.{Policy, declarations, Transition, transitions}
-use Rattle.policy.specs.Accepted.{All, Accepted}
+use Rattle.policy.specs.Accepted.{Accepted}
 use Rattle.policy.proofs.Lists.{gather-append, gather-over, all-left, all-right}
 use Rattle.statement_code.specs.Code.{transitionTag, codeOf}
 use Rattle.meaning_laws.proofs.Splitting.{cut-gathered}

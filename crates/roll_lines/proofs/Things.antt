@@ -10,10 +10,9 @@ use lib.ListN.{length, getElem?, take, drop}
 use Rattle.bitset.specs.Parts.{part}
 use Rattle.bitset.proofs.PartLaws.{length-part-min}
 use Rattle.lexer.specs.Class.{isName}
-use Rattle.policy.specs.Basics.{Name}
+use Rattle.policy.specs.Basics.{Name, All}
 use Rattle.policy.specs.Words.{isReserved}
 use Rattle.policy.specs.Statements.{users, roles, Sort, thingOf, Declaration, plain, class, sameSort, ofSort, namesOf, count}
-use Rattle.policy.specs.Accepted.{All}
 use Rattle.policy.specs.Image.{Image}
 use Rattle.policy.specs.Sound.{wellFormed, goodNames, goodFrom, imageIn}
 use Rattle.policy.specs.Deciding.{Reply, answered, refused}

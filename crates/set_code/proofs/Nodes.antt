@@ -10,7 +10,7 @@ use lib.Dec.{ltb}
 use borrow.Author.Tests.{lt-ltb, le-ltb}
 use Rattle.policy.specs.Statements.{Reference, SetExpr, nameS, allS, notS, andS, orS, xorS, unionS, emptyS}
 use Rattle.policy.specs.Meaning.{Set, oneOf, ofS}
-use Rattle.policy.specs.Accepted.{All}
+use Rattle.policy.specs.Basics.{All}
 use Rattle.statement_code.specs.Code.{allUnit, notUnit, andUnit, orUnit, xorUnit, unionUnit, endUnit, setCode, rowCode}
 use Rattle.set_code.specs.Evaluation.{startOf, joinOf}
 use Rattle.statement_code.specs.Numbered.{Numbered}

@@ -11,7 +11,7 @@ use Rattle.bitset.specs.Sets.{setOf, unionOf}
 use Rattle.bitset.proofs.SetLaws.{setOf-ext}
 use Rattle.policy.specs.Statements.{Reference, SetExpr, nameS}
 use Rattle.policy.specs.Meaning.{ofS}
-use Rattle.policy.specs.Accepted.{All}
+use Rattle.policy.specs.Basics.{All}
 use Rattle.statement_code.specs.Code.{referenceUnit, allUnit, endUnit, setCode}
 use Rattle.set_code.specs.Evaluation.{setsIn, valueOf, startOf, joinOf, joinedBy, Evaluates}
 use Rattle.statement_code.specs.Numbered.{NumberedR, Numbered}

@@ -8,9 +8,8 @@ use native.Mathlib.Omega.{arith}
 use borrow.Author.Tests.{leb-true}
 use lib.Dec.{ltb, leb}
 use lib.ListN.{length, length-append}
-use Rattle.policy.specs.Basics.{Name, isIn, indexOf, gather}
+use Rattle.policy.specs.Basics.{Name, isIn, indexOf, gather, All}
 use Rattle.policy.specs.Statements.{Sort, Declaration, plain, class, ofClass, classNames, permissions}
-use Rattle.policy.specs.Accepted.{All}
 use Rattle.policy.specs.Encode.{nameEntry, permissionEntries, entriesFrom, entries}
 use Rattle.policy.specs.Sound.{goodFrom}
 use Rattle.policy.proofs.Lists.{both-true, gather-over, gather-last}

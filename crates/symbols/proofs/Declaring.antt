@@ -6,9 +6,8 @@ use native.Mathlib.Nat.{add-zero}
 use native.Mathlib.Omega.{arith}
 use lib.ListN.{length, getD}
 use lib.Seq.{getD-at}
-use Rattle.policy.specs.Basics.{Name, isIn, indexOf, gather}
+use Rattle.policy.specs.Basics.{Name, isIn, indexOf, gather, All}
 use Rattle.policy.specs.Statements.{Declaration, plain, class, withPermissions, ofClass, classNames, permissions}
-use Rattle.policy.specs.Accepted.{All}
 use Rattle.policy.specs.Encode.{NameEntry, nameEntry, permissionEntries, entriesOf, entriesFrom, entries}
 use Rattle.policy.proofs.Lists.{gather-last, all-append}
 use Rattle.symbols.specs.Lookup.{firstNamed}

@@ -11,8 +11,7 @@ use lib.Dec.{leb}
 use lib.ListN.{length, take, drop, length-append, length-drop, take-append-drop}
 use lib.Seq.{take-append-le, drop-append-le, length-take-le, take-append-seam, drop-append-seam}
 use Rattle.bitset.specs.Relations.{joined}
-use Rattle.policy.specs.Basics.{each, le, given, more}
-use Rattle.policy.specs.Accepted.{All}
+use Rattle.policy.specs.Basics.{each, le, given, more, All}
 use Rattle.policy.specs.Encode.{NameEntry, nameEntry, entryBytes}
 use Rattle.policy.specs.Sound.{entriesIn}
 use Rattle.symbols.specs.Section.{Section, done, broken, entry, readBy, sectionIn, entriesRead, isExact, exactEntries}

@@ -4,8 +4,7 @@ use native.Mathlib.Omega.{arith}
 use mathlib.Core.Path.{_≡_}
 use mathlib.Core.Bool.{Bool, true, false}
 use mathlib.Core.List.{List, [], _∷_}
-use Rattle.policy.specs.Basics.{each}
-use Rattle.policy.specs.Accepted.{All}
+use Rattle.policy.specs.Basics.{each, All}
 use Rattle.policy.specs.Statements.{Family, users, roles, types, thingOf, attributeOf, Policy, Transition, count, declarations, transitions, userrole, roletype, roleallow}
 use Rattle.policy.specs.Meaning.{Set, stands, related, final}
 use Rattle.policy.specs.Image.{TransitionEntry, width, setsOf, transitionEntry, imageOf}

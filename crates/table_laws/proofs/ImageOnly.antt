@@ -9,9 +9,8 @@ use mathlib.Core.Option.{some, Option·some-injective}
 use lib.ListN.{length, getD, take, drop, take-append-drop, drop-of-length-le}
 use lib.Seq.{drop-cons}
 use Rattle.bitset.specs.Relations.{joined}
-use Rattle.policy.specs.Basics.{each, eachOf, le}
+use Rattle.policy.specs.Basics.{each, eachOf, le, All}
 use Rattle.policy.specs.Statements.{users, roles, types, thingOf, attributeOf, count}
-use Rattle.policy.specs.Accepted.{All}
 use Rattle.policy.specs.Rows.{Row}
 use Rattle.policy.specs.Image.{Image, TransitionEntry}
 use Rattle.policy.specs.Encode.{transitionBytes, ConstraintHead, headBytes, headsFrom, rowBytes, bodies, pairs, layout, encode}

@@ -8,9 +8,8 @@ use mathlib.Core.Option.{some}
 use lib.ListN.{length}
 use lib.Seq.{take-at, drop-at}
 use Rattle.bitset.specs.Relations.{joined}
-use Rattle.policy.specs.Basics.{each}
+use Rattle.policy.specs.Basics.{each, All}
 use Rattle.policy.specs.Statements.{users, roles, types, thingOf, attributeOf, count}
-use Rattle.policy.specs.Accepted.{All}
 use Rattle.policy.specs.Rows.{Row}
 use Rattle.policy.specs.Image.{Image, TransitionEntry}
 use Rattle.policy.specs.Encode.{entries, transitionBytes, headBytes, headsFrom, rowBytes, bodies, encode}

@@ -5,8 +5,7 @@ use mathlib.Core.Path.{_≡_, refl, ap, ap₂, _∙_}
 use mathlib.Core.List.{List, [], _∷_, _++_}
 use lib.ListN.{length, length-append}
 use Rattle.bitset.specs.Relations.{joined}
-use Rattle.policy.specs.Basics.{each, le}
-use Rattle.policy.specs.Accepted.{All}
+use Rattle.policy.specs.Basics.{each, le, All}
 use Rattle.policy.specs.Image.{Image, ConstraintEntry}
 use Rattle.policy.specs.Encode.{entries, entryBytes, transitionBytes, headBytes, headsFrom, rowBytes, bodies, pairs, encode}
 use Rattle.policy.proofs.Lists.{each-length}

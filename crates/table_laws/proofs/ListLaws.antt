@@ -7,8 +7,7 @@ use mathlib.Core.List.{List, [], _∷_}
 use mathlib.Core.Option.{Option, none, some, Option·none-ne-some, Option·some-injective}
 use lib.ListN.{length, getD, take, drop, take-append-drop}
 use Rattle.bitset.specs.Relations.{joined}
-use Rattle.policy.specs.Basics.{_>>=_, given, more, each, every}
-use Rattle.policy.specs.Accepted.{All}
+use Rattle.policy.specs.Basics.{_>>=_, given, more, each, every, All}
 use Rattle.policy.proofs.Lists.{both-true, all-left, all-right, all-append}
 
 -- what went before an answer that is there

@@ -10,9 +10,8 @@ use lib.ListN.{length, getElem?, take, drop}
 use lib.Seq.{drop-drop, drop-append-seam, take-append-seam}
 use borrow.Author.Tests.{ne-eqb}
 use Rattle.bitset.specs.Relations.{joined}
-use Rattle.policy.specs.Basics.{_>>=_, each, le}
+use Rattle.policy.specs.Basics.{_>>=_, each, le, All}
 use Rattle.policy.specs.Statements.{users, roles, types, thingOf, attributeOf, Declaration, namesOf, classNames, permissions}
-use Rattle.policy.specs.Accepted.{All}
 use Rattle.policy.specs.Image.{Image}
 use Rattle.policy.specs.Encode.{NameEntry, entryBytes, entries, bodies, encode}
 use Rattle.policy.specs.Sound.{goodFrom, sortOf, wellFormed}

@@ -9,11 +9,10 @@ use lib.Dec.{leb, ltb}
 use lib.ListN.{length, length-append}
 use borrow.Author.Tests.{leb-true, ltb-true}
 use Rattle.lexer.specs.Class.{isName}
-use Rattle.policy.specs.Basics.{Name, gather}
+use Rattle.policy.specs.Basics.{Name, gather, All}
 use Rattle.policy.specs.Statements.{users, roles, types, Sort, thingOf, attributeOf, Declaration, plain, class, ofClass, count, classNames}
 use Rattle.policy.specs.Words.{isReserved}
 use Rattle.policy.specs.Maxima.{maxOf, maxClasses, maxPermissions}
-use Rattle.policy.specs.Accepted.{All}
 use Rattle.policy.specs.Reading.{isNew, hasRoom}
 use Rattle.policy.specs.Encode.{NameEntry, sortCode, permissionEntries, entriesOf, entriesFrom}
 use Rattle.policy.specs.Sound.{isGood, someGood, goodNames, goodFrom}

@@ -9,9 +9,8 @@ use lib.ListN.{length, length-append}
 use lib.Seq.{take-append-seam, drop-append-seam}
 use borrow.Author.Tests.{eq-eqb, le-leb}
 use Rattle.bitset.specs.Relations.{joined}
-use Rattle.policy.specs.Basics.{Name, each, le}
+use Rattle.policy.specs.Basics.{Name, each, le, All}
 use Rattle.policy.specs.Statements.{users, roles, types, Sort, thingOf, attributeOf, Declaration, plain, class, count, classNames}
-use Rattle.policy.specs.Accepted.{All}
 use Rattle.policy.specs.Encode.{NameEntry, nameEntry, sortCode, permissionEntries, entriesFrom, entries, entryBytes}
 use Rattle.policy.specs.Sound.{entriesIn, Grouped, grouping, group, sameNumbers, namesAt}
 use Rattle.table_laws.proofs.LayoutLaws.{fits}

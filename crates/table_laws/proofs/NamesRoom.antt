@@ -9,9 +9,8 @@ use lib.ListN.{length, length-append}
 use borrow.Author.Tests.{leb-true}
 use Rattle.bitset.specs.Relations.{joined}
 use Rattle.lexer.specs.Class.{isName, allGoOn, starts, classOf}
-use Rattle.policy.specs.Basics.{Name, each, gather, le}
+use Rattle.policy.specs.Basics.{Name, each, gather, le, All}
 use Rattle.policy.specs.Statements.{users, roles, types, Sort, thingOf, attributeOf, Declaration, plain, class, count, namesOf, classNames}
-use Rattle.policy.specs.Accepted.{All}
 use Rattle.policy.specs.Encode.{NameEntry, permissionEntries, entriesFrom, entries, entryBytes}
 use Rattle.policy.specs.Sound.{goodFrom}
 use Rattle.policy.proofs.Lists.{both-true}

@@ -11,9 +11,8 @@ use mathlib.Core.Option.{Option, none, some, Option·some-injective}
 use lib.Dec.{eqb}
 use lib.ListN.{length, getElem?, length-append}
 use borrow.Author.Tests.{eq-eqb, ne-eqb}
-use Rattle.policy.specs.Basics.{Name, gather, keep}
+use Rattle.policy.specs.Basics.{Name, gather, keep, All}
 use Rattle.policy.specs.Statements.{users, roles, types, Sort, thingOf, attributeOf, Declaration, plain, class, sameSort, ofSort, ofClass, count, namesOf, classNames}
-use Rattle.policy.specs.Accepted.{All}
 use Rattle.policy.specs.Encode.{NameEntry, nameEntry, sortCode, permissionEntries, entriesOf, entriesFrom, entries}
 use Rattle.policy.specs.Sound.{sortOf}
 use Rattle.policy.proofs.Lists.{gather-over, gather-last}

@@ -10,9 +10,8 @@ use mathlib.Core.Option.{none}
 use lib.Dec.{ltb}
 use lib.ListN.{length, getD, getElem?, length-append}
 use borrow.Author.Tests.{eq-eqb, ne-eqb, ltb-true, ltb-false}
-use Rattle.policy.specs.Basics.{Name, gather}
+use Rattle.policy.specs.Basics.{Name, gather, All}
 use Rattle.policy.specs.Statements.{Declaration, plain, class, ofClass, withPermissions, classNames, permissions}
-use Rattle.policy.specs.Accepted.{All}
 use Rattle.policy.specs.Encode.{NameEntry, sortCode, permissionEntries, entriesFrom, entries}
 use Rattle.policy.specs.Sound.{goodFrom}
 use Rattle.policy.proofs.Lists.{gather-over, gather-last}

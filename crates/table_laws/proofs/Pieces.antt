@@ -10,7 +10,7 @@ use lib.ListN.{length, take, drop, length-append, length-drop, take-append-drop}
 use lib.Seq.{take-at, drop-at, length-take-le}
 use borrow.Author.Tests.{eq-eqb, eqb-true}
 use Rattle.bitset.specs.Relations.{joined}
-use Rattle.policy.specs.Accepted.{All}
+use Rattle.policy.specs.Basics.{All}
 use Rattle.policy.specs.Sound.{pieces, exactly}
 use Rattle.table_laws.proofs.ListLaws.{given-some}
 

@@ -9,8 +9,7 @@ use lib.Dec.{eqb}
 use lib.ListN.{length, getD, take, drop, length-append, length-drop, take-append-drop, drop-of-length-le}
 use lib.Seq.{take-at, drop-at, drop-drop, take-all, drop-cons, getD-drop}
 use borrow.Author.Tests.{eqb-true}
-use Rattle.policy.specs.Basics.{more, each, eachOf, le, unle}
-use Rattle.policy.specs.Accepted.{All}
+use Rattle.policy.specs.Basics.{more, each, eachOf, le, unle, All}
 use Rattle.policy.specs.Rows.{Row, row}
 use Rattle.policy.specs.Image.{TransitionEntry}
 use Rattle.policy.specs.Encode.{transitionBytes, ConstraintHead, headBytes, rowBytes}

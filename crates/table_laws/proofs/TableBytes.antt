@@ -6,9 +6,8 @@ use mathlib.Core.Bool.{true}
 use mathlib.Core.List.{List, [], _∷_, _++_}
 use lib.ListN.{length}
 use Rattle.bitset.specs.Relations.{joined}
-use Rattle.policy.specs.Basics.{each, le}
+use Rattle.policy.specs.Basics.{each, le, All}
 use Rattle.policy.specs.Statements.{roles, thingOf}
-use Rattle.policy.specs.Accepted.{All}
 use Rattle.policy.specs.Rows.{Row}
 use Rattle.policy.specs.Image.{Image, TransitionEntry}
 use Rattle.policy.specs.Encode.{NameEntry, entries, entryBytes, transitionBytes, ConstraintHead, headBytes, headsFrom, rowBytes, bodies, pairs, encode}

@@ -8,9 +8,8 @@ use mathlib.Core.List.{List, []}
 use lib.Dec.{eqb, ltb}
 use lib.ListN.{length}
 use borrow.Author.Tests.{eqb-true, leb-true, ltb-true}
-use Rattle.policy.specs.Basics.{every}
+use Rattle.policy.specs.Basics.{every, All}
 use Rattle.policy.specs.Statements.{Family, users, roles, types, Sort, thingOf, attributeOf, Declaration, count, classNames, permissions}
-use Rattle.policy.specs.Accepted.{All}
 use Rattle.policy.specs.Rows.{Row, balanced}
 use Rattle.policy.specs.Image.{Image, TransitionEntry, ConstraintEntry, width}
 use Rattle.policy.specs.Sound.{goodFrom, goodSet, goodSets, goodTransition, ofComp, goodRow, goodConstraint, wellFormed}

@@ -8,9 +8,8 @@ use mathlib.Core.List.{List, [], _∷_, _++_}
 use mathlib.Core.Option.{some}
 use lib.ListN.{length, length-append}
 use Rattle.bitset.specs.Relations.{joined}
-use Rattle.policy.specs.Basics.{each}
+use Rattle.policy.specs.Basics.{each, All}
 use Rattle.policy.specs.Statements.{users, roles, types, Sort, thingOf, attributeOf, count}
-use Rattle.policy.specs.Accepted.{All}
 use Rattle.policy.specs.Rows.{Row}
 use Rattle.policy.specs.Image.{Image, TransitionEntry, ConstraintEntry}
 use Rattle.policy.specs.Encode.{entries, headsFrom, encode}

@@ -6,8 +6,7 @@ use mathlib.Core.Bool.{true}
 use mathlib.Core.List.{List, [], _∷_, _++_}
 use lib.ListN.{length}
 use Rattle.bitset.specs.Relations.{joined}
-use Rattle.policy.specs.Basics.{each}
-use Rattle.policy.specs.Accepted.{All}
+use Rattle.policy.specs.Basics.{each, All}
 use Rattle.policy.specs.Rows.{Row}
 use Rattle.policy.specs.Image.{Image, TransitionEntry}
 use Rattle.policy.specs.Encode.{NameEntry, entries, encode}

@@ -11,10 +11,9 @@ use lib.ListN.{length, getElem?, take, drop}
 use lib.Seq.{take-at, drop-at}
 use borrow.Author.Tests.{eqb-true, eq-eqb}
 use Rattle.bitset.specs.Relations.{joined}
-use Rattle.policy.specs.Basics.{Name, _>>=_, each, eachOf, le}
+use Rattle.policy.specs.Basics.{Name, _>>=_, each, eachOf, le, All}
 use Rattle.policy.specs.Statements.{Family, users, roles, types, Sort, thingOf, attributeOf, Declaration, namesOf, classNames, permissions, count}
 use Rattle.policy.specs.Image.{Image}
-use Rattle.policy.specs.Accepted.{All}
 use Rattle.policy.specs.Encode.{NameEntry, nameEntry, sortCode, entryBytes, entries}
 use Rattle.policy.specs.Sound.{namesAt, transitionAt, headAt, rowAt, assignRows}
 use Rattle.policy.specs.Deciding.{Reply, answered, refused}

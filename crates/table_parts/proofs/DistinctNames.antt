@@ -7,10 +7,9 @@ use mathlib.Core.Bool.{Bool, true, cond}
 use mathlib.Core.List.{List, [], _∷_, _++_}
 use mathlib.Core.Option.{none, some}
 use lib.ListN.{length, length-append}
-use Rattle.policy.specs.Basics.{Name, gather}
+use Rattle.policy.specs.Basics.{Name, gather, All}
 use Rattle.policy.specs.Statements.{Sort, ofSort, ofClass, Declaration, plain, class, namesOf, classNames, count}
 use Rattle.policy.specs.Encode.{NameEntry, nameEntry, sortCode, permissionEntries, entriesOf, entriesFrom, entries}
-use Rattle.policy.specs.Accepted.{All}
 use Rattle.policy.specs.Sound.{goodFrom}
 use Rattle.policy.proofs.Lists.{gather-append, gather-last, all-append}
 use Rattle.policy.proofs.Gathered.{all-map}

@@ -8,8 +8,7 @@ use lib.ListN.{length, getD, take, drop, length-append}
 use lib.Seq.{drop-drop, drop-at, take-at, drop-append-add, length-take-le}
 use Rattle.bitset.specs.Relations.{joined}
 use Rattle.bitset.specs.Parts.{part}
-use Rattle.policy.specs.Basics.{each}
-use Rattle.policy.specs.Accepted.{All}
+use Rattle.policy.specs.Basics.{each, All}
 use Rattle.policy.proofs.Lists.{each-length}
 use Rattle.table_laws.proofs.ListLaws.{all-take, all-each}
 use Rattle.policy.proofs.Gathered.{all-getD}
