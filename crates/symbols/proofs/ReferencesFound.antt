@@ -7,7 +7,7 @@ use mathlib.Core.List.{List, [], _∷_, _++_}
 use mathlib.Core.Option.{Option, none, some, Option·some-injective}
 use Prim.Native.Nat.{ℕ, _+_, _*_, _<_}
 use native.Mathlib.Omega.{arith}
-use borrow.Author.Tests.{eqb-true, eq-eqb, ne-eqb}
+use borrow.Author.Tests.{eq-eqb, ne-eqb}
 use lib.Dec.{eqb}
 use lib.ListN.{length, length-append}
 use Rattle.policy.specs.Basics.{Name, same, any, isIn, next, indexOf, gather, keep, _>>=_}
@@ -15,7 +15,7 @@ use Rattle.policy.specs.Statements.{Family, users, roles, types, Sort, thingOf,
 use Rattle.policy.specs.Encode.{nameEntry, sortCode, entriesFrom, entries}
 use Rattle.policy.specs.Reading.{refer, orElse}
 use Rattle.policy.specs.Sound.{sortOf, goodFrom}
-use Rattle.policy.proofs.Lists.{both-true, any-append, gather-append, gather-over, gather-last}
+use Rattle.policy.proofs.Lists.{same-is, any-append, gather-append, gather-over, gather-last}
 use Rattle.symbols.specs.Lookup.{familyNumber, firstNamed}
 use Rattle.symbols.specs.Resolving.{familyCode, foundReference, numberOf, isFound}
 use Rattle.symbols.specs.declared.Found.{Found}
@@ -92,17 +92,6 @@ reference-found ds f w = reference-found-from f w [] ds
 
 -- ---- names of a family differ
 
-same-eq : (v w : Name) → same v w ≡ true → v ≡ w
-unfolding same
-same-eq [] [] h = refl
-same-eq [] (y ∷ w) h = absurd (false≢true h)
-same-eq (x ∷ v) [] h = absurd (false≢true h)
-same-eq (x ∷ v) (y ∷ w) h =
-    let p = both-true (eqb x y) (same v w) h in
-    let x-y = eqb-true x y (p .0) in
-    let v-w = same-eq v w (p .1) in
-    λ i. x-y i ∷ v-w i
-
 still-in : (f : Family) (w : Name) (e : List Declaration) (d : Declaration) → isIn w (familyNames f e) ≡ true → isIn w (familyNames f (e ++ (d ∷ []))) ≡ true
 unfolding isIn familyNames
 still-in f w e d h =
@@ -159,7 +148,7 @@ never-again s w e (plain t v ∷ ds) g h =
     by ih true false st wv = rw (wv, ih)
     by ih true true st wv =
         let once : isIn v (familyNames (familyOf t) e) ≡ true =
-        subst (λ (u : Name). isIn u (familyNames (familyOf t) e) ≡ true) (same-eq w v wv)
+        subst (λ (u : Name). isIn u (familyNames (familyOf t) e) ≡ true) (same-is w v wv)
         (subst (λ (u : Sort). isIn w (familyNames (familyOf u) e) ≡ true) (sort-same s t st) h) in
         absurd (false≢true (rw once at (good-first e (plain t v) ds g .new)))
 
