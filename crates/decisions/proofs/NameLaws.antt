@@ -24,7 +24,7 @@ use Rattle.table_laws.specs.SoundTable.{Sound}
 use Rattle.table_laws.specs.Shown.{shown, orTwelve, nameIn}
 use Rattle.table_laws.proofs.NameShown.{name-shown}
 use Rattle.table_laws.proofs.WellFormed.{formed}
-use Rattle.decisions.specs.TableAnswers.{namesIn, countsIn, roleIn, classIn, permissionIn, isFoundName, bears, declaresQuestion, asksRoleIn}
+use Rattle.decisions.specs.TableAnswers.{namesIn, countsIn, nameAt, permissionIn, isFoundName, bears, declaresQuestion, asksRoleIn}
 use Rattle.decisions.proofs.SoundLaws.{names-of, classes-of, declares-context}
 
 -- THE COMPARISON
@@ -90,18 +90,18 @@ and-last false b c h = refl
 -- ON A SOUND TABLE
 
 module _ (t : List ℕ) (s : Sound t) where
-  name-at : (x n : ℕ) → shown t (nameFrom x n firstBody (namesIn t)) ≡ orTwelve (nameIn (s .image .names) x n)
+  name-at : (x n : ℕ) → shown t (nameAt t x n) ≡ orTwelve (nameIn (s .image .names) x n)
   unfolding nameOf
   name-at x n =
       ap (λ (es : List NameEntry). shown t (nameFrom x n firstBody es)) (names-of t s)
       ∙ ap (λ (l : List ℕ). shown l (nameOf (s .image) x n)) (s .laid)
       ∙ name-shown (s .image) (s .formed) (s .rest) x n
 
-  role-at : (r : ℕ) → shown t (roleIn t r) ≡ orTwelve (getElem? (namesOf (thingOf roles) (s .image .names)) r)
+  role-at : (r : ℕ) → shown t (nameAt t 1 r) ≡ orTwelve (getElem? (namesOf (thingOf roles) (s .image .names)) r)
   unfolding nameIn
   role-at r = name-at 1 r
 
-  class-at : (c : ℕ) → shown t (classIn t c) ≡ orTwelve (getElem? (classNames (s .image .names)) c)
+  class-at : (c : ℕ) → shown t (nameAt t 6 c) ≡ orTwelve (getElem? (classNames (s .image .names)) c)
   unfolding nameIn
   class-at c = name-at 6 c
 
@@ -123,7 +123,7 @@ module _ (t : List ℕ) (s : Sound t) where
   unfolding permissionIn
   too-far c k q = rw q (by (ltb c 32))
     where
-      by : (b : Bool) → cond (b && false) (nameFrom 7 (c * 32 + k) firstBody (namesIn t)) (refused 12 0) ≡ refused 12 0
+      by : (b : Bool) → cond (b && false) (nameAt t 7 (c * 32 + k)) (refused 12 0) ≡ refused 12 0
       by true = refl
       by false = refl
 
@@ -155,14 +155,14 @@ module _ (t : List ℕ) (s : Sound t) where
   asks-role-of c k h l =
       let ds = s .image .names in
       ap₂ _&&_
-      (bears-by t (classIn t c) (getElem? (classNames ds) c) (class-at c) process ∙ ap (λ (o : Option Name). isNamed o process) (at-place (classNames ds) c [] h))
+      (bears-by t (nameAt t 6 c) (getElem? (classNames ds) c) (class-at c) process ∙ ap (λ (o : Option Name). isNamed o process) (at-place (classNames ds) c [] h))
       (any-same (bears t (permissionIn t c k)) (same (getD (permissions ds c) k []))
       (λ w. bears-by t (permissionIn t c k) (getElem? (permissions ds c) k) (permission-at c k (class-below c h) (omega (arith, few-in-class c))) w
       ∙ ap (λ (o : Option Name). isNamed o w) (at-place (permissions ds c) k [] l)) transitionWords)
 
   -- "role is named `object_r`"
-  pub object-of : (r : ℕ) → r < count (thingOf roles) (s .image .names) → bears t (roleIn t r) objectR ≡ isObject (s .image .names) r
+  pub object-of : (r : ℕ) → r < count (thingOf roles) (s .image .names) → bears t (nameAt t 1 r) objectR ≡ isObject (s .image .names) r
   unfolding isObject count
   object-of r h =
       let names = namesOf (thingOf roles) (s .image .names) in
-      bears-by t (roleIn t r) (getElem? names r) (role-at r) objectR ∙ ap (λ (o : Option Name). isNamed o objectR) (at-place names r [] h)
+      bears-by t (nameAt t 1 r) (getElem? names r) (role-at r) objectR ∙ ap (λ (o : Option Name). isNamed o objectR) (at-place names r [] h)

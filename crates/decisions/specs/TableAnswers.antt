@@ -51,15 +51,13 @@ countsIn t = record {
 unfoldable pub declaresContext : Counts → Context → Bool
 declaresContext n c = ltb (c .user) (n .users) && ltb (c .role) (n .roles) && ltb (c .type) (n .types)
 
--- "**Name of** a sort and number": a role; a class; a permission, "class x 32 + its place", which is below 32 as the class is
-abbrev pub roleIn : List ℕ → ℕ → Reply Part
-roleIn t r = nameFrom 1 r firstBody (namesIn t)
+-- "**Name of** a sort and number"
+abbrev pub nameAt : List ℕ → ℕ → ℕ → Reply Part
+nameAt t x n = nameFrom x n firstBody (namesIn t)
 
-abbrev pub classIn : List ℕ → ℕ → Reply Part
-classIn t c = nameFrom 6 c firstBody (namesIn t)
-
+-- a permission, "class x 32 + its place", which is below 32 as the class is
 unfoldable pub permissionIn : List ℕ → ℕ → ℕ → Reply Part
-permissionIn t c k = cond (ltb c 32 && ltb k 32) (nameFrom 7 (c * 32 + k) firstBody (namesIn t)) (refused 12 0)
+permissionIn t c k = cond (ltb c 32 && ltb k 32) (nameAt t 7 (c * 32 + k)) (refused 12 0)
 
 abbrev pub isFoundName : Reply Part → Bool
 isFoundName (answered p) = true
@@ -79,9 +77,9 @@ declaresQuestion t n q =
     declaresContext n (q .source) && declaresContext n (q .target)
     && ltb (q .class) (n .classes) && isFoundName (permissionIn t (q .class) (q .perm))
 
--- "class `process`, permission `transition` or `dyntransition`"
+-- "class `process`, permission `transition` or `dyntransition`"; 6 is the sort of classes
 unfoldable pub asksRoleIn : List ℕ → ℕ → ℕ → Bool
-asksRoleIn t c k = bears t (classIn t c) process && bearsOne t (permissionIn t c k) transitionWords
+asksRoleIn t c k = bears t (nameAt t 6 c) process && bearsOne t (permissionIn t c k) transitionWords
 
 -- BODIES 2 TO 5
 
@@ -93,9 +91,9 @@ setHas t b w k n = cond (ltb k 65536) (member (part t (startIn t b + w * k) w) n
 unfoldable pub isGivenIn : List ℕ → Context → Bool
 isGivenIn t c = setHas t 1 16 (c .user) (c .role) && setHas t 2 64 (c .role) (c .type)
 
--- or the "role is named `object_r`" (document 02, W-201)
+-- or the "role is named `object_r`" (document 02, W-201); 1 is the sort of roles
 unfoldable pub isValidIn : List ℕ → Context → Bool
-isValidIn t c = isGivenIn t c || bears t (roleIn t (c .role)) objectR
+isValidIn t c = isGivenIn t c || bears t (nameAt t 1 (c .role)) objectR
 
 -- "Transitions in text order: role set 16, type set 64, class 1, new role 1"
 abbrev pub transitionsIn : List ℕ → List TransitionEntry

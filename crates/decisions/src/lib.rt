@@ -20,12 +20,12 @@ ghost use Rattle.policy.specs.Sound.{transitionAt};
 ghost use Rattle.policy.specs.Deciding.{contextsOf, firstFailing, roleMay};
 ghost use Rattle.policy.specs.Answers.{validityOf, changeOf, newRoleOf};
 ghost use Rattle.policy.specs.Questions.{matches, firstTransition, entryNames, entryHolds, validOn, newRoleOn, changeOn};
-ghost use Rattle.policy.specs.Words.{process, transitionWords, objectR};
+ghost use Rattle.policy.specs.Words.{transitionWords};
 ghost use Rattle.symbols.specs.Lookup.{replyOf};
 ghost use Rattle.table_laws.specs.SoundTable.{Sound};
 ghost use Rattle.soundness.specs.IsSound.{isSound};
 ghost use Rattle.decisions.specs.Asked.{context, contextOf, question};
-ghost use Rattle.decisions.specs.TableAnswers.{namesEnd, countsIn, Tallied, setHas, declaresContext, isGivenIn, isValidIn, transitionsIn, isFoundName, roleIn, classIn, permissionIn, bears, bearsOne, declaresQuestion, asksRoleIn};
+ghost use Rattle.decisions.specs.TableAnswers.{namesEnd, countsIn, Tallied, setHas, declaresContext, isGivenIn, isValidIn, transitionsIn, isFoundName, nameAt, permissionIn, bears, bearsOne, declaresQuestion, asksRoleIn};
 
 // A context by its numbers. `kind` is the type: the language has another use for that word.
 pub struct Context {
@@ -135,6 +135,38 @@ fn declares_context(counts: Counts, asked: Context) -> bool
     asked.kind < counts.types
 }
 
+// ---- names
+
+// Where the name of a sort and number stands.
+fn name_place(table: &[u8], sort: usize, number: usize) -> NamePlace
+    ensures { λ r. ⌜ replyOf r ≡ nameAt (now (table .entry)) sort number ⌝ }
+{
+    symbols::name_of(table, FIRST_BODY, names_end(table), sort, number)
+}
+
+// Whether a name is a word. Where a table ends within a part, the part is cut there, so that a longer part is compared too.
+fn is_word(table: &[u8], place: NamePlace, word: &[u8]) -> bool
+    ensures { λ r. ⌜ r ≡ bears (now (table .entry)) (replyOf place) (now (word .entry)) ⌝ }
+{
+    match place {
+        NamePlace::At { start, length } => {
+            if length < word.len() {
+                return false;
+            }
+            symbols::same(table, start, word, 0, length)
+        }
+        NamePlace::Nowhere => false,
+    }
+}
+
+// Whether the name of a sort and number is a word.
+fn is_named(table: &[u8], sort: usize, number: usize, word: &[u8]) -> bool
+    ensures { λ r. ⌜ r ≡ bears (now (table .entry)) (nameAt (now (table .entry)) sort number) (now (word .entry)) ⌝ }
+{
+    let place = name_place(table, sort, number);
+    is_word(table, place, word)
+}
+
 // ---- valid context
 
 // No sound table has so many sets in a body; below it no place overflows.
@@ -176,37 +208,6 @@ fn is_given(table: &[u8], asked: Context) -> bool
 // The name of the role whose contexts are valid with every user and type.
 const OBJECT: [u8; 8] = *b"object_r";
 
-// Whether a name is a word. Where a table ends within a part, the part is cut there, so that a longer part is compared too.
-fn is_word(table: &[u8], place: NamePlace, word: &[u8]) -> bool
-    ensures { λ r. ⌜ r ≡ bears (now (table .entry)) (replyOf place) (now (word .entry)) ⌝ }
-{
-    match place {
-        NamePlace::At { start, length } => {
-            if length < word.len() {
-                return false;
-            }
-            symbols::same(table, start, word, 0, length)
-        }
-        NamePlace::Nowhere => false,
-    }
-}
-
-// Where the name of a role stands.
-fn role_name(table: &[u8], role: usize) -> NamePlace
-    ensures { λ r. ⌜ replyOf r ≡ roleIn (now (table .entry)) role ⌝ }
-{
-    symbols::name_of(table, FIRST_BODY, names_end(table), ROLE, role)
-}
-
-// Whether a role is `object_r`.
-fn is_object(table: &[u8], role: usize) -> bool
-    ensures { λ r. ⌜ r ≡ bears (now (table .entry)) (roleIn (now (table .entry)) role) objectR ⌝ }
-{
-    let word = OBJECT;
-    let place = role_name(table, role);
-    is_word(table, place, &word)
-}
-
 // Whether a context is valid. The name comes last, since it is found by a walk.
 fn is_valid(table: &[u8], asked: Context) -> bool
     ensures { λ r. ⌜ r ≡ isValidIn (now (table .entry)) (contextOf asked) ⌝ }
@@ -214,7 +215,8 @@ fn is_valid(table: &[u8], asked: Context) -> bool
     if is_given(table, asked) {
         return true;
     }
-    is_object(table, asked.role)
+    let word = OBJECT;
+    is_named(table, ROLE, asked.role, &word)
 }
 
 // **Valid context**: whether the role is among the user's, and the type, `kind`, among the role's, or the role is `object_r`. The table is one that `isSound`
@@ -293,13 +295,6 @@ pub fn new_role_in_sound(table: &[u8], role: usize, kind: usize, class: usize) -
 
 // ---- change: the numbers of a question
 
-// Where the name of a class stands.
-fn class_name(table: &[u8], class: usize) -> NamePlace
-    ensures { λ r. ⌜ replyOf r ≡ classIn (now (table .entry)) class ⌝ }
-{
-    symbols::name_of(table, FIRST_BODY, names_end(table), CLASS, class)
-}
-
 // Where the name of a permission stands, by its place in its class.
 fn permission_name(table: &[u8], class: usize, permission: usize) -> NamePlace
     ensures { λ r. ⌜ replyOf r ≡ permissionIn (now (table .entry)) class permission ⌝ }
@@ -311,7 +306,7 @@ fn permission_name(table: &[u8], class: usize, permission: usize) -> NamePlace
         return NamePlace::Nowhere;
     }
     let number = class * Permission::MAX + permission;
-    symbols::name_of(table, FIRST_BODY, names_end(table), PERMISSION, number)
+    name_place(table, PERMISSION, number)
 }
 
 // Whether a class has a permission.
@@ -360,15 +355,6 @@ const TRANSITION: [u8; 10] = *b"transition";
 
 const DYNTRANSITION: [u8; 13] = *b"dyntransition";
 
-// Whether a class is `process`.
-fn is_process(table: &[u8], class: usize) -> bool
-    ensures { λ r. ⌜ r ≡ bears (now (table .entry)) (classIn (now (table .entry)) class) process ⌝ }
-{
-    let word = PROCESS;
-    let place = class_name(table, class);
-    is_word(table, place, &word)
-}
-
 // Whether a permission is `transition` or `dyntransition`.
 fn is_transition(table: &[u8], class: usize, permission: usize) -> bool
     ensures { λ r. ⌜ r ≡ bearsOne (now (table .entry)) (permissionIn (now (table .entry)) class permission) transitionWords ⌝ }
@@ -386,7 +372,8 @@ fn is_transition(table: &[u8], class: usize, permission: usize) -> bool
 fn asks_role(table: &[u8], class: usize, permission: usize) -> bool
     ensures { λ r. ⌜ r ≡ asksRoleIn (now (table .entry)) class permission ⌝ }
 {
-    if !is_process(table, class) {
+    let word = PROCESS;
+    if !is_named(table, CLASS, class, &word) {
         return false;
     }
     is_transition(table, class, permission)

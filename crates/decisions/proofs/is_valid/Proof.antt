@@ -11,7 +11,7 @@ returns c = rw (sym (c .before .is-given .ensures) ∙ c .if1 .taken)
 
 returns-2 : tie.Need-returns-2
 unfolding isValidIn
-returns-2 c = rw (sym (c .before .before .is-given .ensures) ∙ c .before .if1 .left) (c .is-object .ensures)
+returns-2 c = rw (sym (c .before .before .before .is-given .ensures) ∙ c .before .before .if1 .left) (c .is-named .ensures)
 
 pub is-valid-spec : {M : Type 1} → statement M
 is-valid-spec =
@@ -19,5 +19,6 @@ is-valid-spec =
     (tie.spec
     (λ c κs. search needs)
     returns
+    (λ c. search needs)
     (λ c κs. search needs)
     returns-2)

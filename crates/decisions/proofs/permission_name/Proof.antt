@@ -15,7 +15,7 @@ returns-2 c = rw (lt-ltb _ _ (c .before .if1 .left), le-ltb _ _ (c .if2 .taken))
 
 returns-3 : tie.Need-returns-3
 unfolding permissionIn
-returns-3 c = rw (lt-ltb _ _ (c .before .before .before .if1 .left), lt-ltb _ _ (c .before .before .if2 .left), ← c .before .names-end .ensures) (c .name-of .ensures)
+returns-3 c = rw (lt-ltb _ _ (c .before .before .if1 .left), lt-ltb _ _ (c .before .if2 .left)) (c .name-place .ensures)
 
 pub permission-name-spec : {M : Type 1} → statement M
 permission-name-spec =
@@ -25,6 +25,5 @@ permission-name-spec =
     returns-2
     (λ c. search needs)
     (λ c. search needs)
-    (λ c κs. search needs)
     (λ c κs. search needs)
     returns-3)
