@@ -27,6 +27,7 @@ module _ (t : List ℕ) (s : Sound t) where
       asked-image t s (λ i. valid i c) ∙ by (declaredContext (s .image .names) c) refl
       ∙ ap (λ (b : Bool). cond b (answered (isValidIn t c)) (refused 12 0)) (sym (declares-context t s c))
     where
-      by : (b : Bool) → declaredContext (s .image .names) c ≡ b → cond b (answered (validBy (givenIn (s .image)) c)) (refused 12 0) ≡ cond b (answered (isValidIn t c)) (refused 12 0)
+      by : (b : Bool) → declaredContext (s .image .names) c ≡ b
+          → cond b (answered (validBy (givenIn (s .image)) c)) (refused 12 0) ≡ cond b (answered (isValidIn t c)) (refused 12 0)
       by true q = ap answered (sym (is-valid-of c q))
       by false q = refl

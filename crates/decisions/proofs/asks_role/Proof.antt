@@ -1,18 +1,28 @@
 -- `decisions::asks_role` meets its contract: the class, then the permission. Assumes nothing.
-use mathlib.Core.Path.{sym, _∙_}
+use mathlib.Core.Path.{_≡_, sym, _∙_}
+use mathlib.Core.Bool.{true, false}
 use borrow.Author.Tests.{not-true, not-false}
-use Rattle.decisions.specs.TableAnswers.{asksRoleIn}
+use Rattle.policy.specs.Words.{process}
+use Rattle.decisions.specs.TableAnswers.{nameAt, bears, asksRoleIn}
 use borrow.Author.Needs.{needs}
 use Rattle.decisions.proofs.asks_role.Statement.{statement}
 use Rattle.decisions.proofs.asks_role.Tie as tie
 
 returns : tie.Need-returns
 unfolding asksRoleIn
-returns c = rw (sym (c .before .is-named .ensures) ∙ not-true _ (c .if1 .taken))
+returns c =
+    let start = c .before .before .before .before in
+    let t = start .args .table .now in
+    let other : bears t (nameAt t 6 (start .args .class)) process ≡ false = sym (c .before .is-named .ensures) ∙ not-true _ (c .if1 .taken) in
+    rw other
 
 returns-2 : tie.Need-returns-2
 unfolding asksRoleIn
-returns-2 c = rw (sym (c .before .before .is-named .ensures) ∙ not-false _ (c .before .if1 .left)) (c .is-transition .ensures)
+returns-2 c =
+    let start = c .before .before .before .before .before in
+    let t = start .args .table .now in
+    let is : bears t (nameAt t 6 (start .args .class)) process ≡ true = sym (c .before .before .is-named .ensures) ∙ not-false _ (c .before .if1 .left) in
+    rw is (c .is-transition .ensures)
 
 pub asks-role-spec : {M : Type 1} → statement M
 asks-role-spec =

@@ -12,11 +12,20 @@ use Rattle.decisions.proofs.is_transition.Tie as tie
 
 returns : tie.Need-returns
 unfolding any
-returns c = sym (ap (λ (p : Reply Part). bearsOne (c .before .before .before .before .before .args .table .now) p transitionWords) (sym (c .before .before .before .permission-name .ensures)) ∙ rw (sym (c .before .is-word .ensures) ∙ c .if1 .taken))
+returns c =
+    let asked = c .before .before .before in
+    let t = asked .before .before .args .table .now in
+    sym (ap (λ (p : Reply Part). bearsOne t p transitionWords) (sym (asked .permission-name .ensures))
+    ∙ rw (sym (c .before .is-word .ensures) ∙ c .if1 .taken))
 
 returns-2 : tie.Need-returns-2
 unfolding any
-returns-2 c = sym (ap (λ (p : Reply Part). bearsOne (c .before .before .before .before .before .before .before .args .table .now) p transitionWords) (sym (c .before .before .before .before .before .permission-name .ensures)) ∙ or-second _ _ (sym (c .before .before .before .is-word .ensures) ∙ c .before .before .if1 .left) ∙ sym (c .is-word2 .ensures))
+returns-2 c =
+    let asked = c .before .before .before .before .before in
+    let t = asked .before .before .args .table .now in
+    sym (ap (λ (p : Reply Part). bearsOne t p transitionWords) (sym (asked .permission-name .ensures))
+    ∙ or-second _ _ (sym (c .before .before .before .is-word .ensures) ∙ c .before .before .if1 .left)
+    ∙ sym (c .is-word2 .ensures))
 
 pub is-transition-spec : {M : Type 1} → statement M
 is-transition-spec =

@@ -11,24 +11,32 @@ use Rattle.decisions.proofs.valid_in_sound.Tie as tie
 
 returns : tie.Need-returns
 returns c =
-    let start = c .before .before .before .before in
+    let counted = c .before .before in
+    let known = counted .before in
+    let start = known .before in
     let t = start .args .table .now in
-    let s = sound-table t (all-places (λ k. k < 256) t 0 (λ i l. c .before .before .before .shared-slice-known .given i .fits)) (start .pre) in
-    sym (valid-of t s _ ∙ rw (← c .before .before .count-names .ensures, sym (c .before .declares-context .ensures) ∙ not-true _ (c .if1 .taken)))
+    let s = sound-table t (all-places (λ k. k < 256) t 0 (λ i l. known .shared-slice-known .given i .fits)) (start .pre) in
+    sym (valid-of t s _ ∙ rw (← counted .count-names .ensures, sym (c .before .declares-context .ensures) ∙ not-true _ (c .if1 .taken)))
 
 returns-2 : tie.Need-returns-2
 returns-2 c =
-    let start = c .before .before .before .before .before .before in
+    let counted = c .before .before .before .before in
+    let known = counted .before in
+    let start = known .before in
     let t = start .args .table .now in
-    let s = sound-table t (all-places (λ k. k < 256) t 0 (λ i l. c .before .before .before .before .before .shared-slice-known .given i .fits)) (start .pre) in
-    sym (valid-of t s _ ∙ rw (← c .before .before .before .before .count-names .ensures, sym (c .before .before .before .declares-context .ensures) ∙ not-false _ (c .before .before .if1 .left), sym (c .before .is-valid .ensures) ∙ c .if2 .taken))
+    let s = sound-table t (all-places (λ k. k < 256) t 0 (λ i l. known .shared-slice-known .given i .fits)) (start .pre) in
+    let declared = sym (c .before .before .before .declares-context .ensures) ∙ not-false _ (c .before .before .if1 .left) in
+    sym (valid-of t s _ ∙ rw (← counted .count-names .ensures, declared, sym (c .before .is-valid .ensures) ∙ c .if2 .taken))
 
 returns-3 : tie.Need-returns-3
 returns-3 c =
-    let start = c .before .before .before .before .before .before in
+    let counted = c .before .before .before .before in
+    let known = counted .before in
+    let start = known .before in
     let t = start .args .table .now in
-    let s = sound-table t (all-places (λ k. k < 256) t 0 (λ i l. c .before .before .before .before .before .shared-slice-known .given i .fits)) (start .pre) in
-    sym (valid-of t s _ ∙ rw (← c .before .before .before .before .count-names .ensures, sym (c .before .before .before .declares-context .ensures) ∙ not-false _ (c .before .before .if1 .left), sym (c .before .is-valid .ensures) ∙ c .if2 .left))
+    let s = sound-table t (all-places (λ k. k < 256) t 0 (λ i l. known .shared-slice-known .given i .fits)) (start .pre) in
+    let declared = sym (c .before .before .before .declares-context .ensures) ∙ not-false _ (c .before .before .if1 .left) in
+    sym (valid-of t s _ ∙ rw (← counted .count-names .ensures, declared, sym (c .before .is-valid .ensures) ∙ c .if2 .left))
 
 pub valid-in-sound-spec : {M : Type 1} → statement M
 valid-in-sound-spec =
