@@ -15,14 +15,14 @@ use Rattle.lexer.specs.Class.{classOf, goesOn, endsComment, maxName}
 use Rattle.lexer.specs.Scan.{Mode, between, inComment, inName, State, going, stopped, maxText, maxLevel, stepBetween, step, scanFrom, scan}
 use Rattle.lexer.proofs.Clean.{clean-short}
 use Rattle.lexer.specs.Forms.{Forms, closed, ended, word, part, formsOf}
-use Rattle.policy.specs.Basics.{any, gather, given, each, All}
+use Rattle.policy.specs.Basics.{any, gather, given, each, All, orElse}
 use Rattle.policy.specs.Statements.{Family, users, roles, types, attributeOf, Declaration, plain, class, sameSort, declare, attributeset, gives, roletransition, constrain, Statement, Line, Policy, Transition, transition, transitions}
-use Rattle.policy.specs.Reading.{Read, policy, refused, readFrom, readPolicy, orElse}
+use Rattle.policy.specs.Reading.{Read, policy, refused, readFrom, readPolicy}
 use Rattle.policy.specs.Faults.{declaresA, placeOf, places, onCycle, firstCycle, familyCycle, cycle, clashes, firstClash, clash}
 use Rattle.policy.specs.Outcome.{accept, policyOf}
 use Rattle.policy.proofs.Lists.{all-append}
 use Rattle.policy.proofs.Gathered.{OfValue, all-gather}
-use Rattle.reading_laws.proofs.IfAny.{IfAny, nothing, just, or-else}
+use Rattle.policy.proofs.IfAny.{IfAny, nothing, just, or-else}
 use Rattle.reading_laws.proofs.ReadThen.{partPlaces, linePlaces, read-places}
 use Rattle.reading_laws.proofs.FaultOrder.{RefusedFor, too-long, wrong-byte, at-statement, fault-order, refusal-number, fault-number}
 use Rattle.reading_laws.proofs.OpensAt.{OpensAt, PartsOpen, forms-open, fault-place}

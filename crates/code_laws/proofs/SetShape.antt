@@ -9,10 +9,11 @@ use lib.ListN.{length, length-append}
 use Rattle.lexer.specs.Forms.{Forms, closed, ended, word, part}
 use Rattle.policy.specs.Basics.{Name, _>>=_, more, ofNone, ofOne, ofTwo, All}
 use Rattle.policy.specs.Words.{asName, Connective, allC, notC, andC, orC, xorC, setWord}
-use Rattle.policy.specs.Statements.{Family, Declaration, Reference, SetExpr, nameS, allS, notS, andS, orS, xorS, unionS, emptyS}
+use Rattle.policy.specs.Statements.{Family, Reference, SetExpr, nameS, allS, notS, andS, orS, xorS, unionS, emptyS}
 use Rattle.policy.specs.Grammar.{operandRow, unionOf, formS, headed, operands, setIn}
-use Rattle.policy.specs.Reading.{refer, referS}
-use Rattle.reading_laws.proofs.IfAny.{IfAny, nothing, just, and-then, whatever}
+use Rattle.policy.specs.Names.{refer, Environment}
+use Rattle.policy.specs.Reading.{referS}
+use Rattle.policy.proofs.IfAny.{IfAny, nothing, just, and-then, whatever}
 use Rattle.statement_code.specs.Code.{setCode, rowCode}
 use Rattle.code_laws.specs.Weight.{weight}
 use Rattle.code_laws.specs.Shape.{IsRow, Rowed, units, unitsIn}
@@ -147,15 +148,15 @@ pub record SameShape (s : SetExpr Name) (t : SetExpr Reference) : Type 0 where
   pub rowed : Rowed s → Rowed t
   pub row : IsRow s → IsRow t
 
-module _ (ds : List Declaration) (f : Family) where
-  two-shape : (x y s : SetExpr Name) (op : SetExpr Reference → SetExpr Reference → SetExpr Reference) → IfAny (SameShape x) (referS ds f x) → IfAny (SameShape y) (referS ds f y)
+module _ (env : Environment) (f : Family) where
+  two-shape : (x y s : SetExpr Name) (op : SetExpr Reference → SetExpr Reference → SetExpr Reference) → IfAny (SameShape x) (referS env f x) → IfAny (SameShape y) (referS env f y)
       → ((a b : SetExpr Reference) → SameShape x a → SameShape y b → SameShape s (op a b))
-      → IfAny (SameShape s) (referS ds f x >>= λ a. referS ds f y >>= λ b. some (op a b))
+      → IfAny (SameShape s) (referS env f x >>= λ a. referS env f y >>= λ b. some (op a b))
   two-shape x y s op h j k = and-then _ _ h λ a i. and-then _ _ j λ b l. just (k a b i l)
 
-  pub set-shape : (s : SetExpr Name) → IfAny (SameShape s) (referS ds f s)
+  pub set-shape : (s : SetExpr Name) → IfAny (SameShape s) (referS env f s)
   unfolding referS units
-  set-shape (nameS w) = whatever (refer ds f w) _ λ r. just (record { as-many = refl; rowed = λ h. h; row = λ h. h })
+  set-shape (nameS w) = whatever (refer env f w) _ λ r. just (record { as-many = refl; rowed = λ h. h; row = λ h. h })
   set-shape allS = just (record { as-many = refl; rowed = λ h. h; row = λ h. h })
   set-shape (notS x) = and-then _ _ (set-shape x) λ a i. just (record { as-many = omega arith; rowed = i .rowed; row = λ h. h })
   set-shape (andS x y) = two-shape x y _ andS (set-shape x) (set-shape y) λ a b i j. record { as-many = omega arith; rowed = λ h. (i .rowed (h .0), j .rowed (h .1)); row = λ h. h }
@@ -166,9 +167,9 @@ module _ (ds : List Declaration) (f : Family) where
   set-shape emptyS = just (record { as-many = refl; rowed = λ h. h; row = λ h. h })
 
 -- the S whose parentheses hold i: no more units than tokens
-pub set-fits : (ds : List Declaration) (f : Family) (i : Forms) (w : SetExpr Name) (s : SetExpr Reference) → setIn i ≡ some w → referS ds f w ≡ some s
+pub set-fits : (env : Environment) (f : Family) (i : Forms) (w : SetExpr Name) (s : SetExpr Reference) → setIn i ≡ some w → referS env f w ≡ some s
     → length (setCode s) ≤ weight i + 1
-set-fits ds f i w s h k =
+set-fits env f i w s h k =
     let a = set-within i .has w h in
-    let b = set-shape ds f w .has s k in
+    let b = set-shape env f w .has s k in
     omega (arith, set-length s (b .rowed (a .rowed)))

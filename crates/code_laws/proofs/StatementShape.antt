@@ -8,12 +8,13 @@ use mathlib.Core.List.{List, [], _∷_}
 use mathlib.Core.Option.{Option, none, some}
 use lib.ListN.{length}
 use Rattle.lexer.specs.Forms.{Forms, closed, ended, word, part}
-use Rattle.policy.specs.Basics.{Name, more, ofOne, ofTwo, indexOf, eachOf}
+use Rattle.policy.specs.Basics.{Name, more, ofOne, ofTwo, eachOf}
 use Rattle.policy.specs.Words.{asName, Keyword, declareK, classK, setK, relationK, transitionK, constrainK, keywordOf}
-use Rattle.policy.specs.Statements.{roles, types, thingOf, attributeOf, Declaration, plain, class, Relation, StatementOf, declare, attributeset, gives, roletransition, constrain, fromOf, toOf, Written, Statement, Policy, declarations, namesOf, classNames, permissions}
+use Rattle.policy.specs.Statements.{roles, types, thingOf, attributeOf, Declaration, plain, class, Relation, StatementOf, declare, attributeset, gives, roletransition, constrain, fromOf, toOf, Written, Statement, Policy, declarations}
 use Rattle.policy.specs.Grammar.{atClose, wordThen, partThen, wordAndPart, expressionIn, namesIn, oneOrMore, classIn, ofFour, formed, written}
-use Rattle.policy.specs.Reading.{again, refer, referE, resolved, fits, shallow, reads, fault, sized, resolving, naming, judge}
-use Rattle.reading_laws.proofs.IfAny.{IfAny, nothing, just, and-then, whatever}
+use Rattle.policy.specs.Names.{refer, Environment, environmentOf, numberIn}
+use Rattle.policy.specs.Reading.{again, referE, resolved, fits, shallow, reads, fault, sized, resolving, naming, judge}
+use Rattle.policy.proofs.IfAny.{IfAny, nothing, just, and-then, whatever}
 use Rattle.statement_code.specs.Code.{declarationCode, statementCode}
 use Rattle.code_laws.specs.Weight.{weight}
 use Rattle.code_laws.specs.Shape.{declarationUnits, statementUnits, StatementRowed}
@@ -119,17 +120,17 @@ written-shaped (part p i r) = nothing
 written-shaped (word at w r) = whatever (keywordOf w) _ λ k. formed-shaped k r (weight r + 1 + 1) (omega arith)
 
 -- AS IT IS READ
-module _ (ds : List Declaration) (n : ℕ) where
-  resolved-shaped : (w : Written) → WrittenShaped n w → IfAny (StatementShaped n) (resolved ds w)
+module _ (env : Environment) (n : ℕ) where
+  resolved-shaped : (w : Written) → WrittenShaped n w → IfAny (StatementShaped n) (resolved env w)
   resolved-shaped (declare d) h = just (record { rowed = tt; room = h .room })
   resolved-shaped (attributeset f a s) h =
-      whatever (indexOf a (namesOf (attributeOf f) ds)) _ λ a. and-then _ _ (set-shape ds f s) λ t e. just (record { rowed = e .rowed (h .rowed); room = omega arith })
-  resolved-shaped (gives k x y) h = whatever (refer ds (fromOf k) x) _ λ x. whatever (refer ds (toOf k) y) _ λ y. just (record { rowed = tt; room = h .room })
+      whatever (numberIn env (attributeOf f) a) _ λ a. and-then _ _ (set-shape env f s) λ t e. just (record { rowed = e .rowed (h .rowed); room = omega arith })
+  resolved-shaped (gives k x y) h = whatever (refer env (fromOf k) x) _ λ x. whatever (refer env (toOf k) y) _ λ y. just (record { rowed = tt; room = h .room })
   resolved-shaped (roletransition r t c m) h =
-      whatever (refer ds roles r) _ λ r. whatever (refer ds types t) _ λ t. whatever (indexOf c (classNames ds)) _ λ c. whatever (indexOf m (namesOf (thingOf roles) ds)) _ λ m.
+      whatever (refer env roles r) _ λ r. whatever (refer env types t) _ λ t. whatever (env .class c) _ λ c. whatever (numberIn env (thingOf roles) m) _ λ m.
       just (record { rowed = tt; room = h .room })
   resolved-shaped (constrain c ps e) h =
-      whatever (indexOf c (classNames ds)) _ λ c. whatever (eachOf (λ p. indexOf p (permissions ds c)) ps) _ λ ps. whatever (referE ds e) _ λ e. just (record { rowed = tt; room = h .room })
+      whatever (env .class c) _ λ c. whatever (eachOf (λ p. env .permission c p) ps) _ λ ps. whatever (referE env e) _ λ e. just (record { rowed = tt; room = h .room })
 
 -- what is judged good was written and resolved
 module _ (p : Policy) (t : Statement) where
@@ -141,9 +142,9 @@ module _ (p : Policy) (t : Statement) where
       go true false e = cc
       go true true e = cc
 
-  naming-as : (o : Option Written) → naming p o ≡ reads t → (w : Written) × (o ≡ some w) × (resolved (declarations p) w ≡ some t)
+  naming-as : (o : Option Written) → naming p o ≡ reads t → (w : Written) × (o ≡ some w) × (resolved (environmentOf (declarations p)) w ≡ some t)
   naming-as none h = let z : _≡_ {A = ℕ} 0 1 = cc in absurd (omega arith)
-  naming-as (some w) h = (w, refl, go (again (declarations p) w) (resolved (declarations p) w) h)
+  naming-as (some w) h = (w, refl, go (again (declarations p) w) (resolved (environmentOf (declarations p)) w) h)
     where
       go : (b : Bool) (o : Option Statement) → elim b [ true ↦ fault 4 | false ↦ resolving p o ] ≡ reads t → o ≡ some t
       go true o e = cc
@@ -154,7 +155,7 @@ pub judge-shaped : (p : Policy) (f : Forms) (s : Statement) → judge p f ≡ re
 unfolding judge
 judge-shaped p f s h =
     let w = naming-as p s (written f) h in
-    resolved-shaped (declarations p) (weight f + 1) (w .0) (written-shaped f .has (w .0) (w .1)) .has s (w .2)
+    resolved-shaped (environmentOf (declarations p)) (weight f + 1) (w .0) (written-shaped f .has (w .0) (w .1)) .has s (w .2)
 
 -- as many units as its code has
 declaration-length : (at : ℕ) (d : Declaration) → length (declarationCode at d) ≡ declarationUnits d

@@ -10,10 +10,9 @@ use Rattle.policy.specs.Meaning.{countIn}
 use Rattle.policy.specs.Image.{imageOf}
 use Rattle.policy.specs.Encode.{sortCode, bodies}
 use Rattle.statement_code.specs.Code.{codeOf}
-use Rattle.symbols.specs.Symbols.{Symbols}
 use Rattle.declarations.specs.Counting.{Counts}
+use Rattle.declarations.specs.Declaring as declaring
 use Rattle.declarations.specs.Declaring.{sectionOf}
-use Rattle.declarations.proofs.Holding.{holds-symbols}
 use Rattle.parser.specs.declared.Progress.{Progress}
 use Rattle.parser.specs.Memory.{Memory, symbolsOf, constraintsOf, rowsOf, Starts, Holds}
 use Rattle.table_writer.specs.declared.Sizes.{Sizes}
@@ -24,7 +23,7 @@ starts-take : {lent content now : List ℕ} {end : ℕ} → Starts lent content 
 starts-take {lent} {content} {now} {end} s = ap (take end) (s .is) ∙ take-at content (drop (length content) lent) end (sym (s .ends))
 
 -- how many of a sort the symbols count
-module _ (p : Policy) {table : List ℕ} {end sort r : ℕ} (f : Family) (s : Symbols table end (declarations p)) (counts : Counts table end sort r) where
+module _ (p : Policy) {table : List ℕ} {end sort r : ℕ} (f : Family) (s : declaring.Holds table end (declarations p)) (counts : Counts table end sort r) where
   pub things-counted : sort ≡ sortCode (thingOf f) → r ≡ countIn p f
   unfolding countIn
   things-counted e = counts .things (declarations p) (thingOf f) s e
@@ -37,14 +36,14 @@ module _ {p : Policy} {lent now : Memory} {s : Progress} (h : Holds p lent now s
   symbols-front : take (s .symbols) (now .symbols) ≡ symbolsOf p
   symbols-front = sym (take-take (s .symbols) 137088 (now .symbols) (h .indexed .below)) ∙ starts-take (h .symbols)
 
-  pub symbols-held : Symbols (now .symbols) (s .symbols) (declarations p)
+  pub symbols-held : declaring.Holds (now .symbols) (s .symbols) (declarations p)
   unfolding symbolsOf
-  symbols-held = holds-symbols (record {
+  symbols-held = record {
     front = symbols-front;
     inside = omega (arith, h .indexed .below, h .indexed .room);
     good = h .accepted .names;
     indexed = h .indexed;
-  })
+  }
 
   pub names-long : s .symbols ≡ length (body 0 p)
   unfolding symbolsOf sectionOf bodies imageOf
@@ -76,5 +75,5 @@ module _ {p : Policy} {lent now : Memory} {s : Progress} (h : Holds p lent now s
   pub code-taken : take (s .code) (now .code) ≡ codeOf p
   code-taken = starts-take (h .code)
 
-  pub symbols-in : {table : List ℕ} → now .symbols ≡ table → Symbols table (s .symbols) (declarations p)
-  symbols-in e = subst (λ (t : List ℕ). Symbols t (s .symbols) (declarations p)) e symbols-held
+  pub symbols-in : {table : List ℕ} → now .symbols ≡ table → declaring.Holds table (s .symbols) (declarations p)
+  symbols-in e = subst (λ (t : List ℕ). declaring.Holds t (s .symbols) (declarations p)) e symbols-held

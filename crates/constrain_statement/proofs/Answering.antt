@@ -13,11 +13,12 @@ use Rattle.bitset.specs.Parts.{put}
 use Rattle.bitset.specs.Relations.{joined}
 use Rattle.lexer.specs.Scan.{maxLevel}
 use Rattle.lexer.specs.Forms.{Forms, closed, part, framesAt, trim}
-use Rattle.policy.specs.Basics.{Name, _>>=_, each, indexOf}
-use Rattle.policy.specs.Statements.{Declaration, Reference, Constraint, sidesE, nameE, notE, andE, orE, Written, Statement, constrain, classNames, size, need}
+use Rattle.policy.specs.Basics.{Name, _>>=_, each}
+use Rattle.policy.specs.Statements.{Reference, Constraint, sidesE, nameE, notE, andE, orE, Written, Statement, constrain, size, need}
 use Rattle.policy.specs.Maxima.{maxConstraints, maxRows, maxStack}
 use Rattle.policy.specs.Grammar.{expressionIn}
-use Rattle.policy.specs.Reading.{refer, referE, resolved}
+use Rattle.policy.specs.Names.{refer, Environment}
+use Rattle.policy.specs.Reading.{referE, resolved}
 use Rattle.policy.specs.Image.{maskOf}
 use Rattle.policy.specs.Encode.{headBytes, rowBytes}
 use Rattle.policy.specs.Rows.{rowsOf}
@@ -41,47 +42,47 @@ use Rattle.constrain_statement.proofs.Scoping.{startsPart, not-there, n
 
 -- ---- the stack need of an expression does not change where its names are resolved
 
-pub need-kept : (ds : List Declaration) (e : Constraint Name) (x : Constraint Reference) → referE ds e ≡ some x → need x ≡ need e
+pub need-kept : (env : Environment) (e : Constraint Name) (x : Constraint Reference) → referE env e ≡ some x → need x ≡ need e
 unfolding referE need
-need-kept ds (sidesE f o) x h = ap need (sym (Option·some-injective (sidesE f o) x h))
-need-kept ds (nameE f s o w) x h =
-    bound-then (refer ds f w) (λ r. some (nameE f s o r)) x h λ r d g. ap need (sym (Option·some-injective (nameE f s o r) x g))
-need-kept ds (notE a) x h =
-    bound-then (referE ds a) (λ y. some (notE y)) x h λ y d g. ap need (sym (Option·some-injective (notE y) x g)) ∙ need-kept ds a y d
-need-kept ds (andE a b) x h =
-    bound-then (referE ds a) (λ y. referE ds b >>= λ z. some (andE y z)) x h λ y d g.
-    bound-then (referE ds b) (λ z. some (andE y z)) x g λ z d2 g2.
-    let p = need-kept ds a y d in
-    let q = need-kept ds b z d2 in
+need-kept env (sidesE f o) x h = ap need (sym (Option·some-injective (sidesE f o) x h))
+need-kept env (nameE f s o w) x h =
+    bound-then (refer env f w) (λ r. some (nameE f s o r)) x h λ r d g. ap need (sym (Option·some-injective (nameE f s o r) x g))
+need-kept env (notE a) x h =
+    bound-then (referE env a) (λ y. some (notE y)) x h λ y d g. ap need (sym (Option·some-injective (notE y) x g)) ∙ need-kept env a y d
+need-kept env (andE a b) x h =
+    bound-then (referE env a) (λ y. referE env b >>= λ z. some (andE y z)) x h λ y d g.
+    bound-then (referE env b) (λ z. some (andE y z)) x g λ z d2 g2.
+    let p = need-kept env a y d in
+    let q = need-kept env b z d2 in
     ap need (sym (Option·some-injective (andE y z) x g2)) ∙ rw (p, q)
-need-kept ds (orE a b) x h =
-    bound-then (referE ds a) (λ y. referE ds b >>= λ z. some (orE y z)) x h λ y d g.
-    bound-then (referE ds b) (λ z. some (orE y z)) x g λ z d2 g2.
-    let p = need-kept ds a y d in
-    let q = need-kept ds b z d2 in
+need-kept env (orE a b) x h =
+    bound-then (referE env a) (λ y. referE env b >>= λ z. some (orE y z)) x h λ y d g.
+    bound-then (referE env b) (λ z. some (orE y z)) x g λ z d2 g2.
+    let p = need-kept env a y d in
+    let q = need-kept env b z d2 in
     ap need (sym (Option·some-injective (orE y z) x g2)) ∙ rw (p, q)
 
 -- ---- the statement with its names resolved
 
-module _ (ds : List Declaration) (c : Name) (ps : List Name) (e : Constraint Name) where
+module _ (env : Environment) (c : Name) (ps : List Name) (e : Constraint Name) where
   abbrev then : Option ℕ → Option Statement
-  then o = o >>= λ n. numbersOf ds n ps >>= λ ns. referE ds e >>= λ x. some (constrain n ns x)
+  then o = o >>= λ n. numbersOf env n ps >>= λ ns. referE env e >>= λ x. some (constrain n ns x)
 
-  pub scope-none : (indexOf c (classNames ds) >>= λ n. numbersOf ds n ps) ≡ none → resolved ds (constrain c ps e) ≡ none
-  scope-none h = go (indexOf c (classNames ds)) h
+  pub scope-none : (env .class c >>= λ n. numbersOf env n ps) ≡ none → resolved env (constrain c ps e) ≡ none
+  scope-none h = go (env .class c) h
     where
-      go : (o : Option ℕ) → (o >>= λ n. numbersOf ds n ps) ≡ none → then o ≡ none
+      go : (o : Option ℕ) → (o >>= λ n. numbersOf env n ps) ≡ none → then o ≡ none
       go none g = refl
-      go (some n) g = ap (λ (o : Option (List ℕ)). o >>= λ ns. referE ds e >>= λ x. some (constrain n ns x)) g
+      go (some n) g = ap (λ (o : Option (List ℕ)). o >>= λ ns. referE env e >>= λ x. some (constrain n ns x)) g
 
-  module _ {class mask : ℕ} (s : Scoped ds c ps class mask) where
-    by-scope : resolved ds (constrain c ps e) ≡ (referE ds e >>= λ x. some (constrain class (s .numbers) x))
-    by-scope = ap then (s .class-is) ∙ ap (λ (o : Option (List ℕ)). o >>= λ ns. referE ds e >>= λ x. some (constrain class ns x)) (s .permissions-are)
+  module _ {class mask : ℕ} (s : Scoped env c ps class mask) where
+    by-scope : resolved env (constrain c ps e) ≡ (referE env e >>= λ x. some (constrain class (s .numbers) x))
+    by-scope = ap then (s .class-is) ∙ ap (λ (o : Option (List ℕ)). o >>= λ ns. referE env e >>= λ x. some (constrain class ns x)) (s .permissions-are)
 
-    pub expression-none : referE ds e ≡ none → resolved ds (constrain c ps e) ≡ none
+    pub expression-none : referE env e ≡ none → resolved env (constrain c ps e) ≡ none
     expression-none h = by-scope ∙ ap (λ (o : Option (Constraint Reference)). o >>= λ x. some (constrain class (s .numbers) x)) h
 
-    pub resolves : (x : Constraint Reference) → referE ds e ≡ some x → resolved ds (constrain c ps e) ≡ some (constrain class (s .numbers) x)
+    pub resolves : (x : Constraint Reference) → referE env e ≡ some x → resolved env (constrain c ps e) ≡ some (constrain class (s .numbers) x)
     resolves x h = by-scope ∙ ap (λ (o : Option (Constraint Reference)). o >>= λ x. some (constrain class (s .numbers) x)) h
 
 -- ---- from what was admitted to the answer
@@ -148,38 +149,38 @@ scope-told {t} {at} {table} {end} u e = subst (Scopes t at table end) e u
 
 module _ {t : List ℕ} {at : ℕ} {table : List ℕ} {end : ℕ} {before : List ℕ} {count : ℕ} {rowsBefore : List ℕ} {row : ℕ} where
   -- 5, where a name is not declared
-  undeclared-by : {after rowsAfter : List ℕ} → ((ds : List Declaration) (w : Written) → Symbols table end ds → ShapeAt t at w → resolved ds w ≡ none)
+  undeclared-by : {after rowsAfter : List ℕ} → ((env : Environment) (w : Written) → Symbols table end env → ShapeAt t at w → resolved env w ≡ none)
       → WritesConstrain t at table end before after count rowsBefore rowsAfter row Constrained.Undeclared
   undeclared-by {after} {rowsAfter} h = record {
-    says = λ ds w y a f.
-        subst (λ (o : Option Statement). Answers o before after count rowsBefore rowsAfter row Constrained.Undeclared) (sym (h ds w y (shape (trim (framesAt t at .here) levels) w f))) tt;
+    says = λ env w y a f.
+        subst (λ (o : Option Statement). Answers o before after count rowsBefore rowsAfter row Constrained.Undeclared) (sym (h env w y (shape (trim (framesAt t at .here) levels) w f))) tt;
   }
 
   pub past-rows : {after rowsAfter : List ℕ} {r : Constrained} → 2048 < row → WritesConstrain t at table end before after count rowsBefore rowsAfter row r
-  past-rows h = record { says = λ ds w y a f. absurd (omega (arith, h, a)) }
+  past-rows h = record { says = λ env w y a f. absurd (omega (arith, h, a)) }
 
   pub scope-missing : {k : Item} → k ≡ itemAt t at → OneOf (0 ∷ 2 ∷ 3 ∷ []) (tag k) → WritesConstrain t at table end before before count rowsBefore rowsBefore row Constrained.Undeclared
-  scope-missing e o = undeclared-by (λ ds w y s. not-there startsPart t at levels _ (s .row) refl (0 ∷ 2 ∷ 3 ∷ []) no-part e o)
+  scope-missing e o = undeclared-by (λ env w y s. not-there startsPart t at levels _ (s .row) refl (0 ∷ 2 ∷ 3 ∷ []) no-part e o)
 
   module _ {p j : ℕ} (l : Looked t at (Item.Open p j)) {r : Scope} (u : Scopes t j table end r) where
     pub scope-undeclared : r ≡ Scope.Undeclared → WritesConstrain t at table end before before count rowsBefore rowsBefore row Constrained.Undeclared
-    scope-undeclared e = undeclared-by (λ ds w y s.
-        ap (resolved ds) (s .written)
-        ∙ scope-none ds (s .class) (s .permissions) (s .body) (scope-told u e .says ds (s .class) (s .permissions) y (scope-there l s)))
+    scope-undeclared e = undeclared-by (λ env w y s.
+        ap (resolved env) (s .written)
+        ∙ scope-none env (s .class) (s .permissions) (s .body) (scope-told u e .says env (s .class) (s .permissions) y (scope-there l s)))
 
     module _ {class mask q : ℕ} (e : r ≡ Scope.Of class mask q) where
       pub expression-missing : {k : Item} → k ≡ itemAt t q → OneOf (0 ∷ 2 ∷ 3 ∷ []) (tag k)
           → WritesConstrain t at table end before before count rowsBefore rowsBefore row Constrained.Undeclared
-      expression-missing d o = undeclared-by (λ ds w y s.
+      expression-missing d o = undeclared-by (λ env w y s.
           not-there startsPart t q levels _ (part-behind l s q (scope-told u e .place)) refl (0 ∷ 2 ∷ 3 ∷ []) no-part d o)
 
       module _ {x z : ℕ} (l2 : Looked t q (Item.Open x z)) {rowsAfter : List ℕ} {k : RowsWritten}
           (v : Writes t z (expressionIn (trim (framesAt t z .here) (maxLevel - 2))) table end rowsBefore rowsAfter row k) where
         pub name-undeclared : k ≡ RowsWritten.Undeclared → WritesConstrain t at table end before before count rowsBefore rowsAfter row Constrained.Undeclared
-        name-undeclared d = undeclared-by (λ ds w y s.
+        name-undeclared d = undeclared-by (λ env w y s.
             let o = scope-told u e in
-            ap (resolved ds) (s .written)
-            ∙ expression-none ds (s .class) (s .permissions) (s .body) (o .says ds (s .class) (s .permissions) y (scope-there l s))
+            ap (resolved env) (s .written)
+            ∙ expression-none env (s .class) (s .permissions) (s .body) (o .says env (s .class) (s .permissions) y (scope-there l s))
             (undeclared y (expression-there l s (o .place) l2) (told v d)))
 
         -- 6 and 7, and what is written, by what the maxima and the stack need allow
@@ -187,16 +188,16 @@ module _ {t : List ℕ} {at : ℕ} {table : List ℕ} {end : ℕ} {before : List
             → Admits before after count class mask row n deep b
             → WritesConstrain t at table end before after count rowsBefore rowsAfter row b
         answered {a} {n} {deep} d long {after} {b} m = record {
-          says = λ ds w y g f.
+          says = λ env w y g f.
               let s = shape (trim (framesAt t at .here) levels) w f in
               let o = scope-told u e in
-              let c = o .says ds (s .class) (s .permissions) y (scope-there l s) in
+              let c = o .says env (s .class) (s .permissions) y (scope-there l s) in
               let there = expression-there l s (o .place) l2 in
               let written = told v d in
               let i = declared y there written in
-              let p = need-kept ds (s .body) (i .expression) (i .refers) ∙ sym (written .needs (s .body) there) in
+              let p = need-kept env (s .body) (i .expression) (i .refers) ∙ sym (written .needs (s .body) there) in
               subst (λ (o : Option Statement). Answers o before after count rowsBefore rowsAfter row b)
-              (sym (ap (resolved ds) (s .written) ∙ resolves ds (s .class) (s .permissions) (s .body) c (i .expression) (i .refers)))
+              (sym (ap (resolved env) (s .written) ∙ resolves env (s .class) (s .permissions) (s .body) c (i .expression) (i .refers)))
               (by-answer before after rowsBefore rowsAfter count class mask row n deep (i .expression) (c .numbers) p (i .count) (c .mask-is) long (i .bytes) b
               (m .says));
         }

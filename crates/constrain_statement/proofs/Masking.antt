@@ -13,20 +13,17 @@ use Rattle.bitset.specs.Sets.{bit, fromBits}
 use Rattle.bitset.specs.Parts as parts
 use Rattle.bitset.proofs.BitLaws.{fromBits-lt}
 use Rattle.lexer.specs.Forms.{Forms, word, part, framesAt}
-use Rattle.policy.specs.Basics.{Name, _>>=_, more, eachOf, indexOf}
+use Rattle.policy.specs.Basics.{Name, _>>=_, more, eachOf}
 use Rattle.policy.specs.Words.{isReserved, asName}
-use Rattle.policy.specs.Statements.{Declaration, permissions}
+use Rattle.policy.specs.Statements.{permissions}
 use Rattle.policy.specs.Grammar.{namesIn}
-use Rattle.policy.specs.Encode.{entries}
 use Rattle.policy.specs.Image.{maskOf}
-use Rattle.policy.proofs.Counts.{few-permissions-of}
 use Rattle.table_laws.proofs.ListLaws.{given-some, more-some}
-use Rattle.reading_laws.proofs.Resolving.{index-below}
-use Rattle.symbols.specs.Lookup.{firstNamed}
+use Rattle.policy.specs.Names.{Environment}
 use Rattle.symbols.specs.Resolving.{foundPermission}
 use Rattle.symbols.specs.Symbols.{Symbols, Looks}
 use Rattle.symbols.specs.declared.Found.{Found}
-use Rattle.symbols.proofs.ClassesFound.{find-permission, few-permissions}
+use Rattle.symbols.proofs.Bounds.{bounded}
 use Rattle.items.specs.Looks.{itemAt, rowEnd}
 use Rattle.items.specs.declared.Item.{Item}
 use Rattle.items.proofs.Items.{Looked, alike-here}
@@ -49,20 +46,20 @@ one-first m k none = refl
 one-first m k (some ns) = ap some (gained-one m k ns)
 
 -- what is left of the permissions ps in the row f, where the mask so far is m
-pub record Left (ds : List Declaration) (c : ℕ) (ps : List Name) (f : Forms) (m : ℕ) : Type 0 where
+pub record Left (env : Environment) (c : ℕ) (ps : List Name) (f : Forms) (m : ℕ) : Type 0 where
   pub rest : List Name
   pub names : namesIn f ≡ some rest
-  pub total : added m (numbersOf ds c rest) ≡ added 0 (numbersOf ds c ps)
+  pub total : added m (numbersOf env c rest) ≡ added 0 (numbersOf env c ps)
 
 -- the row at the place at is read up to the place i
 pub record Going (t : List ℕ) (at : ℕ) (table : List ℕ) (end family i m : ℕ) : Type 0 where
   pub same-row : rowEnd t i ≡ rowEnd t at
   pub small : m < 2 ^ 32
-  pub left : (ds : List Declaration) (c : ℕ) (ps : List Name) → Symbols table end ds → family ≡ 4 + c → namesIn (framesAt t at .here) ≡ some ps
-      → Left ds c ps (framesAt t i .here) m
+  pub left : (env : Environment) (c : ℕ) (ps : List Name) → Symbols table end env → family ≡ 4 + c → namesIn (framesAt t at .here) ≡ some ps
+      → Left env c ps (framesAt t i .here) m
 
 pub begun : {t : List ℕ} {at : ℕ} {table : List ℕ} {end family : ℕ} → Going t at table end family at 0
-begun = record { same-row = refl; small = omega arith; left = λ ds c ps y e h. record { rest = ps; names = h; total = refl } }
+begun = record { same-row = refl; small = omega arith; left = λ env c ps y e h. record { rest = ps; names = h; total = refl } }
 
 -- ---- one name
 
@@ -79,35 +76,32 @@ first-name s w f rest h =
     record { others = p .1; row = p .4 ∙ ap (λ (v : Name). v ∷ p .1) (sym same); names = p .3 }
 
 -- what a permission's name is found as is its place in the class
-pub record Numbered (ds : List Declaration) (c : ℕ) (w : Name) (number : ℕ) : Type 0 where
+pub record Numbered (env : Environment) (c : ℕ) (w : Name) (number : ℕ) : Type 0 where
   pub place : ℕ
-  pub index : indexOf w (permissions ds c) ≡ some place
+  pub index : env .permission c w ≡ some place
   pub low : number % 32 ≡ place
 
-module _ {table : List ℕ} {end : ℕ} {ds : List Declaration} (y : Symbols table end ds) (c : ℕ) (w : Name) where
-  found-as : (family : ℕ) → family ≡ 4 + c → (r : Found) → Looks table end family w r → r ≡ foundPermission c (indexOf w (permissions ds c))
-  found-as family e r h =
-      h .finds ds y
-      ∙ ap (λ (f : ℕ). firstNamed f w (entries ds)) e
-      ∙ find-permission ds c w (few-permissions [] ds (y .good))
+module _ {table : List ℕ} {end : ℕ} {env : Environment} (y : Symbols table end env) (c : ℕ) (w : Name) where
+  found-as : (family : ℕ) → family ≡ 4 + c → (r : Found) → Looks table end family w r → r ≡ foundPermission c (env .permission c w)
+  found-as family e r h = h .permissions env c y (sym e)
 
-  numbered : (sort number : ℕ) → Found.At sort number ≡ foundPermission c (indexOf w (permissions ds c)) → Numbered ds c w number
-  numbered sort number h = go (indexOf w (permissions ds c)) refl h
+  numbered : (sort number : ℕ) → Found.At sort number ≡ foundPermission c (env .permission c w) → Numbered env c w number
+  numbered sort number h = go (env .permission c w) refl h
     where
-      go : (o : Option ℕ) → indexOf w (permissions ds c) ≡ o → Found.At sort number ≡ foundPermission c o → Numbered ds c w number
+      go : (o : Option ℕ) → env .permission c w ≡ o → Found.At sort number ≡ foundPermission c o → Numbered env c w number
       go none p g = absurd (let z : _≡_ {A = ℕ} 0 1 = cc in omega arith)
       go (some k) p g =
           let z : number ≡ c * 32 + k = cc in
           record {
             place = k;
             index = p;
-            low = omega (arith, index-below w (permissions ds c) .has k p, few-permissions-of ds (y .good) c);
+            low = omega (arith, bounded y .permissions c w k p);
           }
 
-  not-numbered : Found.Missing ≡ foundPermission c (indexOf w (permissions ds c)) → indexOf w (permissions ds c) ≡ none
-  not-numbered h = go (indexOf w (permissions ds c)) refl h
+  not-numbered : Found.Missing ≡ foundPermission c (env .permission c w) → env .permission c w ≡ none
+  not-numbered h = go (env .permission c w) refl h
     where
-      go : (o : Option ℕ) → indexOf w (permissions ds c) ≡ o → Found.Missing ≡ foundPermission c o → indexOf w (permissions ds c) ≡ none
+      go : (o : Option ℕ) → env .permission c w ≡ o → Found.Missing ≡ foundPermission c o → env .permission c w ≡ none
       go none p g = p
       go (some k) p g = absurd (let z : _≡_ {A = ℕ} 0 1 = cc in omega arith)
 
@@ -119,7 +113,7 @@ tag k = tagOf the-type k
 
 module _ {t : List ℕ} {at : ℕ} {table : List ℕ} {end family i m : ℕ} (g : Going t at table end family i m) where
   module _ {s n k q : ℕ} (l : Looked t i (Item.Word s n k q)) {r : Found} (h : Looks table end family (parts.part t s n) r) where
-    name-first : {ds : List Declaration} {c : ℕ} {ps : List Name} (x : Left ds c ps (framesAt t i .here) m) → FirstName (take n (drop s t)) (framesAt t q .here) (x .rest)
+    name-first : {env : Environment} {c : ℕ} {ps : List Name} (x : Left env c ps (framesAt t i .here) m) → FirstName (take n (drop s t)) (framesAt t q .here) (x .rest)
     name-first x = first-name s (take n (drop s t)) (framesAt t q .here) (x .rest) (sym (ap namesIn (l .here)) ∙ x .names)
 
     pub one-more : {sort number v : ℕ} → r ≡ Found.At sort number → v ≡ fromBits 32 (λ j. bit m j || eqb j (number % 32)) → Going t at table end family q v
@@ -127,8 +121,8 @@ module _ {t : List ℕ} {at : ℕ} {table : List ℕ} {end family i m : ℕ} (g 
     one-more {sort} {number} {v} d e = record {
       same-row = sym (l .end) ∙ g .same-row;
       small = subst (λ (x : ℕ). x < 2 ^ 32) (sym e) (fromBits-lt 32 (λ j. bit m j || eqb j (number % 32)));
-      left = λ ds c ps y f b.
-          let x = g .left ds c ps y f b in
+      left = λ env c ps y f b.
+          let x = g .left env c ps y f b in
           let a = name-first x in
           let w = take n (drop s t) in
           let p = numbered y c w sort number (sym d ∙ found-as y c w family f r h) in
@@ -136,10 +130,10 @@ module _ {t : List ℕ} {at : ℕ} {table : List ℕ} {end family i m : ℕ} (g 
             rest = a .others;
             names = a .names;
             total =
-                ap (λ (z : ℕ). added z (numbersOf ds c (a .others))) (e ∙ ap (λ (z : ℕ). fromBits 32 (λ j. bit m j || eqb j z)) (p .low))
-                ∙ one-first m (p .place) (numbersOf ds c (a .others))
-                ∙ ap (λ (o : Option ℕ). added m (more o (numbersOf ds c (a .others)))) (sym (p .index))
-                ∙ ap (λ (z : List Name). added m (numbersOf ds c z)) (sym (a .row))
+                ap (λ (z : ℕ). added z (numbersOf env c (a .others))) (e ∙ ap (λ (z : ℕ). fromBits 32 (λ j. bit m j || eqb j z)) (p .low))
+                ∙ one-first m (p .place) (numbersOf env c (a .others))
+                ∙ ap (λ (o : Option ℕ). added m (more o (numbersOf env c (a .others)))) (sym (p .index))
+                ∙ ap (λ (z : List Name). added m (numbersOf env c z)) (sym (a .row))
                 ∙ x .total;
           };
     }
@@ -148,34 +142,34 @@ module _ {t : List ℕ} {at : ℕ} {table : List ℕ} {end family i m : ℕ} (g 
     unfolding parts.part eachOf
     not-of-class d = record {
       place = tt;
-      says = λ ds c ps y f b.
-          let x = g .left ds c ps y f b in
+      says = λ env c ps y f b.
+          let x = g .left env c ps y f b in
           let a = name-first x in
           let w = take n (drop s t) in
           let p = not-numbered y c w (sym d ∙ found-as y c w family f r h) in
-          ap (λ (o : Option ℕ). added m (more o (numbersOf ds c (a .others)))) (sym p)
-          ∙ ap (λ (z : List Name). added m (numbersOf ds c z)) (sym (a .row))
+          ap (λ (o : Option ℕ). added m (more o (numbersOf env c (a .others)))) (sym p)
+          ∙ ap (λ (z : List Name). added m (numbersOf env c z)) (sym (a .row))
           ∙ x .total
-          ∙ from-none (numbersOf ds c ps);
+          ∙ from-none (numbersOf env c ps);
     }
 
   pub finished : {q : ℕ} → Looked t i (Item.Close q) → Masks t at table end family (Masked.Mask m q)
   unfolding namesIn eachOf
   finished l = record {
     place = sym (g .same-row) ∙ l .end;
-    says = λ ds c ps y f b.
-        let x = g .left ds c ps y f b in
+    says = λ env c ps y f b.
+        let x = g .left env c ps y f b in
         let none-left : [] ≡ x .rest = Option·some-injective [] (x .rest) (sym (ap namesIn (l .here)) ∙ x .names) in
         sym (ap some (gained-nothing m (g .small)))
-        ∙ ap (λ (z : List Name). added m (numbersOf ds c z)) none-left
+        ∙ ap (λ (z : List Name). added m (numbersOf env c z)) none-left
         ∙ x .total
-        ∙ from-none (numbersOf ds c ps);
+        ∙ from-none (numbersOf env c ps);
   }
 
   pub no-names : {k : Item} → k ≡ itemAt t i → OneOf (1 ∷ 3 ∷ []) (tag k) → Masks t at table end family Masked.Undeclared
   unfolding namesIn
   no-names {k} e o = record {
     place = tt;
-    says = λ ds c ps y f b.
-        never (sym (alike-here namesIn (λ f. none) t i k (1 ∷ 3 ∷ []) (tt, λ x u v. refl, tt, refl) e o) ∙ g .left ds c ps y f b .names);
+    says = λ env c ps y f b.
+        never (sym (alike-here namesIn (λ f. none) t i k (1 ∷ 3 ∷ []) (tt, λ x u v. refl, tt, refl) e o) ∙ g .left env c ps y f b .names);
   }

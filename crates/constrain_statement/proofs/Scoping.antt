@@ -11,17 +11,15 @@ use types.Run.{OneOf}
 use Rattle.bitset.specs.Parts as parts
 use Rattle.lexer.specs.Scan.{maxLevel}
 use Rattle.lexer.specs.Forms.{Forms, closed, ended, word, part, framesAt, trim}
-use Rattle.policy.specs.Basics.{Name, _>>=_, indexOf}
-use Rattle.policy.specs.Statements.{Declaration, classNames}
+use Rattle.policy.specs.Basics.{Name, _>>=_}
 use Rattle.policy.specs.Grammar.{namesIn}
 use Rattle.policy.specs.Image.{maskOf}
-use Rattle.policy.proofs.Counts.{few-classes}
 use Rattle.table_laws.proofs.ListLaws.{bound-then}
-use Rattle.reading_laws.proofs.Resolving.{index-below}
+use Rattle.policy.specs.Names.{Environment}
 use Rattle.symbols.specs.Resolving.{foundClass}
 use Rattle.symbols.specs.Symbols.{Symbols, Looks}
 use Rattle.symbols.specs.declared.Found.{Found}
-use Rattle.symbols.proofs.ClassesFound.{find-class}
+use Rattle.symbols.proofs.Bounds.{bounded}
 use Rattle.items.specs.Looks.{itemAt, rowEnd}
 use Rattle.items.specs.Reads.{isClosed}
 use Rattle.items.specs.declared.Item.{Item}
@@ -91,26 +89,26 @@ module _ {t : List ℕ} {at s n k q : ℕ} (l : Looked t at (Item.Word s n k q))
 
 -- ---- the class
 
-module _ {table : List ℕ} {end : ℕ} {ds : List Declaration} (y : Symbols table end ds) (w : Name) {r : Found} (h : Looks table end 3 w r) where
-  class-as : r ≡ foundClass (indexOf w (classNames ds))
-  class-as = h .finds ds y ∙ find-class ds w
+module _ {table : List ℕ} {end : ℕ} {env : Environment} (y : Symbols table end env) (w : Name) {r : Found} (h : Looks table end 3 w r) where
+  class-as : r ≡ foundClass (env .class w)
+  class-as = h .classes env y refl
 
-  class-missing : r ≡ Found.Missing → indexOf w (classNames ds) ≡ none
-  class-missing d = go (indexOf w (classNames ds)) refl (sym d ∙ class-as)
+  class-missing : r ≡ Found.Missing → env .class w ≡ none
+  class-missing d = go (env .class w) refl (sym d ∙ class-as)
     where
-      go : (o : Option ℕ) → indexOf w (classNames ds) ≡ o → Found.Missing ≡ foundClass o → indexOf w (classNames ds) ≡ none
+      go : (o : Option ℕ) → env .class w ≡ o → Found.Missing ≡ foundClass o → env .class w ≡ none
       go none p g = p
       go (some k) p g = absurd (let z : _≡_ {A = ℕ} 0 1 = cc in omega arith)
 
-  class-number : {sort number : ℕ} → r ≡ Found.At sort number → indexOf w (classNames ds) ≡ some number
-  class-number {sort} {number} d = go (indexOf w (classNames ds)) refl (sym d ∙ class-as)
+  class-number : {sort number : ℕ} → r ≡ Found.At sort number → env .class w ≡ some number
+  class-number {sort} {number} d = go (env .class w) refl (sym d ∙ class-as)
     where
-      go : (o : Option ℕ) → indexOf w (classNames ds) ≡ o → Found.At sort number ≡ foundClass o → indexOf w (classNames ds) ≡ some number
+      go : (o : Option ℕ) → env .class w ≡ o → Found.At sort number ≡ foundClass o → env .class w ≡ some number
       go none p g = absurd (let z : _≡_ {A = ℕ} 0 1 = cc in omega arith)
       go (some k) p g = let z : number ≡ 0 + k = cc in p ∙ ap some (sym (z ∙ zero-add k))
 
-  class-below : (number : ℕ) → indexOf w (classNames ds) ≡ some number → number < 32
-  class-below number e = omega (arith, index-below w (classNames ds) .has number e, few-classes ds (y .good))
+  class-below : (number : ℕ) → env .class w ≡ some number → number < 32
+  class-below number e = bounded y .classes w number e
 
 -- ---- the answers
 
@@ -122,7 +120,7 @@ module _ {t : List ℕ} {at : ℕ} {table : List ℕ} {end : ℕ} where
   pub word-missing : {k : Item} → k ≡ itemAt t at → OneOf (1 ∷ 2 ∷ 3 ∷ []) (tag k) → Scopes t at table end Scope.Undeclared
   word-missing e o = record {
     place = tt;
-    says = λ ds c ps y h. not-there startsWord t at levels _ (h .row) refl (1 ∷ 2 ∷ 3 ∷ []) no-word e o;
+    says = λ env c ps y h. not-there startsWord t at levels _ (h .row) refl (1 ∷ 2 ∷ 3 ∷ []) no-word e o;
   }
 
   module _ {s n k q : ℕ} (l : Looked t at (Item.Word s n k q)) {r : Found} (f : Looks table end 3 (parts.part t s n) r) where
@@ -130,42 +128,42 @@ module _ {t : List ℕ} {at : ℕ} {table : List ℕ} {end : ℕ} where
     unfolding parts.part
     class-undeclared d = record {
       place = tt;
-      says = λ ds c ps y h.
+      says = λ env c ps y h.
           let none-such = class-missing y (take n (drop s t)) f d in
-          ap (λ (w : Name). indexOf w (classNames ds) >>= λ n. numbersOf ds n ps) (sym (behind-word l h .0))
-          ∙ ap (λ (o : Option ℕ). o >>= λ n. numbersOf ds n ps) none-such;
+          ap (λ (w : Name). env .class w >>= λ n. numbersOf env n ps) (sym (behind-word l h .0))
+          ∙ ap (λ (o : Option ℕ). o >>= λ n. numbersOf env n ps) none-such;
     }
 
     module _ {sort number : ℕ} (d : r ≡ Found.At sort number) where
-      class-is : {ds : List Declaration} {c : Name} {ps : List Name} → Symbols table end ds → ScopeForm (trim (framesAt t at .here) levels) c ps → indexOf c (classNames ds) ≡ some number
+      class-is : {env : Environment} {c : Name} {ps : List Name} → Symbols table end env → ScopeForm (trim (framesAt t at .here) levels) c ps → env .class c ≡ some number
       unfolding parts.part
-      class-is {ds} y h = ap (λ (w : Name). indexOf w (classNames ds)) (sym (behind-word l h .0)) ∙ class-number y (take n (drop s t)) f d
+      class-is {env} y h = ap (λ (w : Name). env .class w) (sym (behind-word l h .0)) ∙ class-number y (take n (drop s t)) f d
 
       pub class-too-far : 32 ≤ number → Scopes t at table end Scope.Undeclared
       unfolding parts.part
       class-too-far g = record {
         place = tt;
-        says = λ ds c ps y h.
+        says = λ env c ps y h.
             absurd (omega (arith, g, class-below y (take n (drop s t)) f number (class-number y (take n (drop s t)) f d)));
       }
 
       pub part-missing : {k : Item} → k ≡ itemAt t q → OneOf (0 ∷ 2 ∷ 3 ∷ []) (tag k) → Scopes t at table end Scope.Undeclared
       part-missing e o = record {
         place = tt;
-        says = λ ds c ps y h. not-there startsPart t q levels _ (behind-word l h .1) refl (0 ∷ 2 ∷ 3 ∷ []) no-part e o;
+        says = λ env c ps y h. not-there startsPart t q levels _ (behind-word l h .1) refl (0 ∷ 2 ∷ 3 ∷ []) no-part e o;
       }
 
       module _ {p j : ℕ} (l2 : Looked t q (Item.Open p j)) where
-        numbers-there : {m : Masked} → Masks t j table end (4 + number) m → {ds : List Declaration} {c : Name} {ps : List Name} → Symbols table end ds
-            → ScopeForm (trim (framesAt t at .here) levels) c ps → maskIn m ≡ (numbersOf ds number ps >>= λ ns. some (maskOf ns))
-        numbers-there m {ds} {c} {ps} y h = m .says ds number ps y refl (names-there l h l2)
+        numbers-there : {m : Masked} → Masks t j table end (4 + number) m → {env : Environment} {c : Name} {ps : List Name} → Symbols table end env
+            → ScopeForm (trim (framesAt t at .here) levels) c ps → maskIn m ≡ (numbersOf env number ps >>= λ ns. some (maskOf ns))
+        numbers-there m {env} {c} {ps} y h = m .says env number ps y refl (names-there l h l2)
 
         pub permission-undeclared : {x : Masked} → Masks t j table end (4 + number) x → x ≡ Masked.Undeclared → Scopes t at table end Scope.Undeclared
         permission-undeclared m e = record {
           place = tt;
-          says = λ ds c ps y h.
-              ap (λ (o : Option ℕ). o >>= λ n. numbersOf ds n ps) (class-is y h)
-              ∙ no-mask (numbersOf ds number ps) (sym (ap maskIn e) ∙ numbers-there m y h);
+          says = λ env c ps y h.
+              ap (λ (o : Option ℕ). o >>= λ n. numbersOf env n ps) (class-is y h)
+              ∙ no-mask (numbersOf env number ps) (sym (ap maskIn e) ∙ numbers-there m y h);
         }
 
         module _ {x : Masked} {mask o : ℕ} (m : Masks t j table end (4 + number) x) (e : x ≡ Masked.Mask mask o) where
@@ -175,13 +173,13 @@ module _ {t : List ℕ} {at : ℕ} {table : List ℕ} {end : ℕ} where
           pub close-missing : {k : Item} → k ≡ itemAt t o → OneOf (0 ∷ 1 ∷ 3 ∷ []) (tag k) → Scopes t at table end Scope.Undeclared
           close-missing d i = record {
             place = tt;
-            says = λ ds c ps y h. not-there isClosed t o levels _ (close-there l h l2 o (told .place)) refl (0 ∷ 1 ∷ 3 ∷ []) no-close d i;
+            says = λ env c ps y h. not-there isClosed t o levels _ (close-there l h l2 o (told .place)) refl (0 ∷ 1 ∷ 3 ∷ []) no-close d i;
           }
 
           pub scoped : {z : ℕ} → Looked t o (Item.Close z) → Scopes t at table end (Scope.Of number mask z)
           scoped l3 = record {
             place = l .end ∙ l2 .end ∙ ap (rowEnd t) (told .place) ∙ l3 .end;
-            says = λ ds c ps y h.
-                bound-then (numbersOf ds number ps) (λ ns. some (maskOf ns)) mask (sym (numbers-there told y h)) λ ns a b.
+            says = λ env c ps y h.
+                bound-then (numbersOf env number ps) (λ ns. some (maskOf ns)) mask (sym (numbers-there told y h)) λ ns a b.
                 record { numbers = ns; class-is = class-is y h; permissions-are = a; mask-is = sym (Option·some-injective (maskOf ns) mask b) };
           }

@@ -12,13 +12,14 @@ use Rattle.lexer.specs.Scan.{maxLevel}
 use Rattle.lexer.specs.Forms.{framesAt, trim}
 use Rattle.policy.specs.Basics.{each}
 use Rattle.policy.specs.Words.{constrainK}
-use Rattle.policy.specs.Statements.{Declaration, Reference, Constraint, Written, Statement, declare, attributeset, gives, roletransition, constrain, size, need}
+use Rattle.policy.specs.Statements.{Reference, Constraint, Written, Statement, declare, attributeset, gives, roletransition, constrain, size, need}
 use Rattle.policy.specs.Maxima.{maxConstraints, maxRows, maxStack}
 use Rattle.policy.specs.Grammar.{formed}
 use Rattle.policy.specs.Reading.{resolved}
 use Rattle.policy.specs.Image.{maskOf}
 use Rattle.policy.specs.Rows.{rowsOf}
 use Rattle.policy.specs.Encode.{ConstraintHead, headBytes, rowBytes}
+use Rattle.policy.specs.Names.{Environment}
 use Rattle.symbols.specs.Symbols.{Symbols}
 use Rattle.constrain_statement.specs.declared.Constrained.{Constrained}
 
@@ -60,9 +61,9 @@ Answers (some (roletransition x y c n)) before after count rowsBefore rowsAfter 
 
 -- of the statement whose keyword is before the place at, where the symbol table holds the declarations before it
 pub record WritesConstrain (t : List ℕ) (at : ℕ) (table : List ℕ) (end : ℕ) (before after : List ℕ) (count : ℕ) (rowsBefore rowsAfter : List ℕ) (row : ℕ) (r : Constrained) : Type 0 where
-  pub says : (ds : List Declaration) (w : Written) → Symbols table end ds → row ≤ maxRows
+  pub says : (env : Environment) (w : Written) → Symbols table end env → row ≤ maxRows
       → formed constrainK (trim (framesAt t at .here) (maxLevel - 1)) ≡ some w
-      → Answers (resolved ds w) before after count rowsBefore rowsAfter row r
+      → Answers (resolved env w) before after count rowsBefore rowsAfter row r
 
 -- the maxima allow it and so deep a stack, and its record is written; or the first of 6 and 7
 abbrev pub AdmitsBy : List ℕ → List ℕ → ℕ → ℕ → ℕ → ℕ → ℕ → ℕ → Constrained → Type 0

@@ -5,18 +5,18 @@ use mathlib.Core.List.{List}
 use mathlib.Core.Option.{Option, none, some}
 use Rattle.lexer.specs.Scan.{maxLevel}
 use Rattle.lexer.specs.Forms.{Forms, closed, word, part, framesAt, trim}
-use Rattle.policy.specs.Basics.{Name, _>>=_, eachOf, indexOf}
-use Rattle.policy.specs.Statements.{Declaration, classNames, permissions}
+use Rattle.policy.specs.Basics.{Name, _>>=_, eachOf}
 use Rattle.policy.specs.Grammar.{namesIn}
 use Rattle.policy.specs.Image.{maskOf}
+use Rattle.policy.specs.Names.{Environment}
 use Rattle.symbols.specs.Symbols.{Symbols}
 use Rattle.items.specs.Looks.{rowEnd}
 use Rattle.constrain_statement.specs.declared.Masked.{Masked}
 use Rattle.constrain_statement.specs.declared.Scope.{Scope}
 
 -- the numbers of some permissions of class c, "each P a permission of C"; none where one is "not declared before, or of the wrong sort"
-abbrev pub numbersOf : List Declaration → ℕ → List Name → Option (List ℕ)
-numbersOf ds c ps = eachOf (λ p. indexOf p (permissions ds c)) ps
+abbrev pub numbersOf : Environment → ℕ → List Name → Option (List ℕ)
+numbersOf env c ps = eachOf (λ p. env .permission c p) ps
 
 -- the mask that is answered: "permission mask 4"
 abbrev pub maskIn : Masked → Option ℕ
@@ -31,8 +31,8 @@ MaskPlace t at Masked.Undeclared = Unit {0}
 -- "repeats of P are harmless": the mask of a row of permissions of class c, whose names are the family 4 + c
 pub record Masks (t : List ℕ) (at : ℕ) (table : List ℕ) (end family : ℕ) (r : Masked) : Type 0 where
   pub place : MaskPlace t at r
-  pub says : (ds : List Declaration) (c : ℕ) (ps : List Name) → Symbols table end ds → family ≡ 4 + c → namesIn (framesAt t at .here) ≡ some ps
-      → maskIn r ≡ (numbersOf ds c ps >>= λ ns. some (maskOf ns))
+  pub says : (env : Environment) (c : ℕ) (ps : List Name) → Symbols table end env → family ≡ 4 + c → namesIn (framesAt t at .here) ≡ some ps
+      → maskIn r ≡ (numbersOf env c ps >>= λ ns. some (maskOf ns))
 
 -- "C (P ...)", and the close
 pub record ScopeForm (f : Forms) (c : Name) (ps : List Name) : Type 0 where
@@ -43,16 +43,16 @@ pub record ScopeForm (f : Forms) (c : Name) (ps : List Name) : Type 0 where
   pub names : namesIn inner ≡ some ps
 
 -- the names are declared: the class is of this number, and the mask has a bit for each of the permissions and no other
-pub record Scoped (ds : List Declaration) (c : Name) (ps : List Name) (class mask : ℕ) : Type 0 where
+pub record Scoped (env : Environment) (c : Name) (ps : List Name) (class mask : ℕ) : Type 0 where
   pub numbers : List ℕ
-  pub class-is : indexOf c (classNames ds) ≡ some class
-  pub permissions-are : numbersOf ds class ps ≡ some numbers
+  pub class-is : env .class c ≡ some class
+  pub permissions-are : numbersOf env class ps ≡ some numbers
   pub mask-is : mask ≡ maskOf numbers
 
 -- the numbers, or fault 5: "name not declared before, or of the wrong sort"
-abbrev pub ScopeAnswers : List Declaration → Name → List Name → Scope → Type 0
-ScopeAnswers ds c ps (Scope.Of class mask q) = Scoped ds c ps class mask
-ScopeAnswers ds c ps Scope.Undeclared = (indexOf c (classNames ds) >>= λ n. numbersOf ds n ps) ≡ none
+abbrev pub ScopeAnswers : Environment → Name → List Name → Scope → Type 0
+ScopeAnswers env c ps (Scope.Of class mask q) = Scoped env c ps class mask
+ScopeAnswers env c ps Scope.Undeclared = (env .class c >>= λ n. numbersOf env n ps) ≡ none
 
 abbrev pub ScopePlace : List ℕ → ℕ → Scope → Type 0
 ScopePlace t at (Scope.Of class mask q) = rowEnd t at ≡ q
@@ -61,5 +61,5 @@ ScopePlace t at Scope.Undeclared = Unit {0}
 -- of the row at the place at, where the symbol table holds the declarations before it
 pub record Scopes (t : List ℕ) (at : ℕ) (table : List ℕ) (end : ℕ) (r : Scope) : Type 0 where
   pub place : ScopePlace t at r
-  pub says : (ds : List Declaration) (c : Name) (ps : List Name) → Symbols table end ds → ScopeForm (trim (framesAt t at .here) (maxLevel - 2)) c ps
-      → ScopeAnswers ds c ps r
+  pub says : (env : Environment) (c : Name) (ps : List Name) → Symbols table end env → ScopeForm (trim (framesAt t at .here) (maxLevel - 2)) c ps
+      → ScopeAnswers env c ps r

@@ -8,32 +8,33 @@ use lib.ListN.{length}
 use Rattle.bitset.specs.Parts.{put}
 use Rattle.bitset.specs.Relations.{joined}
 use Rattle.policy.specs.Basics.{Name, each}
-use Rattle.policy.specs.Statements.{Declaration, Reference, Constraint, size}
+use Rattle.policy.specs.Statements.{Reference, Constraint, size}
 use Rattle.policy.specs.Reading.{referE}
 use Rattle.policy.specs.Rows.{rowsOf}
 use Rattle.policy.specs.Encode.{rowBytes}
+use Rattle.policy.specs.Names.{Environment}
 use Rattle.symbols.specs.Symbols.{Symbols}
 use Rattle.constraint_writer.specs.Writing.{Writes}
 use Rattle.constraint_writer.specs.declared.RowsWritten.{RowsWritten}
 use Rattle.constraint_writer.proofs.Resolving.{rows-count, resolved, unresolved}
 
 -- the names of an expression are declared, its rows are counted, and they stand in the memory if there is room
-pub record Resolved (ds : List Declaration) (e : Constraint Name) (before after : List ℕ) (row n : ℕ) : Type 0 where
+pub record Resolved (env : Environment) (e : Constraint Name) (before after : List ℕ) (row n : ℕ) : Type 0 where
   pub expression : Constraint Reference
-  pub refers : referE ds e ≡ some expression
+  pub refers : referE env e ≡ some expression
   pub count : n ≡ row + size expression
   pub bytes : 6 * (row + size expression) ≤ length before → after ≡ put before (6 * row) (joined (each rowBytes (rowsOf expression)))
 
-module _ {t symbols before after : List ℕ} {at end row : ℕ} {m : Option (Constraint Name)} {ds : List Declaration} {e : Constraint Name} (h : Symbols symbols end ds) (g : m ≡ some e) where
-  pub undeclared : Writes t at m symbols end before after row RowsWritten.Undeclared → referE ds e ≡ none
-  undeclared w = unresolved ds e before after row (w .rows ds e h g)
+module _ {t symbols before after : List ℕ} {at end row : ℕ} {m : Option (Constraint Name)} {env : Environment} {e : Constraint Name} (h : Symbols symbols end env) (g : m ≡ some e) where
+  pub undeclared : Writes t at m symbols end before after row RowsWritten.Undeclared → referE env e ≡ none
+  undeclared w = unresolved env e before after row (w .rows env e h g)
 
-  pub declared : {q n d : ℕ} → Writes t at m symbols end before after row (RowsWritten.Next q n d) → Resolved ds e before after row n
+  pub declared : {q n d : ℕ} → Writes t at m symbols end before after row (RowsWritten.Next q n d) → Resolved env e before after row n
   declared w =
-      let r = resolved ds e before after row (w .rows ds e h g) in
+      let r = resolved env e before after row (w .rows env e h g) in
       record {
         expression = r .expression;
         refers = r .refers;
         count = r .count;
-        bytes = λ k. w .rows ds e h g .wrote (r .expression) (r .refers) .put-there (omega (arith, k, rows-count (r .expression)));
+        bytes = λ k. w .rows env e h g .wrote (r .expression) (r .refers) .put-there (omega (arith, k, rows-count (r .expression)));
       }

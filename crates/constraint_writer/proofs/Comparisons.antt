@@ -12,9 +12,10 @@ use denote.Enum.Declared.{tagOf}
 use Rattle.lexer.specs.Forms.{Forms, closed, ended, word, part, framesAt, trim}
 use Rattle.policy.specs.Basics.{Name, _>>=_, given}
 use Rattle.policy.specs.Words.{isReserved, isPlain, opOf, Component, componentOf}
-use Rattle.policy.specs.Statements.{Family, Side, source, target, Op, Declaration, Reference, thing, attribute, Constraint, sidesE, nameE, need}
+use Rattle.policy.specs.Statements.{Family, Side, source, target, Op, Reference, thing, attribute, Constraint, sidesE, nameE, need}
 use Rattle.policy.specs.Grammar.{areSides, isRoles, compared, comparison}
-use Rattle.policy.specs.Reading.{refer, referE}
+use Rattle.policy.specs.Names.{refer, Environment}
+use Rattle.policy.specs.Reading.{referE}
 use Rattle.policy.specs.Rows.{Row, row, compCode, opCode, rowsOf}
 use Rattle.words.specs.Numbers.{wordOf}
 use Rattle.words.proofs.Meaning.{component-number}
@@ -56,33 +57,33 @@ side-first x y b e = go (x .side) refl
     go source d = refl
     go target d = false-true (rw d at e)
 
-module _ (ds : List Declaration) (u : Name) where
-  of-sides : (o : Op) (x y : Component) (e : Constraint Name) → compared o x u (some y) ≡ some e → rowsNamed ds e ≡ rowBy (opCode o) (compCode (x .family) (x .side)) (Operand.Is 3 0)
+module _ (env : Environment) (u : Name) where
+  of-sides : (o : Op) (x y : Component) (e : Constraint Name) → compared o x u (some y) ≡ some e → rowsNamed env e ≡ rowBy (opCode o) (compCode (x .family) (x .side)) (Operand.Is 3 0)
   unfolding referE rowsOf
   of-sides o x y e h =
       let b = given-is (areSides x y && (isPlain o || isRoles (x .family))) (sidesE (x .family) o) e h in
-      rw (side-first x y (isPlain o || isRoles (x .family)) (b .0)) (ap (rowsNamed ds) (sym (b .1)))
+      rw (side-first x y (isPlain o || isRoles (x .family)) (b .0)) (ap (rowsNamed env) (sym (b .1)))
 
   of-name : (o : Op) (x : Component) (e : Constraint Name) → compared o x u none ≡ some e
-      → rowsNamed ds e ≡ rowBy (opCode o) (compCode (x .family) (x .side)) (operandOf none (refer ds (x .family) u))
+      → rowsNamed env e ≡ rowBy (opCode o) (compCode (x .family) (x .side)) (operandOf none (refer env (x .family) u))
   unfolding referE rowsOf
   of-name o x e h = go (not (isReserved u)) h
     where
-      by-reference : (r : Option Reference) → refer ds (x .family) u ≡ r
-          → rowsNamed ds (nameE (x .family) (x .side) o u) ≡ rowBy (opCode o) (compCode (x .family) (x .side)) (operandOf none r)
+      by-reference : (r : Option Reference) → refer env (x .family) u ≡ r
+          → rowsNamed env (nameE (x .family) (x .side) o u) ≡ rowBy (opCode o) (compCode (x .family) (x .side)) (operandOf none r)
       by-reference none p = rw p
       by-reference (some (thing n)) p = rw p
       by-reference (some (attribute n)) p = rw p
 
       go : (b : Bool) → (given b u >>= λ n. given (isPlain o) (nameE (x .family) (x .side) o n)) ≡ some e
-          → rowsNamed ds e ≡ rowBy (opCode o) (compCode (x .family) (x .side)) (operandOf none (refer ds (x .family) u))
+          → rowsNamed env e ≡ rowBy (opCode o) (compCode (x .family) (x .side)) (operandOf none (refer env (x .family) u))
       go false g = never g
       go true g =
-          ap (rowsNamed ds) (sym (given-is (isPlain o) (nameE (x .family) (x .side) o u) e g .1)) ∙ by-reference (refer ds (x .family) u) refl
+          ap (rowsNamed env) (sym (given-is (isPlain o) (nameE (x .family) (x .side) o u) e g .1)) ∙ by-reference (refer env (x .family) u) refl
 
   row-of : (o : Option Op) (x y : Option Component) (e : Constraint Name) → byWords o x u y ≡ some e
-      → (k : Operand) → ((f : Family) (s : Side) → codeOf x ≡ compCode f s → k ≡ operandOf y (refer ds f u))
-      → rowsNamed ds e ≡ rowBy (operatorOf o) (codeOf x) k
+      → (k : Operand) → ((f : Family) (s : Side) → codeOf x ≡ compCode f s → k ≡ operandOf y (refer env f u))
+      → rowsNamed env e ≡ rowBy (operatorOf o) (codeOf x) k
   row-of none x y e h k g = never h
   row-of (some o) none y e h k g = never h
   row-of (some o) (some x) (some y) e h k g = of-sides o x y e h ∙ ap (rowBy (opCode o) (compCode (x .family) (x .side))) (sym (g (x .family) (x .side) refl))
@@ -176,12 +177,12 @@ module _ {t : List ℕ} {at s n x p r k y q j : ℕ} (l : Looked t at (Item.Word
   component-is-2 = component-number (take k (drop r t)) ∙ ap (λ (i : ℕ). componentOf (wordOf i)) (l2 .ahead .2)
 
   module _ {symbols : List ℕ} {end side : ℕ} (a : side ≡ codeOf (componentOf (wordOf x))) where
-    one-row : {o : Operand} → Compares t r k y side symbols end o → (ds : List Declaration) (e : Constraint Name) → Symbols symbols end ds
-        → comparison w (framesAt t at .here) ≡ some e → rowsNamed ds e ≡ rowBy (operatorOf (opOf w)) side o
-    one-row {o} c ds e h g =
+    one-row : {o : Operand} → Compares t r k y side symbols end o → (env : Environment) (e : Constraint Name) → Symbols symbols end env
+        → comparison w (framesAt t at .here) ≡ some e → rowsNamed env e ≡ rowBy (operatorOf (opOf w)) side o
+    one-row {o} c env e h g =
         let side-is : side ≡ codeOf (componentOf (take n (drop s t))) = a ∙ ap codeOf (sym component-is) in
-        row-of ds (take k (drop r t)) (opOf w) (componentOf (take n (drop s t))) (componentOf (take k (drop r t))) e (sym in-words ∙ g) o
-        (λ f i d. c .operand ds f i h (side-is ∙ d) ∙ ap (λ (z : Option Component). operandOf z (refer ds f (take k (drop r t)))) (sym component-is-2))
+        row-of env (take k (drop r t)) (opOf w) (componentOf (take n (drop s t))) (componentOf (take k (drop r t))) e (sym in-words ∙ g) o
+        (λ f i d. c .operand env f i h (side-is ∙ d) ∙ ap (λ (z : Option Component). operandOf z (refer env f (take k (drop r t)))) (sym component-is-2))
         ∙ ap (λ (i : ℕ). rowBy (operatorOf (opOf w)) i o) (sym side-is)
 
     pub not-declared : {before : List ℕ} {first : ℕ} → Compares t r k y side symbols end Operand.Undeclared → Writes t at (comparison w (framesAt t at .here)) symbols end before before first RowsWritten.Undeclared
@@ -189,7 +190,7 @@ module _ {t : List ℕ} {at s n x p r k y q j : ℕ} (l : Looked t at (Item.Word
       kept = all-kept before first;
       reads = tt;
       needs = λ e g. tt;
-      rows = λ ds e h g. unsettled ds e before before first (one-row c ds e h g);
+      rows = λ env e h g. unsettled env e before before first (one-row c env e h g);
     }
 
     pub compared-row : {before after : List ℕ} {first kind number operator : ℕ} → Compares t r k y side symbols end (Operand.Is kind number) → operator ≡ operatorOf (opOf w)
@@ -206,5 +207,5 @@ module _ {t : List ℕ} {at s n x p r k y q j : ℕ} (l : Looked t at (Item.Word
         few-values = omega (arith, l .ahead .0, l2 .ahead .0, l3 .ahead .0);
       };
       needs = λ e g. need-of (opOf w) (componentOf (take n (drop s t))) (take k (drop r t)) (componentOf (take k (drop r t))) e (sym in-words ∙ g);
-      rows = λ ds e h g. settled ds e before after first j (first + 1) 1 (row kind side operator number ∷ []) (one-row c ds e h g ∙ rw (← b)) refl u;
+      rows = λ env e h g. settled env e before after first j (first + 1) 1 (row kind side operator number ∷ []) (one-row c env e h g ∙ rw (← b)) refl u;
     }

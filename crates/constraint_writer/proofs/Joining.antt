@@ -9,10 +9,11 @@ use lib.ListN.{length, take, drop, length-append}
 use Rattle.lexer.specs.Forms.{Forms, Frames, closed, ended, word, part, framesAt, trim}
 use Rattle.policy.specs.Basics.{Name, _>>=_, more}
 use Rattle.policy.specs.Words.{Connective, allC, notC, andC, orC, xorC, expressionWord, opOf}
-use Rattle.policy.specs.Statements.{Declaration, Reference, Constraint, notE, andE, orE, need}
+use Rattle.policy.specs.Statements.{Reference, Constraint, notE, andE, orE, need}
 use Rattle.policy.specs.Grammar.{comparison, formE, connected, expressions, expressionIn}
 use Rattle.policy.specs.Reading.{referE}
 use Rattle.policy.specs.Rows.{Row, row, rowsOf}
+use Rattle.policy.specs.Names.{Environment}
 use Rattle.words.specs.Numbers.{wordOf}
 use Rattle.words.proofs.Meaning.{expression-number, op-number}
 use Rattle.items.proofs.Frames.{Looked}
@@ -40,14 +41,14 @@ after-after d a none = refl
 after-after d a (some rs) = ap some (sym (append-assoc d a rs))
 
 -- the rows of some operands, and then their operator's row
-unfoldable pub rowsLeft : List Declaration → List (Constraint Name) → Row → Option (List Row)
-rowsLeft ds [] o = some (o ∷ [])
-rowsLeft ds (e ∷ es) o = rowsNamed ds e >>= λ a. after a (rowsLeft ds es o)
+unfoldable pub rowsLeft : Environment → List (Constraint Name) → Row → Option (List Row)
+rowsLeft env [] o = some (o ∷ [])
+rowsLeft env (e ∷ es) o = rowsNamed env e >>= λ a. after a (rowsLeft env es o)
 
-module _ (ds : List Declaration) where
-  one-operand : (a : Constraint Name) → rowsNamed ds (notE a) ≡ rowsLeft ds (a ∷ []) (row 0 0 0 0)
+module _ (env : Environment) where
+  one-operand : (a : Constraint Name) → rowsNamed env (notE a) ≡ rowsLeft env (a ∷ []) (row 0 0 0 0)
   unfolding referE rowsOf rowsLeft
-  one-operand a = go (referE ds a)
+  one-operand a = go (referE env a)
     where
       go : (x : Option (Constraint Reference)) → ((x >>= λ x. some (notE x)) >>= λ y. some (rowsOf y)) ≡ ((x >>= λ x. some (rowsOf x)) >>= λ a. after a (some (row 0 0 0 0 ∷ [])))
       go none = refl
@@ -62,32 +63,32 @@ module _ (ds : List Declaration) where
   two-operands join o h (some x) (some y) = ap some (h x y)
 
   -- an expression by its operator and its operands
-  by-form : (c : Connective) (es : List (Constraint Name)) (e : Constraint Name) → formE c es ≡ some e → rowsNamed ds e ≡ rowsLeft ds es (row (kindOf (some c)) 0 0 0)
+  by-form : (c : Connective) (es : List (Constraint Name)) (e : Constraint Name) → formE c es ≡ some e → rowsNamed env e ≡ rowsLeft env es (row (kindOf (some c)) 0 0 0)
   unfolding referE rowsOf rowsLeft
   by-form allC es e h = never h
   by-form xorC es e h = never h
   by-form notC [] e h = never h
-  by-form notC (a ∷ []) e h = ap (rowsNamed ds) (sym (Option·some-injective (notE a) e h)) ∙ one-operand a
+  by-form notC (a ∷ []) e h = ap (rowsNamed env) (sym (Option·some-injective (notE a) e h)) ∙ one-operand a
   by-form notC (a ∷ b ∷ es) e h = never h
   by-form andC [] e h = never h
   by-form andC (a ∷ []) e h = never h
   by-form andC (a ∷ b ∷ []) e h =
-      ap (rowsNamed ds) (sym (Option·some-injective (andE a b) e h)) ∙ two-operands andE (row 1 0 0 0) (λ x y. refl) (referE ds a) (referE ds b)
+      ap (rowsNamed env) (sym (Option·some-injective (andE a b) e h)) ∙ two-operands andE (row 1 0 0 0) (λ x y. refl) (referE env a) (referE env b)
   by-form andC (a ∷ b ∷ c ∷ es) e h = never h
   by-form orC [] e h = never h
   by-form orC (a ∷ []) e h = never h
   by-form orC (a ∷ b ∷ []) e h =
-      ap (rowsNamed ds) (sym (Option·some-injective (orE a b) e h)) ∙ two-operands orE (row 2 0 0 0) (λ x y. refl) (referE ds a) (referE ds b)
+      ap (rowsNamed env) (sym (Option·some-injective (orE a b) e h)) ∙ two-operands orE (row 2 0 0 0) (λ x y. refl) (referE env a) (referE env b)
   by-form orC (a ∷ b ∷ c ∷ es) e h = never h
 
 -- ---- so far
 
 -- the operands before the row f are written as the rows done, and those of f are left
-pub record SoFar (ds : List Declaration) (e : Constraint Name) (f : Forms) (kind first n : ℕ) (before now : List ℕ) : Type 0 where
+pub record SoFar (env : Environment) (e : Constraint Name) (f : Forms) (kind first n : ℕ) (before now : List ℕ) : Type 0 where
   pub done : List Row
   pub left : List (Constraint Name)
   pub reads : expressions f ≡ some left
-  pub whole : rowsNamed ds e ≡ after done (rowsLeft ds left (row kind 0 0 0))
+  pub whole : rowsNamed env e ≡ after done (rowsLeft env left (row kind 0 0 0))
   pub count : n ≡ first + length done
   pub wrote : Wrote before now first done
 
@@ -102,8 +103,8 @@ pub record Loop (t : List ℕ) (at levels : ℕ) (symbols : List ℕ) (end kind 
   pub kept : Kept before now first
   pub needs : (e : Constraint Name) → expressionIn (trim (framesAt t at .here) levels) ≡ some e
       → needLeft (expressions (trim (framesAt t i .here) levels)) count d ≡ some (need e)
-  pub so-far : (ds : List Declaration) (e : Constraint Name) → Symbols symbols end ds → expressionIn (trim (framesAt t at .here) levels) ≡ some e
-      → SoFar ds e (trim (framesAt t i .here) levels) kind first n before now
+  pub so-far : (env : Environment) (e : Constraint Name) → Symbols symbols end env → expressionIn (trim (framesAt t at .here) levels) ≡ some e
+      → SoFar env e (trim (framesAt t i .here) levels) kind first n before now
 
 -- ---- how an expression begins
 
@@ -117,15 +118,15 @@ module _ {t : List ℕ} {at s k number q : ℕ} (l : Looked t at (Item.Word s k 
 
   module _ {kind : ℕ} (is : kind ≡ kindOf (expressionWord (wordOf number))) (levels : ℕ) where
     -- with an operator
-    by-operator : (ds : List Declaration) (e : Constraint Name) (f : Forms) (first : ℕ) (before : List ℕ) (c : Option Connective) (es : Option (List (Constraint Name)))
-        → expressions f ≡ es → (kindOf c ≡ 3 → ⊥) → connected (take k (drop s t)) f c es ≡ some e → SoFar ds e f (kindOf c) first first before before
-    by-operator ds e f first before none es d h g = absurd (h refl)
-    by-operator ds e f first before (some c) none d h g = never g
-    by-operator ds e f first before (some c) (some xs) d h g = record {
+    by-operator : (env : Environment) (e : Constraint Name) (f : Forms) (first : ℕ) (before : List ℕ) (c : Option Connective) (es : Option (List (Constraint Name)))
+        → expressions f ≡ es → (kindOf c ≡ 3 → ⊥) → connected (take k (drop s t)) f c es ≡ some e → SoFar env e f (kindOf c) first first before before
+    by-operator env e f first before none es d h g = absurd (h refl)
+    by-operator env e f first before (some c) none d h g = never g
+    by-operator env e f first before (some c) (some xs) d h g = record {
       done = [];
       left = xs;
       reads = d;
-      whole = by-form ds c xs e g ∙ unprefixed (rowsLeft ds xs (row (kindOf (some c)) 0 0 0));
+      whole = by-form env c xs e g ∙ unprefixed (rowsLeft env xs (row (kindOf (some c)) 0 0 0));
       count = omega arith;
       wrote = none-wrote before first;
     }
@@ -148,9 +149,9 @@ module _ {t : List ℕ} {at s k number q : ℕ} (l : Looked t at (Item.Word s k 
       around = sym (around-of l);
       kept = all-kept before first;
       needs = λ e g. none-yet _ _ (expressionWord (take k (drop s t))) _ e (λ z. h (kind-is ∙ z)) (sym (by-word expressionIn levels l) ∙ g);
-      so-far = λ ds e y g.
-          subst (λ (i : ℕ). SoFar ds e (trim (framesAt t q .here) levels) i first first before before) (sym kind-is)
-          (by-operator ds e (trim (framesAt t q .here) levels) first before (expressionWord (take k (drop s t))) _ refl (λ z. h (kind-is ∙ z))
+      so-far = λ env e y g.
+          subst (λ (i : ℕ). SoFar env e (trim (framesAt t q .here) levels) i first first before before) (sym kind-is)
+          (by-operator env e (trim (framesAt t q .here) levels) first before (expressionWord (take k (drop s t))) _ refl (λ z. h (kind-is ∙ z))
           (sym (by-word expressionIn levels l) ∙ g));
     }
 
@@ -204,17 +205,17 @@ pub word-none : (s : ℕ) (b : Name) (f : Forms) → expressions (word s b f) �
 unfolding expressions
 word-none s b f = refl
 
-module _ {ds : List Declaration} {e : Constraint Name} {f : Forms} {kind first n : ℕ} {before now : List ℕ} (s : SoFar ds e f kind first n before now) where
+module _ {env : Environment} {e : Constraint Name} {f : Forms} {kind first n : ℕ} {before now : List ℕ} (s : SoFar env e f kind first n before now) where
   module _ (p : ℕ) (g h : Forms) (d : expressions f ≡ expressions (part p g h)) where
     one : First (expressionIn g) (expressions h) (s .left)
     one = first-part p g h (s .left) (sym d ∙ s .reads)
 
-    by-operand : rowsNamed ds e ≡ after (s .done) (rowsNamed ds (one .operand) >>= λ a. after a (rowsLeft ds (one .others) (row kind 0 0 0)))
+    by-operand : rowsNamed env e ≡ after (s .done) (rowsNamed env (one .operand) >>= λ a. after a (rowsLeft env (one .others) (row kind 0 0 0)))
     unfolding rowsLeft
-    by-operand = s .whole ∙ ap (λ (x : List (Constraint Name)). after (s .done) (rowsLeft ds x (row kind 0 0 0))) (one .list)
+    by-operand = s .whole ∙ ap (λ (x : List (Constraint Name)). after (s .done) (rowsLeft env x (row kind 0 0 0))) (one .list)
 
     -- an operand that is written is done
-    one-more : {m : ℕ} {new : List ℕ} → ((x : Constraint Name) → expressionIn g ≡ some x → Settled ds x now new n m) → SoFar ds e h kind first m before new
+    one-more : {m : ℕ} {new : List ℕ} → ((x : Constraint Name) → expressionIn g ≡ some x → Settled env x now new n m) → SoFar env e h kind first m before new
     one-more w =
         let it = w (one .operand) (one .is) in
         record {
@@ -223,22 +224,22 @@ module _ {ds : List Declaration} {e : Constraint Name} {f : Forms} {kind first n
           reads = one .rest;
           whole =
               by-operand
-              ∙ ap (λ (o : Option (List Row)). after (s .done) (o >>= λ a. after a (rowsLeft ds (one .others) (row kind 0 0 0)))) (it .named)
-              ∙ after-after (s .done) (it .rows) (rowsLeft ds (one .others) (row kind 0 0 0));
+              ∙ ap (λ (o : Option (List Row)). after (s .done) (o >>= λ a. after a (rowsLeft env (one .others) (row kind 0 0 0)))) (it .named)
+              ∙ after-after (s .done) (it .rows) (rowsLeft env (one .others) (row kind 0 0 0));
           count = omega (arith, s .count, it .count, length-append (s .done) (it .rows));
           wrote = wrote-on n (s .done) (it .rows) (s .count) (s .wrote) (it .wrote);
         }
 
     -- with one of which a name is not declared, the whole has no rows
-    none-more : ((x : Constraint Name) → expressionIn g ≡ some x → rowsNamed ds x ≡ none) → rowsNamed ds e ≡ none
+    none-more : ((x : Constraint Name) → expressionIn g ≡ some x → rowsNamed env x ≡ none) → rowsNamed env e ≡ none
     none-more w =
-        by-operand ∙ ap (λ (o : Option (List Row)). after (s .done) (o >>= λ a. after a (rowsLeft ds (one .others) (row kind 0 0 0)))) (w (one .operand) (one .is))
+        by-operand ∙ ap (λ (o : Option (List Row)). after (s .done) (o >>= λ a. after a (rowsLeft env (one .others) (row kind 0 0 0)))) (w (one .operand) (one .is))
 
   -- at the close the operator's row is left
-  all-done : expressions f ≡ expressions closed → rowsNamed ds e ≡ some (s .done ++ (row kind 0 0 0 ∷ []))
+  all-done : expressions f ≡ expressions closed → rowsNamed env e ≡ some (s .done ++ (row kind 0 0 0 ∷ []))
   unfolding rowsLeft
   all-done d =
-      s .whole ∙ ap (λ (x : List (Constraint Name)). after (s .done) (rowsLeft ds x (row kind 0 0 0))) (close-left (s .left) (sym d ∙ s .reads))
+      s .whole ∙ ap (λ (x : List (Constraint Name)). after (s .done) (rowsLeft env x (row kind 0 0 0))) (close-left (s .left) (sym d ∙ s .reads))
 
 -- ---- the turns of the loop
 
@@ -246,7 +247,7 @@ module _ {t symbols before now : List ℕ} {at levels end kind first i n count d
   -- what stands at the place is no operand
   pub no-operand : expressions (trim (framesAt t i .here) levels) ≡ none
       → Writes t at (expressionIn (trim (framesAt t at .here) levels)) symbols end before now first RowsWritten.Undeclared
-  no-operand o = record { kept = g .kept; reads = tt; needs = λ e h. tt; rows = λ ds e y h. never (sym o ∙ g .so-far ds e y h .reads) }
+  no-operand o = record { kept = g .kept; reads = tt; needs = λ e h. tt; rows = λ env e y h. never (sym o ∙ g .so-far env e y h .reads) }
 
   module _ {p q : ℕ} {new : List ℕ} (l : Looked t i (Item.Open p q)) (deep : levels ≡ 0 → ⊥) where
     pub operand-done : {past m a b : ℕ} → Writes t q (expressionIn (trim (framesAt t q .here) (levels - 1))) symbols end now new n (RowsWritten.Next past m a)
@@ -263,9 +264,9 @@ module _ {t symbols before now : List ℕ} {at levels end kind first i n count d
           rw f
           (subst (λ (x : Frames). needLeft (expressions (trim (x .here) levels)) (count + 1) (max d (count + a)) ≡ some (need e)) (sym (w .reads .rest))
           (part-needs count d (need e) p _ _ a (w .needs) (sym (by-part (λ f. needLeft (expressions f) count d) levels l deep) ∙ g .needs e h)));
-      so-far = λ ds e y h.
-          subst (λ (x : Frames). SoFar ds e (trim (x .here) levels) kind first m before new) (sym (w .reads .rest))
-          (one-more (g .so-far ds e y h) p _ _ (by-part expressions levels l deep) (λ x d. settles ds x now new n (w .rows ds x y d)));
+      so-far = λ env e y h.
+          subst (λ (x : Frames). SoFar env e (trim (x .here) levels) kind first m before new) (sym (w .reads .rest))
+          (one-more (g .so-far env e y h) p _ _ (by-part expressions levels l deep) (λ x d. settles env x now new n (w .rows env x y d)));
     }
 
     pub operand-undeclared : Writes t q (expressionIn (trim (framesAt t q .here) (levels - 1))) symbols end now new n RowsWritten.Undeclared
@@ -274,9 +275,9 @@ module _ {t symbols before now : List ℕ} {at levels end kind first i n count d
       kept = kept-on (g .rises) (g .kept) (w .kept);
       reads = tt;
       needs = λ e h. tt;
-      rows = λ ds e y h.
-          unsettled ds e before new first
-          (none-more (g .so-far ds e y h) p _ _ (by-part expressions levels l deep) (λ x d. unsettles ds x now new n (w .rows ds x y d)));
+      rows = λ env e y h.
+          unsettled env e before new first
+          (none-more (g .so-far env e y h) p _ _ (by-part expressions levels l deep) (λ x d. unsettles env x now new n (w .rows env x y d)));
     }
 
   pub finished : {j : ℕ} {new : List ℕ} → Looked t i (Item.Close j) → Wrote now new n (row kind 0 0 0 ∷ [])
@@ -292,8 +293,8 @@ module _ {t symbols before now : List ℕ} {at levels end kind first i n count d
       few-values = omega (arith, g .few-values, l .ahead .0);
     };
     needs = λ e h. close-needs count d (need e) (sym (by-close (λ f. needLeft (expressions f) count d) levels l) ∙ g .needs e h);
-    rows = λ ds e y h.
-        let s = g .so-far ds e y h in
-        settled ds e before new first j (n + 1) d (s .done ++ (row kind 0 0 0 ∷ [])) (all-done s (by-close expressions levels l))
+    rows = λ env e y h.
+        let s = g .so-far env e y h in
+        settled env e before new first j (n + 1) d (s .done ++ (row kind 0 0 0 ∷ [])) (all-done s (by-close expressions levels l))
         (omega (arith, s .count, length-append (s .done) (row kind 0 0 0 ∷ []))) (wrote-on n (s .done) (row kind 0 0 0 ∷ []) (s .count) (s .wrote) w);
   }

@@ -6,17 +6,16 @@ use Prim.Native.Nat.{ℕ, _/_, _≤_, _<_}
 use native.Mathlib.Omega.{arith}
 use lib.ListN.{take, drop}
 use Rattle.bitset.specs.Parts as parts
-use Rattle.policy.specs.Statements.{Family, users, roles, types, Side, source, target, thingOf, attributeOf, Reference, thing, attribute}
+use Rattle.policy.specs.Statements.{Family, users, roles, types, Side, source, target, thingOf, attributeOf, Reference, thing, attribute, Sort}
 use Rattle.policy.specs.Words.{Component, componentOf}
-use Rattle.policy.specs.Reading.{refer}
+use Rattle.policy.specs.Names.{refer, Named, referenceOf}
 use Rattle.policy.specs.Rows.{compCode}
-use Rattle.policy.specs.Encode.{sortCode, entries}
+use Rattle.policy.specs.Encode.{sortCode}
+use Rattle.policy.specs.Basics.{_>>=_}
 use Rattle.words.specs.Numbers.{wordOf}
-use Rattle.symbols.specs.Lookup.{firstNamed}
 use Rattle.symbols.specs.Symbols.{Looks}
-use Rattle.symbols.specs.Resolving.{familyCode, foundReference}
+use Rattle.symbols.specs.Resolving.{familyCode, foundNamed}
 use Rattle.symbols.specs.declared.Found.{Found}
-use Rattle.symbols.proofs.ReferencesFound.{find-reference}
 use Rattle.constraint_writer.specs.Comparing.{codeOf, operandOf, Compares}
 use Rattle.constraint_writer.specs.declared.Operand.{Operand}
 
@@ -49,54 +48,70 @@ two-sides (some x) r h = refl
 
 -- ---- what is found
 
-thing-found : (f : Family) (x : Option Reference) (sort n : ℕ) → foundReference f x ≡ Found.At sort n → sort < 3 → Operand.Is 4 n ≡ operandOf none x
-thing-found f none sort n e h = absurd (let z : _≡_ {A = ℕ} 0 1 = cc in omega arith)
-thing-found f (some (thing m)) sort n e h = let z : n ≡ m = cc in rw z
-thing-found f (some (attribute m)) sort n e h = let z : sort ≡ sortCode (attributeOf f) = cc in absurd (above f z)
-  where
-    above : (f : Family) → sort ≡ sortCode (attributeOf f) → ⊥
-    above users z = omega arith
-    above roles z = omega arith
-    above types z = omega arith
+below-three : (f : Family) → sortCode (thingOf f) < 3
+below-three users = omega arith
+below-three roles = omega arith
+below-three types = omega arith
 
-attribute-found : (f : Family) (x : Option Reference) (sort n : ℕ) → foundReference f x ≡ Found.At sort n → 3 ≤ sort → Operand.Is 5 n ≡ operandOf none x
-attribute-found f none sort n e h = absurd (let z : _≡_ {A = ℕ} 0 1 = cc in omega arith)
-attribute-found f (some (attribute m)) sort n e h = let z : n ≡ m = cc in rw z
-attribute-found f (some (thing m)) sort n e h = let z : sort ≡ sortCode (thingOf f) = cc in absurd (below f z)
-  where
-    below : (f : Family) → sort ≡ sortCode (thingOf f) → ⊥
-    below users z = omega arith
-    below roles z = omega arith
-    below types z = omega arith
+three-up : (f : Family) → 3 ≤ sortCode (attributeOf f)
+three-up users = omega arith
+three-up roles = omega arith
+three-up types = omega arith
 
-none-found : (f : Family) (x : Option Reference) → foundReference f x ≡ Found.Missing → Operand.Undeclared ≡ operandOf none x
-none-found f none e = refl
-none-found f (some (thing m)) e = absurd (let z : _≡_ {A = ℕ} 0 1 = cc in omega arith)
-none-found f (some (attribute m)) e = absurd (let z : _≡_ {A = ℕ} 0 1 = cc in omega arith)
+-- what stands for a name, as a thing or an attribute
+abbrev referred : Option Named → Option Reference
+referred o = o >>= λ d. some (referenceOf d)
+
+module _ (d : Named) (sort n : ℕ) (e : Found.At (sortCode (d .sort)) (d .number) ≡ Found.At sort n) where
+  same-sort : sortCode (d .sort) ≡ sort
+  same-sort = cc
+
+  same-number : d .number ≡ n
+  same-number = cc
+
+  abbrev by-sort : Sort → Operand
+  by-sort s = operandOf none (some (elim s [ thingOf f ↦ thing (d .number) | attributeOf f ↦ attribute (d .number) ]))
+
+  as-thing : sort < 3 → (s : Sort) → d .sort ≡ s → Operand.Is 4 n ≡ by-sort s
+  as-thing h (thingOf f) q = rw same-number
+  as-thing h (attributeOf f) q = absurd (omega (arith, three-up f, same-sort, ap sortCode q))
+
+  as-attribute : 3 ≤ sort → (s : Sort) → d .sort ≡ s → Operand.Is 5 n ≡ by-sort s
+  as-attribute h (attributeOf f) q = rw same-number
+  as-attribute h (thingOf f) q = absurd (omega (arith, below-three f, same-sort, ap sortCode q))
+
+thing-found : (o : Option Named) (sort n : ℕ) → foundNamed o ≡ Found.At sort n → sort < 3 → Operand.Is 4 n ≡ operandOf none (referred o)
+thing-found none sort n e h = absurd (let z : _≡_ {A = ℕ} 0 1 = cc in omega arith)
+thing-found (some d) sort n e h = as-thing d sort n e h (d .sort) refl
+
+attribute-found : (o : Option Named) (sort n : ℕ) → foundNamed o ≡ Found.At sort n → 3 ≤ sort → Operand.Is 5 n ≡ operandOf none (referred o)
+attribute-found none sort n e h = absurd (let z : _≡_ {A = ℕ} 0 1 = cc in omega arith)
+attribute-found (some d) sort n e h = as-attribute d sort n e h (d .sort) refl
+
+none-found : (o : Option Named) → foundNamed o ≡ Found.Missing → Operand.Undeclared ≡ operandOf none (referred o)
+none-found none e = refl
+none-found (some d) e = absurd (let z : _≡_ {A = ℕ} 0 1 = cc in omega arith)
 
 -- ---- the answers
 
 module _ (t : List ℕ) (start len number side : ℕ) (symbols : List ℕ) (end code : ℕ) (is : code ≡ codeOf (componentOf (wordOf number))) where
   pub a-side : (code ≡ 6 → ⊥) → Compares t start len number side symbols end (Operand.Is 3 0)
-  a-side h = record { operand = λ ds f s y e. two-sides (componentOf (wordOf number)) _ (λ z. h (is ∙ z)) }
+  a-side h = record { operand = λ env f s y e. two-sides (componentOf (wordOf number)) _ (λ z. h (is ∙ z)) }
 
   module _ (h : code ≡ 6) (r : Found) (e : Looks symbols end (side / 2) (parts.part t start len) r) where
-    by-reference : (k : Found) (o : Operand) → r ≡ k → ((f : Family) (x : Option Reference) → foundReference f x ≡ k → o ≡ operandOf none x) → Compares t start len number side symbols end o
-    unfolding parts.part
+    by-reference : (k : Found) (o : Operand) → r ≡ k → ((x : Option Named) → foundNamed x ≡ k → o ≡ operandOf none (referred x)) → Compares t start len number side symbols end o
+    unfolding parts.part refer
     by-reference k o g w = record {
-      operand = λ ds f s y d.
-          let found : r ≡ foundReference f (refer ds f (take len (drop start t))) =
-          e .finds ds y
-          ∙ ap (λ (n : ℕ). firstNamed n (take len (drop start t)) (entries ds)) (ap (λ (n : ℕ). n / 2) d ∙ family-code f s)
-          ∙ find-reference ds f (take len (drop start t)) (y .good) in
-          rw (no-component (componentOf (wordOf number)) (sym is ∙ h)) (w f (refer ds f (take len (drop start t))) (sym found ∙ g));
+      operand = λ env f s y d.
+          let found : r ≡ foundNamed (env .find f (take len (drop start t))) = e .names env f y (sym (ap (λ (n : ℕ). n / 2) d ∙ family-code f s)) in
+          rw (no-component (componentOf (wordOf number)) (sym is ∙ h)) (w (env .find f (take len (drop start t))) (sym found ∙ g));
     }
 
     pub a-thing : (sort n : ℕ) → r ≡ Found.At sort n → sort < 3 → Compares t start len number side symbols end (Operand.Is 4 n)
-    a-thing sort n g l = by-reference (Found.At sort n) (Operand.Is 4 n) g (λ f x d. thing-found f x sort n d l)
+    a-thing sort n g l = by-reference (Found.At sort n) (Operand.Is 4 n) g (λ x d. thing-found x sort n d l)
 
     pub an-attribute : (sort n : ℕ) → r ≡ Found.At sort n → 3 ≤ sort → Compares t start len number side symbols end (Operand.Is 5 n)
-    an-attribute sort n g l = by-reference (Found.At sort n) (Operand.Is 5 n) g (λ f x d. attribute-found f x sort n d l)
+    an-attribute sort n g l = by-reference (Found.At sort n) (Operand.Is 5 n) g (λ x d. attribute-found x sort n d l)
 
     pub missing : r ≡ Found.Missing → Compares t start len number side symbols end Operand.Undeclared
     missing g = by-reference Found.Missing Operand.Undeclared g none-found

@@ -7,9 +7,10 @@ use native.Mathlib.Omega.{arith}
 use lib.ListN.{length, length-append}
 use Rattle.lexer.specs.Forms.{Forms, head, tail, framesAt}
 use Rattle.policy.specs.Basics.{Name, _>>=_}
-use Rattle.policy.specs.Statements.{Declaration, Reference, Constraint, sidesE, nameE, notE, andE, orE, size}
+use Rattle.policy.specs.Statements.{Reference, Constraint, sidesE, nameE, notE, andE, orE, size}
 use Rattle.policy.specs.Reading.{referE}
 use Rattle.policy.specs.Rows.{Row, rowsOf}
+use Rattle.policy.specs.Names.{Environment}
 use Rattle.constraint_writer.specs.Writing.{Kept, Wrote, Resolves, Reads, Writes}
 use Rattle.constraint_writer.specs.declared.RowsWritten.{RowsWritten}
 
@@ -23,21 +24,21 @@ rows-count (andE a b) = simp (length-append, rows-count a, rows-count b) (omega 
 rows-count (orE a b) = simp (length-append, rows-count a, rows-count b) (omega arith)
 
 -- the rows of an expression; none where a name of it is not declared
-abbrev pub rowsNamed : List Declaration → Constraint Name → Option (List Row)
-rowsNamed ds e = referE ds e >>= λ x. some (rowsOf x)
+abbrev pub rowsNamed : Environment → Constraint Name → Option (List Row)
+rowsNamed env e = referE env e >>= λ x. some (rowsOf x)
 
 pub never : {A : Type 0} {X : Type 0} {a : A} → none ≡ some a → X
 never e = absurd (let z : _≡_ {A = ℕ} 0 1 = cc in omega arith)
 
-module _ (ds : List Declaration) (e : Constraint Name) (before after : List ℕ) (first : ℕ) where
+module _ (env : Environment) (e : Constraint Name) (before after : List ℕ) (first : ℕ) where
   -- ---- from rows to an answer
 
-  pub settled : (q n d : ℕ) (rs : List Row) → rowsNamed ds e ≡ some rs → n ≡ first + length rs → Wrote before after first rs
-      → Resolves ds e before after first (RowsWritten.Next q n d)
-  settled q n d rs h k w = go (referE ds e) refl h
+  pub settled : (q n d : ℕ) (rs : List Row) → rowsNamed env e ≡ some rs → n ≡ first + length rs → Wrote before after first rs
+      → Resolves env e before after first (RowsWritten.Next q n d)
+  settled q n d rs h k w = go (referE env e) refl h
     where
-      go : (o : Option (Constraint Reference)) → referE ds e ≡ o → (o >>= λ x. some (rowsOf x)) ≡ some rs
-          → Resolves ds e before after first (RowsWritten.Next q n d)
+      go : (o : Option (Constraint Reference)) → referE env e ≡ o → (o >>= λ x. some (rowsOf x)) ≡ some rs
+          → Resolves env e before after first (RowsWritten.Next q n d)
       go none p g = never g
       go (some x) p g =
           let same : rowsOf x ≡ rs = Option·some-injective (rowsOf x) rs g in
@@ -47,10 +48,10 @@ module _ (ds : List Declaration) (e : Constraint Name) (before after : List ℕ)
             wrote = λ y o. subst (Wrote before after first) (sym same ∙ ap rowsOf (Option·some-injective x y (sym p ∙ o))) w;
           }
 
-  pub unsettled : rowsNamed ds e ≡ none → Resolves ds e before after first RowsWritten.Undeclared
-  unsettled h = go (referE ds e) refl h
+  pub unsettled : rowsNamed env e ≡ none → Resolves env e before after first RowsWritten.Undeclared
+  unsettled h = go (referE env e) refl h
     where
-      go : (o : Option (Constraint Reference)) → referE ds e ≡ o → (o >>= λ x. some (rowsOf x)) ≡ none → Resolves ds e before after first RowsWritten.Undeclared
+      go : (o : Option (Constraint Reference)) → referE env e ≡ o → (o >>= λ x. some (rowsOf x)) ≡ none → Resolves env e before after first RowsWritten.Undeclared
       go none p g = record { answer = rw p; wrote = λ y d. never (sym p ∙ d) }
       go (some x) p g = never (sym g)
 
@@ -58,30 +59,30 @@ module _ (ds : List Declaration) (e : Constraint Name) (before after : List ℕ)
 
   pub record ResolvedBy (n : ℕ) : Type 0 where
     pub expression : Constraint Reference
-    pub refers : referE ds e ≡ some expression
+    pub refers : referE env e ≡ some expression
     pub count : n ≡ first + size expression
 
-  pub resolved : {q n d : ℕ} → Resolves ds e before after first (RowsWritten.Next q n d) → ResolvedBy n
-  resolved {q} {n} r = go (referE ds e) refl
+  pub resolved : {q n d : ℕ} → Resolves env e before after first (RowsWritten.Next q n d) → ResolvedBy n
+  resolved {q} {n} r = go (referE env e) refl
     where
-      go : (o : Option (Constraint Reference)) → referE ds e ≡ o → ResolvedBy n
+      go : (o : Option (Constraint Reference)) → referE env e ≡ o → ResolvedBy n
       go none p = never (sym (r .answer ∙ rw p))
       go (some x) p = record { expression = x; refers = p; count = Option·some-injective n (first + size x) (r .answer ∙ rw p) }
 
-  pub unresolved : Resolves ds e before after first RowsWritten.Undeclared → referE ds e ≡ none
-  unresolved r = go (referE ds e) refl
+  pub unresolved : Resolves env e before after first RowsWritten.Undeclared → referE env e ≡ none
+  unresolved r = go (referE env e) refl
     where
-      go : (o : Option (Constraint Reference)) → referE ds e ≡ o → referE ds e ≡ none
+      go : (o : Option (Constraint Reference)) → referE env e ≡ o → referE env e ≡ none
       go none p = p
       go (some x) p = let z : none ≡ some (first + size x) = r .answer ∙ rw p in never z
 
   pub record Settled (n : ℕ) : Type 0 where
     pub rows : List Row
-    pub named : rowsNamed ds e ≡ some rows
+    pub named : rowsNamed env e ≡ some rows
     pub count : n ≡ first + length rows
     pub wrote : Wrote before after first rows
 
-  pub settles : {q n d : ℕ} → Resolves ds e before after first (RowsWritten.Next q n d) → Settled n
+  pub settles : {q n d : ℕ} → Resolves env e before after first (RowsWritten.Next q n d) → Settled n
   settles {q} {n} r =
       let x = resolved r in
       record {
@@ -91,7 +92,7 @@ module _ (ds : List Declaration) (e : Constraint Name) (before after : List ℕ)
         wrote = r .wrote (x .expression) (x .refers);
       }
 
-  pub unsettles : Resolves ds e before after first RowsWritten.Undeclared → rowsNamed ds e ≡ none
+  pub unsettles : Resolves env e before after first RowsWritten.Undeclared → rowsNamed env e ≡ none
   unsettles r = rw (unresolved r)
 
 -- ---- answers
@@ -103,7 +104,7 @@ module _ {t symbols before after : List ℕ} {at end first : ℕ} where
 
   -- the form is not good
   pub no-form : {m : Option (Constraint Name)} → Kept before after first → m ≡ none → Writes t at m symbols end before after first RowsWritten.Undeclared
-  no-form k e = record { kept = k; reads = tt; needs = λ x h. tt; rows = λ ds x y h. never (sym e ∙ h) }
+  no-form k e = record { kept = k; reads = tt; needs = λ x h. tt; rows = λ env x y h. never (sym e ∙ h) }
 
   -- what is said of an expression at a place behind another where the rows around are the same
   pub moved : {q : ℕ} {m o : Option (Constraint Name)} {r : RowsWritten} → framesAt t q .around ≡ framesAt t at .around → at < q
@@ -112,7 +113,7 @@ module _ {t symbols before after : List ℕ} {at end first : ℕ} where
     kept = w .kept;
     reads = go r (w .reads);
     needs = λ e g. w .needs e (f e g);
-    rows = λ ds e y g. w .rows ds e y (f e g);
+    rows = λ env e y g. w .rows env e y (f e g);
   }
     where
       go : (r : RowsWritten) → Reads t q first r → Reads t at first r

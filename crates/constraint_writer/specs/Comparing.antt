@@ -4,9 +4,9 @@ use mathlib.Core.Path.{_≡_}
 use mathlib.Core.List.{List}
 use mathlib.Core.Option.{Option, none, some}
 use lib.ListN.{take, drop}
-use Rattle.policy.specs.Statements.{Family, Side, Op, Declaration, Reference, thing, attribute}
+use Rattle.policy.specs.Statements.{Family, Side, Op, Reference, thing, attribute}
 use Rattle.policy.specs.Words.{Connective, allC, notC, andC, orC, xorC, Component, componentOf}
-use Rattle.policy.specs.Reading.{refer}
+use Rattle.policy.specs.Names.{refer, Environment}
 use Rattle.policy.specs.Rows.{compCode, opCode}
 use Rattle.words.specs.Numbers.{wordOf}
 use Rattle.symbols.specs.Symbols.{Symbols}
@@ -40,5 +40,5 @@ operandOf none (some (attribute n)) = Operand.Is 5 n
 
 -- the word of len bytes at start, which has the number, is compared with a side of a family: it names a thing or an attribute of that family
 pub record Compares (t : List ℕ) (start len number side : ℕ) (symbols : List ℕ) (end : ℕ) (r : Operand) : Type 0 where
-  pub operand : (ds : List Declaration) (f : Family) (s : Side) → Symbols symbols end ds → side ≡ compCode f s
-      → r ≡ operandOf (componentOf (wordOf number)) (refer ds f (take len (drop start t)))
+  pub operand : (env : Environment) (f : Family) (s : Side) → Symbols symbols end env → side ≡ compCode f s
+      → r ≡ operandOf (componentOf (wordOf number)) (refer env f (take len (drop start t)))

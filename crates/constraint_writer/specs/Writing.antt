@@ -9,10 +9,11 @@ use Rattle.bitset.specs.Parts.{put}
 use Rattle.bitset.specs.Relations.{joined}
 use Rattle.lexer.specs.Forms.{out, framesAt}
 use Rattle.policy.specs.Basics.{Name, each, _>>=_}
-use Rattle.policy.specs.Statements.{Declaration, Reference, Constraint, size, need}
+use Rattle.policy.specs.Statements.{Reference, Constraint, size, need}
 use Rattle.policy.specs.Reading.{referE}
 use Rattle.policy.specs.Rows.{Row, rowsOf}
 use Rattle.policy.specs.Encode.{rowBytes}
+use Rattle.policy.specs.Names.{Environment}
 use Rattle.symbols.specs.Symbols.{Symbols}
 use Rattle.constraint_writer.specs.declared.RowsWritten.{RowsWritten}
 
@@ -37,9 +38,9 @@ nextRow (RowsWritten.Next q n d) = some n
 nextRow RowsWritten.Undeclared = none
 
 -- an expression's rows are written and counted, exactly if its names are declared
-pub record Resolves (ds : List Declaration) (e : Constraint Name) (before after : List ℕ) (row : ℕ) (r : RowsWritten) : Type 0 where
-  pub answer : nextRow r ≡ (referE ds e >>= λ x. some (row + size x))
-  pub wrote : (x : Constraint Reference) → referE ds e ≡ some x → Wrote before after row (rowsOf x)
+pub record Resolves (env : Environment) (e : Constraint Name) (before after : List ℕ) (row : ℕ) (r : RowsWritten) : Type 0 where
+  pub answer : nextRow r ≡ (referE env e >>= λ x. some (row + size x))
+  pub wrote : (x : Constraint Reference) → referE env e ≡ some x → Wrote before after row (rowsOf x)
 
 -- "Stack need of E": that of an expression is told
 abbrev pub Needs : Constraint Name → RowsWritten → Type 0
@@ -66,4 +67,4 @@ pub record Writes (t : List ℕ) (at : ℕ) (m : Option (Constraint Name)) (symb
   pub kept : Kept before after row
   pub reads : Reads t at row r
   pub needs : (e : Constraint Name) → m ≡ some e → Needs e r
-  pub rows : (ds : List Declaration) (e : Constraint Name) → Symbols symbols end ds → m ≡ some e → Resolves ds e before after row r
+  pub rows : (env : Environment) (e : Constraint Name) → Symbols symbols end env → m ≡ some e → Resolves env e before after row r

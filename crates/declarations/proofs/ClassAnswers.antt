@@ -22,7 +22,6 @@ use Rattle.policy.proofs.Lists.{both-true, true-both}
 use Rattle.policy.proofs.Counts.{few-classes}
 use Rattle.symbols.specs.Lookup.{familyNumber, firstNamed}
 use Rattle.symbols.specs.Resolving.{isFound}
-use Rattle.symbols.specs.Symbols.{Symbols}
 use Rattle.symbols.specs.declared.Found.{Found}
 use Rattle.symbols.specs.Index.{Indexed}
 use Rattle.symbols.proofs.ClassesFound.{class-found, few-permissions}
@@ -36,7 +35,7 @@ use Rattle.declarations.specs.declared.Declared.{Declared}
 use Rattle.declarations.specs.declared.Added.{Added}
 use Rattle.declarations.specs.declared.Standing.{Standing}
 use Rattle.declarations.specs.declared.NextWord.{NextWord}
-use Rattle.declarations.proofs.Holding.{holds-symbols, room-for}
+use Rattle.declarations.proofs.Holding.{room-for}
 use Rattle.declarations.proofs.EnteringLaws.{bytes-append, entered-then}
 use Rattle.declarations.proofs.Standings.{not-found}
 use Rattle.declarations.proofs.NewPermissions.{permissions-new}
@@ -78,7 +77,7 @@ module _ (t : List ℕ) (at : ℕ) (before : List ℕ) (end : ℕ) where
       says = λ ds d y g f.
           let c = class-named h d f in
           let has : isIn w (classNames ds) ≡ true =
-          sym (class-found ds w) ∙ taken-found (found ds) (length (classNames ds)) (q .classes ds (holds-symbols y) refl) in
+          sym (class-found ds w) ∙ taken-found (found ds) (length (classNames ds)) (q .classes ds y refl) in
           subst (λ (x : Declaration). Declares before before end ds x Declared.Again) (sym (c .1)) (rw has, refl);
     }
 
@@ -95,21 +94,21 @@ module _ (t : List ℕ) (at : ℕ) (before : List ℕ) (end : ℕ) where
       }
 
       module _ (number : ℕ) (q : Stands before end 6 w (Standing.Free number)) (once : not (differ ps) ≡ false) where
-        is-free : {ds : List Declaration} → Symbols before end ds → (isFound (found ds) ≡ false) × (length (classNames ds) ≡ number)
+        is-free : {ds : List Declaration} → Holds before end ds → (isFound (found ds) ≡ false) × (length (classNames ds) ≡ number)
         is-free {ds} y = free-missing (found ds) (length (classNames ds)) number (q .classes ds y refl)
 
-        is-new : {ds : List Declaration} → Symbols before end ds → isNew ds (class w ps) ≡ true
+        is-new : {ds : List Declaration} → Holds before end ds → isNew ds (class w ps) ≡ true
         is-new {ds} y =
             true-both (not (isIn w (classNames ds))) (differ ps) (ap not (sym (class-found ds w) ∙ is-free y .0)) (not-false (differ ps) once)
 
-        count-is : {ds : List Declaration} → Symbols before end ds → length (classNames ds) ≡ number
+        count-is : {ds : List Declaration} → Holds before end ds → length (classNames ds) ≡ number
         count-is y = is-free y .1
 
-        no-room : ((ds : List Declaration) → Symbols before end ds → hasRoom ds (class w ps) ≡ false) → DeclaresAt t at classK before before end Declared.Full
+        no-room : ((ds : List Declaration) → Holds before end ds → hasRoom ds (class w ps) ≡ false) → DeclaresAt t at classK before before end Declared.Full
         no-room n = record {
           says = λ ds d y g f.
               subst (λ (x : Declaration). Declares before before end ds x Declared.Full) (sym (class-here h i d g f .0))
-              (is-new (holds-symbols y), n ds (holds-symbols y), refl);
+              (is-new y, n ds y, refl);
         }
 
         -- "classes 32"
@@ -126,12 +125,12 @@ module _ (t : List ℕ) (at : ℕ) (before : List ℕ) (end : ℕ) where
         abbrev others : List NameEntry
         others = permissionEntries (number * 32) ps
 
-        entries-are : {ds : List Declaration} → Symbols before end ds → one ++ others ≡ entriesOf ds (class w ps)
+        entries-are : {ds : List Declaration} → Holds before end ds → one ++ others ≡ entriesOf ds (class w ps)
         entries-are y = ap (λ (n : ℕ). nameEntry 6 n w ∷ permissionEntries (n * 32) ps) (sym (count-is y))
 
         -- where the maxima allow the class, there is room for all of its entries, so that it is not refused
         module _ (l : number < 32) (few : length ps ≤ 32) where
-          has-room : {ds : List Declaration} → Symbols before end ds → hasRoom ds (class w ps) ≡ true
+          has-room : {ds : List Declaration} → Holds before end ds → hasRoom ds (class w ps) ≡ true
           has-room {ds} y =
               true-both (ltb (length (classNames ds)) 32) (leb (length ps) 32)
               (lt-ltb (length (classNames ds)) 32 (omega (arith, count-is y))) (le-leb (length ps) 32 few)
@@ -139,11 +138,10 @@ module _ (t : List ℕ) (at : ℕ) (before : List ℕ) (end : ℕ) where
           all-fit : (ds : List Declaration) → Holds before end ds → goodNames (class w ps) ≡ true
               → end + (length (joined (each entryBytes one)) + length (joined (each entryBytes others))) ≤ 137088
           all-fit ds y good =
-              let s = holds-symbols y in
-              let fits = room-for y (class w ps) good (is-new s) (has-room s) in
+              let fits = room-for y (class w ps) good (is-new y) (has-room y) in
               let n : length (joined (each entryBytes (entriesOf ds (class w ps))))
               ≡ length (joined (each entryBytes one)) + length (joined (each entryBytes others)) =
-              ap (λ (es : List NameEntry). length (joined (each entryBytes es))) (sym (entries-are s))
+              ap (λ (es : List NameEntry). length (joined (each entryBytes es))) (sym (entries-are y))
               ∙ ap length (bytes-append one others) ∙ length-append (joined (each entryBytes one)) (joined (each entryBytes others)) in
               omega (arith, n, fits)
 
@@ -164,7 +162,7 @@ module _ (t : List ℕ) (at : ℕ) (before : List ℕ) (end : ℕ) where
               short = short-permissions (number * 32) ps (names-of good .1);
             }
 
-            entries-new : {ds : List Declaration} → Symbols before end ds → AllNew (entries ds) (one ++ others)
+            entries-new : {ds : List Declaration} → Holds before end ds → AllNew (entries ds) (one ++ others)
             unfolding AllNew
             entries-new {ds} y =
                 subst (λ (k : ℕ). AllNew (entries ds) (nameEntry 6 k w ∷ permissionEntries (k * 32) ps)) (count-is y) (
@@ -176,19 +174,18 @@ module _ (t : List ℕ) (at : ℕ) (before : List ℕ) (end : ℕ) where
             added : (a : Added) → Enters mid after past others a → (ds : List Declaration) → Holds before end ds
                 → goodNames (class w ps) ≡ true → Declares before after end ds (class w ps) (answerOf a)
             added (Added.Past next) e ds y good =
-                let s = holds-symbols y in
                 let all = entered-then (n .is) (e .is) in
-                let x = subst (λ (es : List NameEntry). Entered before after end es next) (entries-are s) all in
+                let x = subst (λ (es : List NameEntry). Entered before after end es next) (entries-are y) all in
                 record {
-                  new = is-new s;
-                  room = has-room s;
+                  new = is-new y;
+                  room = has-room y;
                   written = x .written;
                   long = x .long;
                   moved = x .moved;
                   fits = x .fits;
                   indexed =
-                      subst (Indexed after next) (ap (λ (es : List NameEntry). entries ds ++ es) (entries-are s) ∙ sym (entries-more ds (class w ps)))
-                      (all .indexed (entries ds) (y .indexed) (entries-new s));
+                      subst (Indexed after next) (ap (λ (es : List NameEntry). entries ds ++ es) (entries-are y) ∙ sym (entries-more ds (class w ps)))
+                      (all .indexed (entries ds) (y .indexed) (entries-new y));
                 }
             added Added.NoRoom e ds y good = absurd (e .is (rest-fits ds y good))
 

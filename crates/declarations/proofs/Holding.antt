@@ -17,9 +17,8 @@ use Rattle.policy.specs.Encode.{NameEntry, entryBytes, entriesOf, entriesFrom, 
 use Rattle.policy.specs.Sound.{goodNames, goodFrom}
 use Rattle.policy.proofs.Gathered.{all-map}
 use Rattle.policy.proofs.Good.{GoodFirst, good-first, good-rest}
+use Rattle.policy.specs.Names.{environmentOf}
 use Rattle.symbols.specs.Symbols.{Symbols}
-use Rattle.symbols.specs.Index.{slotIn}
-use Rattle.symbols.proofs.Entering.{indexed-none}
 use Rattle.symbols.proofs.Declaring.{entries-more}
 use Rattle.symbols.proofs.ReadBack.{Small}
 use Rattle.symbols.proofs.Written.{entries-written}
@@ -32,19 +31,16 @@ small : (ds : List Declaration) → goodFrom [] ds ≡ true → Small (entries d
 unfolding entries
 small ds h = all-map GoodEntry (λ (e : NameEntry). e .number < 65536) (λ e g. g .number) (entriesFrom [] ds) (entries-fit [] ds h)
 
-pub holds-symbols : {table : List ℕ} {end : ℕ} {ds : List Declaration} → Holds table end ds → Symbols table end ds
+pub holds-symbols : {table : List ℕ} {end : ℕ} {ds : List Declaration} → Holds table end ds → Symbols table end (environmentOf ds)
 unfolding sectionOf part
 holds-symbols {table} {end} {ds} h = record {
+  declared = ds;
+  is = refl;
   inside = h .inside;
   holds = entries-written table 0 end (entries ds) (small ds (h .good)) (ap (λ (n : ℕ). take n table) (sub-zero end) ∙ h .front);
   good = h .good;
   indexed = h .indexed;
 }
-
--- no declaration has no symbols, in memory that is 0
-pub holds-none : (table : List ℕ) → 186264 ≤ length table → ((s : ℕ) → s < 16392 → slotIn table s ≡ 0) → Holds table 0 []
-unfolding sectionOf entries entriesFrom each joined goodFrom
-holds-none table room zero = record { front = refl; inside = omega arith; good = refl; indexed = indexed-none table room zero }
 
 -- ---- one more declaration
 

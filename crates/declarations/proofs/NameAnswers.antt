@@ -17,11 +17,10 @@ use Rattle.policy.specs.Encode.{NameEntry, nameEntry, sortCode, entriesOf, entr
 use Rattle.policy.specs.Sound.{isGood}
 use Rattle.policy.proofs.Lists.{both-true}
 use Rattle.symbols.specs.Lookup.{familyNumber, firstNamed}
-use Rattle.symbols.specs.Resolving.{familyCode, isFound}
-use Rattle.symbols.specs.Symbols.{Symbols}
+use Rattle.symbols.specs.Resolving.{isFound}
 use Rattle.symbols.specs.declared.Found.{Found}
 use Rattle.symbols.specs.Index.{Indexed}
-use Rattle.symbols.proofs.ReferencesFound.{reference-found}
+use Rattle.symbols.proofs.ReferencesFound.{reference-found, code-of}
 use Rattle.symbols.proofs.Declaring.{entries-more}
 use Rattle.table_laws.proofs.NamesFit.{code-below}
 use Rattle.table_laws.proofs.NamesRoom.{name-short}
@@ -34,7 +33,7 @@ use Rattle.declarations.specs.declared.Added.{Added}
 use Rattle.declarations.specs.declared.Standing.{Standing}
 use Rattle.declarations.specs.declared.NextWord.{NextWord}
 use Rattle.declarations.proofs.Standings.{not-found, family-alone}
-use Rattle.declarations.proofs.Holding.{holds-symbols, room-for}
+use Rattle.declarations.proofs.Holding.{room-for}
 use Rattle.declarations.proofs.Formed.{plain-has-word, plain-here}
 
 -- ---- what the walk said
@@ -57,14 +56,6 @@ most-small (attributeOf users) = omega arith
 most-small (attributeOf roles) = omega arith
 most-small (attributeOf types) = omega arith
 
-code-of : (s : Sort) → familyNumber (sortCode s) 0 ≡ familyCode (familyOf s)
-code-of (thingOf users) = refl
-code-of (thingOf roles) = refl
-code-of (thingOf types) = refl
-code-of (attributeOf users) = refl
-code-of (attributeOf roles) = refl
-code-of (attributeOf types) = refl
-
 module _ (t : List ℕ) (at sort : ℕ) (before : List ℕ) (end : ℕ) where
   -- no sort of things or attributes has such a number; no name stands there
   pub no-sort : (after : List ℕ) (r : Declared) → 6 ≤ sort → DeclaresName t at sort before after end r
@@ -81,7 +72,7 @@ module _ (t : List ℕ) (at sort : ℕ) (before : List ℕ) (end : ℕ) where
     found ds = firstNamed (familyNumber sort 0) w (entries ds)
 
     is-in : (s : Sort) → sort ≡ sortCode s → (ds : List Declaration) → isFound (found ds) ≡ isIn w (familyNames (familyOf s) ds)
-    is-in s e ds = ap (λ (n : ℕ). isFound (firstNamed n w (entries ds))) (ap (λ (x : ℕ). familyNumber x 0) e ∙ code-of s) ∙ reference-found ds (familyOf s) w
+    is-in s e ds = ap (λ (n : ℕ). isFound (firstNamed n w (entries ds))) (ap (λ (x : ℕ). familyNumber x 0) e ∙ code-of s 0) ∙ reference-found ds (familyOf s) w
 
     -- "name declared again in its family"
     pub name-taken : Stands before end sort w Standing.Taken → DeclaresName t at sort before before end Declared.Again
@@ -89,18 +80,18 @@ module _ (t : List ℕ) (at sort : ℕ) (before : List ℕ) (end : ℕ) where
       of = λ s e. record {
         says = λ ds d y g f.
             subst (λ (x : Declaration). Declares before before end ds x Declared.Again) (sym (plain-here h s d g f .0))
-            (ap not (sym (is-in s e ds) ∙ taken-found (found ds) (count s ds) (q .names ds s (holds-symbols y) e)), refl);
+            (ap not (sym (is-in s e ds) ∙ taken-found (found ds) (count s ds) (q .names ds s y e)), refl);
       };
     }
 
     module _ {number most : ℕ} (q : Stands before end sort w (Standing.Free number)) (m : MostIs sort most) where
-      is-free : (s : Sort) → sort ≡ sortCode s → {ds : List Declaration} → Symbols before end ds → (isFound (found ds) ≡ false) × (count s ds ≡ number)
+      is-free : (s : Sort) → sort ≡ sortCode s → {ds : List Declaration} → Holds before end ds → (isFound (found ds) ≡ false) × (count s ds ≡ number)
       is-free s e {ds} y = free-missing (found ds) (count s ds) number (q .names ds s y e)
 
-      is-new : (s : Sort) → sort ≡ sortCode s → {ds : List Declaration} → Symbols before end ds → isNew ds (plain s w) ≡ true
+      is-new : (s : Sort) → sort ≡ sortCode s → {ds : List Declaration} → Holds before end ds → isNew ds (plain s w) ≡ true
       is-new s e {ds} y = ap not (sym (is-in s e ds) ∙ is-free s e y .0)
 
-      count-is : (s : Sort) → sort ≡ sortCode s → {ds : List Declaration} → Symbols before end ds → count s ds ≡ number
+      count-is : (s : Sort) → sort ≡ sortCode s → {ds : List Declaration} → Holds before end ds → count s ds ≡ number
       count-is s e y = is-free s e y .1
 
       -- "one of the other maxima passed"
@@ -109,18 +100,18 @@ module _ (t : List ℕ) (at sort : ℕ) (before : List ℕ) (end : ℕ) where
         of = λ s e. record {
           says = λ ds d y g f.
               subst (λ (x : Declaration). Declares before before end ds x Declared.Full) (sym (plain-here h s d g f .0))
-              (is-new s e (holds-symbols y), le-ltb (count s ds) (maxOf s) (omega (arith, count-is s e (holds-symbols y), m .is s e)), refl);
+              (is-new s e y, le-ltb (count s ds) (maxOf s) (omega (arith, count-is s e y, m .is s e)), refl);
         };
       }
 
       module _ (after : List ℕ) (l : number < most) where
-        has-room : (s : Sort) → sort ≡ sortCode s → {ds : List Declaration} → Symbols before end ds → hasRoom ds (plain s w) ≡ true
+        has-room : (s : Sort) → sort ≡ sortCode s → {ds : List Declaration} → Holds before end ds → hasRoom ds (plain s w) ≡ true
         has-room s e {ds} y = lt-ltb (count s ds) (maxOf s) (omega (arith, count-is s e y, m .is s e))
 
-        entries-are : (s : Sort) → sort ≡ sortCode s → {ds : List Declaration} → Symbols before end ds → nameEntry sort number w ∷ [] ≡ entriesOf ds (plain s w)
+        entries-are : (s : Sort) → sort ≡ sortCode s → {ds : List Declaration} → Holds before end ds → nameEntry sort number w ∷ [] ≡ entriesOf ds (plain s w)
         entries-are s e y = ap₂ (λ (k n : ℕ). nameEntry k n w ∷ []) e (sym (count-is s e y))
 
-        entry-new : (s : Sort) → sort ≡ sortCode s → {ds : List Declaration} → Symbols before end ds → AllNew (entries ds) (nameEntry sort number w ∷ [])
+        entry-new : (s : Sort) → sort ≡ sortCode s → {ds : List Declaration} → Holds before end ds → AllNew (entries ds) (nameEntry sort number w ∷ [])
         unfolding AllNew
         entry-new s e {ds} y = (
           ap (λ (g : ℕ). firstNamed g w (entries ds)) (family-alone sort number 0 (omega (arith, code-below s)))
@@ -132,22 +123,22 @@ module _ (t : List ℕ) (at sort : ℕ) (before : List ℕ) (end : ℕ) where
         added : (a : Added) → Enters before after end (nameEntry sort number w ∷ []) a → (s : Sort) → sort ≡ sortCode s → (ds : List Declaration) → Holds before end ds
             → isGood w ≡ true → Declares before after end ds (plain s w) (answerOf a)
         added (Added.Past past) n s e ds y good =
-            let x = subst (λ (es : List NameEntry). Entered before after end es past) (entries-are s e (holds-symbols y)) (n .is) in
+            let x = subst (λ (es : List NameEntry). Entered before after end es past) (entries-are s e y) (n .is) in
             record {
-              new = is-new s e (holds-symbols y);
-              room = has-room s e (holds-symbols y);
+              new = is-new s e y;
+              room = has-room s e y;
               written = x .written;
               long = x .long;
               moved = x .moved;
               fits = x .fits;
               indexed =
-                  subst (Indexed after past) (ap (λ (es : List NameEntry). entries ds ++ es) (entries-are s e (holds-symbols y)) ∙ sym (entries-more ds (plain s w)))
-                  (n .is .indexed (entries ds) (y .indexed) (entry-new s e (holds-symbols y)));
+                  subst (Indexed after past) (ap (λ (es : List NameEntry). entries ds ++ es) (entries-are s e y) ∙ sym (entries-more ds (plain s w)))
+                  (n .is .indexed (entries ds) (y .indexed) (entry-new s e y));
             }
         added Added.NoRoom n s e ds y good =
-            let room = room-for y (plain s w) good (is-new s e (holds-symbols y)) (has-room s e (holds-symbols y)) in
+            let room = room-for y (plain s w) good (is-new s e y) (has-room s e y) in
             absurd (n .is (record {
-              room = rw (entries-are s e (holds-symbols y)) room;
+              room = rw (entries-are s e y) room;
               short = (name-short w (both-true (isName w) (not (isReserved w)) good .0), tt);
             }))
 

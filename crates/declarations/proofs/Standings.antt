@@ -9,20 +9,25 @@ use lib.Dec.{eqb, ltb}
 use lib.ListN.{length, length-append}
 use Rattle.bitset.specs.Relations.{joined}
 use Rattle.policy.specs.Basics.{Name, each}
-use Rattle.policy.specs.Statements.{Declaration, classNames}
+use Rattle.policy.specs.Statements.{Declaration, classNames, Sort, familyOf}
 use Rattle.policy.specs.Statements as statements
-use Rattle.policy.specs.Encode.{NameEntry, entryBytes, entries}
+use Rattle.policy.specs.Encode.{NameEntry, entryBytes, entries, sortCode}
+use Rattle.policy.specs.Names.{environmentOf}
 use Rattle.symbols.specs.Lookup.{familyNumber, firstNamed, countSort}
-use Rattle.symbols.specs.Resolving.{isFound}
+use Rattle.symbols.specs.Resolving.{isFound, familyCode}
 use Rattle.symbols.specs.Index.{slotIn}
-use Rattle.symbols.specs.Symbols.{Symbols, Looks}
+use Rattle.symbols.specs.Symbols.{Looks}
 use Rattle.symbols.specs.declared.Found.{Found}
 use Rattle.symbols.proofs.Appending.{entry-length}
 use Rattle.symbols.proofs.CountLaws.{count-things, count-classes}
+use Rattle.symbols.proofs.ReferencesFound.{find-named, code-of}
+use Rattle.symbols.proofs.ClassesFound.{find-class}
 use Rattle.table_laws.proofs.NamesFit.{code-below}
 use Rattle.table_laws.proofs.NamesRoom.{names-length, names-room}
 use Rattle.declarations.specs.Counting.{standing, Counts, Stands}
 use Rattle.declarations.specs.declared.Standing.{Standing}
+use Rattle.declarations.specs.Declaring.{Holds}
+use Rattle.declarations.proofs.Holding.{holds-symbols}
 
 -- ---- counts
 
@@ -40,7 +45,7 @@ count-short k (e ∷ es) =
     by ih all false = omega (arith, ih, all)
 
 module _ {t : List ℕ} {end sort r : ℕ} where
-  count-is : (r ≡ slotIn t (16384 + sort)) × (r < 16777216) → sort < 8 → (ds : List Declaration) → Symbols t end ds → r ≡ countSort sort (entries ds)
+  count-is : (r ≡ slotIn t (16384 + sort)) × (r < 16777216) → sort < 8 → (ds : List Declaration) → Holds t end ds → r ≡ countSort sort (entries ds)
   count-is h l ds y = omega (arith, h .0, y .indexed .counts sort l, count-short sort (entries ds), names-length (entries ds), names-room ds (y .good))
 
   pub counts : (r ≡ slotIn t (16384 + sort)) × (r < 16777216) → sort < 8 → Counts t end sort r
@@ -74,19 +79,27 @@ family-alone s n m h = by (ltb s 3) (ltb s 6) (eqb s 6) refl refl refl
     by false false false p q r = absurd (eqb-false s 6 r (omega (arith, ltb-false s 6 q)))
 
 module _ {t : List ℕ} {end : ℕ} (sort : ℕ) {family : ℕ} {w : Name} {found : Found} (f : family ≡ familyNumber sort 0) (h : Looks t end family w found) where
-  looked : (ds : List Declaration) → Symbols t end ds → found ≡ firstNamed (familyNumber sort 0) w (entries ds)
-  looked ds y = h .finds ds y ∙ ap (λ (g : ℕ). firstNamed g w (entries ds)) f
+  looked-name : (ds : List Declaration) (k : Sort) → Holds t end ds → sort ≡ sortCode k → found ≡ firstNamed (familyNumber sort 0) w (entries ds)
+  looked-name ds k y q =
+      let code : familyNumber sort 0 ≡ familyCode (familyOf k) = ap (λ (n : ℕ). familyNumber n 0) q ∙ code-of k 0 in
+      h .names (environmentOf ds) (familyOf k) (holds-symbols y) (sym (f ∙ code)) ∙ sym (find-named ds (familyOf k) w)
+      ∙ ap (λ (n : ℕ). firstNamed n w (entries ds)) (sym code)
+
+  looked-class : (ds : List Declaration) → Holds t end ds → sort ≡ 6 → found ≡ firstNamed (familyNumber sort 0) w (entries ds)
+  looked-class ds y q =
+      let code : familyNumber sort 0 ≡ 3 = ap (λ (n : ℕ). familyNumber n 0) q in
+      h .classes (environmentOf ds) (holds-symbols y) (sym (f ∙ code)) ∙ sym (find-class ds w) ∙ ap (λ (n : ℕ). firstNamed n w (entries ds)) (sym code)
 
   pub is-taken : (s n : ℕ) → found ≡ Found.At s n → Stands t end sort w Standing.Taken
   is-taken s n e = record {
-    names = λ ds k y q. ap (λ (x : Found). standing x (statements.count k ds)) (sym e ∙ looked ds y);
-    classes = λ ds y q. ap (λ (x : Found). standing x (length (classNames ds))) (sym e ∙ looked ds y);
+    names = λ ds k y q. ap (λ (x : Found). standing x (statements.count k ds)) (sym e ∙ looked-name ds k y q);
+    classes = λ ds y q. ap (λ (x : Found). standing x (length (classNames ds))) (sym e ∙ looked-class ds y q);
   }
 
   pub is-free : {r : ℕ} → found ≡ Found.Missing → Counts t end sort r → Stands t end sort w (Standing.Free r)
   is-free e c = record {
-    names = λ ds k y q. ap Standing.Free (c .things ds k y q) ∙ ap (λ (x : Found). standing x (statements.count k ds)) (sym e ∙ looked ds y);
-    classes = λ ds y q. ap Standing.Free (c .classes ds y q) ∙ ap (λ (x : Found). standing x (length (classNames ds))) (sym e ∙ looked ds y);
+    names = λ ds k y q. ap Standing.Free (c .things ds k y q) ∙ ap (λ (x : Found). standing x (statements.count k ds)) (sym e ∙ looked-name ds k y q);
+    classes = λ ds y q. ap Standing.Free (c .classes ds y q) ∙ ap (λ (x : Found). standing x (length (classNames ds))) (sym e ∙ looked-class ds y q);
   }
 
 -- what a caller of `stands` knows of the answer k

@@ -1,19 +1,18 @@
 -- Demand 3 of the definitions: what is accepted gives a table that answers as its statements do. Three steps are put together: reading leaves
 -- an accepted policy, the image of one is well-formed and answers as the statements do, and a table of a well-formed image is read back.
 -- Assumes nothing.
-use Prim.Native.Nat.{ℕ, _≤_}
-use native.Mathlib.Omega.{arith}
+use Prim.Native.Nat.{ℕ}
 use mathlib.Core.Path.{_≡_, refl, sym, ap, _∙_}
-use mathlib.Core.Bool.{Bool, true, false, not, _&&_, _||_, cond, false≢true}
+use mathlib.Core.Bool.{Bool, true, false, cond, false≢true}
 use mathlib.Core.List.{List, [], _∷_, _++_}
 use mathlib.Core.Option.{some}
 use lib.Dec.{leb}
 use lib.ListN.{length, take, drop}
 use Rattle.policy.specs.Basics.{each}
-use Rattle.policy.specs.Statements.{Policy, Line, Statement, constrain, declarations, Constrain, constrains}
+use Rattle.policy.specs.Statements.{Policy, Line, Statement, constrain, declarations, constrains}
 use Rattle.policy.specs.Reading.{Read, policy, refused}
 use Rattle.policy.specs.Meaning.{Context}
-use Rattle.policy.specs.Deciding.{Question, Verdict, granted, denied, fails, refuses, Answer, unconsulted, ruling, firstFailing, decide, declaredQuestion, validBy, ruledBy, Reply, validReply}
+use Rattle.policy.specs.Deciding.{Question, granted, refuses, Answer, ruling, firstFailing, decide, declaredQuestion, validBy, ruledBy, validReply}
 use Rattle.policy.specs.Answer.{givenBy, answer}
 use Rattle.policy.specs.Accepted.{Accepted}
 use Rattle.policy.specs.Image.{Image, imageOf}
@@ -21,8 +20,9 @@ use Rattle.policy.specs.Encode.{encode}
 use Rattle.policy.specs.Sound.{wellFormed, imageIn}
 use Rattle.policy.specs.Outcome as outcomes
 use Rattle.policy.specs.Outcome.{policyOf, Compiled, compiles, compiled, fitted, Outcome, accepted, rejected, outcomeOf, afterOf, outcome, after}
-use Rattle.policy.specs.Questions.{changed, changeOn, asked, validOn, newRoleOn}
+use Rattle.policy.specs.Questions.{changed, changeOn, validOn, newRoleOn}
 use Rattle.policy.proofs.Lists.{each-append}
+use Rattle.policy.specs.Names.{environmentOf}
 use Rattle.reading_laws.proofs.ReadAccepted.{policy-accepted, policy-read}
 use Rattle.reading_laws.proofs.ReadThen.{line}
 use Rattle.reading_laws.proofs.LongerText.{one-statement-more, resolved-constrain}
@@ -109,7 +109,7 @@ pub constrain-added : (text more : List ℕ) (p p′ : Policy) → ConstrainText
 unfolding said each
 constrain-added text more p p′ c read read′ =
     let m = one-statement-more text more p p′ (c .place) (c .inner) (constrain (c .class) (c .perms) (c .body)) (policy-read text p read) (policy-read _ p′ read′) (c .alone) (c .form) in
-    let s = resolved-constrain (declarations p) (c .class) (c .perms) (c .body) .has (m .statement) (m .resolves) in
+    let s = resolved-constrain (environmentOf (declarations p)) (c .class) (c .perms) (c .body) .has (m .statement) (m .resolves) in
     record {
       class = s .class;
       perms = s .perms;

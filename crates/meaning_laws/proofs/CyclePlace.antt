@@ -7,7 +7,7 @@ use mathlib.Core.Logic.{_↔_}
 use mathlib.Core.Option.{Option, none, some, Option·some-ne-none}
 use Rattle.policy.specs.Statements.{Family, users, roles, types, Policy}
 use Rattle.policy.specs.Faults.{familyCycle, cycle}
-use Rattle.policy.specs.Reading.{orElse}
+use Rattle.policy.specs.Basics.{orElse}
 use Rattle.policy.specs.Accepted.{Accepted}
 use Rattle.meaning_laws.specs.Mentioning.{Mentions, turn, CycleAt, NoCycle}
 use Rattle.meaning_laws.proofs.FamilyCycle.{CycleIn, none-acyclic, acyclic-none, some-cycle, cycle-some}

@@ -16,7 +16,7 @@ use Rattle.policy.specs.Statements.{users, roles, types, Sort, thingOf, attribu
 use Rattle.policy.specs.Maxima.{maxOf, maxClasses}
 use Rattle.policy.specs.Encode.{sortCode}
 use Rattle.policy.proofs.Lists.{both-true, true-both, gather-over, gather-last}
-use Rattle.policy.proofs.Sameness.{family-self, sort-same}
+use Rattle.policy.proofs.Sameness.{sort-self, sort-same}
 use Rattle.symbols.proofs.ClassesFound.{classes-same, classes-more}
 use Rattle.table_laws.proofs.NamesFit.{code-below}
 use Rattle.name_section.specs.SoundNames.{countsOf, permissionCounts}
@@ -87,10 +87,6 @@ module _ (s : Sort) (ds : List Declaration) (d : Declaration) where
   count-more : (w : Name) → ofSort s d ≡ some w → count s (ds ++ (d ∷ [])) ≡ count s ds + 1
   unfolding count namesOf
   count-more w h = ap length (gather-last (ofSort s) ds d w h) ∙ length-append (gather (ofSort s) ds) (w ∷ [])
-
-sort-self : (s : Sort) → sameSort s s ≡ true
-sort-self (thingOf f) = family-self f
-sort-self (attributeOf f) = family-self f
 
 -- a sort is known by its code
 thing-injective : (s t : Sort) → ofThing s ≡ ofThing t → s ≡ t

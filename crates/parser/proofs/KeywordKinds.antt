@@ -4,12 +4,13 @@ use mathlib.Core.Path.{_≡_, refl}
 use mathlib.Core.List.{List, [], _∷_}
 use mathlib.Core.Option.{Option}
 use Rattle.lexer.specs.Forms.{Forms, closed, ended, word, part}
-use Rattle.policy.specs.Basics.{Name, eachOf, indexOf, ofOne, ofTwo}
+use Rattle.policy.specs.Basics.{Name, eachOf, ofOne, ofTwo}
 use Rattle.policy.specs.Words.{asName, Keyword, declareK, classK, setK, relationK, transitionK, constrainK}
-use Rattle.policy.specs.Statements.{roles, types, thingOf, attributeOf, Declaration, plain, class, Reference, SetExpr, Constraint, StatementOf, declare, attributeset, gives, roletransition, constrain, Written, fromOf, toOf, namesOf, classNames, permissions}
+use Rattle.policy.specs.Statements.{roles, types, thingOf, attributeOf, plain, class, Reference, SetExpr, Constraint, StatementOf, declare, attributeset, gives, roletransition, constrain, Written, fromOf, toOf}
 use Rattle.policy.specs.Grammar.{wordAndPart, twoParts, setIn, expressionIn, namesIn, oneOrMore, classIn, ofFour, formed}
-use Rattle.policy.specs.Reading.{refer, referS, referE, resolved}
-use Rattle.reading_laws.proofs.IfAny.{IfAny, nothing, just, whatever}
+use Rattle.policy.specs.Names.{refer, Environment, numberIn}
+use Rattle.policy.specs.Reading.{referS, referE, resolved}
+use Rattle.policy.proofs.IfAny.{IfAny, nothing, just, whatever}
 
 -- the statement is of the kind that the keyword names
 module _ {R N : Type 0} where
@@ -78,17 +79,17 @@ formed-of transitionK f = whatever (namesIn f) _ four
 formed-of constrainK f = two-parts f _ λ i j. class-in i _ λ c ps. whatever (expressionIn j) _ λ e. just (c, ps, e, refl)
 
 -- as it is resolved
-pub resolved-of : (ds : List Declaration) (k : Keyword) (w : Written) → IsOf k w → IfAny (IsOf {R = Reference} {N = ℕ} k) (resolved ds w)
-resolved-of ds (declareK s) w h = rw (h .1) (just (h .0, refl))
-resolved-of ds classK w h = rw (h .2) (just (h .0, h .1, refl))
-resolved-of ds (setK f) w h =
-    rw (h .2) (whatever (indexOf (h .0) (namesOf (attributeOf f) ds)) _ λ a. whatever (referS ds f (h .1)) _ λ s. just (a, s, refl))
-resolved-of ds (relationK r) w h = rw (h .2) (whatever (refer ds (fromOf r) (h .0)) _ λ x. whatever (refer ds (toOf r) (h .1)) _ λ y. just (x, y, refl))
-resolved-of ds transitionK w h =
+pub resolved-of : (env : Environment) (k : Keyword) (w : Written) → IsOf k w → IfAny (IsOf {R = Reference} {N = ℕ} k) (resolved env w)
+resolved-of env (declareK s) w h = rw (h .1) (just (h .0, refl))
+resolved-of env classK w h = rw (h .2) (just (h .0, h .1, refl))
+resolved-of env (setK f) w h =
+    rw (h .2) (whatever (numberIn env (attributeOf f) (h .0)) _ λ a. whatever (referS env f (h .1)) _ λ s. just (a, s, refl))
+resolved-of env (relationK r) w h = rw (h .2) (whatever (refer env (fromOf r) (h .0)) _ λ x. whatever (refer env (toOf r) (h .1)) _ λ y. just (x, y, refl))
+resolved-of env transitionK w h =
     rw (h .4)
-    (whatever (refer ds roles (h .0)) _ λ r. whatever (refer ds types (h .1)) _ λ t. whatever (indexOf (h .2) (classNames ds)) _ λ c.
-    whatever (indexOf (h .3) (namesOf (thingOf roles) ds)) _ λ n. just (r, t, c, n, refl))
-resolved-of ds constrainK w h =
+    (whatever (refer env roles (h .0)) _ λ r. whatever (refer env types (h .1)) _ λ t. whatever (env .class (h .2)) _ λ c.
+    whatever (numberIn env (thingOf roles) (h .3)) _ λ n. just (r, t, c, n, refl))
+resolved-of env constrainK w h =
     rw (h .3)
-    (whatever (indexOf (h .0) (classNames ds)) _ λ c. whatever (eachOf (λ p. indexOf p (permissions ds c)) (h .1)) _ λ ps.
-    whatever (referE ds (h .2)) _ λ e. just (c, ps, e, refl))
+    (whatever (env .class (h .0)) _ λ c. whatever (eachOf (λ p. env .permission c p) (h .1)) _ λ ps.
+    whatever (referE env (h .2)) _ λ e. just (c, ps, e, refl))

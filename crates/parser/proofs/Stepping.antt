@@ -36,6 +36,7 @@ use Rattle.declarations.specs.declared.Declared.{Declared}
 use Rattle.declarations.proofs.Holding.{holds-symbols}
 use Rattle.statement_writer.specs.Coding as coding
 use Rattle.policy.specs.Answers.{familyOf, relationOf}
+use Rattle.policy.specs.Names.{environmentOf}
 use Rattle.statement_writer.specs.Coding.{WritesStatement}
 use Rattle.statement_writer.specs.declared.Coded.{Coded}
 use Rattle.constrain_statement.specs.Constraining as constraining
@@ -173,10 +174,10 @@ module _ {t : List ℕ} {at place : ℕ} {k : Keyword} {sy sy' co co' cs rs : Li
           go Declared.Full y = stepped-as p place lent (memory sy' co' cs rs) (as-declared _ (judged-declared p d true false (y .0) (y .1))) refl refl
 
 -- STATEMENTS WITH CODE: fault 5, then 6
-coded-naming : (kind : CodedKind) (p : Policy) (w : Written) → IsOf (codedKeyword kind) w → naming p (some w) ≡ resolving p (resolved (declarations p) w)
-coded-naming (CodedKind.Set f) p w i = ap (λ (v : Written). naming p (some v)) (i .2) ∙ ap (λ (v : Written). resolving p (resolved (declarations p) v)) (sym (i .2))
-coded-naming (CodedKind.Relation r) p w i = ap (λ (v : Written). naming p (some v)) (i .2) ∙ ap (λ (v : Written). resolving p (resolved (declarations p) v)) (sym (i .2))
-coded-naming CodedKind.Transition p w i = ap (λ (v : Written). naming p (some v)) (i .4) ∙ ap (λ (v : Written). resolving p (resolved (declarations p) v)) (sym (i .4))
+coded-naming : (kind : CodedKind) (p : Policy) (w : Written) → IsOf (codedKeyword kind) w → naming p (some w) ≡ resolving p (resolved (environmentOf (declarations p)) w)
+coded-naming (CodedKind.Set f) p w i = ap (λ (v : Written). naming p (some v)) (i .2) ∙ ap (λ (v : Written). resolving p (resolved (environmentOf (declarations p)) v)) (sym (i .2))
+coded-naming (CodedKind.Relation r) p w i = ap (λ (v : Written). naming p (some v)) (i .2) ∙ ap (λ (v : Written). resolving p (resolved (environmentOf (declarations p)) v)) (sym (i .2))
+coded-naming CodedKind.Transition p w i = ap (λ (v : Written). naming p (some v)) (i .4) ∙ ap (λ (v : Written). resolving p (resolved (environmentOf (declarations p)) v)) (sym (i .4))
 
 module _ {p : Policy} {lent : Memory} {sy co co' cs rs : List ℕ} {s : Progress} {to : ℕ} (h : Holds p lent (memory sy co cs rs) s) (place : ℕ) (st : Statement)
     (room : sized p st ≡ reads st → length (codeOf p) + length (statementCode place st) ≤ length (lent .code))
@@ -230,25 +231,25 @@ module _ {t : List ℕ} {at place : ℕ} {sy co co' cs rs : List ℕ} {s : Progr
           → RowIs (framesAt t at .here) (formed (codedKeyword kind) (framesAt t at .here)) w → Room lent p place w
           → Stepped (naming p (some w)) p place lent (memory sy co' cs rs) (codedStep kind r s)
       says lent p w h row room =
-          stepped-as p place lent (memory sy co' cs rs) named refl (go (resolved (declarations p) w) refl r (a .says (declarations p) w (holds-symbols (table-holds h)) (ap (formed (codedKeyword kind)) (row .uncut) ∙ row .form)))
+          stepped-as p place lent (memory sy co' cs rs) named refl (go (resolved (environmentOf (declarations p)) w) refl r (a .says (environmentOf (declarations p)) w (holds-symbols (table-holds h)) (ap (formed (codedKeyword kind)) (row .uncut) ∙ row .form)))
         where
           i : IsOf (codedKeyword kind) w
           i = formed-of (codedKeyword kind) (framesAt t at .here) .has w (row .form)
 
-          named : naming p (some w) ≡ resolving p (resolved (declarations p) w)
+          named : naming p (some w) ≡ resolving p (resolved (environmentOf (declarations p)) w)
           named = coded-naming kind p w i
 
-          go : (o : Option Statement) → resolved (declarations p) w ≡ o → (r : Coded) → coding.Answers co (s .code) place o co' r
+          go : (o : Option Statement) → resolved (environmentOf (declarations p)) w ≡ o → (r : Coded) → coding.Answers co (s .code) place o co' r
               → Stepped (resolving p o) p place lent (memory sy co' cs rs) (codedStep kind r s)
           go none e Coded.Undeclared y = refl
           go none e (Coded.Next u) y = absurd y
           go (some st) e Coded.Undeclared y = absurd y
           go (some st) e (Coded.Next u) y =
-              coded-sized h place st (λ f. room .code st (named ∙ ap (resolving p) e ∙ f)) y kind (resolved-of (declarations p) (codedKeyword kind) w i .has st e)
+              coded-sized h place st (λ f. room .code st (named ∙ ap (resolving p) e ∙ f)) y kind (resolved-of (environmentOf (declarations p)) (codedKeyword kind) w i .has st e)
 
 -- CONSTRAINTS: fault 5, then 6, then 7
-constrain-naming : (p : Policy) (w : Written) → IsOf constrainK w → naming p (some w) ≡ resolving p (resolved (declarations p) w)
-constrain-naming p w i = ap (λ (v : Written). naming p (some v)) (i .3) ∙ ap (λ (v : Written). resolving p (resolved (declarations p) v)) (sym (i .3))
+constrain-naming : (p : Policy) (w : Written) → IsOf constrainK w → naming p (some w) ≡ resolving p (resolved (environmentOf (declarations p)) w)
+constrain-naming p w i = ap (λ (v : Written). naming p (some v)) (i .3) ∙ ap (λ (v : Written). resolving p (resolved (environmentOf (declarations p)) v)) (sym (i .3))
 
 module _ {p : Policy} {lent : Memory} {sy co cs rs : List ℕ} {s : Progress} (h : Holds p lent (memory sy co cs rs) s) (c : ℕ) (ps : List ℕ) (e : Constraint Reference) where
   -- what the maxima say by the counts of the memory is what they say of the statements
@@ -282,8 +283,8 @@ module _ {t : List ℕ} {at place : ℕ} {sy co cs cs' rs rs' : List ℕ} {s : P
           → Stepped (naming p (some w)) p place lent (memory sy co cs' rs') (constrainedStep r s)
       says lent p w h row room =
           stepped-as p place lent (memory sy co cs' rs') (constrain-naming p w i) refl
-          (go (resolved (declarations p) w) refl r
-          (a .says (declarations p) w (holds-symbols (table-holds h)) few (ap (formed constrainK) (row .uncut) ∙ row .form)))
+          (go (resolved (environmentOf (declarations p)) w) refl r
+          (a .says (environmentOf (declarations p)) w (holds-symbols (table-holds h)) few (ap (formed constrainK) (row .uncut) ∙ row .form)))
         where
           i : IsOf constrainK w
           i = formed-of constrainK (framesAt t at .here) .has w (row .form)
@@ -291,14 +292,14 @@ module _ {t : List ℕ} {at place : ℕ} {sy co cs cs' rs rs' : List ℕ} {s : P
           few : s .rows ≤ maxRows
           few = omega (arith, h .row-count, h .accepted .few-rows)
 
-          go : (o : Option Statement) → resolved (declarations p) w ≡ o → (r : Constrained) → constraining.Answers o cs cs' (s .constraints) rs rs' (s .rows) r
+          go : (o : Option Statement) → resolved (environmentOf (declarations p)) w ≡ o → (r : Constrained) → constraining.Answers o cs cs' (s .constraints) rs rs' (s .rows) r
               → Stepped (resolving p o) p place lent (memory sy co cs' rs') (constrainedStep r s)
           go none e (Constrained.Next n) y = absurd y
           go none e Constrained.Undeclared y = refl
           go none e Constrained.Full y = absurd y
           go none e Constrained.Deep y = absurd y
           go (some st) e r y =
-              let j = resolved-of (declarations p) constrainK w i .has st e in
+              let j = resolved-of (environmentOf (declarations p)) constrainK w i .has st e in
               subst (λ (x : Statement). Stepped (sized p x) p place lent (memory sy co cs' rs') (constrainedStep r s)) (sym (j .3))
               (constrained-sized h (j .0) (j .1) (j .2) place cs' rs' (room .constraints) (room .rows) r
               (subst (λ (x : Statement). constraining.Answers (some x) cs cs' (s .constraints) rs rs' (s .rows) r) (j .3) y))

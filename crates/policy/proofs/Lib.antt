@@ -2,4 +2,6 @@ pub mod Lists
 pub mod Sameness
 pub mod Gathered
 pub mod Good
+pub mod IfAny
 pub mod Counts
+pub mod Environments

@@ -37,6 +37,10 @@ sort-same (thingOf f) (attributeOf g) h = absurd (false≢true h)
 sort-same (attributeOf f) (thingOf g) h = absurd (false≢true h)
 sort-same (attributeOf f) (attributeOf g) h = ap attributeOf (family-same f g h)
 
+pub sort-self : (s : Sort) → sameSort s s ≡ true
+sort-self (thingOf f) = family-self f
+sort-self (attributeOf f) = family-self f
+
 pub sort-turned : (s t : Sort) → sameSort s t ≡ sameSort t s
 sort-turned (thingOf f) (thingOf g) = family-turned f g
 sort-turned (thingOf f) (attributeOf g) = refl

@@ -22,6 +22,11 @@ abbrev pub _>>=_ : {A B : Type 0} → Option A → (A → Option B) → Option B
 none >>= f = none
 some a >>= f = f a
 
+-- the first value, if there is one, and else the second
+abbrev pub orElse : {A : Type 0} → Option A → Option A → Option A
+orElse none y = y
+orElse (some x) y = some x
+
 -- the value, if the test passes
 abbrev pub given : {A : Type 0} → Bool → A → Option A
 given b a = cond b (some a) none

@@ -7,10 +7,9 @@ use lib.Dec.{eqb}
 use lib.ListN.{length}
 use Rattle.bitset.specs.Sets.{meet}
 use Rattle.bitset.specs.Relations.{joined}
-use Rattle.policy.specs.Basics.{any, gather, given, isAmong, each}
+use Rattle.policy.specs.Basics.{any, gather, given, isAmong, each, orElse}
 use Rattle.policy.specs.Statements.{Family, users, roles, types, attributeOf, Declaration, plain, class, sameSort, Reference, thing, attribute, SetExpr, nameS, allS, notS, andS, orS, xorS, unionS, emptyS, declare, attributeset, gives, roletransition, constrain, Line, Policy, count, declarations, setsFor, Transition, transitions}
 use Rattle.policy.specs.Meaning.{Set, stands, countIn}
-use Rattle.policy.specs.Reading.{orElse}
 
 -- the attributes that S mentions, by its text
 abbrev pub mentionsR : Reference → List ℕ

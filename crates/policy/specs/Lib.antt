@@ -1,5 +1,6 @@
 pub mod Basics
 pub mod Statements
+pub mod Names
 pub mod Maxima
 pub mod Words
 pub mod Grammar

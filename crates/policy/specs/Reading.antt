@@ -8,8 +8,9 @@ use lib.ListN.{length}
 use Rattle.lexer.specs.declared.Scanned.{Scanned}
 use Rattle.lexer.specs.Scan.{scan, maxText}
 use Rattle.lexer.specs.Forms.{Forms, closed, ended, word, part, formsOf}
-use Rattle.policy.specs.Basics.{Name, _>>=_, eachOf, isIn, differ, indexOf}
-use Rattle.policy.specs.Statements.{Family, roles, types, Sort, thingOf, attributeOf, Declaration, plain, class, Reference, thing, attribute, SetExpr, nameS, allS, notS, andS, orS, xorS, unionS, emptyS, Constraint, sidesE, nameE, notE, andE, orE, fromOf, toOf, declare, attributeset, gives, roletransition, constrain, Written, Statement, Line, Policy, familyOf, namesOf, familyNames, classNames, permissions, count, declarations, transitions, constrains, Constrain, size, need}
+use Rattle.policy.specs.Basics.{Name, _>>=_, eachOf, isIn, differ}
+use Rattle.policy.specs.Statements.{Family, roles, types, thingOf, attributeOf, Declaration, plain, class, Reference, SetExpr, nameS, allS, notS, andS, orS, xorS, unionS, emptyS, Constraint, sidesE, nameE, notE, andE, orE, fromOf, toOf, declare, attributeset, gives, roletransition, constrain, Written, Statement, Policy, familyOf, familyNames, classNames, count, declarations, transitions, constrains, Constrain, size, need}
+use Rattle.policy.specs.Names.{Environment, environmentOf, refer, numberIn}
 use Rattle.policy.specs.Maxima.{maxOf, maxClasses, maxPermissions, maxTransitions, maxConstraints, maxRows, maxStack}
 use Rattle.policy.specs.Grammar.{written}
 
@@ -26,42 +27,33 @@ again ds (roletransition r t c n) = false
 again ds (constrain c ps e) = false
 
 -- FAULT 5: the numbers of the names; none where one is "not declared before, or of the wrong sort"
-abbrev pub orElse : {A : Type 0} → Option A → Option A → Option A
-orElse none y = y
-orElse (some x) y = some x
+unfoldable pub referS : Environment → Family → SetExpr Name → Option (SetExpr Reference)
+referS env f (nameS w) = refer env f w >>= λ r. some (nameS r)
+referS env f allS = some allS
+referS env f (notS x) = referS env f x >>= λ x. some (notS x)
+referS env f (andS x y) = referS env f x >>= λ x. referS env f y >>= λ y. some (andS x y)
+referS env f (orS x y) = referS env f x >>= λ x. referS env f y >>= λ y. some (orS x y)
+referS env f (xorS x y) = referS env f x >>= λ x. referS env f y >>= λ y. some (xorS x y)
+referS env f (unionS x y) = referS env f x >>= λ x. referS env f y >>= λ y. some (unionS x y)
+referS env f emptyS = some emptyS
 
-unfoldable pub refer : List Declaration → Family → Name → Option Reference
-refer ds f w = orElse
-    (indexOf w (namesOf (thingOf f) ds) >>= λ n. some (thing n))
-    (indexOf w (namesOf (attributeOf f) ds) >>= λ n. some (attribute n))
+unfoldable pub referE : Environment → Constraint Name → Option (Constraint Reference)
+referE env (sidesE f o) = some (sidesE f o)
+referE env (nameE f s o w) = refer env f w >>= λ r. some (nameE f s o r)
+referE env (notE x) = referE env x >>= λ x. some (notE x)
+referE env (andE x y) = referE env x >>= λ x. referE env y >>= λ y. some (andE x y)
+referE env (orE x y) = referE env x >>= λ x. referE env y >>= λ y. some (orE x y)
 
-unfoldable pub referS : List Declaration → Family → SetExpr Name → Option (SetExpr Reference)
-referS ds f (nameS w) = refer ds f w >>= λ r. some (nameS r)
-referS ds f allS = some allS
-referS ds f (notS x) = referS ds f x >>= λ x. some (notS x)
-referS ds f (andS x y) = referS ds f x >>= λ x. referS ds f y >>= λ y. some (andS x y)
-referS ds f (orS x y) = referS ds f x >>= λ x. referS ds f y >>= λ y. some (orS x y)
-referS ds f (xorS x y) = referS ds f x >>= λ x. referS ds f y >>= λ y. some (xorS x y)
-referS ds f (unionS x y) = referS ds f x >>= λ x. referS ds f y >>= λ y. some (unionS x y)
-referS ds f emptyS = some emptyS
-
-unfoldable pub referE : List Declaration → Constraint Name → Option (Constraint Reference)
-referE ds (sidesE f o) = some (sidesE f o)
-referE ds (nameE f s o w) = refer ds f w >>= λ r. some (nameE f s o r)
-referE ds (notE x) = referE ds x >>= λ x. some (notE x)
-referE ds (andE x y) = referE ds x >>= λ x. referE ds y >>= λ y. some (andE x y)
-referE ds (orE x y) = referE ds x >>= λ x. referE ds y >>= λ y. some (orE x y)
-
-abbrev pub resolved : List Declaration → Written → Option Statement
-resolved ds (declare d) = some (declare d)
-resolved ds (attributeset f a s) = indexOf a (namesOf (attributeOf f) ds) >>= λ a. referS ds f s >>= λ s. some (attributeset f a s)
-resolved ds (gives r x y) = refer ds (fromOf r) x >>= λ x. refer ds (toOf r) y >>= λ y. some (gives r x y)
-resolved ds (roletransition r t c n) =
-    refer ds roles r >>= λ r. refer ds types t >>= λ t. indexOf c (classNames ds) >>= λ c.
-    indexOf n (namesOf (thingOf roles) ds) >>= λ n. some (roletransition r t c n)
-resolved ds (constrain c ps e) =
-    indexOf c (classNames ds) >>= λ c. eachOf (λ p. indexOf p (permissions ds c)) ps >>= λ ps.
-    referE ds e >>= λ e. some (constrain c ps e)
+abbrev pub resolved : Environment → Written → Option Statement
+resolved env (declare d) = some (declare d)
+resolved env (attributeset f a s) = numberIn env (attributeOf f) a >>= λ a. referS env f s >>= λ s. some (attributeset f a s)
+resolved env (gives r x y) = refer env (fromOf r) x >>= λ x. refer env (toOf r) y >>= λ y. some (gives r x y)
+resolved env (roletransition r t c n) =
+    refer env roles r >>= λ r. refer env types t >>= λ t. env .class c >>= λ c.
+    numberIn env (thingOf roles) n >>= λ n. some (roletransition r t c n)
+resolved env (constrain c ps e) =
+    env .class c >>= λ c. eachOf (λ p. env .permission c p) ps >>= λ ps.
+    referE env e >>= λ e. some (constrain c ps e)
 
 -- FAULT 6: "one of the other maxima passed"
 abbrev pub hasRoom : List Declaration → Declaration → Bool
@@ -103,7 +95,7 @@ abbrev pub naming : Policy → Option Written → Judged
 naming p none = fault 3
 naming p (some w) = elim (again (declarations p) w) [
   | true ↦ fault 4
-  | false ↦ resolving p (resolved (declarations p) w)
+  | false ↦ resolving p (resolved (environmentOf (declarations p)) w)
 ]
 
 -- the statement whose parentheses hold f, after the statements of p

@@ -13,16 +13,17 @@ use Rattle.lexer.specs.Forms.{Forms, closed, ended, word, part, formsOf}
 use Rattle.policy.specs.Statements.{Statement, Written, Policy, declarations}
 use Rattle.policy.specs.Grammar.{written}
 use Rattle.policy.specs.Reading.{again, resolved, fits, shallow, Judged, reads, fault, sized, resolving, naming, judge, policy, refused, readFrom, afterScan, readPolicy}
+use Rattle.policy.specs.Names.{environmentOf}
 use Rattle.reading_laws.proofs.ReadThen.{_then_, line, judgedAt, read-part, stopped-row}
 
 -- a statement's first fault after the statements of p: each is told with those before it ruled out
 pub data FaultIn (p : Policy) (f : Forms) : ℕ → Type 0 where
   no-form : written f ≡ none → FaultIn p f 3
   declared-again : (w : Written) → written f ≡ some w → again (declarations p) w ≡ true → FaultIn p f 4
-  not-declared : (w : Written) → written f ≡ some w → again (declarations p) w ≡ false → resolved (declarations p) w ≡ none → FaultIn p f 5
-  too-many : (w : Written) (s : Statement) → written f ≡ some w → again (declarations p) w ≡ false → resolved (declarations p) w ≡ some s
+  not-declared : (w : Written) → written f ≡ some w → again (declarations p) w ≡ false → resolved (environmentOf (declarations p)) w ≡ none → FaultIn p f 5
+  too-many : (w : Written) (s : Statement) → written f ≡ some w → again (declarations p) w ≡ false → resolved (environmentOf (declarations p)) w ≡ some s
       → fits p s ≡ false → FaultIn p f 6
-  too-deep : (w : Written) (s : Statement) → written f ≡ some w → again (declarations p) w ≡ false → resolved (declarations p) w ≡ some s
+  too-deep : (w : Written) (s : Statement) → written f ≡ some w → again (declarations p) w ≡ false → resolved (environmentOf (declarations p)) w ≡ some s
       → fits p s ≡ true → shallow s ≡ false → FaultIn p f 7
 
 pub fault-number : {p : Policy} {f : Forms} {n : ℕ} → FaultIn p f n → (3 ≤ n) × (n ≤ 7)
@@ -52,7 +53,7 @@ no-fault : {Q : ℕ → Type 0} (s : Statement) → IfFault Q (reads s)
 no-fault s = record { has = λ m e. let z : _≡_ {A = ℕ} 0 1 = cc in absurd (omega arith) }
 
 module _ (p : Policy) (f : Forms) where
-  sized-fault : (w : Written) (s : Statement) → written f ≡ some w → again (declarations p) w ≡ false → resolved (declarations p) w ≡ some s
+  sized-fault : (w : Written) (s : Statement) → written f ≡ some w → again (declarations p) w ≡ false → resolved (environmentOf (declarations p)) w ≡ some s
       → IfFault (FaultIn p f) (sized p s)
   sized-fault w s e a r = go (fits p s) (shallow s) refl refl
     where
@@ -61,7 +62,7 @@ module _ (p : Policy) (f : Forms) where
       go true false i j = a-fault (too-deep w s e a r i j)
       go true true i j = no-fault s
 
-  resolving-fault : (w : Written) → written f ≡ some w → again (declarations p) w ≡ false → (o : Option Statement) → resolved (declarations p) w ≡ o
+  resolving-fault : (w : Written) → written f ≡ some w → again (declarations p) w ≡ false → (o : Option Statement) → resolved (environmentOf (declarations p)) w ≡ o
       → IfFault (FaultIn p f) (resolving p o)
   resolving-fault w e a none r = a-fault (not-declared w e a r)
   resolving-fault w e a (some s) r = sized-fault w s e a r
@@ -71,9 +72,9 @@ module _ (p : Policy) (f : Forms) where
   naming-fault (some w) e = go (again (declarations p) w) refl
     where
       go : (b : Bool) → again (declarations p) w ≡ b
-          → IfFault (FaultIn p f) (elim b [ true ↦ fault 4 | false ↦ resolving p (resolved (declarations p) w) ])
+          → IfFault (FaultIn p f) (elim b [ true ↦ fault 4 | false ↦ resolving p (resolved (environmentOf (declarations p)) w) ])
       go true a = a-fault (declared-again w e a)
-      go false a = resolving-fault w e a (resolved (declarations p) w) refl
+      go false a = resolving-fault w e a (resolved (environmentOf (declarations p)) w) refl
 
   pub judged-fault : (n : ℕ) → judge p f ≡ fault n → FaultIn p f n
   unfolding judge

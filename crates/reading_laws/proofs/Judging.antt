@@ -10,7 +10,8 @@ use Rattle.policy.specs.Statements.{Statement, Written, Policy, declarations}
 use Rattle.policy.specs.Reading.{again, resolved, fits, shallow, Judged, reads, fault, sized, resolving, naming, judge}
 use Rattle.policy.specs.Grammar.{written}
 use Rattle.policy.specs.Accepted.{StatementIn}
-use Rattle.reading_laws.proofs.IfAny.{IfAny}
+use Rattle.policy.specs.Names.{environmentOf}
+use Rattle.policy.proofs.IfAny.{IfAny}
 use Rattle.reading_laws.proofs.Resolving.{WellWritten, Declares, Resolved, resolved-in}
 use Rattle.reading_laws.proofs.Written.{written-well}
 
@@ -44,7 +45,7 @@ module _ (p : Policy) where
   naming-passes none h = faulty 3
   naming-passes (some w) h = go (again (declarations p) w) refl
     where
-      go : (b : Bool) → again (declarations p) w ≡ b → IfReads (Passes p) (elim b [ true ↦ fault 4 | false ↦ resolving p (resolved (declarations p) w) ])
+      go : (b : Bool) → again (declarations p) w ≡ b → IfReads (Passes p) (elim b [ true ↦ fault 4 | false ↦ resolving p (resolved (environmentOf (declarations p)) w) ])
       go true e = faulty 4
       go false e = resolving-passes _ (resolved-in (declarations p) w (h .has w refl) e)
 
@@ -65,10 +66,10 @@ module _ (p : Policy) where
   resolving-reads none t h = let z : _≡_ {A = ℕ} 0 1 = cc in absurd (omega arith)
   resolving-reads (some s) t h = ap some (sized-reads s t h)
 
-  pub judge-resolves : (f : Forms) (w : Written) (s : Statement) → written f ≡ some w → judge p f ≡ reads s → resolved (declarations p) w ≡ some s
+  pub judge-resolves : (f : Forms) (w : Written) (s : Statement) → written f ≡ some w → judge p f ≡ reads s → resolved (environmentOf (declarations p)) w ≡ some s
   unfolding judge
   judge-resolves f w s e h = go (again (declarations p) w) (rw e at h)
     where
-      go : (b : Bool) → elim b [ true ↦ fault 4 | false ↦ resolving p (resolved (declarations p) w) ] ≡ reads s → resolved (declarations p) w ≡ some s
+      go : (b : Bool) → elim b [ true ↦ fault 4 | false ↦ resolving p (resolved (environmentOf (declarations p)) w) ] ≡ reads s → resolved (environmentOf (declarations p)) w ≡ some s
       go true k = let z : _≡_ {A = ℕ} 0 1 = cc in absurd (omega arith)
-      go false k = resolving-reads (resolved (declarations p) w) s k
+      go false k = resolving-reads (resolved (environmentOf (declarations p)) w) s k

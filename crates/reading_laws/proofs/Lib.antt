@@ -1,8 +1,8 @@
 pub mod FaultOrder
 pub mod Growing
-pub mod IfAny
 pub mod Judging
 pub mod LongerText
+pub mod NumberIsPlace
 pub mod OneMore
 pub mod OpensAt
 pub mod Placed

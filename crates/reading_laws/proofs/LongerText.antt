@@ -4,16 +4,17 @@ use Prim.Native.Nat.{ℕ, _+_}
 use native.Mathlib.Omega.{arith}
 use mathlib.Core.Path.{_≡_, refl, sym, ap, _∙_}
 use mathlib.Core.List.{List, [], _∷_, _++_, append-assoc}
-use mathlib.Core.Option.{Option, none, some}
+use mathlib.Core.Option.{some}
 use lib.ListN.{length, length-append}
 use Rattle.lexer.specs.declared.Scanned.{Scanned}
 use Rattle.lexer.specs.Scan.{scan}
 use Rattle.lexer.specs.Forms.{Forms, ended, part, framesAt, formsOf}
-use Rattle.policy.specs.Basics.{Name, indexOf, eachOf}
-use Rattle.policy.specs.Statements.{Reference, Declaration, Constraint, constrain, Written, Statement, Policy, declarations, classNames, permissions}
-use Rattle.policy.specs.Reading.{referE, resolved, Judged, reads, fault, judge, Read, policy, refused, readFrom, afterScan, readPolicy}
+use Rattle.policy.specs.Basics.{Name, eachOf}
+use Rattle.policy.specs.Statements.{Reference, Constraint, constrain, Written, Statement, Policy, declarations}
+use Rattle.policy.specs.Reading.{referE, resolved, Judged, reads, fault, judge, policy, readFrom, afterScan, readPolicy}
 use Rattle.policy.specs.Grammar.{written}
-use Rattle.reading_laws.proofs.IfAny.{IfAny, just, whatever}
+use Rattle.policy.specs.Names.{environmentOf, Environment}
+use Rattle.policy.proofs.IfAny.{IfAny, just, whatever}
 use Rattle.reading_laws.proofs.Judging.{judge-resolves}
 use Rattle.reading_laws.proofs.Placed.{placed, written-placed}
 use Rattle.reading_laws.proofs.ReadThen.{line, judgedAt, read-part, read-then}
@@ -34,7 +35,7 @@ read-clean t p h = go (scan t) refl h
 pub record OneStatementMore (p p′ : Policy) (w : Written) : Type 0 where
   pub place : ℕ
   pub statement : Statement
-  pub resolves : resolved (declarations p) w ≡ some statement
+  pub resolves : resolved (environmentOf (declarations p)) w ≡ some statement
   pub last : p′ ≡ p ++ (line place statement ∷ [])
 
 -- a row of one statement, read
@@ -79,7 +80,7 @@ pub record AConstrain (s : Statement) : Type 0 where
   pub body : Constraint Reference
   pub says : s ≡ constrain class perms body
 
-pub resolved-constrain : (ds : List Declaration) (c : Name) (ps : List Name) (e : Constraint Name) → IfAny AConstrain (resolved ds (constrain c ps e))
-resolved-constrain ds c ps e =
-    whatever (indexOf c (classNames ds)) _ λ c. whatever (eachOf (λ p. indexOf p (permissions ds c)) ps) _ λ ps.
-    whatever (referE ds e) _ λ e. just (record { class = c; perms = ps; body = e; says = refl })
+pub resolved-constrain : (env : Environment) (c : Name) (ps : List Name) (e : Constraint Name) → IfAny AConstrain (resolved env (constrain c ps e))
+resolved-constrain env c ps e =
+    whatever (env .class c) _ λ c. whatever (eachOf (λ p. env .permission c p) ps) _ λ ps.
+    whatever (referE env e) _ λ e. just (record { class = c; perms = ps; body = e; says = refl })

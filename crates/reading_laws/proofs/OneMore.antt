@@ -14,7 +14,7 @@ use Rattle.policy.specs.Reading.{isNew, hasRoom, rowCount}
 use Rattle.policy.specs.Sound.{goodNames, goodFrom}
 use Rattle.policy.specs.Accepted.{StatementIn, Accepted}
 use Rattle.policy.proofs.Lists.{both-true, true-both, gather-append, all-append}
-use Rattle.reading_laws.proofs.IfAny.{IfAny, nothing, just}
+use Rattle.policy.proofs.IfAny.{IfAny, nothing, just}
 use Rattle.reading_laws.proofs.Growing.{statement-grows}
 use Rattle.reading_laws.proofs.Judging.{Passes}
 

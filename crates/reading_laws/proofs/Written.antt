@@ -16,7 +16,7 @@ use Rattle.policy.specs.Grammar.{setIn, areSides, isRoles, compared, atClose, w
 use Rattle.policy.specs.Statements.{Op, Constraint, notE, andE, orE}
 use Rattle.policy.specs.Sound.{isGood, someGood}
 use Rattle.policy.proofs.Lists.{both-true, true-both}
-use Rattle.reading_laws.proofs.IfAny.{IfAny, nothing, just, and-then, whatever, if-given, if-one, if-two, if-more}
+use Rattle.policy.proofs.IfAny.{IfAny, nothing, just, and-then, whatever, if-given, if-one, if-two, if-more}
 use Rattle.reading_laws.proofs.Resolving.{Allowed, WellWritten}
 
 abbrev GoodName : Name → Type 0

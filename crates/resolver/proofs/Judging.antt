@@ -4,7 +4,8 @@ use mathlib.Core.Path.{_≡_, refl, ap, ap₂, _∙_}
 use mathlib.Core.Option.{Option, none, some}
 use Rattle.policy.specs.Statements.{Policy, users, roles, types}
 use Rattle.policy.specs.Faults.{familyCycle, cycle, clash}
-use Rattle.policy.specs.Reading.{Read, policy, refused, orElse}
+use Rattle.policy.specs.Basics.{orElse}
+use Rattle.policy.specs.Reading.{Read, policy, refused}
 use Rattle.policy.specs.Outcome.{accept}
 
 module _ (p : Policy) where

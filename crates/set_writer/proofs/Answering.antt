@@ -11,9 +11,10 @@ use lib.ListN.{length, length-drop}
 use Rattle.bitset.specs.Parts.{put}
 use Rattle.lexer.specs.Forms.{Forms, closed, ended, word, part, framesAt, trim}
 use Rattle.policy.specs.Basics.{Name}
-use Rattle.policy.specs.Statements.{Family, Declaration, Reference, SetExpr}
+use Rattle.policy.specs.Statements.{Family, Reference, SetExpr}
 use Rattle.policy.specs.Grammar.{setIn}
 use Rattle.policy.specs.Reading.{referS}
+use Rattle.policy.specs.Names.{Environment}
 use Rattle.symbols.specs.Resolving.{familyCode}
 use Rattle.statement_code.specs.Code.{setCode}
 use Rattle.code_laws.specs.Weight.{weight}
@@ -32,19 +33,19 @@ pub record Stands (t : List ℕ) (at : ℕ) (before : List ℕ) (to : ℕ) (s : 
   pub past : Past t at to close (to + length (setCode s))
   pub code : after ≡ put before to (setCode s)
 
-module _ {t : List ℕ} {at levels : ℕ} {table : List ℕ} {end family : ℕ} {before : List ℕ} {to : ℕ} {after : List ℕ} (ds : List Declaration) (f : Family) (w : SetExpr Name)
-    (y : Symbols table end ds) (e : familyCode f ≡ family) (g : setIn (trim (framesAt t at .here) levels) ≡ some w) where
-  pub when-declared : (r : SetWritten) → WritesSet t at levels table end family before to after r → (s : SetExpr Reference) → referS ds f w ≡ some s
+module _ {t : List ℕ} {at levels : ℕ} {table : List ℕ} {end family : ℕ} {before : List ℕ} {to : ℕ} {after : List ℕ} (env : Environment) (f : Family) (w : SetExpr Name)
+    (y : Symbols table end env) (e : familyCode f ≡ family) (g : setIn (trim (framesAt t at .here) levels) ≡ some w) where
+  pub when-declared : (r : SetWritten) → WritesSet t at levels table end family before to after r → (s : SetExpr Reference) → referS env f w ≡ some s
       → to + length (setCode s) ≤ length before → Stands t at before to s after r
-  when-declared SetWritten.Undeclared h s d room = absurd (subst (λ (o : Option (SetExpr Reference)). Answers before to o after SetWritten.Undeclared) d (h .says ds f w y e g))
+  when-declared SetWritten.Undeclared h s d room = absurd (subst (λ (o : Option (SetExpr Reference)). Answers before to o after SetWritten.Undeclared) d (h .says env f w y e g))
   when-declared (SetWritten.Next q u) h s d room =
-      let a = subst (λ (o : Option (SetExpr Reference)). Answers before to o after (SetWritten.Next q u)) d (h .says ds f w y e g) in
+      let a = subst (λ (o : Option (SetExpr Reference)). Answers before to o after (SetWritten.Next q u)) d (h .says env f w y e g) in
       let same : u ≡ to + length (setCode s) = a .past room in
       record { close = q; is = ap (SetWritten.Next q) same; past = subst (Past t at to q) same (h .moves); code = a .code room }
 
-  pub when-undeclared : (r : SetWritten) → WritesSet t at levels table end family before to after r → referS ds f w ≡ none → r ≡ SetWritten.Undeclared
+  pub when-undeclared : (r : SetWritten) → WritesSet t at levels table end family before to after r → referS env f w ≡ none → r ≡ SetWritten.Undeclared
   when-undeclared SetWritten.Undeclared h d = refl
-  when-undeclared (SetWritten.Next q u) h d = absurd (subst (λ (o : Option (SetExpr Reference)). Answers before to o after (SetWritten.Next q u)) d (h .says ds f w y e g))
+  when-undeclared (SetWritten.Next q u) h d = absurd (subst (λ (o : Option (SetExpr Reference)). Answers before to o after (SetWritten.Next q u)) d (h .says env f w y e g))
 
 -- ---- room
 
@@ -61,11 +62,11 @@ weight-trim (part p f g) n = go (eqb n 0) (weight-trim f (n - 1)) (weight-trim g
     go true h k = omega arith
     go false h k = omega arith
 
-module _ (t : List ℕ) (at levels : ℕ) (ds : List Declaration) (f : Family) (w : SetExpr Name) (s : SetExpr Reference)
-    (g : setIn (trim (framesAt t at .here) levels) ≡ some w) (d : referS ds f w ≡ some s) where
+module _ (t : List ℕ) (at levels : ℕ) (env : Environment) (f : Family) (w : SetExpr Name) (s : SetExpr Reference)
+    (g : setIn (trim (framesAt t at .here) levels) ≡ some w) (d : referS env f w ≡ some s) where
   -- room for the tokens of the row that S holds and one of its parentheses is room for its code
   pub set-room : (to room : ℕ) → to + weight (framesAt t at .here) + 1 ≤ room → to + length (setCode s) ≤ room
-  set-room to room h = omega (arith, set-fits ds f (trim (framesAt t at .here) levels) w s g d, weight-trim (framesAt t at .here) levels)
+  set-room to room h = omega (arith, set-fits env f (trim (framesAt t at .here) levels) w s g d, weight-trim (framesAt t at .here) levels)
 
   -- so is as much room as the text has bytes, where no more units are written than bytes were read before the opening parenthesis
   pub set-room-bytes : (to room : ℕ) → to < at → at ≤ length t → length t ≤ room → to + length (setCode s) ≤ room

@@ -8,9 +8,10 @@ use lib.ListN.{take, drop}
 use Rattle.bitset.specs.Parts as parts
 use Rattle.lexer.specs.Forms.{Forms, closed, ended, word, part, Frames, head, framesAt, trim}
 use Rattle.policy.specs.Basics.{Name, _>>=_}
-use Rattle.policy.specs.Statements.{Family, Declaration, Reference, SetExpr, nameS}
+use Rattle.policy.specs.Statements.{Family, Reference, SetExpr, nameS}
 use Rattle.policy.specs.Grammar.{operands, setIn}
-use Rattle.policy.specs.Reading.{refer, referS}
+use Rattle.policy.specs.Names.{refer, Environment}
+use Rattle.policy.specs.Reading.{referS}
 use Rattle.symbols.specs.Resolving.{familyCode}
 use Rattle.items.proofs.Frames.{Looked}
 use Rattle.items.specs.declared.Item.{Item}
@@ -33,8 +34,8 @@ pub record Going (t : List ℕ) (at levels : ℕ) (table : List ℕ) (end family
   pub around : framesAt t i .around ≡ framesAt t at .around
   pub keeps : Keeps before to code
   pub ahead : to ≤ u
-  pub left : (ds : List Declaration) (f : Family) (w : SetExpr Name) → Symbols table end ds → familyCode f ≡ family
-      → setIn (trim (framesAt t at .here) levels) ≡ some w → Left ds f w before to (trim (framesAt t i .here) levels) code u
+  pub left : (env : Environment) (f : Family) (w : SetExpr Name) → Symbols table end env → familyCode f ≡ family
+      → setIn (trim (framesAt t at .here) levels) ≡ some w → Left env f w before to (trim (framesAt t i .here) levels) code u
 
 -- the operator is written
 pub going : {t : List ℕ} {at : ℕ} (levels : ℕ) (table : List ℕ) (end family : ℕ) {before code : List ℕ} {to u : ℕ} {r : Begun} → Begins t at r → Stored before to (r .operator) code u
@@ -44,7 +45,7 @@ going levels table end family b s = record {
   around = b .around;
   keeps = s .keeps;
   ahead = s .ahead;
-  left = λ ds f w y e g. begun ds f (b .row levels w g) (s .wrote);
+  left = λ env f w y e g. begun env f (b .row levels w g) (s .wrote);
 }
 
 -- ---- what was answered of an operand
@@ -67,9 +68,9 @@ pub past : {t : List ℕ} {at levels : ℕ} {table : List ℕ} {end family : ℕ
     → WritesSet t at levels table end family before to after r → r ≡ SetWritten.Next q u → Past t at to q u
 past {t} {at} {to = to} h e = subst (Moves t at to) e (h .moves)
 
-refer-name : (ds : List Declaration) (f : Family) (n : Name) (o : Option Reference) → refer ds f n ≡ o → referS ds f (nameS n) ≡ (o >>= λ r. some (nameS r))
+refer-name : (env : Environment) (f : Family) (n : Name) (o : Option Reference) → refer env f n ≡ o → referS env f (nameS n) ≡ (o >>= λ r. some (nameS r))
 unfolding referS
-refer-name ds f n o e = rw e
+refer-name env f n o e = rw e
 
 name-code : (r : Reference) (unit : ℕ) → referenceUnit r ≡ unit → unit ∷ [] ≡ setCode (nameS r)
 unfolding setCode
@@ -78,20 +79,20 @@ name-code r unit e = rw e
 module _ {t : List ℕ} {at levels : ℕ} {table : List ℕ} {end family : ℕ} {before : List ℕ} {to i : ℕ} {code : List ℕ} {u : ℕ}
     (o : Going t at levels table end family before to i code u) where
   -- the row at hand by what stands in it
-  by-row : {ds : List Declaration} {f : Family} {w : SetExpr Name} {c : List ℕ} {v : ℕ} (g h : Forms) → operands g ≡ operands h → Left ds f w before to g c v → Left ds f w before to h c v
+  by-row : {env : Environment} {f : Family} {w : SetExpr Name} {c : List ℕ} {v : ℕ} (g h : Forms) → operands g ≡ operands h → Left env f w before to g c v → Left env f w before to h c v
   by-row g h e l = record { each = l .each; row = sym e ∙ l .row; units = l .units; wrote = l .wrote; whole = l .whole }
 
   -- an undeclared name is found, the code as far as it is written
-  stops : {after : List ℕ} → Keeps before to after → ((ds : List Declaration) (f : Family) (w : SetExpr Name) → Symbols table end ds → familyCode f ≡ family
-      → setIn (trim (framesAt t at .here) levels) ≡ some w → referS ds f w ≡ none) → WritesSet t at levels table end family before to after SetWritten.Undeclared
-  stops {after} k h = record { keeps = k; moves = tt; says = λ ds f w y e g. undeclared before after to (referS ds f w) (h ds f w y e g) }
+  stops : {after : List ℕ} → Keeps before to after → ((env : Environment) (f : Family) (w : SetExpr Name) → Symbols table end env → familyCode f ≡ family
+      → setIn (trim (framesAt t at .here) levels) ≡ some w → referS env f w ≡ none) → WritesSet t at levels table end family before to after SetWritten.Undeclared
+  stops {after} k h = record { keeps = k; moves = tt; says = λ env f w y e g. undeclared before after to (referS env f w) (h env f w y e g) }
 
   -- ---- a word
 
   module _ {s n k q : ℕ} (l : Looked t i (Item.Word s n k q)) {r : Referred} (m : Refers table end family (parts.part t s n) r) where
-    left-word : (ds : List Declaration) (f : Family) (w : SetExpr Name) → Symbols table end ds → familyCode f ≡ family → setIn (trim (framesAt t at .here) levels) ≡ some w
-        → Left ds f w before to (word s (take n (drop s t)) (trim (framesAt t q .here) levels)) code u
-    left-word ds f w y e g = by-row _ _ (by-word operands levels l) (o .left ds f w y e g)
+    left-word : (env : Environment) (f : Family) (w : SetExpr Name) → Symbols table end env → familyCode f ≡ family → setIn (trim (framesAt t at .here) levels) ≡ some w
+        → Left env f w before to (word s (take n (drop s t)) (trim (framesAt t q .here) levels)) code u
+    left-word env f w y e g = by-row _ _ (by-word operands levels l) (o .left env f w y e g)
 
     -- that is declared
     pub past-word : {unit v : ℕ} {after : List ℕ} → r ≡ Referred.Unit unit → Stored code u unit after v → Going t at levels table end family before to q after v
@@ -101,34 +102,34 @@ module _ {t : List ℕ} {at levels : ℕ} {table : List ℕ} {end family : ℕ} 
       around = sym (around-of l) ∙ o .around;
       keeps = keeps-then (o .ahead) (o .keeps) (st .keeps);
       ahead = omega (arith, o .ahead, st .ahead);
-      left = λ ds f w y e g.
-          let x = left-word ds f w y e g in
+      left = λ env f w y e g.
+          let x = left-word env f w y e g in
           let p = split-word _ _ _ (x .each) (x .row) in
-          let d = known (refer ds f (take n (drop s t))) unit (sym h ∙ m .resolves ds f y e) in
-          step ds f x p (nameS (take n (drop s t))) (nameS (d .to)) (p .here ∙ ap some (is-name _ (p .first) (p .here))) (refer-name ds f _ _ (d .is)) (o .keeps .long)
+          let d = known (refer env f (take n (drop s t))) unit (sym h ∙ m .resolves env f y e) in
+          step env f x p (nameS (take n (drop s t))) (nameS (d .to)) (p .here ∙ ap some (is-name _ (p .first) (p .here))) (refer-name env f _ _ (d .is)) (o .keeps .long)
           (subst (λ (us : List ℕ). Wrote code u us after v) (name-code (d .to) unit (d .unit)) (st .wrote));
     }
 
     -- that is not
     pub stop-word : r ≡ Referred.Missing → WritesSet t at levels table end family before to code SetWritten.Undeclared
     unfolding parts.part
-    stop-word h = stops (o .keeps) λ ds f w y e g.
-        let x = left-word ds f w y e g in
+    stop-word h = stops (o .keeps) λ env f w y e g.
+        let x = left-word env f w y e g in
         let p = split-word _ _ _ (x .each) (x .row) in
-        stop ds f x p (nameS (take n (drop s t))) (p .here ∙ ap some (is-name _ (p .first) (p .here)))
-        (refer-name ds f _ _ (unknown (refer ds f (take n (drop s t))) (sym h ∙ m .resolves ds f y e)))
+        stop env f x p (nameS (take n (drop s t))) (p .here ∙ ap some (is-name _ (p .first) (p .here)))
+        (refer-name env f _ _ (unknown (refer env f (take n (drop s t))) (sym h ∙ m .resolves env f y e)))
 
   -- ---- a part
 
   module _ {p q : ℕ} (l : Looked t i (Item.Open p q)) where
     -- that lies too deep
     pub stop-deep : levels ≡ 0 → WritesSet t at levels table end family before to code SetWritten.Undeclared
-    stop-deep h = stops (o .keeps) λ ds f w y e g. absurd (cut ds f (by-row _ ended (too-deep operands levels l h) (o .left ds f w y e g)))
+    stop-deep h = stops (o .keeps) λ env f w y e g. absurd (cut env f (by-row _ ended (too-deep operands levels l h) (o .left env f w y e g)))
 
     module _ (h : levels ≡ 0 → ⊥) {after : List ℕ} {r : SetWritten} (m : WritesSet t q (levels - 1) table end family code u after r) where
-      left-part : (ds : List Declaration) (f : Family) (w : SetExpr Name) → Symbols table end ds → familyCode f ≡ family → setIn (trim (framesAt t at .here) levels) ≡ some w
-          → Left ds f w before to (part p (trim (framesAt t q .here) (levels - 1)) (trim (head (framesAt t q .around)) levels)) code u
-      left-part ds f w y e g = by-row _ _ (by-part operands levels l h) (o .left ds f w y e g)
+      left-part : (env : Environment) (f : Family) (w : SetExpr Name) → Symbols table end env → familyCode f ≡ family → setIn (trim (framesAt t at .here) levels) ≡ some w
+          → Left env f w before to (part p (trim (framesAt t q .here) (levels - 1)) (trim (head (framesAt t q .around)) levels)) code u
+      left-part env f w y e g = by-row _ _ (by-part operands levels l h) (o .left env f w y e g)
 
       -- that is written
       pub past-part : {j v : ℕ} → r ≡ SetWritten.Next j v → Going t at levels table end family before to j after v
@@ -139,22 +140,22 @@ module _ {t : List ℕ} {at levels : ℕ} {table : List ℕ} {end family : ℕ} 
             around = sym (around-of l ∙ ap (λ (x : Frames). x .around) (z .moves .rest)) ∙ o .around;
             keeps = keeps-then (o .ahead) (o .keeps) (z .keeps);
             ahead = omega (arith, o .ahead, z .moves .ahead);
-            left = λ ds f w y e g.
-                let x = left-part ds f w y e g in
+            left = λ env f w y e g.
+                let x = left-part env f w y e g in
                 let c = split-part _ _ _ (x .each) (x .row) in
-                let a = written (referS ds f (c .first)) code u after j v (z .says ds f (c .first) y e (c .here)) in
+                let a = written (referS env f (c .first)) code u after j v (z .says env f (c .first) y e (c .here)) in
                 by-row _ _ (ap (λ (x : Frames). operands (trim (x .here) levels)) (z .moves .rest))
-                (step ds f x c (c .first) (a .is) (c .here) (a .read) (o .keeps .long) (a .wrote));
+                (step env f x c (c .first) (a .is) (c .here) (a .read) (o .keeps .long) (a .wrote));
           }
 
       -- that has an undeclared name
       pub stop-part : r ≡ SetWritten.Undeclared → WritesSet t at levels table end family before to after SetWritten.Undeclared
       stop-part d =
           let z = subst (λ (a : SetWritten). WritesSet t q (levels - 1) table end family code u after a) d m in
-          stops (keeps-then (o .ahead) (o .keeps) (z .keeps)) λ ds f w y e g.
-          let x = left-part ds f w y e g in
+          stops (keeps-then (o .ahead) (o .keeps) (z .keeps)) λ env f w y e g.
+          let x = left-part env f w y e g in
           let c = split-part _ _ _ (x .each) (x .row) in
-          stop ds f x c (c .first) (c .here) (unwritten (referS ds f (c .first)) code u after (z .says ds f (c .first) y e (c .here)))
+          stop env f x c (c .first) (c .here) (unwritten (referS env f (c .first)) code u after (z .says env f (c .first) y e (c .here)))
 
   -- ---- the close, and the end of the text
 
@@ -162,8 +163,8 @@ module _ {t : List ℕ} {at levels : ℕ} {table : List ℕ} {end family : ℕ} 
   past-close {q} {v} {after} l st = record {
     keeps = keeps-then (o .ahead) (o .keeps) (st .keeps);
     moves = record { rest = closes at l (o .around); less = omega (arith, o .low, l .ahead .0); fits = l .ahead .1; ahead = omega (arith, o .ahead, st .ahead) };
-    says = λ ds f w y e g. done ds f q (by-row _ closed (by-close operands levels l) (o .left ds f w y e g)) (o .keeps .long) (st .wrote);
+    says = λ env f w y e g. done env f q (by-row _ closed (by-close operands levels l) (o .left env f w y e g)) (o .keeps .long) (st .wrote);
   }
 
   pub stop-end : Looked t i Item.End → WritesSet t at levels table end family before to code SetWritten.Undeclared
-  stop-end l = stops (o .keeps) λ ds f w y e g. absurd (cut ds f (by-row _ ended (by-end operands levels l) (o .left ds f w y e g)))
+  stop-end l = stops (o .keeps) λ env f w y e g. absurd (cut env f (by-row _ ended (by-end operands levels l) (o .left env f w y e g)))

@@ -9,9 +9,10 @@ use lib.ListN.{length}
 use Rattle.lexer.specs.Forms.{Forms, closed, ended, word, part}
 use Rattle.policy.specs.Basics.{Name, _>>=_, given, more}
 use Rattle.policy.specs.Words.{isReserved, asName}
-use Rattle.policy.specs.Statements.{Family, Declaration, Reference, SetExpr, nameS}
+use Rattle.policy.specs.Statements.{Family, Reference, SetExpr, nameS}
 use Rattle.policy.specs.Grammar.{operands, setIn}
 use Rattle.policy.specs.Reading.{referS}
+use Rattle.policy.specs.Names.{Environment}
 use Rattle.statement_code.specs.Code.{setCode, endUnit}
 use Rattle.set_writer.specs.Writing.{Wrote}
 use Rattle.set_writer.specs.Sets.{setUnits, rowUnits, behind, Operands, Answers}
@@ -59,30 +60,30 @@ no-units : (o : Option (SetExpr Reference)) → (o >>= λ s. some (setCode s)) �
 no-units none h = refl
 no-units (some s) h = absurd (Option·none-ne-some (setCode s) (sym h))
 
-module _ (ds : List Declaration) (f : Family) where
+module _ (env : Environment) (f : Family) where
   pub record Left (w : SetExpr Name) (before : List ℕ) (to : ℕ) (g : Forms) (code : List ℕ) (u : ℕ) : Type 0 where
     pub each : List (SetExpr Name)
     pub row : operands g ≡ some each
     pub units : List ℕ
     pub wrote : Wrote before to units code u
-    pub whole : setUnits ds f w ≡ behind units (rowUnits ds f each)
+    pub whole : setUnits env f w ≡ behind units (rowUnits env f each)
 
   -- the operator is written
   pub begun : {w : SetExpr Name} {before code : List ℕ} {to u unit : ℕ} {g : Forms} → Operands unit g w → Wrote before to (unit ∷ []) code u → Left w before to g code u
-  begun {unit = unit} h k = record { each = h .each; row = h .row; units = unit ∷ []; wrote = k; whole = h .units ds f }
+  begun {unit = unit} h k = record { each = h .each; row = h .row; units = unit ∷ []; wrote = k; whole = h .units env f }
 
-  row-step : (x : SetExpr Name) (xs : List (SetExpr Name)) (s : SetExpr Reference) → referS ds f x ≡ some s → rowUnits ds f (x ∷ xs) ≡ behind (setCode s) (rowUnits ds f xs)
+  row-step : (x : SetExpr Name) (xs : List (SetExpr Name)) (s : SetExpr Reference) → referS env f x ≡ some s → rowUnits env f (x ∷ xs) ≡ behind (setCode s) (rowUnits env f xs)
   unfolding rowUnits
   row-step x xs s e = rw e
 
-  row-none : (x : SetExpr Name) (xs : List (SetExpr Name)) → referS ds f x ≡ none → rowUnits ds f (x ∷ xs) ≡ none
+  row-none : (x : SetExpr Name) (xs : List (SetExpr Name)) → referS env f x ≡ none → rowUnits env f (x ∷ xs) ≡ none
   unfolding rowUnits
   row-none x xs e = rw e
 
   module _ {w : SetExpr Name} {before code : List ℕ} {to u : ℕ} {g : Forms} (l : Left w before to g code u) where
     -- an operand is written
     pub step : {o : Option (SetExpr Name)} {r : Forms} {after : List ℕ} {v : ℕ} → Split o (operands r) (l .each) → (x : SetExpr Name) (s : SetExpr Reference)
-        → o ≡ some x → referS ds f x ≡ some s → length code ≡ length before → Wrote code u (setCode s) after v → Left w before to r after v
+        → o ≡ some x → referS env f x ≡ some s → length code ≡ length before → Wrote code u (setCode s) after v → Left w before to r after v
     step p x s e h n k =
         let same : p .first ≡ x = Option·some-injective (p .first) x (sym (p .here) ∙ e) in
         record {
@@ -90,25 +91,25 @@ module _ (ds : List Declaration) (f : Family) where
           row = p .later;
           units = l .units ++ setCode s;
           wrote = wrote-then n (l .wrote) k;
-          whole = l .whole ∙ ap (λ (xs : List (SetExpr Name)). behind (l .units) (rowUnits ds f xs)) (p .is ∙ ap (λ (y : SetExpr Name). y ∷ p .others) same)
-              ∙ ap (behind (l .units)) (row-step x (p .others) s h) ∙ again (l .units) (setCode s) (rowUnits ds f (p .others));
+          whole = l .whole ∙ ap (λ (xs : List (SetExpr Name)). behind (l .units) (rowUnits env f xs)) (p .is ∙ ap (λ (y : SetExpr Name). y ∷ p .others) same)
+              ∙ ap (behind (l .units)) (row-step x (p .others) s h) ∙ again (l .units) (setCode s) (rowUnits env f (p .others));
         }
 
     -- a name of an operand is not declared
-    pub stop : {o : Option (SetExpr Name)} {r : Option (List (SetExpr Name))} → Split o r (l .each) → (x : SetExpr Name) → o ≡ some x → referS ds f x ≡ none → referS ds f w ≡ none
+    pub stop : {o : Option (SetExpr Name)} {r : Option (List (SetExpr Name))} → Split o r (l .each) → (x : SetExpr Name) → o ≡ some x → referS env f x ≡ none → referS env f w ≡ none
     stop p x e h =
         let same : p .first ≡ x = Option·some-injective (p .first) x (sym (p .here) ∙ e) in
-        no-units (referS ds f w)
-        (l .whole ∙ ap (λ (xs : List (SetExpr Name)). behind (l .units) (rowUnits ds f xs)) (p .is ∙ ap (λ (y : SetExpr Name). y ∷ p .others) same)
+        no-units (referS env f w)
+        (l .whole ∙ ap (λ (xs : List (SetExpr Name)). behind (l .units) (rowUnits env f xs)) (p .is ∙ ap (λ (y : SetExpr Name). y ∷ p .others) same)
         ∙ ap (behind (l .units)) (row-none x (p .others) h))
 
   -- the end mark is written
   pub done : {w : SetExpr Name} {before code after : List ℕ} {to u v : ℕ} (q : ℕ) → Left w before to closed code u → length code ≡ length before
-      → Wrote code u (endUnit ∷ []) after v → Answers before to (referS ds f w) after (SetWritten.Next q v)
+      → Wrote code u (endUnit ∷ []) after v → Answers before to (referS env f w) after (SetWritten.Next q v)
   unfolding operands rowUnits
   done {w} {before} {code} {after} {to} {u} {v} q l n k =
-      go (referS ds f w)
-      (l .whole ∙ ap (λ (xs : List (SetExpr Name)). behind (l .units) (rowUnits ds f xs)) (sym (Option·some-injective [] (l .each) (l .row))))
+      go (referS env f w)
+      (l .whole ∙ ap (λ (xs : List (SetExpr Name)). behind (l .units) (rowUnits env f xs)) (sym (Option·some-injective [] (l .each) (l .row))))
       (wrote-then n (l .wrote) k)
     where
       go : (o : Option (SetExpr Reference)) → (o >>= λ s. some (setCode s)) ≡ some (l .units ++ (endUnit ∷ [])) → Wrote before to (l .units ++ (endUnit ∷ [])) after v

@@ -8,48 +8,49 @@ use borrow.Author.Tests.{eqb-false}
 use Rattle.lexer.specs.Forms.{Forms, word, part}
 use Rattle.policy.specs.Basics.{Name, _>>=_, more, ofNone, ofOne, ofTwo}
 use Rattle.policy.specs.Words.{asName, Connective, allC, notC, andC, orC, xorC, setWord}
-use Rattle.policy.specs.Statements.{Family, Declaration, Reference, SetExpr, nameS, allS, notS, andS, orS, xorS, unionS}
+use Rattle.policy.specs.Statements.{Family, Reference, SetExpr, nameS, allS, notS, andS, orS, xorS, unionS}
 use Rattle.policy.specs.Grammar.{operandRow, unionOf, formS, headed, operands, setIn}
 use Rattle.policy.specs.Reading.{referS}
+use Rattle.policy.specs.Names.{Environment}
 use Rattle.words.specs.Numbers.{numberOf, wordOf}
 use Rattle.words.proofs.Meaning.{set-number}
 use Rattle.statement_code.specs.Code.{setCode, rowCode, allUnit, notUnit, andUnit, orUnit, xorUnit, unionUnit, endUnit}
 use Rattle.set_writer.specs.Sets.{operatorUnit, setUnits, rowUnits, behind, Operands}
 
-module _ (ds : List Declaration) (f : Family) where
+module _ (env : Environment) (f : Family) where
   -- ---- a union
 
   -- the further operands
-  row-units : (xs : List (SetExpr Name)) → (referS ds f (operandRow xs) >>= λ s. some (rowCode s)) ≡ rowUnits ds f xs
+  row-units : (xs : List (SetExpr Name)) → (referS env f (operandRow xs) >>= λ s. some (rowCode s)) ≡ rowUnits env f xs
   unfolding operandRow referS rowCode rowUnits
   row-units [] = refl
-  row-units (x ∷ xs) = go (referS ds f x) (referS ds f (operandRow xs)) (row-units xs)
+  row-units (x ∷ xs) = go (referS env f x) (referS env f (operandRow xs)) (row-units xs)
     where
-      go : (o p : Option (SetExpr Reference)) → (p >>= λ s. some (rowCode s)) ≡ rowUnits ds f xs
-          → ((o >>= λ a. p >>= λ b. some (unionS a b)) >>= λ s. some (rowCode s)) ≡ (o >>= λ s. rowUnits ds f xs >>= λ us. some (setCode s ++ us))
+      go : (o p : Option (SetExpr Reference)) → (p >>= λ s. some (rowCode s)) ≡ rowUnits env f xs
+          → ((o >>= λ a. p >>= λ b. some (unionS a b)) >>= λ s. some (rowCode s)) ≡ (o >>= λ s. rowUnits env f xs >>= λ us. some (setCode s ++ us))
       go none p e = refl
       go (some a) none e = rw (← e)
       go (some a) (some b) e = rw (← e)
 
-  union-units : (x : SetExpr Name) (xs : List (SetExpr Name)) → setUnits ds f (unionS x (operandRow xs)) ≡ behind (unionUnit ∷ []) (rowUnits ds f (x ∷ xs))
+  union-units : (x : SetExpr Name) (xs : List (SetExpr Name)) → setUnits env f (unionS x (operandRow xs)) ≡ behind (unionUnit ∷ []) (rowUnits env f (x ∷ xs))
   unfolding referS setCode rowUnits
-  union-units x xs = go (referS ds f x) (referS ds f (operandRow xs)) (row-units xs)
+  union-units x xs = go (referS env f x) (referS env f (operandRow xs)) (row-units xs)
     where
-      go : (o p : Option (SetExpr Reference)) → (p >>= λ s. some (rowCode s)) ≡ rowUnits ds f xs
-          → ((o >>= λ a. p >>= λ b. some (unionS a b)) >>= λ s. some (setCode s)) ≡ behind (unionUnit ∷ []) (o >>= λ s. rowUnits ds f xs >>= λ us. some (setCode s ++ us))
+      go : (o p : Option (SetExpr Reference)) → (p >>= λ s. some (rowCode s)) ≡ rowUnits env f xs
+          → ((o >>= λ a. p >>= λ b. some (unionS a b)) >>= λ s. some (setCode s)) ≡ behind (unionUnit ∷ []) (o >>= λ s. rowUnits env f xs >>= λ us. some (setCode s ++ us))
       go none p e = refl
       go (some a) none e = rw (← e)
       go (some a) (some b) e = rw (← e)
 
   -- ---- the other operators
 
-  all-units : setUnits ds f allS ≡ behind (allUnit ∷ []) (rowUnits ds f [])
+  all-units : setUnits env f allS ≡ behind (allUnit ∷ []) (rowUnits env f [])
   unfolding referS setCode rowUnits
   all-units = refl
 
-  not-units : (x : SetExpr Name) → setUnits ds f (notS x) ≡ behind (notUnit ∷ []) (rowUnits ds f (x ∷ []))
+  not-units : (x : SetExpr Name) → setUnits env f (notS x) ≡ behind (notUnit ∷ []) (rowUnits env f (x ∷ []))
   unfolding referS setCode rowUnits
-  not-units x = go (referS ds f x)
+  not-units x = go (referS env f x)
     where
       go : (o : Option (SetExpr Reference)) → ((o >>= λ a. some (notS a)) >>= λ s. some (setCode s)) ≡ behind (notUnit ∷ []) (o >>= λ s. some (setCode s ++ (endUnit ∷ [])))
       go none = refl
@@ -58,9 +59,9 @@ module _ (ds : List Declaration) (f : Family) where
   -- an operator with two operands
   both-units : (unit : ℕ) (op : SetExpr Reference → SetExpr Reference → SetExpr Reference)
       → ((a b : SetExpr Reference) → setCode (op a b) ≡ unit ∷ (setCode a ++ (setCode b ++ (endUnit ∷ []))))
-      → (x y : SetExpr Name) → ((referS ds f x >>= λ a. referS ds f y >>= λ b. some (op a b)) >>= λ s. some (setCode s)) ≡ behind (unit ∷ []) (rowUnits ds f (x ∷ y ∷ []))
+      → (x y : SetExpr Name) → ((referS env f x >>= λ a. referS env f y >>= λ b. some (op a b)) >>= λ s. some (setCode s)) ≡ behind (unit ∷ []) (rowUnits env f (x ∷ y ∷ []))
   unfolding rowUnits
-  both-units unit op code x y = go (referS ds f x) (referS ds f y)
+  both-units unit op code x y = go (referS env f x) (referS env f y)
     where
       go : (o p : Option (SetExpr Reference)) → ((o >>= λ a. p >>= λ b. some (op a b)) >>= λ s. some (setCode s))
           ≡ behind (unit ∷ []) (o >>= λ a. (p >>= λ b. some (setCode b ++ (endUnit ∷ []))) >>= λ us. some (setCode a ++ us))
@@ -77,14 +78,14 @@ module _ (g : Forms) where
   union-operands (some x) (some ys) w e h = record {
     each = x ∷ ys;
     row = e;
-    units = λ ds f. ap (setUnits ds f) (sym (Option·some-injective (unionS x (operandRow ys)) w h)) ∙ union-units ds f x ys;
+    units = λ env f. ap (setUnits env f) (sym (Option·some-injective (unionS x (operandRow ys)) w h)) ∙ union-units env f x ys;
   }
 
   none-operands : (xs : List (SetExpr Name)) (w : SetExpr Name) → operands g ≡ some xs → ofNone allS xs ≡ some w → Operands allUnit g w
   none-operands [] w e h = record {
     each = [];
     row = e;
-    units = λ ds f. ap (setUnits ds f) (sym (Option·some-injective allS w h)) ∙ all-units ds f;
+    units = λ env f. ap (setUnits env f) (sym (Option·some-injective allS w h)) ∙ all-units env f;
   }
   none-operands (x ∷ xs) w e h = absurd (Option·none-ne-some w h)
 
@@ -93,19 +94,19 @@ module _ (g : Forms) where
   one-operand (x ∷ []) w e h = record {
     each = x ∷ [];
     row = e;
-    units = λ ds f. ap (setUnits ds f) (sym (Option·some-injective (notS x) w h)) ∙ not-units ds f x;
+    units = λ env f. ap (setUnits env f) (sym (Option·some-injective (notS x) w h)) ∙ not-units env f x;
   }
   one-operand (x ∷ y ∷ xs) w e h = absurd (Option·none-ne-some w h)
 
   two-operands : (unit : ℕ) (op : SetExpr Name → SetExpr Name → SetExpr Name)
-      → ((ds : List Declaration) (f : Family) (x y : SetExpr Name) → setUnits ds f (op x y) ≡ behind (unit ∷ []) (rowUnits ds f (x ∷ y ∷ [])))
+      → ((env : Environment) (f : Family) (x y : SetExpr Name) → setUnits env f (op x y) ≡ behind (unit ∷ []) (rowUnits env f (x ∷ y ∷ [])))
       → (xs : List (SetExpr Name)) (w : SetExpr Name) → operands g ≡ some xs → ofTwo op xs ≡ some w → Operands unit g w
   two-operands unit op code [] w e h = absurd (Option·none-ne-some w h)
   two-operands unit op code (x ∷ []) w e h = absurd (Option·none-ne-some w h)
   two-operands unit op code (x ∷ y ∷ []) w e h = record {
     each = x ∷ y ∷ [];
     row = e;
-    units = λ ds f. ap (setUnits ds f) (sym (Option·some-injective (op x y) w h)) ∙ code ds f x y;
+    units = λ env f. ap (setUnits env f) (sym (Option·some-injective (op x y) w h)) ∙ code env f x y;
   }
   two-operands unit op code (x ∷ y ∷ z ∷ xs) w e h = absurd (Option·none-ne-some w h)
 
@@ -113,9 +114,9 @@ module _ (g : Forms) where
   unfolding referS setCode
   form-operands allC xs w e h = none-operands xs w e h
   form-operands notC xs w e h = one-operand xs w e h
-  form-operands andC xs w e h = two-operands andUnit andS (λ ds f. both-units ds f andUnit andS (λ a b. refl)) xs w e h
-  form-operands orC xs w e h = two-operands orUnit orS (λ ds f. both-units ds f orUnit orS (λ a b. refl)) xs w e h
-  form-operands xorC xs w e h = two-operands xorUnit xorS (λ ds f. both-units ds f xorUnit xorS (λ a b. refl)) xs w e h
+  form-operands andC xs w e h = two-operands andUnit andS (λ env f. both-units env f andUnit andS (λ a b. refl)) xs w e h
+  form-operands orC xs w e h = two-operands orUnit orS (λ env f. both-units env f orUnit orS (λ a b. refl)) xs w e h
+  form-operands xorC xs w e h = two-operands xorUnit xorS (λ env f. both-units env f xorUnit xorS (λ a b. refl)) xs w e h
 
   pub operator-operands : (c : Connective) (w : SetExpr Name) → (operands g >>= formS c) ≡ some w → Operands (operatorUnit (some c)) g w
   operator-operands c w h = go (operands g) refl h

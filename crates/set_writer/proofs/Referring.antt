@@ -8,20 +8,16 @@ use Prim.Native.Nat.{ℕ, _+_, _≤_, _<_}
 use native.Mathlib.Omega.{arith}
 use borrow.Author.Tests.{lt-ltb, le-ltb, lt-leb, le-leb}
 use lib.Dec.{leb, ltb}
-use Rattle.policy.specs.Basics.{Name}
-use Rattle.policy.specs.Statements.{Family, users, roles, types, thingOf, attributeOf, Declaration, Reference, thing, attribute, nameS}
-use Rattle.policy.specs.Encode.{sortCode, entries}
-use Rattle.policy.specs.Reading.{refer}
-use Rattle.reading_laws.proofs.IfAny.{IfAny}
-use Rattle.reading_laws.proofs.Resolving.{refer-in}
-use Rattle.statement_code.specs.Numbered.{NumberedR}
-use Rattle.code_laws.proofs.Numbers.{set-numbered}
-use Rattle.symbols.specs.Lookup.{firstNamed}
-use Rattle.symbols.specs.Resolving.{foundReference}
+use Rattle.policy.specs.Basics.{Name, _>>=_}
+use Rattle.policy.specs.Statements.{Family, users, roles, types, thingOf, attributeOf, Reference, thing, attribute, Sort}
+use Rattle.policy.specs.Encode.{sortCode}
+use Rattle.policy.specs.Names.{refer, Named, referenceOf}
+use Rattle.policy.proofs.IfAny.{IfAny}
+use Rattle.symbols.specs.Resolving.{foundNamed}
 use Rattle.symbols.specs.declared.Found.{Found}
-use Rattle.symbols.proofs.ReferencesFound.{find-reference}
 use Rattle.statement_code.specs.Code.{referenceUnit}
-use Rattle.symbols.specs.Symbols.{Symbols, Looks}
+use Rattle.symbols.specs.Symbols.{Looks}
+use Rattle.symbols.proofs.Bounds.{bounded}
 use Rattle.set_writer.specs.Naming.{referred, Refers}
 use Rattle.set_writer.specs.declared.Referred.{Referred}
 
@@ -40,21 +36,21 @@ attribute-sort users = omega arith
 attribute-sort roles = omega arith
 attribute-sort types = omega arith
 
--- that of a reference with a small number is the reference's
-unit-of : (f : Family) (o : Option Reference) → IfAny NumberedR o → unitOf (foundReference f o) ≡ referred o
-unit-of f none h = refl
-unit-of f (some (thing n)) h = rw (lt-leb 1024 n (h .has (thing n) refl), lt-ltb (sortCode (thingOf f)) 3 (thing-sort f))
-unit-of f (some (attribute n)) h = rw (lt-leb 1024 n (h .has (attribute n) refl), le-ltb (sortCode (attributeOf f)) 3 (attribute-sort f))
-
-small : (ds : List Declaration) (f : Family) (w : Name) (table : List ℕ) (end : ℕ) → Symbols table end ds → IfAny NumberedR (refer ds f w)
-small ds f w table end s = record { has = λ r e. set-numbered ds (s .good) f (nameS r) (refer-in ds f w .has r e) }
+-- that of a name with a small number is the unit of its reference
+unit-of : (o : Option Named) → IfAny (λ d. d .number < 512) o → unitOf (foundNamed o) ≡ referred (o >>= λ d. some (referenceOf d))
+unit-of none h = refl
+unit-of (some d) h = by (d .sort)
+  where
+    by : (s : Sort) → unitOf (Found.At (sortCode s) (d .number)) ≡ Referred.Unit (referenceUnit (elim s [ thingOf f ↦ thing (d .number) | attributeOf f ↦ attribute (d .number) ]))
+    by (thingOf f) = rw (lt-leb 1024 (d .number) (omega (arith, h .has d refl)), lt-ltb (sortCode (thingOf f)) 3 (thing-sort f))
+    by (attributeOf f) = rw (lt-leb 1024 (d .number) (omega (arith, h .has d refl)), le-ltb (sortCode (attributeOf f)) 3 (attribute-sort f))
 
 pub refers : {table : List ℕ} {end family : ℕ} {w : Name} {r : Referred} {found : Found} → Looks table end family w found → r ≡ unitOf found
     → Refers table end family w r
-refers {table} {end} {family} {w} e h = record {
-  resolves = λ ds f s g.
-      h ∙ ap unitOf (e .finds ds s ∙ ap (λ (n : ℕ). firstNamed n w (entries ds)) (sym g) ∙ find-reference ds f w (s .good))
-      ∙ unit-of f (refer ds f w) (small ds f w table end s);
+unfolding refer
+refers {w = w} e h = record {
+  resolves = λ env f s g.
+      h ∙ ap unitOf (e .names env f s g) ∙ unit-of (env .find f w) (record { has = λ d q. bounded s .names f w d q });
 }
 
 -- ---- the ways of the search

@@ -1,16 +1,11 @@
 -- What the names of a statement are looked up in, and the unit of what one stands for. Assumes nothing.
 use mathlib.Core.Path.{_≡_}
-use mathlib.Core.Bool.{true}
-use mathlib.Core.List.{List, []}
+use mathlib.Core.List.{List}
 use mathlib.Core.Option.{Option, none, some}
-use Prim.Native.Nat.{ℕ, _≤_}
-use lib.ListN.{length}
+use Prim.Native.Nat.{ℕ}
 use Rattle.policy.specs.Basics.{Name}
-use Rattle.policy.specs.Statements.{Family, Declaration, Reference}
-use Rattle.policy.specs.Encode.{entries}
-use Rattle.policy.specs.Reading.{refer}
-use Rattle.policy.specs.Sound.{goodFrom}
-use Rattle.symbols.specs.Section.{entriesAt}
+use Rattle.policy.specs.Statements.{Family, Reference}
+use Rattle.policy.specs.Names.{refer, Environment}
 use Rattle.symbols.specs.Symbols.{Symbols}
 use Rattle.symbols.specs.Resolving.{familyCode}
 use Rattle.statement_code.specs.Code.{referenceUnit}
@@ -23,4 +18,4 @@ referred (some r) = Referred.Unit (referenceUnit r)
 
 -- the name w is resolved as `refer` resolves it
 pub record Refers (table : List ℕ) (end family : ℕ) (w : Name) (r : Referred) : Type 0 where
-  pub resolves : (ds : List Declaration) (f : Family) → Symbols table end ds → familyCode f ≡ family → r ≡ referred (refer ds f w)
+  pub resolves : (env : Environment) (f : Family) → Symbols table end env → familyCode f ≡ family → r ≡ referred (refer env f w)

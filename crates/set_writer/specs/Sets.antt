@@ -7,9 +7,10 @@ use lib.ListN.{length}
 use Rattle.lexer.specs.Forms.{Forms, out, framesAt, trim}
 use Rattle.policy.specs.Basics.{Name, _>>=_}
 use Rattle.policy.specs.Words.{Connective, allC, notC, andC, orC, xorC}
-use Rattle.policy.specs.Statements.{Family, Declaration, Reference, SetExpr}
+use Rattle.policy.specs.Statements.{Family, Reference, SetExpr}
 use Rattle.policy.specs.Grammar.{operands, setIn}
 use Rattle.policy.specs.Reading.{referS}
+use Rattle.policy.specs.Names.{Environment}
 use Rattle.symbols.specs.Resolving.{familyCode}
 use Rattle.statement_code.specs.Code.{setCode, allUnit, notUnit, andUnit, orUnit, xorUnit, unionUnit, endUnit}
 use Rattle.set_writer.specs.Writing.{Wrote, Keeps}
@@ -27,12 +28,12 @@ operatorUnit (some orC) = orUnit
 operatorUnit (some xorC) = xorUnit
 
 -- the units of an S, and those of operands one after the other with the end mark; none where a name is not declared
-abbrev pub setUnits : List Declaration → Family → SetExpr Name → Option (List ℕ)
-setUnits ds f w = referS ds f w >>= λ s. some (setCode s)
+abbrev pub setUnits : Environment → Family → SetExpr Name → Option (List ℕ)
+setUnits env f w = referS env f w >>= λ s. some (setCode s)
 
-unfoldable pub rowUnits : List Declaration → Family → List (SetExpr Name) → Option (List ℕ)
-rowUnits ds f [] = some (endUnit ∷ [])
-rowUnits ds f (x ∷ xs) = referS ds f x >>= λ s. rowUnits ds f xs >>= λ us. some (setCode s ++ us)
+unfoldable pub rowUnits : Environment → Family → List (SetExpr Name) → Option (List ℕ)
+rowUnits env f [] = some (endUnit ∷ [])
+rowUnits env f (x ∷ xs) = referS env f x >>= λ s. rowUnits env f xs >>= λ us. some (setCode s ++ us)
 
 -- units before others, if those are there
 abbrev pub behind : List ℕ → Option (List ℕ) → Option (List ℕ)
@@ -42,7 +43,7 @@ behind us vs = vs >>= λ vs. some (us ++ vs)
 pub record Operands (unit : ℕ) (g : Forms) (w : SetExpr Name) : Type 0 where
   pub each : List (SetExpr Name)
   pub row : operands g ≡ some each
-  pub units : (ds : List Declaration) (f : Family) → setUnits ds f w ≡ behind (unit ∷ []) (rowUnits ds f each)
+  pub units : (env : Environment) (f : Family) → setUnits env f w ≡ behind (unit ∷ []) (rowUnits env f each)
 
 -- how an S begins
 pub record Begins (t : List ℕ) (at : ℕ) (r : Begun) : Type 0 where
@@ -73,5 +74,5 @@ Answers before to (some s) after (SetWritten.Next q u) = Wrote before to (setCod
 pub record WritesSet (t : List ℕ) (at levels : ℕ) (table : List ℕ) (end family : ℕ) (before : List ℕ) (to : ℕ) (after : List ℕ) (r : SetWritten) : Type 0 where
   pub keeps : Keeps before to after
   pub moves : Moves t at to r
-  pub says : (ds : List Declaration) (f : Family) (w : SetExpr Name) → Symbols table end ds → familyCode f ≡ family
-      → setIn (trim (framesAt t at .here) levels) ≡ some w → Answers before to (referS ds f w) after r
+  pub says : (env : Environment) (f : Family) (w : SetExpr Name) → Symbols table end env → familyCode f ≡ family
+      → setIn (trim (framesAt t at .here) levels) ≡ some w → Answers before to (referS env f w) after r

@@ -9,9 +9,10 @@ use Rattle.lexer.specs.Forms.{framesAt, trim}
 use Rattle.policy.specs.Answers.{familyOf}
 use Rattle.policy.specs.declared.Family as theFamily
 use Rattle.policy.specs.Words.{Keyword, relationK, transitionK}
-use Rattle.policy.specs.Statements.{Declaration, Relation, fromOf, toOf, Written, Statement}
+use Rattle.policy.specs.Statements.{Relation, fromOf, toOf, Written, Statement}
 use Rattle.policy.specs.Grammar.{formed}
 use Rattle.policy.specs.Reading.{resolved}
+use Rattle.policy.specs.Names.{Environment}
 use Rattle.statement_code.specs.Code.{relationNumber, statementCode}
 use Rattle.set_writer.specs.Writing.{Wrote, Stored}
 use Rattle.set_writer.proofs.Putting.{wrote-then, keeps-then}
@@ -60,12 +61,12 @@ module _ {a b : List ℕ} {i u tag place : ℕ} (head : Stores a i (tag ∷ plac
 
   -- a statement of names alone
   named : {t : List ℕ} {at : ℕ} {k : Keyword} {table : List ℕ} {end : ℕ} (ks : List Kind)
-      → ((ds : List Declaration) (w : Written) → formed k (trim (framesAt t at .here) (maxLevel - 1)) ≡ some w
-      → codeIn place (resolved ds w) ≡ headed tag place (namesUnits ds ks (trim (framesAt t at .here) (maxLevel - 1))))
+      → ((env : Environment) (w : Written) → formed k (trim (framesAt t at .here) (maxLevel - 1)) ≡ some w
+      → codeIn place (resolved env w) ≡ headed tag place (namesUnits env ks (trim (framesAt t at .here) (maxLevel - 1))))
       → (r : NamesWritten) → WritesNames t at ks table end b u c r → WritesStatement t at k place table end a i c (codedBy r)
   named {t} {at} ks whole r m = record {
     keeps = keeps-then (head .ahead) (head .keeps) (m .keeps);
-    says = λ ds w y h. answered (resolved ds w) (namesUnits ds ks (trim (framesAt t at .here) (maxLevel - 1))) r (whole ds w h) (m .says ds (maxLevel - 1) y);
+    says = λ env w y h. answered (resolved env w) (namesUnits env ks (trim (framesAt t at .here) (maxLevel - 1))) r (whole env w h) (m .says env (maxLevel - 1) y);
   }
 
 -- ---- the statements
@@ -76,11 +77,11 @@ module _ {t : List ℕ} {at place : ℕ} {table : List ℕ} {end : ℕ} {a b c :
       → WritesStatement t at (relationK k) place table end a i c (codedBy x)
   relation-coded k n {f} {g} d head from to m =
       named (tagged 4102 d head) c (Kind.Reference f ∷ Kind.Reference g ∷ [])
-      (λ ds w h. relation-whole ds place k f g from to (trim (framesAt t at .here) (maxLevel - 1)) w h) x
+      (λ env w h. relation-whole env place k f g from to (trim (framesAt t at .here) (maxLevel - 1)) w h) x
       (subst (λ (z : NamesWritten). WritesNames t at (Kind.Reference f ∷ Kind.Reference g ∷ []) table end b u c z) e m)
 
   pub transition-coded : Stores a i (4105 ∷ place ∷ []) b u → WritesNames t at transitionKinds table end b u c r
       → WritesStatement t at transitionK place table end a i c (codedBy x)
   transition-coded head m =
-      named head c transitionKinds (λ ds w h. transition-whole ds place (trim (framesAt t at .here) (maxLevel - 1)) w h) x
+      named head c transitionKinds (λ env w h. transition-whole env place (trim (framesAt t at .here) (maxLevel - 1)) w h) x
       (subst (λ (z : NamesWritten). WritesNames t at transitionKinds table end b u c z) e m)

@@ -8,7 +8,7 @@ use lib.ListN.{length, take, drop}
 use Rattle.bitset.specs.Parts as parts
 use Rattle.lexer.specs.Forms.{Forms, framesAt, trim}
 use Rattle.policy.specs.Basics.{_>>=_}
-use Rattle.policy.specs.Statements.{Declaration}
+use Rattle.policy.specs.Names.{Environment}
 use Rattle.items.specs.declared.Item.{Item}
 use Rattle.items.proofs.Frames.{Looked, by-word}
 use Rattle.set_writer.specs.Writing.{Stored}
@@ -43,12 +43,12 @@ alone o = o >>= λ u. some (u ∷ [])
 
 module _ {t : List ℕ} {at : ℕ} {k : Kind} {table : List ℕ} {end : ℕ} {before : List ℕ} {to : ℕ} where
   -- no word stands there
-  pub no-word : ((ds : List Declaration) (levels : ℕ) → firstUnit ds k (trim (framesAt t at .here) levels) ≡ none)
+  pub no-word : ((env : Environment) (levels : ℕ) → firstUnit env k (trim (framesAt t at .here) levels) ≡ none)
       → WritesNames t at (k ∷ []) table end before to before NamesWritten.Undeclared
   no-word h = record {
     keeps = keeps-all;
     moves = tt;
-    says = λ ds levels y. lacking before before to (namesUnits ds (k ∷ []) (trim (framesAt t at .here) levels)) (ap alone (h ds levels));
+    says = λ env levels y. lacking before before to (namesUnits env (k ∷ []) (trim (framesAt t at .here) levels)) (ap alone (h env levels));
   }
 
   module _ {s n i q : ℕ} (l : Looked t at (Item.Word s n i q)) {r : Referred} (m : Names table end k (parts.part t s n) r) where
@@ -58,10 +58,10 @@ module _ {t : List ℕ} {at : ℕ} {k : Kind} {table : List ℕ} {end : ℕ} {be
     no-name e = record {
       keeps = keeps-all;
       moves = tt;
-      says = λ ds levels y.
-          let is : firstUnit ds k (trim (framesAt t at .here) levels) ≡ none =
-          by-word (firstUnit ds k) levels l ∙ is-missing (unitIn ds k (take n (drop s t))) (sym e ∙ m .resolves ds y) in
-          lacking before before to (namesUnits ds (k ∷ []) (trim (framesAt t at .here) levels)) (ap alone is);
+      says = λ env levels y.
+          let is : firstUnit env k (trim (framesAt t at .here) levels) ≡ none =
+          by-word (firstUnit env k) levels l ∙ is-missing (unitIn env k (take n (drop s t))) (sym e ∙ m .resolves env y) in
+          lacking before before to (namesUnits env (k ∷ []) (trim (framesAt t at .here) levels)) (ap alone is);
     }
 
     -- one that is
@@ -71,9 +71,9 @@ module _ {t : List ℕ} {at : ℕ} {k : Kind} {table : List ℕ} {end : ℕ} {be
     one-name {unit} {u} {after} e st = record {
       keeps = st .keeps;
       moves = record { row = λ levels. sym (by-word behindFirst levels l); ahead = st .ahead };
-      says = λ ds levels y.
-          let is : firstUnit ds k (trim (framesAt t at .here) levels) ≡ some unit =
-          by-word (firstUnit ds k) levels l ∙ is-unit (unitIn ds k (take n (drop s t))) unit (sym e ∙ m .resolves ds y) in
+      says = λ env levels y.
+          let is : firstUnit env k (trim (framesAt t at .here) levels) ≡ some unit =
+          by-word (firstUnit env k) levels l ∙ is-unit (unitIn env k (take n (drop s t))) unit (sym e ∙ m .resolves env y) in
           subst (λ (o : Option (List ℕ)). AnswersNames before to o after (NamesWritten.Next q u)) (sym (ap alone is)) (st .wrote);
     }
 
@@ -92,11 +92,11 @@ both-more (some u) none y = refl
 both-more (some u) (some us) none = refl
 both-more (some u) (some us) (some vs) = refl
 
-units-append : (ds : List Declaration) (ks ls : List Kind) (g : Forms) → namesUnits ds (ks ++ ls) g ≡ both (namesUnits ds ks g) (namesUnits ds ls (behindNames ks g))
-units-append ds [] ls g = both-none (namesUnits ds ls g)
-units-append ds (k ∷ ks) ls g =
-    ap (λ (o : Option (List ℕ)). firstUnit ds k g >>= λ u. o >>= λ us. some (u ∷ us)) (units-append ds ks ls (behindFirst g))
-    ∙ both-more (firstUnit ds k g) (namesUnits ds ks (behindFirst g)) (namesUnits ds ls (behindNames ks (behindFirst g)))
+units-append : (env : Environment) (ks ls : List Kind) (g : Forms) → namesUnits env (ks ++ ls) g ≡ both (namesUnits env ks g) (namesUnits env ls (behindNames ks g))
+units-append env [] ls g = both-none (namesUnits env ls g)
+units-append env (k ∷ ks) ls g =
+    ap (λ (o : Option (List ℕ)). firstUnit env k g >>= λ u. o >>= λ us. some (u ∷ us)) (units-append env ks ls (behindFirst g))
+    ∙ both-more (firstUnit env k g) (namesUnits env ks (behindFirst g)) (namesUnits env ls (behindNames ks (behindFirst g)))
 
 behind-append : (ks ls : List Kind) (g : Forms) → behindNames (ks ++ ls) g ≡ behindNames ls (behindNames ks g)
 behind-append [] ls g = refl
@@ -118,10 +118,10 @@ module _ {t : List ℕ} {at : ℕ} {table : List ℕ} {end : ℕ} {a b : List �
       record {
         keeps = z .keeps;
         moves = tt;
-        says = λ ds levels y.
+        says = λ env levels y.
             let g = trim (framesAt t at .here) levels in
-            let no : namesUnits ds ks g ≡ none = lacks a b i (namesUnits ds ks g) (z .says ds levels y) in
-            lacking a b i (namesUnits ds (ks ++ ls) g) (units-append ds ks ls g ∙ ap (λ (x : Option (List ℕ)). both x (namesUnits ds ls (behindNames ks g))) no);
+            let no : namesUnits env ks g ≡ none = lacks a b i (namesUnits env ks g) (z .says env levels y) in
+            lacking a b i (namesUnits env (ks ++ ls) g) (units-append env ks ls g ∙ ap (λ (x : Option (List ℕ)). both x (namesUnits env ls (behindNames ks g))) no);
       }
 
   -- they are, and the others are written behind them
@@ -131,11 +131,11 @@ module _ {t : List ℕ} {at : ℕ} {table : List ℕ} {end : ℕ} {a b : List �
       record {
         keeps = keeps-then (z .moves .ahead) (z .keeps) (n .keeps);
         moves = go (z .moves) p (n .moves);
-        says = λ ds levels y.
+        says = λ env levels y.
             let g = trim (framesAt t at .here) levels in
-            let h = subst (λ (f : Forms). AnswersNames b u (namesUnits ds ls f) c p) (z .moves .row levels) (n .says ds levels y) in
-            subst (λ (o : Option (List ℕ)). AnswersNames a i o c p) (sym (units-append ds ks ls g))
-            (answers-then a b c i u q (z .keeps .long) (namesUnits ds ks g) (namesUnits ds ls (behindNames ks g)) p (z .says ds levels y) h);
+            let h = subst (λ (f : Forms). AnswersNames b u (namesUnits env ls f) c p) (z .moves .row levels) (n .says env levels y) in
+            subst (λ (o : Option (List ℕ)). AnswersNames a i o c p) (sym (units-append env ks ls g))
+            (answers-then a b c i u q (z .keeps .long) (namesUnits env ks g) (namesUnits env ls (behindNames ks g)) p (z .says env levels y) h);
       }
     where
       go : Past t at ks i q u → (p : NamesWritten) → Moves t q ls u p → Moves t at (ks ++ ls) i p

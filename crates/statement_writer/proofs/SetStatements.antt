@@ -76,12 +76,12 @@ module _ {t : List ℕ} {at place : ℕ} {table : List ℕ} {end : ℕ} {a b c :
       let z = subst (λ (x : NamesWritten). WritesNames t at (Kind.Attribute f ∷ []) table end b u c x) e m in
       record {
         keeps = keeps-then (h .ahead) (h .keeps) (m .keeps);
-        says = λ ds w y g.
+        says = λ env w y g.
             let s = set-row (familyOf f) row w g in
-            let no : firstUnit ds (Kind.Attribute f) row ≡ none =
-            no-unit (firstUnit ds (Kind.Attribute f) row) (lacks b c u (alone (firstUnit ds (Kind.Attribute f) row)) (z .says ds (maxLevel - 1) y)) in
-            uncoded a c i place (resolved ds w)
-            (set-whole ds place f row w s ∙ ap (λ (o : Option ℕ). headed (setTag (familyOf f)) place (numberAndSet o (referS ds (familyOf f) (s .set)))) no);
+            let no : firstUnit env (Kind.Attribute f) row ≡ none =
+            no-unit (firstUnit env (Kind.Attribute f) row) (lacks b c u (alone (firstUnit env (Kind.Attribute f) row)) (z .says env (maxLevel - 1) y)) in
+            uncoded a c i place (resolved env w)
+            (set-whole env place f row w s ∙ ap (λ (o : Option ℕ). headed (setTag (familyOf f)) place (numberAndSet o (referS env (familyOf f) (s .set)))) no);
       }
 
   module _ {q v : ℕ} (e : r ≡ NamesWritten.Next q v) where
@@ -95,7 +95,7 @@ module _ {t : List ℕ} {at place : ℕ} {table : List ℕ} {end : ℕ} {a b c :
     pub no-part : startsPart (trim (framesAt t q .here) (maxLevel - 1)) ≡ false → WritesStatement t at (setK (familyOf f)) place table end a i c Coded.Undeclared
     no-part p = record {
       keeps = keeps-then (h .ahead) (h .keeps) (m .keeps);
-      says = λ ds w y g.
+      says = λ env w y g.
           let s = set-row (familyOf f) row w g in
           absurd (false≢true (sym p ∙ ap startsPart (behind ∙ s .behind)));
     }
@@ -107,10 +107,10 @@ module _ {t : List ℕ} {at place : ℕ} {table : List ℕ} {end : ℕ} {a b c :
         let k = subst (λ (y : SetWritten). WritesSet t j (maxLevel - 1 - 1) table end n c v after y) g k in
         record {
           keeps = keeps-then (h .ahead) (h .keeps) (keeps-then (name .moves .ahead) (name .keeps) (k .keeps));
-          says = λ ds w y g.
+          says = λ env w y g.
               let s = set-row (familyOf f) row w g in
               let in-part : trim (framesAt t j .here) (maxLevel - 1 - 1) ≡ s .inner =
               sym (by-part inside (maxLevel - 1) l (λ y. omega arith)) ∙ ap inside (behind ∙ s .behind) in
-              answered head c after q v (name .keeps .long) (resolved ds w) (firstUnit ds (Kind.Attribute f) row) (referS ds (familyOf f) (s .set)) z (set-whole ds place f row w s)
-              (name .says ds (maxLevel - 1) y) (k .says ds (familyOf f) (s .set) y (same-number (familyOf f) ∙ sym d) (ap setIn in-part ∙ s .in-part));
+              answered head c after q v (name .keeps .long) (resolved env w) (firstUnit env (Kind.Attribute f) row) (referS env (familyOf f) (s .set)) z (set-whole env place f row w s)
+              (name .says env (maxLevel - 1) y) (k .says env (familyOf f) (s .set) y (same-number (familyOf f) ∙ sym d) (ap setIn in-part ∙ s .in-part));
         }

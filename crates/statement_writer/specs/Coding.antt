@@ -6,9 +6,10 @@ use Prim.Native.Nat.{ℕ, _-_, _≤_}
 use Rattle.lexer.specs.Scan.{maxLevel}
 use Rattle.lexer.specs.Forms.{framesAt, trim}
 use Rattle.policy.specs.Words.{Keyword}
-use Rattle.policy.specs.Statements.{Declaration, Written, Statement}
+use Rattle.policy.specs.Statements.{Written, Statement}
 use Rattle.policy.specs.Grammar.{formed}
 use Rattle.policy.specs.Reading.{resolved}
+use Rattle.policy.specs.Names.{Environment}
 use Rattle.statement_code.specs.Code.{statementCode}
 use Rattle.symbols.specs.Symbols.{Symbols}
 use Rattle.set_writer.specs.Writing.{Wrote, Keeps}
@@ -31,5 +32,5 @@ Answers before to place (some s) after (Coded.Next u) = Wrote before to (stateme
 -- keyword's form, but that the code before the place to is kept
 pub record WritesStatement (t : List ℕ) (at : ℕ) (k : Keyword) (place : ℕ) (table : List ℕ) (end : ℕ) (before : List ℕ) (to : ℕ) (after : List ℕ) (r : Coded) : Type 0 where
   pub keeps : Keeps before to after
-  pub says : (ds : List Declaration) (w : Written) → Symbols table end ds → formed k (trim (framesAt t at .here) (maxLevel - 1)) ≡ some w
-      → Answers before to place (resolved ds w) after r
+  pub says : (env : Environment) (w : Written) → Symbols table end env → formed k (trim (framesAt t at .here) (maxLevel - 1)) ≡ some w
+      → Answers before to place (resolved env w) after r

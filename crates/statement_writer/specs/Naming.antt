@@ -5,10 +5,10 @@ use mathlib.Core.Option.{Option, none, some}
 use Prim.Native.Nat.{ℕ, _≤_}
 use Rattle.lexer.specs.Forms.{Forms, closed, ended, word, part, framesAt, trim}
 use Rattle.policy.specs.Answers.{familyOf}
-use Rattle.policy.specs.Basics.{Name, _>>=_, indexOf}
-use Rattle.policy.specs.Statements.{roles, Sort, thingOf, attributeOf, Declaration, namesOf, classNames}
+use Rattle.policy.specs.Basics.{Name, _>>=_}
+use Rattle.policy.specs.Statements.{roles, Sort, thingOf, attributeOf}
 use Rattle.policy.specs.Encode.{sortCode}
-use Rattle.policy.specs.Reading.{refer}
+use Rattle.policy.specs.Names.{refer, Environment, numberIn}
 use Rattle.statement_code.specs.Code.{referenceUnit}
 use Rattle.symbols.specs.Symbols.{Symbols}
 use Rattle.set_writer.specs.Writing.{Wrote, Keeps}
@@ -18,11 +18,11 @@ use Rattle.statement_writer.specs.declared.NamesWritten.{NamesWritten}
 
 -- "each place takes a thing or an attribute of the family"; the A of `(userattributeset A S)` is an attribute, the C of `(roletransition R T C R)`
 -- a class, and "the first two may be attributes, the new role may not"
-abbrev pub unitIn : List Declaration → Kind → Name → Option ℕ
-unitIn ds (Kind.Reference f) w = refer ds (familyOf f) w >>= λ r. some (referenceUnit r)
-unitIn ds (Kind.Attribute f) w = indexOf w (namesOf (attributeOf (familyOf f)) ds)
-unitIn ds Kind.Class w = indexOf w (classNames ds)
-unitIn ds Kind.Role w = indexOf w (namesOf (thingOf roles) ds)
+abbrev pub unitIn : Environment → Kind → Name → Option ℕ
+unitIn env (Kind.Reference f) w = refer env (familyOf f) w >>= λ r. some (referenceUnit r)
+unitIn env (Kind.Attribute f) w = numberIn env (attributeOf (familyOf f)) w
+unitIn env Kind.Class w = env .class w
+unitIn env Kind.Role w = numberIn env (thingOf roles) w
 
 -- a unit, where there is one
 abbrev pub referredBy : Option ℕ → Referred
@@ -31,21 +31,21 @@ referredBy (some n) = Referred.Unit n
 
 -- "of the wrong sort": the name w is resolved as a name of one sort alone, which is given by its number in the symbol table; class is 6
 pub record Numbers (table : List ℕ) (end sort : ℕ) (w : Name) (r : Referred) : Type 0 where
-  pub of-sort : (ds : List Declaration) (s : Sort) → Symbols table end ds → sortCode s ≡ sort → r ≡ referredBy (indexOf w (namesOf s ds))
-  pub of-class : (ds : List Declaration) → Symbols table end ds → 6 ≡ sort → r ≡ referredBy (indexOf w (classNames ds))
+  pub of-sort : (env : Environment) (s : Sort) → Symbols table end env → sortCode s ≡ sort → r ≡ referredBy (numberIn env s w)
+  pub of-class : (env : Environment) → Symbols table end env → 6 ≡ sort → r ≡ referredBy (env .class w)
 
 -- the name w is resolved as a name of the kind
 pub record Names (table : List ℕ) (end : ℕ) (k : Kind) (w : Name) (r : Referred) : Type 0 where
-  pub resolves : (ds : List Declaration) → Symbols table end ds → r ≡ referredBy (unitIn ds k w)
+  pub resolves : (env : Environment) → Symbols table end env → r ≡ referredBy (unitIn env k w)
 
 -- ---- names in a row
 
 -- the unit of the first word of a row as a name of a kind; the row behind it
-abbrev pub firstUnit : List Declaration → Kind → Forms → Option ℕ
-firstUnit ds k closed = none
-firstUnit ds k ended = none
-firstUnit ds k (word s w g) = unitIn ds k w
-firstUnit ds k (part p i g) = none
+abbrev pub firstUnit : Environment → Kind → Forms → Option ℕ
+firstUnit env k closed = none
+firstUnit env k ended = none
+firstUnit env k (word s w g) = unitIn env k w
+firstUnit env k (part p i g) = none
 
 abbrev pub behindFirst : Forms → Forms
 behindFirst closed = ended
@@ -54,9 +54,9 @@ behindFirst (word s w g) = g
 behindFirst (part p i g) = ended
 
 -- the units of the first words of a row, a name for each kind; the row behind them
-abbrev pub namesUnits : List Declaration → List Kind → Forms → Option (List ℕ)
-namesUnits ds [] g = some []
-namesUnits ds (k ∷ ks) g = firstUnit ds k g >>= λ u. namesUnits ds ks (behindFirst g) >>= λ us. some (u ∷ us)
+abbrev pub namesUnits : Environment → List Kind → Forms → Option (List ℕ)
+namesUnits env [] g = some []
+namesUnits env (k ∷ ks) g = firstUnit env k g >>= λ u. namesUnits env ks (behindFirst g) >>= λ us. some (u ∷ us)
 
 abbrev pub behindNames : List Kind → Forms → Forms
 behindNames [] g = g
@@ -82,4 +82,4 @@ AnswersNames before to (some us) after (NamesWritten.Next q u) = Wrote before to
 pub record WritesNames (t : List ℕ) (at : ℕ) (ks : List Kind) (table : List ℕ) (end : ℕ) (before : List ℕ) (to : ℕ) (after : List ℕ) (r : NamesWritten) : Type 0 where
   pub keeps : Keeps before to after
   pub moves : Moves t at ks to r
-  pub says : (ds : List Declaration) (levels : ℕ) → Symbols table end ds → AnswersNames before to (namesUnits ds ks (trim (framesAt t at .here) levels)) after r
+  pub says : (env : Environment) (levels : ℕ) → Symbols table end env → AnswersNames before to (namesUnits env ks (trim (framesAt t at .here) levels)) after r

@@ -13,7 +13,7 @@ use Rattle.policy.specs.Basics.{Name, gather, keep}
 use Rattle.policy.specs.Statements.{users, roles, types, Sort, thingOf, attributeOf, Declaration, plain, class, sameSort, ofSort, ofClass, namesOf, count, classNames}
 use Rattle.policy.specs.Encode.{NameEntry, nameEntry, sortCode, permissionEntries, entriesFrom, entries}
 use Rattle.policy.specs.Sound.{sortOf}
-use Rattle.policy.proofs.Sameness.{sort-same, family-self}
+use Rattle.policy.proofs.Sameness.{sort-same, sort-self}
 use Rattle.symbols.specs.Section.{entriesRead, entriesAt, between, EntryIs}
 use Rattle.symbols.specs.declared.Entry.{Entry}
 use Rattle.symbols.specs.Lookup.{countSort}
@@ -76,14 +76,10 @@ code-below (attributeOf users) = omega arith
 code-below (attributeOf roles) = omega arith
 code-below (attributeOf types) = omega arith
 
-pub sort-self : (s : Sort) → sameSort s s ≡ true
-sort-self (thingOf f) = family-self f
-sort-self (attributeOf f) = family-self f
-
 pub code-sort : (s t : Sort) → sortCode s ≡ sortCode t → s ≡ t
 code-sort s t e = Option·some-injective s t (sym (sort-back s) ∙ ap sortOf e ∙ sort-back t)
 
-same-code : (s t : Sort) → eqb (sortCode t) (sortCode s) ≡ sameSort s t
+pub same-code : (s t : Sort) → eqb (sortCode t) (sortCode s) ≡ sameSort s t
 same-code s t = by (sameSort s t) refl
   where
     by : (b : Bool) → sameSort s t ≡ b → eqb (sortCode t) (sortCode s) ≡ sameSort s t

@@ -10,6 +10,7 @@ use Rattle.policy.specs.Basics.{Name, isIn, indexOf, gather, All}
 use Rattle.policy.specs.Statements.{Declaration, plain, class, withPermissions, ofClass, classNames, permissions}
 use Rattle.policy.specs.Encode.{NameEntry, nameEntry, permissionEntries, entriesOf, entriesFrom, entries}
 use Rattle.policy.proofs.Lists.{gather-last, all-append}
+use Rattle.policy.specs.Names.{environmentOf}
 use Rattle.symbols.specs.Lookup.{firstNamed}
 use Rattle.symbols.specs.Resolving.{foundPermission, isFound, FewPermissions}
 use Rattle.symbols.proofs.Searching.{found-in}
@@ -52,6 +53,7 @@ module _ (ds : List Declaration) (v : Name) (ps : List Name) (w : Name) (few : A
   pub find-permission-last :
       firstNamed (4 + length (classNames ds)) w (entries ds ++ (nameEntry 6 (length (classNames ds)) v ∷ permissionEntries (length (classNames ds) * 32) ps))
       ≡ foundPermission (length (classNames ds)) (indexOf w ps)
+  unfolding environmentOf
   find-permission-last =
       ap (firstNamed (4 + length (classNames ds)) w) (sym (entries-more ds (class v ps)))
       ∙ find-permission (ds ++ (class v ps ∷ [])) (length (classNames ds)) w (all-append FewPermissions ds (class v ps ∷ []) few (short, tt))

@@ -1,7 +1,7 @@
 -- What a lookup in the index says of the entries: by the slot of the name, or by the walk. Assumes nothing.
-use mathlib.Core.Path.{_≡_, refl, sym, ap, ap₂, subst, _∙_}
+use mathlib.Core.Path.{_≡_, refl, sym, ap, ap₂, _∙_}
 use mathlib.Core.Bool.{Bool, true, false, cond, and-true, and-false}
-use mathlib.Core.List.{List, [], _∷_, _++_}
+use mathlib.Core.List.{List, [], _++_}
 use Prim.Native.Nat.{ℕ, _+_, _-_, _<_}
 use native.Mathlib.Omega.{arith}
 use borrow.Author.Tests.{eq-eqb, eqb-true}
@@ -14,7 +14,7 @@ use Rattle.policy.proofs.Lists.{both-true, same-is, same-self}
 use Rattle.symbols.specs.Section.{Section, entry, sectionIn, sectionAt, entriesRead, between, entriesAt, EntryIs}
 use Rattle.symbols.specs.Lookup.{familyNumber, isNamed, headNamed, firstNamed}
 use Rattle.symbols.specs.Index.{slotOf, otherSlot, slotIn, Pointed}
-use Rattle.symbols.specs.Symbols.{Looks, LooksOn}
+use Rattle.symbols.specs.Symbols.{Finds, LooksOn}
 use Rattle.symbols.specs.declared.Entry.{Entry}
 use Rattle.symbols.specs.declared.Found.{Found}
 use Rattle.symbols.proofs.PartLaws.{part-join}
@@ -95,41 +95,37 @@ other-there p f w h = by (isNamed f w (p .is)) (sym (head-is p f w) ∙ h)
     by true z = absurd (let y : _≡_ {A = ℕ} 0 1 = cc in omega arith)
     by false z = refl
 
--- the name by other words
-pub looks-for : {t : List ℕ} {end f : ℕ} {v w : Name} {r : Found} → Looks t end f v r → v ≡ w → Looks t end f w r
-looks-for {t} {end} {f} {r = r} h e = subst (λ (n : Name). Looks t end f n r) e h
-
 less-one : (n : ℕ) → (n ≡ 0 → ⊥) → n ≡ n - 1 + 1
 less-one n h = omega arith
 
 module _ {t : List ℕ} {end f : ℕ} {w : Name} where
-  pub by-walk : {r : Found} → r ≡ firstNamed f w (entriesAt t 0 end) → Looks t end f w r
-  by-walk h = record { finds = λ ds y. h ∙ ap (firstNamed f w) (y .holds) }
+  pub by-walk : {r : Found} → r ≡ firstNamed f w (entriesAt t 0 end) → Finds t end f w r
+  by-walk h = record { finds = λ env y. h ∙ ap (firstNamed f w) (y .holds) }
 
   module _ {slot hint : ℕ} (s : (slot ≡ slotOf f w) × (slot < 16384)) (h : (hint ≡ slotIn t slot) × (hint < 16777216)) where
-    pub no-hint : hint ≡ 0 → Looks t end f w Found.Missing
-    no-hint e = record { finds = λ ds y. sym (y .indexed .known f w (ap (slotIn t) (sym (s .0)) ∙ sym (h .0) ∙ e)) }
+    pub no-hint : hint ≡ 0 → Finds t end f w Found.Missing
+    no-hint e = record { finds = λ env y. sym (y .indexed .known f w (ap (slotIn t) (sym (s .0)) ∙ sym (h .0) ∙ e)) }
 
     module _ (e : hint ≡ 0 → ⊥) {r : Found} (m : r ≡ headNamed f w (entriesAt t (hint - 1) end)) where
-      pub by-hint : (k n : ℕ) → r ≡ Found.At k n → Looks t end f w (Found.At k n)
-      by-hint k n q = record { finds = λ ds y. first-there (y .indexed .points slot (hint - 1) (s .1) (sym (h .0) ∙ less-one hint e)) f w k n (sym q ∙ m) }
+      pub by-hint : (k n : ℕ) → r ≡ Found.At k n → Finds t end f w (Found.At k n)
+      by-hint k n q = record { finds = λ env y. first-there (y .indexed .points slot (hint - 1) (s .1) (sym (h .0) ∙ less-one hint e)) f w k n (sym q ∙ m) }
 
-      pub by-other : r ≡ Found.Missing → {g : Found} → LooksOn t end slot f w g → Looks t end f w g
-      by-other q o = record { finds = λ ds y. o .finds ds y (s .0) (hint - 1) (sym (h .0) ∙ less-one hint e) (sym m ∙ q) }
+      pub by-other : r ≡ Found.Missing → {g : Found} → LooksOn t end slot f w g → Finds t end f w g
+      by-other q o = record { finds = λ env y. o .finds env y (s .0) (hint - 1) (sym (h .0) ∙ less-one hint e) (sym m ∙ q) }
 
   -- the answers of `look_on`
   module _ {slot hint : ℕ} (l : slot < 16384) (h : (hint ≡ slotIn t (otherSlot slot)) × (hint < 16777216)) where
     pub no-other : hint ≡ 0 → LooksOn t end slot f w Found.Missing
     no-other e = record {
-      finds = λ ds y s at q m.
+      finds = λ env y s at q m.
           let p = y .indexed .points slot at l q in
           sym (y .indexed .second f w at (ap (λ (i : ℕ). slotIn t (otherSlot i)) (sym s) ∙ sym (h .0) ∙ e) (ap (slotIn t) (sym s) ∙ q) p (other-there p f w m));
     }
 
     pub on-hint : (hint ≡ 0 → ⊥) → {r : Found} → r ≡ headNamed f w (entriesAt t (hint - 1) end) → (k n : ℕ) → r ≡ Found.At k n → LooksOn t end slot f w (Found.At k n)
     on-hint e m k n q = record {
-      finds = λ ds y s at z x. first-there (y .indexed .points (otherSlot slot) (hint - 1) (omega arith) (sym (h .0) ∙ less-one hint e)) f w k n (sym q ∙ m);
+      finds = λ env y s at z x. first-there (y .indexed .points (otherSlot slot) (hint - 1) (omega arith) (sym (h .0) ∙ less-one hint e)) f w k n (sym q ∙ m);
     }
 
   pub on-walk : {slot : ℕ} {r : Found} → r ≡ firstNamed f w (entriesAt t 0 end) → LooksOn t end slot f w r
-  on-walk h = record { finds = λ ds y s at q m. h ∙ ap (firstNamed f w) (y .holds) }
+  on-walk h = record { finds = λ env y s at q m. h ∙ ap (firstNamed f w) (y .holds) }

@@ -6,6 +6,7 @@ pub mod AppendLaws
 pub mod ReadBack
 pub mod Appending
 pub mod Searching
+pub mod Bounds
 pub mod ClassesFound
 pub mod ReferencesFound
 pub mod Declaring

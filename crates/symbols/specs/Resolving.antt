@@ -1,10 +1,10 @@
 -- What a search in the entries of declarations answers, in the words that the statements are resolved in. Assumes nothing.
-use mathlib.Core.Bool.{Bool, true, false, cond}
+use mathlib.Core.Bool.{Bool, true, false}
 use mathlib.Core.Option.{Option, none, some}
 use Prim.Native.Nat.{ℕ, _+_, _*_, _≤_}
-use lib.Dec.{eqb}
 use lib.ListN.{length}
-use Rattle.policy.specs.Statements.{Family, users, roles, types, Sort, thingOf, attributeOf, Declaration, plain, class, Reference, thing, attribute}
+use Rattle.policy.specs.Statements.{Family, users, roles, types, Declaration, plain, class}
+use Rattle.policy.specs.Names.{Named}
 use Rattle.policy.specs.Maxima.{maxPermissions}
 use Rattle.policy.specs.Encode.{sortCode}
 use Rattle.symbols.specs.declared.Found.{Found}
@@ -15,16 +15,10 @@ familyCode users = 0
 familyCode roles = 1
 familyCode types = 2
 
--- a thing or an attribute of a family
-abbrev pub foundReference : Family → Option Reference → Found
-foundReference f none = Found.Missing
-foundReference f (some (thing n)) = Found.At (sortCode (thingOf f)) n
-foundReference f (some (attribute a)) = Found.At (sortCode (attributeOf f)) a
-
--- the number of what is found, where it is of the sort
-abbrev pub numberOf : Sort → Found → Option ℕ
-numberOf s (Found.At t n) = cond (eqb t (sortCode s)) (some n) none
-numberOf s Found.Missing = none
+-- what a name of a family is declared as
+abbrev pub foundNamed : Option Named → Found
+foundNamed none = Found.Missing
+foundNamed (some d) = Found.At (sortCode (d .sort)) (d .number)
 
 -- the nth of a sort whose numbers start at another number
 abbrev pub foundNumber : ℕ → ℕ → Option ℕ → Found

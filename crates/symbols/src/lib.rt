@@ -13,7 +13,7 @@ ghost use Rattle.symbols.specs.Section.{EntryIs, entriesAt, between};
 ghost use Rattle.symbols.specs.Lookup.{familyNumber, isNamed, headNamed, firstNamed, replyOf, countSort};
 ghost use Rattle.symbols.specs.Append.{Room, Appended};
 ghost use Rattle.symbols.specs.Index.{slotOf, slotIn, Stored, Noted, EntryRoom, Entered, Cleared};
-ghost use Rattle.symbols.specs.Symbols.{Looks, LooksOn};
+ghost use Rattle.symbols.specs.Symbols.{Looks, Finds, LooksOn};
 
 // What stands at a place of a section: an entry, with the place past it; the section's end; or bytes that are no entry.
 pub enum Entry {
@@ -375,7 +375,7 @@ fn look_on(symbols: &[u8], end: usize, slot: usize, family: usize, name: &[u8]) 
 // The first entry of a family with a name, among the entries from place 0 on: the one that its slot points at, if that has the family and the
 // name. Memory without an index is walked.
 fn lookup_name(symbols: &[u8], end: usize, family: usize, name: &[u8]) -> Found
-    ensures { λ r. ⌜ Looks (now (symbols .entry)) end family (now (name .entry)) r ⌝ }
+    ensures { λ r. ⌜ Finds (now (symbols .entry)) end family (now (name .entry)) r ⌝ }
 {
     if symbols.len() < SYMBOL_BYTES {
         return walked(symbols, end, family, name);

@@ -16,7 +16,7 @@ use Rattle.policy.specs.Statements.{users, roles, types, Sort, thingOf, attribu
 use Rattle.policy.specs.Encode.{NameEntry, nameEntry, sortCode, permissionEntries, entriesOf, entriesFrom, entries}
 use Rattle.policy.specs.Sound.{sortOf}
 use Rattle.policy.proofs.Lists.{gather-over, gather-last}
-use Rattle.policy.proofs.Sameness.{sort-same}
+use Rattle.policy.proofs.Sameness.{sort-same, sort-self}
 use Rattle.table_laws.proofs.NamesFit.{code-below}
 
 -- the name of the first entry of a sort and number
@@ -92,14 +92,6 @@ sort-back (attributeOf types) = refl
 same-code : (s t : Sort) → sortCode s ≡ sortCode t → s ≡ t
 same-code s t e = Option·some-injective s t (sym (sort-back s) ∙ ap sortOf e ∙ sort-back t)
 
-same-sort-self : (s : Sort) → sameSort s s ≡ true
-same-sort-self (thingOf users) = refl
-same-sort-self (thingOf roles) = refl
-same-sort-self (thingOf types) = refl
-same-sort-self (attributeOf users) = refl
-same-sort-self (attributeOf roles) = refl
-same-sort-self (attributeOf types) = refl
-
 enters-sort : (s : Sort) → Enters (sortCode s) (ofSort s)
 unfolding count namesOf
 enters-sort s e (class w ps) = inl (record {
@@ -120,7 +112,7 @@ enters-sort s e (plain t w) = by (sameSort s t) refl
     )
     by false q = inl (record {
       leaves = ap (λ (b : Bool). cond b (some w) none) q;
-      others = (λ x. false≢true (sym q ∙ ap (sameSort s) (same-code t s x) ∙ same-sort-self s), tt);
+      others = (λ x. false≢true (sym q ∙ ap (sameSort s) (same-code t s x) ∙ sort-self s), tt);
     })
 
 enters-class : Enters 6 ofClass

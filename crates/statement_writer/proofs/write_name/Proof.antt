@@ -17,7 +17,7 @@ enum-known-item : tie.Need-enum-known-item
 enum-known-item c = search needs
 
 returns : tie.Need-returns
-returns c = no-word λ ds levels. alike (firstUnit ds _) (λ f. none) _ _ _ (1 ∷ 2 ∷ 3 ∷ []) levels (tt, λ x f g. refl, refl, refl) (c .before .look .ensures) (c .match .keys2)
+returns c = no-word λ env levels. alike (firstUnit env _) (λ f. none) _ _ _ (1 ∷ 2 ∷ 3 ∷ []) levels (tt, λ x f g. refl, refl, refl) (c .before .look .ensures) (c .match .keys2)
 
 name-unit-requires : tie.Need-name-unit-requires
 name-unit-requires c κs = search needs

@@ -6,8 +6,7 @@ use mathlib.Core.Bool.{Bool, true, false}
 use mathlib.Core.List.{List, [], _∷_}
 use mathlib.Core.Option.{Option, none, some, Option·some-injective, Option·none-ne-some}
 use lib.ListN.{length}
-use Rattle.policy.specs.Basics.{_>>=_, given, more, eachOf, ofOne, ofTwo, All}
-use Rattle.policy.specs.Reading.{orElse}
+use Rattle.policy.specs.Basics.{_>>=_, given, more, eachOf, ofOne, ofTwo, All, orElse}
 
 -- the value has the property, if there is one
 pub record IfAny {A : Type 0} (P : A → Type 0) (o : Option A) : Type 0 where
