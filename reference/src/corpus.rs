@@ -5,6 +5,11 @@
 //! * compile: u32 length of the lent memory, u32 length of the text, text. Byte i of the memory holds (i*7+3) mod 256.
 //! * sound: u32 length, table.
 //! * questions: u32 length, table, u32 count, and for each question nine u64: its kind and eight arguments.
+//! * tries: u32 length, section 1 of the table of an accepted text, u32 count, and for each try (document 02, W-204) u32 number
+//!   of the family (0 users, 1 roles, 2 types, 3 classes, 4 + c the permissions of class c), u32 length, name. The name may
+//!   be any bytes. Each try has two lines of the same content: `chains found SORT NUMBER compared COUNT` or `chains missing
+//!   compared COUNT` for a lookup that follows the entries of the family and length alone, and `section` with the same words
+//!   for one that walks all entries of the section. Both are the same try, so they must find and count the same.
 
 use crate::generator::asked::objects;
 use crate::generator::cases::cases;
@@ -12,13 +17,15 @@ use crate::generator::damage::{damage, damage_bytes};
 use crate::generator::layout::{lay_out, Gaps};
 use crate::generator::policies::{policy, Shape};
 use crate::generator::questions::{ask, undeclared, Question};
+use crate::generator::tries::{self, Share, TryCase};
 use crate::generator::{maxima, scans, tables};
 use crate::lexer::scan;
+use crate::lookup::{try_at, Among, NameEntry};
 use crate::questions::{
     change, entry, name_of, new_role, valid_context, Change, ChangeAnswer, Context, PartAnswer, RoleAnswer, ValidAnswer,
 };
 use crate::random::Random;
-use crate::sound::{decode, is_sound};
+use crate::sound::{decode, is_sound, section_names};
 use crate::table::{compile, table_of, Outcome};
 
 #[derive(Clone, Copy, Debug, PartialEq, Eq)]
@@ -27,6 +34,7 @@ pub enum Layer {
     Compile,
     Sound,
     Questions,
+    Tries,
 }
 
 impl Layer {
@@ -36,6 +44,7 @@ impl Layer {
             "compile" => Some(Layer::Compile),
             "sound" => Some(Layer::Sound),
             "questions" => Some(Layer::Questions),
+            "tries" => Some(Layer::Tries),
             _ => None,
         }
     }
@@ -70,6 +79,16 @@ pub fn write(layer: Layer, seed: u64) -> Vec<u8> {
                 put_length(&mut corpus, questions.len());
                 for number in questions.iter().flatten() {
                     corpus.extend(number.to_le_bytes());
+                }
+            }
+        }
+        Layer::Tries => {
+            for case in try_cases(&mut random) {
+                put_bytes(&mut corpus, &case.section);
+                put_length(&mut corpus, case.tries.len());
+                for (family, name) in &case.tries {
+                    corpus.extend(family.to_le_bytes());
+                    put_bytes(&mut corpus, name);
                 }
             }
         }
@@ -290,6 +309,18 @@ fn unsound_questions(random: &mut Random, place: usize) -> Vec<Question> {
     vec![[place as u64 % 5, 0, 0, 0, 0, 0, 0, 0, 0], [(place as u64 + 1) % 5, far, far, 0, 0, far, 0, far, 0]]
 }
 
+/// Document 02, W-204: listed texts, texts at the maxima, and random policies that are accepted.
+pub fn try_cases(random: &mut Random) -> Vec<TryCase> {
+    let mut list = tries::listed(random);
+    for round in 0..60 {
+        let steps = random.between(10, 60);
+        let shape = Shape { small: round % 3 == 0, objects: round % 5 == 0, crowded: round % 15 == 1, ..Shape::good(steps) };
+        let text = policy_text(random, shape);
+        list.extend(tries::case(random, &text, &[], Share::SOME));
+    }
+    list
+}
+
 /// Reads a corpus piece by piece.
 struct Reader<'a> {
     rest: &'a [u8],
@@ -344,6 +375,13 @@ pub fn answer(layer: Layer, corpus: &[u8]) -> Result<Vec<String>, String> {
                         *number = reader.number()?;
                     }
                     lines.push(question_line(table, &question)?);
+                }
+            }
+            Layer::Tries => {
+                let (names, _) = section_names(reader.bytes()?)?;
+                for _ in 0..reader.length()? {
+                    let family = reader.length()? as u32;
+                    lines.extend(try_lines(&names, family, reader.bytes()?));
                 }
             }
         }
@@ -401,6 +439,16 @@ pub fn question_line(table: &[u8], question: &Question) -> Result<String, String
         4 => Ok(part_line(entry(table, a, b))),
         _ => Err(format!("no question of kind {kind}")),
     }
+}
+
+/// Reading 61 of document 02: one try, whichever way its entries are reached.
+pub fn try_lines(names: &[NameEntry], family: u32, name: &[u8]) -> [String; 2] {
+    let tried = try_at(names, Among::of(family), name);
+    let said = match tried.found {
+        Some((sort, number)) => format!("found {sort} {number} compared {}", tried.compared),
+        None => format!("missing compared {}", tried.compared),
+    };
+    [format!("chains {said}"), format!("section {said}")]
 }
 
 fn valid_line(answer: ValidAnswer) -> String {

@@ -1,4 +1,4 @@
-//! The independent second program: document 01 once more, in the plainest way that can be read beside the paper.
+//! The independent second program: documents 01 and 02 once more, in the plainest way that can be read beside the paper.
 
 pub mod compare;
 pub mod corpus;
@@ -9,6 +9,7 @@ pub mod lexer;
 pub mod limits;
 #[cfg(feature = "linked")]
 pub mod linked;
+pub mod lookup;
 pub mod meaning;
 pub mod parser;
 pub mod pieces;

@@ -10,7 +10,7 @@ use std::path::Path;
 use std::process::ExitCode;
 
 const USAGE: &str = "usage: reference roll                     text on standard input, prints the roll
-       reference corpus LAYER SEED         writes a corpus; LAYER is scan, compile, sound or questions
+       reference corpus LAYER SEED         writes a corpus; LAYER is scan, compile, sound, questions or tries
        reference answer LAYER              corpus on standard input, writes the expected lines
        reference definitions SEED FOLDER   writes theorems that hold the prover's definitions to small cases
        reference statistics LAYER [SEED]   counts the answers of a corpus

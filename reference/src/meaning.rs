@@ -65,7 +65,7 @@ fn reached_from(policy: &Policy, family: Family, start: usize) -> Numbers {
 
 /// The S of every set statement of one attribute: "Several statements for one attribute add up."
 fn sets_of(policy: &Policy, family: Family, attribute: usize) -> Vec<&Set> {
-    let name = &policy.attributes(family)[attribute];
+    let name = policy.attributes(family)[attribute];
     let placed = policy.statements.iter();
     placed
         .filter_map(|p| match &p.statement {

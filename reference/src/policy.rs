@@ -3,8 +3,8 @@
 use crate::fault::Fault;
 use crate::lexer::{scan, tree};
 use crate::limits;
+use crate::lookup::{attribute_sort, thing_sort, try_among, try_at, Among, NameEntry, Try, CLASS, PERMISSION};
 use crate::parser::{form, Constrain, Expression, Family, Name, Set, Statement, Transition};
-use std::collections::{BTreeMap, BTreeSet};
 
 /// A statement with the place of its opening parenthesis.
 #[derive(Clone, Debug, PartialEq, Eq)]
@@ -19,13 +19,12 @@ pub struct Class {
     pub permissions: Vec<Name>,
 }
 
-/// A text without faults 1 to 7: its statements, and what they declare. A thing's number is its index:
-/// "Things are numbered from 0 in text order within their sort."
+/// A text without faults 1 to 7: its statements, and what they declare.
 #[derive(Clone, Debug, Default)]
 pub struct Policy {
     pub statements: Vec<Placed>,
-    things: BTreeMap<Family, Vec<Name>>,
-    attributes: BTreeMap<Family, Vec<Name>>,
+    /// "Names in text order, permissions directly after their class"
+    pub names: Vec<NameEntry>,
     pub classes: Vec<Class>,
 }
 
@@ -45,24 +44,45 @@ pub fn read(text: &[u8]) -> Result<Policy, Fault> {
 }
 
 impl Policy {
-    pub fn things(&self, family: Family) -> &[Name] {
-        self.things.get(&family).map_or(&[], |list| list)
+    pub fn things(&self, family: Family) -> Vec<&Name> {
+        self.of_sort(thing_sort(family))
     }
 
-    pub fn attributes(&self, family: Family) -> &[Name] {
-        self.attributes.get(&family).map_or(&[], |list| list)
+    pub fn attributes(&self, family: Family) -> Vec<&Name> {
+        self.of_sort(attribute_sort(family))
+    }
+
+    /// A name's number is its index here: "Things are numbered from 0 in text order within their sort."
+    fn of_sort(&self, sort: u8) -> Vec<&Name> {
+        self.names.iter().filter(|entry| entry.sort == sort).map(|entry| &entry.name).collect()
+    }
+
+    /// The one try by which every name is looked up, among what is declared so far. Only what it finds is used; its count
+    /// is not (reading 61 of document 02).
+    pub fn try_name(&self, among: Among, name: &Name) -> Try {
+        try_at(&self.names, among, name)
+    }
+
+    /// The number of what a try finds, if it is of that sort.
+    fn number(&self, among: Among, sort: u8, name: &Name) -> Option<usize> {
+        self.try_name(among, name).found.filter(|found| found.0 == sort).map(|found| found.1 as usize)
     }
 
     pub fn thing(&self, family: Family, name: &Name) -> Option<usize> {
-        self.things(family).iter().position(|known| known == name)
+        self.number(Among::Family(family), thing_sort(family), name)
     }
 
     pub fn attribute(&self, family: Family, name: &Name) -> Option<usize> {
-        self.attributes(family).iter().position(|known| known == name)
+        self.number(Among::Family(family), attribute_sort(family), name)
     }
 
     pub fn class(&self, name: &Name) -> Option<usize> {
-        self.classes.iter().position(|class| &class.name == name)
+        self.number(Among::Classes, CLASS, name)
+    }
+
+    /// The place of a permission in its class.
+    pub fn permission(&self, class: usize, name: &Name) -> Option<usize> {
+        self.number(Among::Permissions(class), PERMISSION, name).map(|number| number % limits::PERMISSIONS)
     }
 
     pub fn transitions(&self) -> Vec<(usize, &Transition)> {
@@ -112,7 +132,7 @@ impl Policy {
 
     /// A thing or an attribute of the family.
     fn knows(&self, family: Family, name: &Name) -> bool {
-        self.thing(family, name).is_some() || self.attribute(family, name).is_some()
+        self.try_name(Among::Family(family), name).found.is_some()
     }
 
     /// Fault 5 where this is false: "name not declared before, or of the wrong sort" (reading 22).
@@ -152,8 +172,8 @@ impl Policy {
     /// "each P a permission of C"
     fn constrain_is_declared(&self, constrain: &Constrain) -> bool {
         let Some(class) = self.class(&constrain.class) else { return false };
-        let known = &self.classes[class].permissions;
-        constrain.permissions.iter().all(|p| known.contains(p)) && self.expression_is_declared(&constrain.expression)
+        constrain.permissions.iter().all(|p| self.permission(class, p).is_some())
+            && self.expression_is_declared(&constrain.expression)
     }
 
     fn expression_is_declared(&self, expression: &Expression) -> bool {
@@ -188,14 +208,25 @@ impl Policy {
     /// Only from here on are the statement's names declared (reading 23: "earlier" means an earlier statement).
     fn take(&mut self, place: usize, statement: Statement) {
         match &statement {
-            Statement::Thing(family, name) => self.things.entry(*family).or_default().push(name.clone()),
-            Statement::Attribute(family, name) => self.attributes.entry(*family).or_default().push(name.clone()),
+            Statement::Thing(family, name) => self.declare(thing_sort(*family), self.things(*family).len(), name),
+            Statement::Attribute(family, name) => {
+                self.declare(attribute_sort(*family), self.attributes(*family).len(), name);
+            }
             Statement::Class(name, permissions) => {
+                let class = self.classes.len();
+                self.declare(CLASS, class, name);
+                for (place, permission) in permissions.iter().enumerate() {
+                    self.declare(PERMISSION, class * limits::PERMISSIONS + place, permission);
+                }
                 self.classes.push(Class { name: name.clone(), permissions: permissions.clone() });
             }
             _ => {}
         }
         self.statements.push(Placed { place, statement });
+    }
+
+    fn declare(&mut self, sort: u8, number: usize, name: &Name) {
+        self.names.push(NameEntry { sort, number: number as u16, name: name.clone() });
     }
 }
 
@@ -207,8 +238,14 @@ pub fn most_things(family: Family) -> usize {
     }
 }
 
-fn has_repeats(names: &[Name]) -> bool {
-    names.iter().collect::<BTreeSet<_>>().len() < names.len()
+/// Reading 60 of document 02: declarations make tries as well. Each permission is tried among those before it; there may be
+/// more than 32 of them, since 4 comes before 6.
+fn has_repeats(permissions: &[Name]) -> bool {
+    let numbered = permissions.iter().enumerate();
+    let entries: Vec<NameEntry> = numbered
+        .map(|(place, name)| NameEntry { sort: PERMISSION, number: place as u16, name: name.clone() })
+        .collect();
+    permissions.iter().enumerate().any(|(place, name)| try_among(entries[..place].iter(), name).found.is_some())
 }
 
 /// "one per operator and comparison"

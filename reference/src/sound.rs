@@ -102,9 +102,7 @@ pub fn is_sound(bytes: &[u8]) -> bool {
 
 pub fn decode(bytes: &[u8]) -> Result<Decoded, Reason> {
     let (offsets, bodies) = split(bytes)?;
-    let names = read_names(bodies[0])?;
-    let counts = count_names(&names)?;
-    within_maxima(&counts)?;
+    let (names, counts) = section_names(bodies[0])?;
     let (users, roles, types) = (counts.users(), counts.roles(), counts.types());
     let (userattributes, roleattributes, typeattributes) = counts.attributes();
     let transitions = read_transitions(bodies[4], &counts)?;
@@ -130,6 +128,14 @@ pub fn decode(bytes: &[u8]) -> Result<Decoded, Reason> {
         typeattributes: read_sets(last, WIDE, typeattributes, (types, "undeclared type bit"))?,
     };
     Ok(Decoded { contents, counts, offsets })
+}
+
+/// Section 1 by itself: its entries in order, and how many there are of each sort.
+pub fn section_names(section: &[u8]) -> Result<(Vec<NameEntry>, Counts), Reason> {
+    let names = read_names(section)?;
+    let counts = count_names(&names)?;
+    within_maxima(&counts)?;
+    Ok((names, counts))
 }
 
 fn two(bytes: &[u8], at: usize) -> u16 {

@@ -10,8 +10,20 @@ fn key(line: &str) -> String {
     match words[0] {
         "refused" | "denied" => format!("{} {:>2}", words[0], words[1]),
         "not" => line.to_string(),
+        "chains" | "section" => tried(&words),
         first => first.to_string(),
     }
+}
+
+/// A try by the sort that it found, and whether it compared none, one or more.
+fn tried(words: &[&str]) -> String {
+    let result = if words[1] == "found" { words[1..3].join(" ") } else { words[1].to_string() };
+    let compared = match words[words.len() - 1] {
+        "0" => "none",
+        "1" => "one",
+        _ => "more",
+    };
+    format!("{} {result}, {compared} compared", words[0])
 }
 
 pub fn statistics(layer: Layer, seed: u64) -> Vec<String> {

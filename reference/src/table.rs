@@ -1,10 +1,11 @@
 //! "The table, contents first": what a table holds, how it is laid out in bytes, and the compiler.
 
 use crate::fault::Fault;
-use crate::limits;
 use crate::meaning::{meaning, Meaning, Numbers};
-use crate::parser::{Constrain, Expression, Family, Name, Operator, Relation, Side, Statement, Transition};
+use crate::parser::{Constrain, Expression, Family, Name, Operator, Relation, Side, Transition};
 use crate::policy::read;
+
+pub use crate::lookup::{thing_sort, NameEntry, CLASS, PERMISSION};
 
 /// "edition 1", "8", then eight pairs of 4 and 4 bytes.
 pub const HEADER: usize = 68;
@@ -15,17 +16,6 @@ pub const WIDE: usize = 64;
 pub const TRANSITION: usize = NARROW + WIDE + 1 + 1;
 pub const CONSTRAINT: usize = 10;
 pub const ROW: usize = 6;
-
-/// "sort in 1 byte (0 user, 1 role, 2 type, 3 to 5 their attributes, 6 class, 7 permission)"
-pub const CLASS: u8 = 6;
-pub const PERMISSION: u8 = 7;
-
-#[derive(Clone, Debug, PartialEq, Eq)]
-pub struct NameEntry {
-    pub sort: u8,
-    pub number: u16,
-    pub name: Name,
-}
 
 #[derive(Clone, Debug, PartialEq, Eq)]
 pub struct TransitionRecord {
@@ -109,7 +99,7 @@ pub fn contents(meaning: &Meaning) -> Contents {
     };
     let (constraints, rows) = constraints_and_rows(meaning);
     Contents {
-        names: names(meaning),
+        names: policy.names.clone(),
         roles_of_user: given(Relation::UserRole, users),
         types_of_role: given(Relation::RoleType, roles),
         becomes: given(Relation::RoleAllow, roles),
@@ -120,46 +110,6 @@ pub fn contents(meaning: &Meaning) -> Contents {
         roleattributes: attributes(Family::Role),
         typeattributes: attributes(Family::Type),
     }
-}
-
-/// "Names in text order, permissions directly after their class"
-fn names(meaning: &Meaning) -> Vec<NameEntry> {
-    let policy = &meaning.policy;
-    let mut entries = Vec::new();
-    let mut add = |sort, number: usize, name: &Name| {
-        entries.push(NameEntry { sort, number: number as u16, name: name.clone() });
-    };
-    for placed in &policy.statements {
-        match &placed.statement {
-            Statement::Thing(family, name) => {
-                add(thing_sort(*family), policy.thing(*family, name).unwrap(), name);
-            }
-            Statement::Attribute(family, name) => {
-                add(attribute_sort(*family), policy.attribute(*family, name).unwrap(), name);
-            }
-            Statement::Class(name, permissions) => {
-                let class = policy.class(name).unwrap();
-                add(CLASS, class, name);
-                for (place, permission) in permissions.iter().enumerate() {
-                    add(PERMISSION, class * limits::PERMISSIONS + place, permission);
-                }
-            }
-            _ => {}
-        }
-    }
-    entries
-}
-
-pub fn thing_sort(family: Family) -> u8 {
-    match family {
-        Family::User => 0,
-        Family::Role => 1,
-        Family::Type => 2,
-    }
-}
-
-pub fn attribute_sort(family: Family) -> u8 {
-    thing_sort(family) + 3
 }
 
 /// "role set 16, type set 64, class 1, new role 1"
@@ -192,10 +142,9 @@ fn constraints_and_rows(meaning: &Meaning) -> (Vec<ConstraintRecord>, Vec<Row>) 
 
 /// Reading 29: the mask's bit is the permission's place; "repeats of P are harmless".
 fn mask(meaning: &Meaning, class: usize, constrain: &Constrain) -> u32 {
-    let known = &meaning.policy.classes[class].permissions;
     let mut mask = 0;
     for permission in &constrain.permissions {
-        mask |= 1 << known.iter().position(|k| k == permission).unwrap();
+        mask |= 1 << meaning.policy.permission(class, permission).unwrap();
     }
     mask
 }

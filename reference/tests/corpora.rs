@@ -2,7 +2,7 @@
 
 use reference::corpus::{adler32, answer, compile_line, fill, write, Layer};
 
-const LAYERS: [Layer; 4] = [Layer::Scan, Layer::Compile, Layer::Sound, Layer::Questions];
+const LAYERS: [Layer; 5] = [Layer::Scan, Layer::Compile, Layer::Sound, Layer::Questions, Layer::Tries];
 
 fn count(lines: &[String], start: &str) -> usize {
     lines.iter().filter(|line| line.starts_with(start)).count()
@@ -32,6 +32,11 @@ fn every_refusal_and_denial_occurs() {
     for start in ["denied 1", "denied 2", "denied 3", "denied 4", "granted", "refused 11", "refused 12", "valid", "not valid"] {
         assert!(count(&questions, start) >= 10, "{start}");
     }
+    let tries = answer(Layer::Tries, &write(Layer::Tries, 2)).unwrap();
+    for sort in 0..=7 {
+        assert!(count(&tries, &format!("chains found {sort} ")) >= 50, "{sort}");
+    }
+    assert!(count(&tries, "chains missing compared 0") > 1_000 && count(&tries, "chains missing compared 1") > 500);
 }
 
 #[test]

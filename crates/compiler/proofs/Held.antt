@@ -23,26 +23,26 @@ starts-take : {lent content now : List ℕ} {end : ℕ} → Starts lent content 
 starts-take {lent} {content} {now} {end} s = ap (take end) (s .is) ∙ take-at content (drop (length content) lent) end (sym (s .ends))
 
 -- how many of a sort the symbols count
-module _ (p : Policy) {table : List ℕ} {end sort r : ℕ} (f : Family) (s : declaring.Holds table end (declarations p)) (counts : Counts table end sort r) where
+module _ (p : Policy) {table : List ℕ} {end sort r : ℕ} (f : Family) (s : declaring.Holds table end (declarations p)) (counts : Counts table sort r) where
   pub things-counted : sort ≡ sortCode (thingOf f) → r ≡ countIn p f
   unfolding countIn
-  things-counted e = counts .things (declarations p) (thingOf f) s e
+  things-counted e = counts .things end (declarations p) (thingOf f) s e
 
   pub attributes-counted : sort ≡ sortCode (attributeOf f) → r ≡ attributesIn p f
-  attributes-counted e = counts .things (declarations p) (attributeOf f) s e
+  attributes-counted e = counts .things end (declarations p) (attributeOf f) s e
 
 module _ {p : Policy} {lent now : Memory} {s : Progress} (h : Holds p lent now s) where
-  -- the symbols end before their index
+  -- the symbols end before their chains
   symbols-front : take (s .symbols) (now .symbols) ≡ symbolsOf p
-  symbols-front = sym (take-take (s .symbols) 137088 (now .symbols) (h .indexed .below)) ∙ starts-take (h .symbols)
+  symbols-front = sym (take-take (s .symbols) 137088 (now .symbols) (h .chained .below)) ∙ starts-take (h .symbols)
 
   pub symbols-held : declaring.Holds (now .symbols) (s .symbols) (declarations p)
   unfolding symbolsOf
   symbols-held = record {
     front = symbols-front;
-    inside = omega (arith, h .indexed .below, h .indexed .room);
+    inside = omega (arith, h .chained .below, h .chained .room);
     good = h .accepted .names;
-    indexed = h .indexed;
+    chained = h .chained;
   }
 
   pub names-long : s .symbols ≡ length (body 0 p)

@@ -53,17 +53,16 @@ impl Fault {
 fn sizes_of(progress: Progress, symbols: &[u8]) -> Sizes
     ensures { λ r. ⌜ Measures progress (now (symbols .entry)) r ⌝ }
 {
-    let end = progress.symbols;
     Sizes {
-        names: end,
-        users: declarations::count(symbols, end, SortNumber::USER),
-        roles: declarations::count(symbols, end, SortNumber::ROLE),
+        names: progress.symbols,
+        users: declarations::count(symbols, SortNumber::USER),
+        roles: declarations::count(symbols, SortNumber::ROLE),
         transitions: progress.transitions,
         constraints: progress.constraints,
         rows: progress.rows,
-        user_attributes: declarations::count(symbols, end, SortNumber::USER_ATTRIBUTE),
-        role_attributes: declarations::count(symbols, end, SortNumber::ROLE_ATTRIBUTE),
-        type_attributes: declarations::count(symbols, end, SortNumber::TYPE_ATTRIBUTE),
+        user_attributes: declarations::count(symbols, SortNumber::USER_ATTRIBUTE),
+        role_attributes: declarations::count(symbols, SortNumber::ROLE_ATTRIBUTE),
+        type_attributes: declarations::count(symbols, SortNumber::TYPE_ATTRIBUTE),
     }
 }
 
@@ -171,7 +170,7 @@ fn compile_statements(
         (now (table .entry)) (now (table .exit)) r ⌝ }
 {
     let sizes = sizes_of(progress, symbols);
-    let types = declarations::count(symbols, progress.symbols, SortNumber::TYPE);
+    let types = declarations::count(symbols, SortNumber::TYPE);
     let used = units(code, progress.code);
     resolve_and_write(sizes, types, symbols, used, constraints, rows, table)
 }

@@ -24,7 +24,7 @@ use Rattle.policy.specs.Encode.{headBytes, rowBytes}
 use Rattle.policy.specs.Rows.{rowsOf}
 use Rattle.policy.proofs.Lists.{both-true}
 use Rattle.table_laws.proofs.ListLaws.{bound-then}
-use Rattle.symbols.specs.Symbols.{Symbols}
+use Rattle.name_chains.specs.Symbols.{Symbols}
 use Rattle.items.specs.Looks.{itemAt, rowEnd}
 use Rattle.items.specs.declared.Item.{Item}
 use Rattle.items.proofs.Items.{Looked, by-part}
@@ -142,41 +142,41 @@ module _ {t : List ℕ} {at p j : ℕ} (l : Looked t at (Item.Open p j)) {w : Wr
   expression-there {q} {x} {z} e l2 =
       ap expressionIn (same-parts (sym (by-part (λ f. f) levels (rowEnd t z) l2 refl (λ z. omega arith)) ∙ part-behind q e) .0) ∙ s .expressed
 
-scope-told : {t : List ℕ} {at : ℕ} {table : List ℕ} {end : ℕ} {r k : Scope} → Scopes t at table end r → r ≡ k → Scopes t at table end k
-scope-told {t} {at} {table} {end} u e = subst (Scopes t at table end) e u
+scope-told : {t : List ℕ} {at : ℕ} {table : List ℕ} {r k : Scope} → Scopes t at table r → r ≡ k → Scopes t at table k
+scope-told {t} {at} {table} u e = subst (Scopes t at table) e u
 
 -- ---- the answers
 
-module _ {t : List ℕ} {at : ℕ} {table : List ℕ} {end : ℕ} {before : List ℕ} {count : ℕ} {rowsBefore : List ℕ} {row : ℕ} where
+module _ {t : List ℕ} {at : ℕ} {table : List ℕ} {before : List ℕ} {count : ℕ} {rowsBefore : List ℕ} {row : ℕ} where
   -- 5, where a name is not declared
-  undeclared-by : {after rowsAfter : List ℕ} → ((env : Environment) (w : Written) → Symbols table end env → ShapeAt t at w → resolved env w ≡ none)
-      → WritesConstrain t at table end before after count rowsBefore rowsAfter row Constrained.Undeclared
+  undeclared-by : {after rowsAfter : List ℕ} → ((env : Environment) (w : Written) → Symbols table env → ShapeAt t at w → resolved env w ≡ none)
+      → WritesConstrain t at table before after count rowsBefore rowsAfter row Constrained.Undeclared
   undeclared-by {after} {rowsAfter} h = record {
     says = λ env w y a f.
         subst (λ (o : Option Statement). Answers o before after count rowsBefore rowsAfter row Constrained.Undeclared) (sym (h env w y (shape (trim (framesAt t at .here) levels) w f))) tt;
   }
 
-  pub past-rows : {after rowsAfter : List ℕ} {r : Constrained} → 2048 < row → WritesConstrain t at table end before after count rowsBefore rowsAfter row r
+  pub past-rows : {after rowsAfter : List ℕ} {r : Constrained} → 2048 < row → WritesConstrain t at table before after count rowsBefore rowsAfter row r
   past-rows h = record { says = λ env w y a f. absurd (omega (arith, h, a)) }
 
-  pub scope-missing : {k : Item} → k ≡ itemAt t at → OneOf (0 ∷ 2 ∷ 3 ∷ []) (tag k) → WritesConstrain t at table end before before count rowsBefore rowsBefore row Constrained.Undeclared
+  pub scope-missing : {k : Item} → k ≡ itemAt t at → OneOf (0 ∷ 2 ∷ 3 ∷ []) (tag k) → WritesConstrain t at table before before count rowsBefore rowsBefore row Constrained.Undeclared
   scope-missing e o = undeclared-by (λ env w y s. not-there startsPart t at levels _ (s .row) refl (0 ∷ 2 ∷ 3 ∷ []) no-part e o)
 
-  module _ {p j : ℕ} (l : Looked t at (Item.Open p j)) {r : Scope} (u : Scopes t j table end r) where
-    pub scope-undeclared : r ≡ Scope.Undeclared → WritesConstrain t at table end before before count rowsBefore rowsBefore row Constrained.Undeclared
+  module _ {p j : ℕ} (l : Looked t at (Item.Open p j)) {r : Scope} (u : Scopes t j table r) where
+    pub scope-undeclared : r ≡ Scope.Undeclared → WritesConstrain t at table before before count rowsBefore rowsBefore row Constrained.Undeclared
     scope-undeclared e = undeclared-by (λ env w y s.
         ap (resolved env) (s .written)
         ∙ scope-none env (s .class) (s .permissions) (s .body) (scope-told u e .says env (s .class) (s .permissions) y (scope-there l s)))
 
     module _ {class mask q : ℕ} (e : r ≡ Scope.Of class mask q) where
       pub expression-missing : {k : Item} → k ≡ itemAt t q → OneOf (0 ∷ 2 ∷ 3 ∷ []) (tag k)
-          → WritesConstrain t at table end before before count rowsBefore rowsBefore row Constrained.Undeclared
+          → WritesConstrain t at table before before count rowsBefore rowsBefore row Constrained.Undeclared
       expression-missing d o = undeclared-by (λ env w y s.
           not-there startsPart t q levels _ (part-behind l s q (scope-told u e .place)) refl (0 ∷ 2 ∷ 3 ∷ []) no-part d o)
 
       module _ {x z : ℕ} (l2 : Looked t q (Item.Open x z)) {rowsAfter : List ℕ} {k : RowsWritten}
-          (v : Writes t z (expressionIn (trim (framesAt t z .here) (maxLevel - 2))) table end rowsBefore rowsAfter row k) where
-        pub name-undeclared : k ≡ RowsWritten.Undeclared → WritesConstrain t at table end before before count rowsBefore rowsAfter row Constrained.Undeclared
+          (v : Writes t z (expressionIn (trim (framesAt t z .here) (maxLevel - 2))) table rowsBefore rowsAfter row k) where
+        pub name-undeclared : k ≡ RowsWritten.Undeclared → WritesConstrain t at table before before count rowsBefore rowsAfter row Constrained.Undeclared
         name-undeclared d = undeclared-by (λ env w y s.
             let o = scope-told u e in
             ap (resolved env) (s .written)
@@ -186,7 +186,7 @@ module _ {t : List ℕ} {at : ℕ} {table : List ℕ} {end : ℕ} {before : List
         -- 6 and 7, and what is written, by what the maxima and the stack need allow
         pub answered : {a n deep : ℕ} → k ≡ RowsWritten.Next a n deep → length rowsBefore ≡ 12288 → {after : List ℕ} {b : Constrained}
             → Admits before after count class mask row n deep b
-            → WritesConstrain t at table end before after count rowsBefore rowsAfter row b
+            → WritesConstrain t at table before after count rowsBefore rowsAfter row b
         answered {a} {n} {deep} d long {after} {b} m = record {
           says = λ env w y g f.
               let s = shape (trim (framesAt t at .here) levels) w f in

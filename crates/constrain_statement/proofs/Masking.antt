@@ -21,9 +21,9 @@ use Rattle.policy.specs.Image.{maskOf}
 use Rattle.table_laws.proofs.ListLaws.{given-some, more-some}
 use Rattle.policy.specs.Names.{Environment}
 use Rattle.symbols.specs.Resolving.{foundPermission}
-use Rattle.symbols.specs.Symbols.{Symbols, Looks}
+use Rattle.name_chains.specs.Symbols.{Symbols, Looks}
 use Rattle.symbols.specs.declared.Found.{Found}
-use Rattle.symbols.proofs.Bounds.{bounded}
+use Rattle.name_chains.proofs.Bounds.{bounded}
 use Rattle.items.specs.Looks.{itemAt, rowEnd}
 use Rattle.items.specs.declared.Item.{Item}
 use Rattle.items.proofs.Items.{Looked, alike-here}
@@ -52,13 +52,13 @@ pub record Left (env : Environment) (c : ℕ) (ps : List Name) (f : Forms) (m : 
   pub total : added m (numbersOf env c rest) ≡ added 0 (numbersOf env c ps)
 
 -- the row at the place at is read up to the place i
-pub record Going (t : List ℕ) (at : ℕ) (table : List ℕ) (end family i m : ℕ) : Type 0 where
+pub record Going (t : List ℕ) (at : ℕ) (table : List ℕ) (family i m : ℕ) : Type 0 where
   pub same-row : rowEnd t i ≡ rowEnd t at
   pub small : m < 2 ^ 32
-  pub left : (env : Environment) (c : ℕ) (ps : List Name) → Symbols table end env → family ≡ 4 + c → namesIn (framesAt t at .here) ≡ some ps
+  pub left : (env : Environment) (c : ℕ) (ps : List Name) → Symbols table env → family ≡ 4 + c → namesIn (framesAt t at .here) ≡ some ps
       → Left env c ps (framesAt t i .here) m
 
-pub begun : {t : List ℕ} {at : ℕ} {table : List ℕ} {end family : ℕ} → Going t at table end family at 0
+pub begun : {t : List ℕ} {at : ℕ} {table : List ℕ} {family : ℕ} → Going t at table family at 0
 begun = record { same-row = refl; small = omega arith; left = λ env c ps y e h. record { rest = ps; names = h; total = refl } }
 
 -- ---- one name
@@ -81,8 +81,8 @@ pub record Numbered (env : Environment) (c : ℕ) (w : Name) (number : ℕ) : Ty
   pub index : env .permission c w ≡ some place
   pub low : number % 32 ≡ place
 
-module _ {table : List ℕ} {end : ℕ} {env : Environment} (y : Symbols table end env) (c : ℕ) (w : Name) where
-  found-as : (family : ℕ) → family ≡ 4 + c → (r : Found) → Looks table end family w r → r ≡ foundPermission c (env .permission c w)
+module _ {table : List ℕ} {env : Environment} (y : Symbols table env) (c : ℕ) (w : Name) where
+  found-as : (family : ℕ) → family ≡ 4 + c → (r : Found) → Looks table family w r → r ≡ foundPermission c (env .permission c w)
   found-as family e r h = h .permissions env c y (sym e)
 
   numbered : (sort number : ℕ) → Found.At sort number ≡ foundPermission c (env .permission c w) → Numbered env c w number
@@ -111,12 +111,12 @@ module _ {table : List ℕ} {end : ℕ} {env : Environment} (y : Symbols table e
 abbrev pub tag : Item → ℕ
 tag k = tagOf the-type k
 
-module _ {t : List ℕ} {at : ℕ} {table : List ℕ} {end family i m : ℕ} (g : Going t at table end family i m) where
-  module _ {s n k q : ℕ} (l : Looked t i (Item.Word s n k q)) {r : Found} (h : Looks table end family (parts.part t s n) r) where
+module _ {t : List ℕ} {at : ℕ} {table : List ℕ} {family i m : ℕ} (g : Going t at table family i m) where
+  module _ {s n k q : ℕ} (l : Looked t i (Item.Word s n k q)) {r : Found} (h : Looks table family (parts.part t s n) r) where
     name-first : {env : Environment} {c : ℕ} {ps : List Name} (x : Left env c ps (framesAt t i .here) m) → FirstName (take n (drop s t)) (framesAt t q .here) (x .rest)
     name-first x = first-name s (take n (drop s t)) (framesAt t q .here) (x .rest) (sym (ap namesIn (l .here)) ∙ x .names)
 
-    pub one-more : {sort number v : ℕ} → r ≡ Found.At sort number → v ≡ fromBits 32 (λ j. bit m j || eqb j (number % 32)) → Going t at table end family q v
+    pub one-more : {sort number v : ℕ} → r ≡ Found.At sort number → v ≡ fromBits 32 (λ j. bit m j || eqb j (number % 32)) → Going t at table family q v
     unfolding parts.part eachOf
     one-more {sort} {number} {v} d e = record {
       same-row = sym (l .end) ∙ g .same-row;
@@ -138,7 +138,7 @@ module _ {t : List ℕ} {at : ℕ} {table : List ℕ} {end family i m : ℕ} (g 
           };
     }
 
-    pub not-of-class : r ≡ Found.Missing → Masks t at table end family Masked.Undeclared
+    pub not-of-class : r ≡ Found.Missing → Masks t at table family Masked.Undeclared
     unfolding parts.part eachOf
     not-of-class d = record {
       place = tt;
@@ -153,7 +153,7 @@ module _ {t : List ℕ} {at : ℕ} {table : List ℕ} {end family i m : ℕ} (g 
           ∙ from-none (numbersOf env c ps);
     }
 
-  pub finished : {q : ℕ} → Looked t i (Item.Close q) → Masks t at table end family (Masked.Mask m q)
+  pub finished : {q : ℕ} → Looked t i (Item.Close q) → Masks t at table family (Masked.Mask m q)
   unfolding namesIn eachOf
   finished l = record {
     place = sym (g .same-row) ∙ l .end;
@@ -166,7 +166,7 @@ module _ {t : List ℕ} {at : ℕ} {table : List ℕ} {end family i m : ℕ} (g 
         ∙ from-none (numbersOf env c ps);
   }
 
-  pub no-names : {k : Item} → k ≡ itemAt t i → OneOf (1 ∷ 3 ∷ []) (tag k) → Masks t at table end family Masked.Undeclared
+  pub no-names : {k : Item} → k ≡ itemAt t i → OneOf (1 ∷ 3 ∷ []) (tag k) → Masks t at table family Masked.Undeclared
   unfolding namesIn
   no-names {k} e o = record {
     place = tt;

@@ -17,9 +17,9 @@ use Rattle.policy.specs.Image.{maskOf}
 use Rattle.table_laws.proofs.ListLaws.{bound-then}
 use Rattle.policy.specs.Names.{Environment}
 use Rattle.symbols.specs.Resolving.{foundClass}
-use Rattle.symbols.specs.Symbols.{Symbols, Looks}
+use Rattle.name_chains.specs.Symbols.{Symbols, Looks}
 use Rattle.symbols.specs.declared.Found.{Found}
-use Rattle.symbols.proofs.Bounds.{bounded}
+use Rattle.name_chains.proofs.Bounds.{bounded}
 use Rattle.items.specs.Looks.{itemAt, rowEnd}
 use Rattle.items.specs.Reads.{isClosed}
 use Rattle.items.specs.declared.Item.{Item}
@@ -89,7 +89,7 @@ module _ {t : List ℕ} {at s n k q : ℕ} (l : Looked t at (Item.Word s n k q))
 
 -- ---- the class
 
-module _ {table : List ℕ} {end : ℕ} {env : Environment} (y : Symbols table end env) (w : Name) {r : Found} (h : Looks table end 3 w r) where
+module _ {table : List ℕ} {env : Environment} (y : Symbols table env) (w : Name) {r : Found} (h : Looks table 3 w r) where
   class-as : r ≡ foundClass (env .class w)
   class-as = h .classes env y refl
 
@@ -116,15 +116,15 @@ no-mask : (o : Option (List ℕ)) → none ≡ (o >>= λ ns. some (maskOf ns)) �
 no-mask none e = refl
 no-mask (some ns) e = absurd (let z : _≡_ {A = ℕ} 0 1 = cc in omega arith)
 
-module _ {t : List ℕ} {at : ℕ} {table : List ℕ} {end : ℕ} where
-  pub word-missing : {k : Item} → k ≡ itemAt t at → OneOf (1 ∷ 2 ∷ 3 ∷ []) (tag k) → Scopes t at table end Scope.Undeclared
+module _ {t : List ℕ} {at : ℕ} {table : List ℕ} where
+  pub word-missing : {k : Item} → k ≡ itemAt t at → OneOf (1 ∷ 2 ∷ 3 ∷ []) (tag k) → Scopes t at table Scope.Undeclared
   word-missing e o = record {
     place = tt;
     says = λ env c ps y h. not-there startsWord t at levels _ (h .row) refl (1 ∷ 2 ∷ 3 ∷ []) no-word e o;
   }
 
-  module _ {s n k q : ℕ} (l : Looked t at (Item.Word s n k q)) {r : Found} (f : Looks table end 3 (parts.part t s n) r) where
-    pub class-undeclared : r ≡ Found.Missing → Scopes t at table end Scope.Undeclared
+  module _ {s n k q : ℕ} (l : Looked t at (Item.Word s n k q)) {r : Found} (f : Looks table 3 (parts.part t s n) r) where
+    pub class-undeclared : r ≡ Found.Missing → Scopes t at table Scope.Undeclared
     unfolding parts.part
     class-undeclared d = record {
       place = tt;
@@ -135,11 +135,11 @@ module _ {t : List ℕ} {at : ℕ} {table : List ℕ} {end : ℕ} where
     }
 
     module _ {sort number : ℕ} (d : r ≡ Found.At sort number) where
-      class-is : {env : Environment} {c : Name} {ps : List Name} → Symbols table end env → ScopeForm (trim (framesAt t at .here) levels) c ps → env .class c ≡ some number
+      class-is : {env : Environment} {c : Name} {ps : List Name} → Symbols table env → ScopeForm (trim (framesAt t at .here) levels) c ps → env .class c ≡ some number
       unfolding parts.part
       class-is {env} y h = ap (λ (w : Name). env .class w) (sym (behind-word l h .0)) ∙ class-number y (take n (drop s t)) f d
 
-      pub class-too-far : 32 ≤ number → Scopes t at table end Scope.Undeclared
+      pub class-too-far : 32 ≤ number → Scopes t at table Scope.Undeclared
       unfolding parts.part
       class-too-far g = record {
         place = tt;
@@ -147,18 +147,18 @@ module _ {t : List ℕ} {at : ℕ} {table : List ℕ} {end : ℕ} where
             absurd (omega (arith, g, class-below y (take n (drop s t)) f number (class-number y (take n (drop s t)) f d)));
       }
 
-      pub part-missing : {k : Item} → k ≡ itemAt t q → OneOf (0 ∷ 2 ∷ 3 ∷ []) (tag k) → Scopes t at table end Scope.Undeclared
+      pub part-missing : {k : Item} → k ≡ itemAt t q → OneOf (0 ∷ 2 ∷ 3 ∷ []) (tag k) → Scopes t at table Scope.Undeclared
       part-missing e o = record {
         place = tt;
         says = λ env c ps y h. not-there startsPart t q levels _ (behind-word l h .1) refl (0 ∷ 2 ∷ 3 ∷ []) no-part e o;
       }
 
       module _ {p j : ℕ} (l2 : Looked t q (Item.Open p j)) where
-        numbers-there : {m : Masked} → Masks t j table end (4 + number) m → {env : Environment} {c : Name} {ps : List Name} → Symbols table end env
+        numbers-there : {m : Masked} → Masks t j table (4 + number) m → {env : Environment} {c : Name} {ps : List Name} → Symbols table env
             → ScopeForm (trim (framesAt t at .here) levels) c ps → maskIn m ≡ (numbersOf env number ps >>= λ ns. some (maskOf ns))
         numbers-there m {env} {c} {ps} y h = m .says env number ps y refl (names-there l h l2)
 
-        pub permission-undeclared : {x : Masked} → Masks t j table end (4 + number) x → x ≡ Masked.Undeclared → Scopes t at table end Scope.Undeclared
+        pub permission-undeclared : {x : Masked} → Masks t j table (4 + number) x → x ≡ Masked.Undeclared → Scopes t at table Scope.Undeclared
         permission-undeclared m e = record {
           place = tt;
           says = λ env c ps y h.
@@ -166,17 +166,17 @@ module _ {t : List ℕ} {at : ℕ} {table : List ℕ} {end : ℕ} where
               ∙ no-mask (numbersOf env number ps) (sym (ap maskIn e) ∙ numbers-there m y h);
         }
 
-        module _ {x : Masked} {mask o : ℕ} (m : Masks t j table end (4 + number) x) (e : x ≡ Masked.Mask mask o) where
-          told : Masks t j table end (4 + number) (Masked.Mask mask o)
-          told = subst (Masks t j table end (4 + number)) e m
+        module _ {x : Masked} {mask o : ℕ} (m : Masks t j table (4 + number) x) (e : x ≡ Masked.Mask mask o) where
+          told : Masks t j table (4 + number) (Masked.Mask mask o)
+          told = subst (Masks t j table (4 + number)) e m
 
-          pub close-missing : {k : Item} → k ≡ itemAt t o → OneOf (0 ∷ 1 ∷ 3 ∷ []) (tag k) → Scopes t at table end Scope.Undeclared
+          pub close-missing : {k : Item} → k ≡ itemAt t o → OneOf (0 ∷ 1 ∷ 3 ∷ []) (tag k) → Scopes t at table Scope.Undeclared
           close-missing d i = record {
             place = tt;
             says = λ env c ps y h. not-there isClosed t o levels _ (close-there l h l2 o (told .place)) refl (0 ∷ 1 ∷ 3 ∷ []) no-close d i;
           }
 
-          pub scoped : {z : ℕ} → Looked t o (Item.Close z) → Scopes t at table end (Scope.Of number mask z)
+          pub scoped : {z : ℕ} → Looked t o (Item.Close z) → Scopes t at table (Scope.Of number mask z)
           scoped l3 = record {
             place = l .end ∙ l2 .end ∙ ap (rowEnd t) (told .place) ∙ l3 .end;
             says = λ env c ps y h.

@@ -20,7 +20,7 @@ use Rattle.policy.specs.Image.{maskOf}
 use Rattle.policy.specs.Rows.{rowsOf}
 use Rattle.policy.specs.Encode.{ConstraintHead, headBytes, rowBytes}
 use Rattle.policy.specs.Names.{Environment}
-use Rattle.symbols.specs.Symbols.{Symbols}
+use Rattle.name_chains.specs.Symbols.{Symbols}
 use Rattle.constrain_statement.specs.declared.Constrained.{Constrained}
 
 -- "class 2, permission mask 4, first row 2, row count 2"
@@ -60,8 +60,8 @@ Answers (some (gives k x y)) before after count rowsBefore rowsAfter row r = Uni
 Answers (some (roletransition x y c n)) before after count rowsBefore rowsAfter row r = Unit {0}
 
 -- of the statement whose keyword is before the place at, where the symbol table holds the declarations before it
-pub record WritesConstrain (t : List ℕ) (at : ℕ) (table : List ℕ) (end : ℕ) (before after : List ℕ) (count : ℕ) (rowsBefore rowsAfter : List ℕ) (row : ℕ) (r : Constrained) : Type 0 where
-  pub says : (env : Environment) (w : Written) → Symbols table end env → row ≤ maxRows
+pub record WritesConstrain (t : List ℕ) (at : ℕ) (table : List ℕ) (before after : List ℕ) (count : ℕ) (rowsBefore rowsAfter : List ℕ) (row : ℕ) (r : Constrained) : Type 0 where
+  pub says : (env : Environment) (w : Written) → Symbols table env → row ≤ maxRows
       → formed constrainK (trim (framesAt t at .here) (maxLevel - 1)) ≡ some w
       → Answers (resolved env w) before after count rowsBefore rowsAfter row r
 

@@ -9,7 +9,7 @@ use Rattle.policy.specs.Basics.{Name, _>>=_, eachOf}
 use Rattle.policy.specs.Grammar.{namesIn}
 use Rattle.policy.specs.Image.{maskOf}
 use Rattle.policy.specs.Names.{Environment}
-use Rattle.symbols.specs.Symbols.{Symbols}
+use Rattle.name_chains.specs.Symbols.{Symbols}
 use Rattle.items.specs.Looks.{rowEnd}
 use Rattle.constrain_statement.specs.declared.Masked.{Masked}
 use Rattle.constrain_statement.specs.declared.Scope.{Scope}
@@ -29,9 +29,9 @@ MaskPlace t at (Masked.Mask m q) = rowEnd t at ≡ q
 MaskPlace t at Masked.Undeclared = Unit {0}
 
 -- "repeats of P are harmless": the mask of a row of permissions of class c, whose names are the family 4 + c
-pub record Masks (t : List ℕ) (at : ℕ) (table : List ℕ) (end family : ℕ) (r : Masked) : Type 0 where
+pub record Masks (t : List ℕ) (at : ℕ) (table : List ℕ) (family : ℕ) (r : Masked) : Type 0 where
   pub place : MaskPlace t at r
-  pub says : (env : Environment) (c : ℕ) (ps : List Name) → Symbols table end env → family ≡ 4 + c → namesIn (framesAt t at .here) ≡ some ps
+  pub says : (env : Environment) (c : ℕ) (ps : List Name) → Symbols table env → family ≡ 4 + c → namesIn (framesAt t at .here) ≡ some ps
       → maskIn r ≡ (numbersOf env c ps >>= λ ns. some (maskOf ns))
 
 -- "C (P ...)", and the close
@@ -59,7 +59,7 @@ ScopePlace t at (Scope.Of class mask q) = rowEnd t at ≡ q
 ScopePlace t at Scope.Undeclared = Unit {0}
 
 -- of the row at the place at, where the symbol table holds the declarations before it
-pub record Scopes (t : List ℕ) (at : ℕ) (table : List ℕ) (end : ℕ) (r : Scope) : Type 0 where
+pub record Scopes (t : List ℕ) (at : ℕ) (table : List ℕ) (r : Scope) : Type 0 where
   pub place : ScopePlace t at r
-  pub says : (env : Environment) (c : Name) (ps : List Name) → Symbols table end env → ScopeForm (trim (framesAt t at .here) (maxLevel - 2)) c ps
+  pub says : (env : Environment) (c : Name) (ps : List Name) → Symbols table env → ScopeForm (trim (framesAt t at .here) (maxLevel - 2)) c ps
       → ScopeAnswers env c ps r

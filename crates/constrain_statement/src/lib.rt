@@ -64,8 +64,8 @@ fn with_permission(mask: u32, number: usize) -> u32
 }
 
 // The permissions of a row of names, of one family, as a mask. A name that stands there again changes nothing.
-fn permission_mask(text: &[u8], at: usize, symbols: &[u8], end: usize, family: usize) -> Masked
-    ensures { λ r. ⌜ Masks (now (text .entry)) at (now (symbols .entry)) end family r ⌝ }
+fn permission_mask(text: &[u8], at: usize, symbols: &[u8], family: usize) -> Masked
+    ensures { λ r. ⌜ Masks (now (text .entry)) at (now (symbols .entry)) family r ⌝ }
 {
     let mut i = at;
     let mut mask: u32 = 0;
@@ -78,7 +78,7 @@ fn permission_mask(text: &[u8], at: usize, symbols: &[u8], end: usize, family: u
                 next,
                 ..
             } => {
-                let found = symbols::lookup(symbols, end, family, text, start, len);
+                let found = name_chains::lookup(symbols, family, text, start, len);
                 let Found::At { number, .. } = found else {
                     return Masked::Undeclared;
                 };
@@ -92,8 +92,8 @@ fn permission_mask(text: &[u8], at: usize, symbols: &[u8], end: usize, family: u
 }
 
 // The class and the permissions, behind the open parenthesis before them: C (P ...), and the close.
-fn scope_of(text: &[u8], at: usize, symbols: &[u8], end: usize) -> Scope
-    ensures { λ r. ⌜ Scopes (now (text .entry)) at (now (symbols .entry)) end r ⌝ }
+fn scope_of(text: &[u8], at: usize, symbols: &[u8]) -> Scope
+    ensures { λ r. ⌜ Scopes (now (text .entry)) at (now (symbols .entry)) r ⌝ }
 {
     let first = items::look(text, at);
     let Item::Word {
@@ -105,7 +105,7 @@ fn scope_of(text: &[u8], at: usize, symbols: &[u8], end: usize) -> Scope
     else {
         return Scope::Undeclared;
     };
-    let found = symbols::lookup(symbols, end, CLASSES, text, start, len);
+    let found = name_chains::lookup(symbols, CLASSES, text, start, len);
     let Found::At { number, .. } = found else {
         return Scope::Undeclared;
     };
@@ -116,7 +116,7 @@ fn scope_of(text: &[u8], at: usize, symbols: &[u8], end: usize) -> Scope
     let Item::Open { next, .. } = second else {
         return Scope::Undeclared;
     };
-    let masked = permission_mask(text, next, symbols, end, PERMISSIONS + number);
+    let masked = permission_mask(text, next, symbols, PERMISSIONS + number);
     let Masked::Mask { mask, next } = masked else {
         return Scope::Undeclared;
     };
@@ -188,13 +188,12 @@ pub fn write_constrain(
     text: &[u8],
     at: usize,
     symbols: &[u8],
-    end: usize,
     constraints: &mut [u8; CONSTRAINT_BYTES],
     count: usize,
     rows: &mut [u8; ROW_BYTES],
     row: usize,
 ) -> Constrained
-    ensures { λ r. ⌜ WritesConstrain (now (text .entry)) at (now (symbols .entry)) end (now (constraints .entry)) (now (constraints .exit)) count (now (rows .entry)) (now (rows .exit)) row r ⌝ }
+    ensures { λ r. ⌜ WritesConstrain (now (text .entry)) at (now (symbols .entry)) (now (constraints .entry)) (now (constraints .exit)) count (now (rows .entry)) (now (rows .exit)) row r ⌝ }
 {
     if Row::MAX < row {
         return Constrained::Full;
@@ -203,7 +202,7 @@ pub fn write_constrain(
     let Item::Open { next, .. } = first else {
         return Constrained::Undeclared;
     };
-    let scope = scope_of(text, next, symbols, end);
+    let scope = scope_of(text, next, symbols);
     let Scope::Of { class, mask, next } = scope else {
         return Constrained::Undeclared;
     };
@@ -211,7 +210,7 @@ pub fn write_constrain(
     let Item::Open { next, .. } = second else {
         return Constrained::Undeclared;
     };
-    let written = constraint_writer::write_constraint(text, next, LEVELS, symbols, end, rows, row);
+    let written = constraint_writer::write_constraint(text, next, LEVELS, symbols, rows, row);
     let RowsWritten::Next {
         row: past,
         need,

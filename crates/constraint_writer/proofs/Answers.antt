@@ -13,7 +13,7 @@ use Rattle.policy.specs.Reading.{referE}
 use Rattle.policy.specs.Rows.{rowsOf}
 use Rattle.policy.specs.Encode.{rowBytes}
 use Rattle.policy.specs.Names.{Environment}
-use Rattle.symbols.specs.Symbols.{Symbols}
+use Rattle.name_chains.specs.Symbols.{Symbols}
 use Rattle.constraint_writer.specs.Writing.{Writes}
 use Rattle.constraint_writer.specs.declared.RowsWritten.{RowsWritten}
 use Rattle.constraint_writer.proofs.Resolving.{rows-count, resolved, unresolved}
@@ -25,11 +25,11 @@ pub record Resolved (env : Environment) (e : Constraint Name) (before after : Li
   pub count : n ≡ row + size expression
   pub bytes : 6 * (row + size expression) ≤ length before → after ≡ put before (6 * row) (joined (each rowBytes (rowsOf expression)))
 
-module _ {t symbols before after : List ℕ} {at end row : ℕ} {m : Option (Constraint Name)} {env : Environment} {e : Constraint Name} (h : Symbols symbols end env) (g : m ≡ some e) where
-  pub undeclared : Writes t at m symbols end before after row RowsWritten.Undeclared → referE env e ≡ none
+module _ {t symbols before after : List ℕ} {at row : ℕ} {m : Option (Constraint Name)} {env : Environment} {e : Constraint Name} (h : Symbols symbols env) (g : m ≡ some e) where
+  pub undeclared : Writes t at m symbols before after row RowsWritten.Undeclared → referE env e ≡ none
   undeclared w = unresolved env e before after row (w .rows env e h g)
 
-  pub declared : {q n d : ℕ} → Writes t at m symbols end before after row (RowsWritten.Next q n d) → Resolved env e before after row n
+  pub declared : {q n d : ℕ} → Writes t at m symbols before after row (RowsWritten.Next q n d) → Resolved env e before after row n
   declared w =
       let r = resolved env e before after row (w .rows env e h g) in
       record {

@@ -20,7 +20,7 @@ use Rattle.items.proofs.Frames.{Looked}
 use Rattle.items.specs.declared.Item.{Item}
 use Rattle.items.proofs.Frames.{around-of, closes, by-word, by-part, by-close}
 use Rattle.items.proofs.Items.{Alike}
-use Rattle.symbols.specs.Symbols.{Symbols}
+use Rattle.name_chains.specs.Symbols.{Symbols}
 use Rattle.constraint_writer.specs.Writing.{Kept, Wrote, Writes}
 use Rattle.constraint_writer.specs.Comparing.{kindOf}
 use Rattle.constraint_writer.specs.declared.RowsWritten.{RowsWritten}
@@ -93,7 +93,7 @@ pub record SoFar (env : Environment) (e : Constraint Name) (f : Forms) (kind fir
   pub wrote : Wrote before now first done
 
 -- what holds before each operand and before the close: after count operands the next row is n, and d is needed of the stack
-pub record Loop (t : List ℕ) (at levels : ℕ) (symbols : List ℕ) (end kind first : ℕ) (before : List ℕ) (i n count d : ℕ) (now : List ℕ) : Type 0 where
+pub record Loop (t : List ℕ) (at levels : ℕ) (symbols : List ℕ) (kind first : ℕ) (before : List ℕ) (i n count d : ℕ) (now : List ℕ) : Type 0 where
   pub ahead : at < i
   pub rises : first ≤ n
   pub few : at + n ≤ i + first
@@ -103,7 +103,7 @@ pub record Loop (t : List ℕ) (at levels : ℕ) (symbols : List ℕ) (end kind 
   pub kept : Kept before now first
   pub needs : (e : Constraint Name) → expressionIn (trim (framesAt t at .here) levels) ≡ some e
       → needLeft (expressions (trim (framesAt t i .here) levels)) count d ≡ some (need e)
-  pub so-far : (env : Environment) (e : Constraint Name) → Symbols symbols end env → expressionIn (trim (framesAt t at .here) levels) ≡ some e
+  pub so-far : (env : Environment) (e : Constraint Name) → Symbols symbols env → expressionIn (trim (framesAt t at .here) levels) ≡ some e
       → SoFar env e (trim (framesAt t i .here) levels) kind first n before now
 
 -- ---- how an expression begins
@@ -138,9 +138,9 @@ module _ {t : List ℕ} {at s k number q : ℕ} (l : Looked t at (Item.Word s k 
     kind-is : kind ≡ kindOf (expressionWord (take k (drop s t)))
     kind-is = is ∙ ap kindOf (sym number-is)
 
-    pub begun : (kind ≡ 3 → ⊥) → {symbols before : List ℕ} {end first : ℕ} → Loop t at levels symbols end kind first before q first 0 0 before
+    pub begun : (kind ≡ 3 → ⊥) → {symbols before : List ℕ} {first : ℕ} → Loop t at levels symbols kind first before q first 0 0 before
     unfolding expressionIn
-    begun h {symbols} {before} {end} {first} = record {
+    begun h {symbols} {before} {first} = record {
       ahead = l .ahead .0;
       rises = omega arith;
       few = omega (arith, l .ahead .0);
@@ -243,15 +243,15 @@ module _ {env : Environment} {e : Constraint Name} {f : Forms} {kind first n : �
 
 -- ---- the turns of the loop
 
-module _ {t symbols before now : List ℕ} {at levels end kind first i n count d : ℕ} (g : Loop t at levels symbols end kind first before i n count d now) where
+module _ {t symbols before now : List ℕ} {at levels kind first i n count d : ℕ} (g : Loop t at levels symbols kind first before i n count d now) where
   -- what stands at the place is no operand
   pub no-operand : expressions (trim (framesAt t i .here) levels) ≡ none
-      → Writes t at (expressionIn (trim (framesAt t at .here) levels)) symbols end before now first RowsWritten.Undeclared
+      → Writes t at (expressionIn (trim (framesAt t at .here) levels)) symbols before now first RowsWritten.Undeclared
   no-operand o = record { kept = g .kept; reads = tt; needs = λ e h. tt; rows = λ env e y h. never (sym o ∙ g .so-far env e y h .reads) }
 
   module _ {p q : ℕ} {new : List ℕ} (l : Looked t i (Item.Open p q)) (deep : levels ≡ 0 → ⊥) where
-    pub operand-done : {past m a b : ℕ} → Writes t q (expressionIn (trim (framesAt t q .here) (levels - 1))) symbols end now new n (RowsWritten.Next past m a)
-        → b ≡ max d (count + a) → Loop t at levels symbols end kind first before past m (count + 1) b new
+    pub operand-done : {past m a b : ℕ} → Writes t q (expressionIn (trim (framesAt t q .here) (levels - 1))) symbols now new n (RowsWritten.Next past m a)
+        → b ≡ max d (count + a) → Loop t at levels symbols kind first before past m (count + 1) b new
     operand-done {past} {m} {a} {b} w f = record {
       ahead = omega (arith, g .ahead, l .ahead .0, w .reads .less);
       rises = omega (arith, g .rises, w .reads .some-row);
@@ -269,8 +269,8 @@ module _ {t symbols before now : List ℕ} {at levels end kind first i n count d
           (one-more (g .so-far env e y h) p _ _ (by-part expressions levels l deep) (λ x d. settles env x now new n (w .rows env x y d)));
     }
 
-    pub operand-undeclared : Writes t q (expressionIn (trim (framesAt t q .here) (levels - 1))) symbols end now new n RowsWritten.Undeclared
-        → Writes t at (expressionIn (trim (framesAt t at .here) levels)) symbols end before new first RowsWritten.Undeclared
+    pub operand-undeclared : Writes t q (expressionIn (trim (framesAt t q .here) (levels - 1))) symbols now new n RowsWritten.Undeclared
+        → Writes t at (expressionIn (trim (framesAt t at .here) levels)) symbols before new first RowsWritten.Undeclared
     operand-undeclared w = record {
       kept = kept-on (g .rises) (g .kept) (w .kept);
       reads = tt;
@@ -281,7 +281,7 @@ module _ {t symbols before now : List ℕ} {at levels end kind first i n count d
     }
 
   pub finished : {j : ℕ} {new : List ℕ} → Looked t i (Item.Close j) → Wrote now new n (row kind 0 0 0 ∷ [])
-      → Writes t at (expressionIn (trim (framesAt t at .here) levels)) symbols end before new first (RowsWritten.Next j (n + 1) d)
+      → Writes t at (expressionIn (trim (framesAt t at .here) levels)) symbols before new first (RowsWritten.Next j (n + 1) d)
   finished {j} {new} l w = record {
     kept = kept-on (g .rises) (g .kept) (w .kept);
     reads = record {

@@ -13,7 +13,7 @@ use Rattle.policy.specs.Rows.{compCode}
 use Rattle.policy.specs.Encode.{sortCode}
 use Rattle.policy.specs.Basics.{_>>=_}
 use Rattle.words.specs.Numbers.{wordOf}
-use Rattle.symbols.specs.Symbols.{Looks}
+use Rattle.name_chains.specs.Symbols.{Looks}
 use Rattle.symbols.specs.Resolving.{familyCode, foundNamed}
 use Rattle.symbols.specs.declared.Found.{Found}
 use Rattle.constraint_writer.specs.Comparing.{codeOf, operandOf, Compares}
@@ -94,12 +94,12 @@ none-found (some d) e = absurd (let z : _≡_ {A = ℕ} 0 1 = cc in omega arith)
 
 -- ---- the answers
 
-module _ (t : List ℕ) (start len number side : ℕ) (symbols : List ℕ) (end code : ℕ) (is : code ≡ codeOf (componentOf (wordOf number))) where
-  pub a-side : (code ≡ 6 → ⊥) → Compares t start len number side symbols end (Operand.Is 3 0)
+module _ (t : List ℕ) (start len number side : ℕ) (symbols : List ℕ) (code : ℕ) (is : code ≡ codeOf (componentOf (wordOf number))) where
+  pub a-side : (code ≡ 6 → ⊥) → Compares t start len number side symbols (Operand.Is 3 0)
   a-side h = record { operand = λ env f s y e. two-sides (componentOf (wordOf number)) _ (λ z. h (is ∙ z)) }
 
-  module _ (h : code ≡ 6) (r : Found) (e : Looks symbols end (side / 2) (parts.part t start len) r) where
-    by-reference : (k : Found) (o : Operand) → r ≡ k → ((x : Option Named) → foundNamed x ≡ k → o ≡ operandOf none (referred x)) → Compares t start len number side symbols end o
+  module _ (h : code ≡ 6) (r : Found) (e : Looks symbols (side / 2) (parts.part t start len) r) where
+    by-reference : (k : Found) (o : Operand) → r ≡ k → ((x : Option Named) → foundNamed x ≡ k → o ≡ operandOf none (referred x)) → Compares t start len number side symbols o
     unfolding parts.part refer
     by-reference k o g w = record {
       operand = λ env f s y d.
@@ -107,15 +107,15 @@ module _ (t : List ℕ) (start len number side : ℕ) (symbols : List ℕ) (end 
           rw (no-component (componentOf (wordOf number)) (sym is ∙ h)) (w (env .find f (take len (drop start t))) (sym found ∙ g));
     }
 
-    pub a-thing : (sort n : ℕ) → r ≡ Found.At sort n → sort < 3 → Compares t start len number side symbols end (Operand.Is 4 n)
+    pub a-thing : (sort n : ℕ) → r ≡ Found.At sort n → sort < 3 → Compares t start len number side symbols (Operand.Is 4 n)
     a-thing sort n g l = by-reference (Found.At sort n) (Operand.Is 4 n) g (λ x d. thing-found x sort n d l)
 
-    pub an-attribute : (sort n : ℕ) → r ≡ Found.At sort n → 3 ≤ sort → Compares t start len number side symbols end (Operand.Is 5 n)
+    pub an-attribute : (sort n : ℕ) → r ≡ Found.At sort n → 3 ≤ sort → Compares t start len number side symbols (Operand.Is 5 n)
     an-attribute sort n g l = by-reference (Found.At sort n) (Operand.Is 5 n) g (λ x d. attribute-found x sort n d l)
 
-    pub missing : r ≡ Found.Missing → Compares t start len number side symbols end Operand.Undeclared
+    pub missing : r ≡ Found.Missing → Compares t start len number side symbols Operand.Undeclared
     missing g = by-reference Found.Missing Operand.Undeclared g none-found
 
 -- what was answered
-pub compares-told : {t symbols : List ℕ} {start len number side end : ℕ} {r k : Operand} → Compares t start len number side symbols end r → r ≡ k → Compares t start len number side symbols end k
-compares-told {t} {symbols} {start} {len} {number} {side} {end} w e = subst (Compares t start len number side symbols end) e w
+pub compares-told : {t symbols : List ℕ} {start len number side : ℕ} {r k : Operand} → Compares t start len number side symbols r → r ≡ k → Compares t start len number side symbols k
+compares-told {t} {symbols} {start} {len} {number} {side} w e = subst (Compares t start len number side symbols) e w

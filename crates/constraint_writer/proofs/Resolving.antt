@@ -97,18 +97,18 @@ module _ (env : Environment) (e : Constraint Name) (before after : List ℕ) (fi
 
 -- ---- answers
 
-module _ {t symbols before after : List ℕ} {at end first : ℕ} where
+module _ {t symbols before after : List ℕ} {at first : ℕ} where
   -- what was answered
-  pub told : {m : Option (Constraint Name)} {r k : RowsWritten} → Writes t at m symbols end before after first r → r ≡ k → Writes t at m symbols end before after first k
-  told {m} w e = subst (Writes t at m symbols end before after first) e w
+  pub told : {m : Option (Constraint Name)} {r k : RowsWritten} → Writes t at m symbols before after first r → r ≡ k → Writes t at m symbols before after first k
+  told {m} w e = subst (Writes t at m symbols before after first) e w
 
   -- the form is not good
-  pub no-form : {m : Option (Constraint Name)} → Kept before after first → m ≡ none → Writes t at m symbols end before after first RowsWritten.Undeclared
+  pub no-form : {m : Option (Constraint Name)} → Kept before after first → m ≡ none → Writes t at m symbols before after first RowsWritten.Undeclared
   no-form k e = record { kept = k; reads = tt; needs = λ x h. tt; rows = λ env x y h. never (sym e ∙ h) }
 
   -- what is said of an expression at a place behind another where the rows around are the same
   pub moved : {q : ℕ} {m o : Option (Constraint Name)} {r : RowsWritten} → framesAt t q .around ≡ framesAt t at .around → at < q
-      → ((e : Constraint Name) → m ≡ some e → o ≡ some e) → Writes t q o symbols end before after first r → Writes t at m symbols end before after first r
+      → ((e : Constraint Name) → m ≡ some e → o ≡ some e) → Writes t q o symbols before after first r → Writes t at m symbols before after first r
   moved {q} {m} {o} {r} a h f w = record {
     kept = w .kept;
     reads = go r (w .reads);

@@ -9,7 +9,7 @@ use Rattle.policy.specs.Words.{Connective, allC, notC, andC, orC, xorC, Compone
 use Rattle.policy.specs.Names.{refer, Environment}
 use Rattle.policy.specs.Rows.{compCode, opCode}
 use Rattle.words.specs.Numbers.{wordOf}
-use Rattle.symbols.specs.Symbols.{Symbols}
+use Rattle.name_chains.specs.Symbols.{Symbols}
 use Rattle.constraint_writer.specs.declared.Operand.{Operand}
 
 -- "0 not, 1 and, 2 or"; 3 for no operator of E
@@ -39,6 +39,6 @@ operandOf none (some (thing n)) = Operand.Is 4 n
 operandOf none (some (attribute n)) = Operand.Is 5 n
 
 -- the word of len bytes at start, which has the number, is compared with a side of a family: it names a thing or an attribute of that family
-pub record Compares (t : List ℕ) (start len number side : ℕ) (symbols : List ℕ) (end : ℕ) (r : Operand) : Type 0 where
-  pub operand : (env : Environment) (f : Family) (s : Side) → Symbols symbols end env → side ≡ compCode f s
+pub record Compares (t : List ℕ) (start len number side : ℕ) (symbols : List ℕ) (r : Operand) : Type 0 where
+  pub operand : (env : Environment) (f : Family) (s : Side) → Symbols symbols env → side ≡ compCode f s
       → r ≡ operandOf (componentOf (wordOf number)) (refer env f (take len (drop start t)))

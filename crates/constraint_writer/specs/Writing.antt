@@ -14,7 +14,7 @@ use Rattle.policy.specs.Reading.{referE}
 use Rattle.policy.specs.Rows.{Row, rowsOf}
 use Rattle.policy.specs.Encode.{rowBytes}
 use Rattle.policy.specs.Names.{Environment}
-use Rattle.symbols.specs.Symbols.{Symbols}
+use Rattle.name_chains.specs.Symbols.{Symbols}
 use Rattle.constraint_writer.specs.declared.RowsWritten.{RowsWritten}
 
 -- each row of an expression has a byte of the text of its own, so that with so many bytes behind the place at the numbers of the rows from a row on
@@ -63,8 +63,8 @@ Reads t at row RowsWritten.Undeclared = Unit {0}
 
 -- m is the expression that stands at the place at, if its form is good. If it is not, the answer is free: promised is only what is kept, and that a
 -- place that is answered is past the close
-pub record Writes (t : List ℕ) (at : ℕ) (m : Option (Constraint Name)) (symbols : List ℕ) (end : ℕ) (before after : List ℕ) (row : ℕ) (r : RowsWritten) : Type 0 where
+pub record Writes (t : List ℕ) (at : ℕ) (m : Option (Constraint Name)) (symbols : List ℕ) (before after : List ℕ) (row : ℕ) (r : RowsWritten) : Type 0 where
   pub kept : Kept before after row
   pub reads : Reads t at row r
   pub needs : (e : Constraint Name) → m ≡ some e → Needs e r
-  pub rows : (env : Environment) (e : Constraint Name) → Symbols symbols end env → m ≡ some e → Resolves env e before after row r
+  pub rows : (env : Environment) (e : Constraint Name) → Symbols symbols env → m ≡ some e → Resolves env e before after row r

@@ -173,9 +173,8 @@ fn operand_of(
     number: usize,
     side: u8,
     symbols: &[u8],
-    end: usize,
 ) -> Operand
-    ensures { λ r. ⌜ Compares (now (text .entry)) start len number side (now (symbols .entry)) end r ⌝ }
+    ensures { λ r. ⌜ Compares (now (text .entry)) start len number side (now (symbols .entry)) r ⌝ }
 {
     if component_of(number) != Component::NONE {
         return Operand::Is {
@@ -184,7 +183,7 @@ fn operand_of(
         };
     }
     let family = (side / 2) as usize;
-    let found = symbols::lookup(symbols, end, family, text, start, len);
+    let found = name_chains::lookup(symbols, family, text, start, len);
     match found {
         Found::At { sort, number } => {
             if sort < FIRST_ATTRIBUTE {
@@ -208,12 +207,11 @@ fn comparison(
     at: usize,
     operator: usize,
     symbols: &[u8],
-    end: usize,
     rows: &mut [u8],
     row: usize,
 ) -> RowsWritten
     requires { ⌜ Countable (now text) at row ⌝ }
-    ensures { λ r. ⌜ Writes (now (text .entry)) at (grammar.comparison (wordOf operator) (framesAt (now (text .entry)) at .here)) (now (symbols .entry)) end (now (rows .entry)) (now (rows .exit)) row r ⌝ }
+    ensures { λ r. ⌜ Writes (now (text .entry)) at (grammar.comparison (wordOf operator) (framesAt (now (text .entry)) at .here)) (now (symbols .entry)) (now (rows .entry)) (now (rows .exit)) row r ⌝ }
 {
     let first = items::look(text, at);
     let Item::Word { number, next, .. } = first else {
@@ -234,7 +232,7 @@ fn comparison(
     let Item::Close { next } = last else {
         return RowsWritten::Undeclared;
     };
-    let operand = operand_of(text, start, len, number, side, symbols, end);
+    let operand = operand_of(text, start, len, number, side, symbols);
     let Operand::Is { kind, number } = operand else {
         return RowsWritten::Undeclared;
     };
@@ -264,12 +262,11 @@ pub fn write_constraint(
     at: usize,
     levels: usize,
     symbols: &[u8],
-    end: usize,
     rows: &mut [u8],
     row: usize,
 ) -> RowsWritten
     requires { ⌜ Countable (now text) at row ⌝ }
-    ensures { λ r. ⌜ Writes (now (text .entry)) at (grammar.expressionIn (trim (framesAt (now (text .entry)) at .here) levels)) (now (symbols .entry)) end (now (rows .entry)) (now (rows .exit)) row r ⌝ }
+    ensures { λ r. ⌜ Writes (now (text .entry)) at (grammar.expressionIn (trim (framesAt (now (text .entry)) at .here) levels)) (now (symbols .entry)) (now (rows .entry)) (now (rows .exit)) row r ⌝ }
 {
     let first = items::look(text, at);
     let Item::Word { number, next, .. } = first else {
@@ -277,7 +274,7 @@ pub fn write_constraint(
     };
     let kind = kind_of(number);
     if kind == Kind::SIDES {
-        return comparison(text, next, number, symbols, end, rows, row);
+        return comparison(text, next, number, symbols, rows, row);
     }
     let mut i = next;
     let mut n = row;
@@ -290,7 +287,7 @@ pub fn write_constraint(
                 if levels == 0 {
                     return RowsWritten::Undeclared;
                 }
-                let operand = write_constraint(text, inside, levels - 1, symbols, end, rows, n);
+                let operand = write_constraint(text, inside, levels - 1, symbols, rows, n);
                 let RowsWritten::Next { at, row, need: own } = operand else {
                     return RowsWritten::Undeclared;
                 };

@@ -19,17 +19,15 @@ use Rattle.policy.specs.Reading.{isNew, hasRoom}
 use Rattle.policy.specs.Encode.{NameEntry, nameEntry, permissionEntries, entriesOf, entries, entryBytes}
 use Rattle.policy.specs.Sound.{isGood, someGood, goodNames}
 use Rattle.policy.proofs.Lists.{both-true, true-both}
-use Rattle.policy.proofs.Counts.{few-classes}
 use Rattle.symbols.specs.Lookup.{familyNumber, firstNamed}
 use Rattle.symbols.specs.Resolving.{isFound}
 use Rattle.symbols.specs.declared.Found.{Found}
-use Rattle.symbols.specs.Index.{Indexed}
-use Rattle.symbols.proofs.ClassesFound.{class-found, few-permissions}
+use Rattle.symbols.proofs.ClassesFound.{class-found}
 use Rattle.symbols.proofs.Declaring.{entries-more}
-use Rattle.table_laws.proofs.NamesRoom.{name-short}
+use Rattle.table_laws.proofs.NamesRoom.{name-short, entries-room}
 use Rattle.declarations.specs.Counting.{Stands}
 use Rattle.declarations.specs.WordRows.{wordsIn, WordHere, WordIs, Inside}
-use Rattle.declarations.specs.Entering.{AllNew, Entered, Fitting, Enters, answerOf}
+use Rattle.declarations.specs.Entering.{Entered, Fitting, Enters, answerOf, Indexable}
 use Rattle.declarations.specs.Declaring.{Holds, Declares, DeclaresAt}
 use Rattle.declarations.specs.declared.Declared.{Declared}
 use Rattle.declarations.specs.declared.Added.{Added}
@@ -37,10 +35,10 @@ use Rattle.declarations.specs.declared.Standing.{Standing}
 use Rattle.declarations.specs.declared.NextWord.{NextWord}
 use Rattle.declarations.proofs.Holding.{room-for}
 use Rattle.declarations.proofs.EnteringLaws.{bytes-append, entered-then}
-use Rattle.declarations.proofs.Standings.{not-found}
-use Rattle.declarations.proofs.NewPermissions.{permissions-new}
+use Rattle.declarations.proofs.NewPermissions.{permissions-indexable}
 use Rattle.declarations.proofs.Formed.{class-has-word, class-here, class-named}
 use Rattle.declarations.proofs.NameAnswers.{taken-found, free-missing}
+use Rattle.name_chains.specs.Chains.{Chained}
 
 -- ---- good names are short
 
@@ -72,12 +70,12 @@ module _ (t : List ℕ) (at : ℕ) (before : List ℕ) (end : ℕ) where
     found ds = firstNamed (familyNumber 6 0) w (entries ds)
 
     -- "name declared again in its family"
-    pub class-taken : Stands before end 6 w Standing.Taken → DeclaresAt t at classK before before end Declared.Again
+    pub class-taken : Stands before 6 w Standing.Taken → DeclaresAt t at classK before before end Declared.Again
     class-taken q = record {
       says = λ ds d y g f.
           let c = class-named h d f in
           let has : isIn w (classNames ds) ≡ true =
-          sym (class-found ds w) ∙ taken-found (found ds) (length (classNames ds)) (q .classes ds y refl) in
+          sym (class-found ds w) ∙ taken-found (found ds) (length (classNames ds)) (q .classes end ds y refl) in
           subst (λ (x : Declaration). Declares before before end ds x Declared.Again) (sym (c .1)) (rw has, refl);
     }
 
@@ -93,9 +91,9 @@ module _ (t : List ℕ) (at : ℕ) (before : List ℕ) (end : ℕ) where
             (rw (not-true (differ ps) q) (and-false (not (isIn w (classNames ds)))), refl);
       }
 
-      module _ (number : ℕ) (q : Stands before end 6 w (Standing.Free number)) (once : not (differ ps) ≡ false) where
+      module _ (number : ℕ) (q : Stands before 6 w (Standing.Free number)) (once : not (differ ps) ≡ false) where
         is-free : {ds : List Declaration} → Holds before end ds → (isFound (found ds) ≡ false) × (length (classNames ds) ≡ number)
-        is-free {ds} y = free-missing (found ds) (length (classNames ds)) number (q .classes ds y refl)
+        is-free {ds} y = free-missing (found ds) (length (classNames ds)) number (q .classes end ds y refl)
 
         is-new : {ds : List Declaration} → Holds before end ds → isNew ds (class w ps) ≡ true
         is-new {ds} y =
@@ -162,13 +160,16 @@ module _ (t : List ℕ) (at : ℕ) (before : List ℕ) (end : ℕ) where
               short = short-permissions (number * 32) ps (names-of good .1);
             }
 
-            entries-new : {ds : List Declaration} → Holds before end ds → AllNew (entries ds) (one ++ others)
-            unfolding AllNew
-            entries-new {ds} y =
-                subst (λ (k : ℕ). AllNew (entries ds) (nameEntry 6 k w ∷ permissionEntries (k * 32) ps)) (count-is y) (
-                  not-found (found ds) (is-free y .0),
-                  omega (arith, few-classes ds (y .good)),
-                  permissions-new ds w (few-permissions [] ds (y .good)) (few-classes ds (y .good)) ps few (not-false (differ ps) once),
+            entries-indexable : {ds : List Declaration} → Holds before end ds → Indexable (entries ds) (one ++ others)
+            unfolding Indexable
+            entries-indexable {ds} y =
+                let room = entries-room ds (y .good) in
+                let fewer : length (classNames ds) < 32 = omega (arith, count-is y) in
+                subst (λ (k : ℕ). Indexable (entries ds) (nameEntry 6 k w ∷ permissionEntries (k * 32) ps)) (count-is y) (
+                  omega (arith, room, fewer),
+                  omega (arith, fewer),
+                  omega arith,
+                  permissions-indexable ds w fewer (omega (arith, room, fewer)) ps few,
                 )
 
             added : (a : Added) → Enters mid after past others a → (ds : List Declaration) → Holds before end ds
@@ -183,9 +184,9 @@ module _ (t : List ℕ) (at : ℕ) (before : List ℕ) (end : ℕ) where
                   long = x .long;
                   moved = x .moved;
                   fits = x .fits;
-                  indexed =
-                      subst (Indexed after next) (ap (λ (es : List NameEntry). entries ds ++ es) (entries-are y) ∙ sym (entries-more ds (class w ps)))
-                      (all .indexed (entries ds) (y .indexed) (entries-new y));
+                  chained =
+                      subst (Chained after next) (ap (λ (es : List NameEntry). entries ds ++ es) (entries-are y) ∙ sym (entries-more ds (class w ps)))
+                      (all .chained (entries ds) (y .chained) (entries-indexable y));
                 }
             added Added.NoRoom e ds y good = absurd (e .is (rest-fits ds y good))
 

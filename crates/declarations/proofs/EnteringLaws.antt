@@ -12,12 +12,12 @@ use Rattle.bitset.proofs.PartLaws.{length-part, put-none}
 use Rattle.policy.specs.Basics.{Name, each, All}
 use Rattle.policy.specs.Encode.{NameEntry, nameEntry, entryBytes, permissionEntries}
 use Rattle.policy.proofs.Lists.{each-append, joined-append, all-right}
-use Rattle.symbols.specs.Index as symbol
-use Rattle.symbols.specs.Index.{Indexed}
+use Rattle.name_chains.specs.Entered as symbol
+use Rattle.name_chains.specs.Chains.{Chained}
 use Rattle.symbols.proofs.AppendLaws.{put-sets, length-put}
 use Rattle.symbols.proofs.Appending.{entry-length}
 use Rattle.symbols.proofs.Declaring.{permission-more}
-use Rattle.declarations.specs.Entering.{AllNew, Entered, Fitting, Enters}
+use Rattle.declarations.specs.Entering.{Indexable, Entered, Fitting, Enters}
 use Rattle.declarations.specs.declared.Added.{Added}
 
 -- the bytes of entries
@@ -50,13 +50,13 @@ put-put t o us vs h =
 
 -- ---- some entries
 
--- the new ones among more
-new-then : (xs es fs : List NameEntry) → AllNew xs (es ++ fs) → AllNew xs es × AllNew (xs ++ es) fs
-unfolding AllNew
-new-then xs [] fs h = (tt, subst (λ (l : List NameEntry). AllNew l fs) (sym (append-nil xs)) h)
-new-then xs (e ∷ es) fs h =
-    let r = new-then (xs ++ (e ∷ [])) es fs (h .2) in
-    ((h .0, h .1, r .0), subst (λ (l : List NameEntry). AllNew l fs) (append-assoc xs (e ∷ []) es) (r .1))
+-- some and others
+indexable-then : (xs es fs : List NameEntry) → Indexable xs (es ++ fs) → Indexable xs es × Indexable (xs ++ es) fs
+unfolding Indexable
+indexable-then xs [] fs h = (tt, subst (λ (l : List NameEntry). Indexable l fs) (sym (append-nil xs)) h)
+indexable-then xs (e ∷ es) fs h =
+    let r = indexable-then (xs ++ (e ∷ [])) es fs (h .3) in
+    ((h .0, h .1, h .2, r .0), subst (λ (l : List NameEntry). Indexable l fs) (append-assoc xs (e ∷ []) es) (r .1))
 
 pub entered-then : {a b c : List ℕ} {end past next : ℕ} {es fs : List NameEntry} → Entered a b end es past → Entered b c past fs next → Entered a c end (es ++ fs) next
 entered-then {a} {b} {c} {end} {past} {next} {es} {fs} h g =
@@ -71,12 +71,12 @@ entered-then {a} {b} {c} {end} {past} {next} {es} {fs} h g =
       long = g .long ∙ h .long;
       moved = omega (arith, h .moved, g .moved, all);
       fits = g .fits;
-      indexed = λ xs i n.
-          let m = new-then xs es fs n in
-          subst (Indexed c next) (append-assoc xs es fs) (g .indexed (xs ++ es) (h .indexed xs i (m .0)) (m .1));
+      chained = λ xs i n.
+          let m = indexable-then xs es fs n in
+          subst (Chained c next) (append-assoc xs es fs) (g .chained (xs ++ es) (h .chained xs i (m .0)) (m .1));
     }
 
-pub entered-none : (a : List ℕ) (end : ℕ) → end ≤ 137088 → 186264 ≤ length a → Entered a a end [] end
+pub entered-none : (a : List ℕ) (end : ℕ) → end ≤ 137088 → 188648 ≤ length a → Entered a a end [] end
 unfolding each joined
 entered-none a end h room = record {
   room = room;
@@ -84,7 +84,7 @@ entered-none a end h room = record {
   long = refl;
   moved = omega arith;
   fits = h;
-  indexed = λ xs i n. subst (Indexed a end) (sym (append-nil xs)) i;
+  chained = λ xs i n. subst (Chained a end) (sym (append-nil xs)) i;
 }
 
 -- ---- one entry: the answers of `add`
@@ -105,8 +105,8 @@ module _ (t x : List ℕ) (end s n from len : ℕ) (present : from + len ≤ len
   pub no-room : end ≤ 137088 → 137088 - end < 4 + len → Enters t t end one Added.NoRoom
   no-room g h = record { is = λ f. omega (arith, f .room, long) }
 
-  pub appended : (u : List ℕ) (r : ℕ) → 186264 ≤ length t → symbol.Entered t u end (nameEntry s n (part x from len)) r → Enters t u end one (Added.Past r)
-  unfolding AllNew
+  pub appended : (u : List ℕ) (r : ℕ) → 188648 ≤ length t → symbol.Entered t u end (nameEntry s n (part x from len)) r → Enters t u end one (Added.Past r)
+  unfolding Indexable
   appended u r room a =
       let e = bytes-one (nameEntry s n (part x from len)) in
       record {
@@ -116,7 +116,7 @@ module _ (t x : List ℕ) (end s n from len : ℕ) (present : from + len ≤ len
           long = a .long;
           moved = a .past ∙ ap (λ (l : List ℕ). end + length l) (sym e);
           fits = a .inside;
-          indexed = λ xs i n. a .indexed xs i (n .0) (n .1);
+          chained = λ xs i n. a .chained xs i (n .0) (n .1) (n .2);
         };
       }
 
@@ -140,7 +140,7 @@ pub record SoFar (before now : List ℕ) (end first : ℕ) (ws left : List Name)
   pub many : length done ≡ place
   pub entered : Entered before now end (permissionEntries first done) past
 
-pub so-far-none : (a : List ℕ) (end first : ℕ) (ws : List Name) → end ≤ 137088 → 186264 ≤ length a → SoFar a a end first ws ws end 0
+pub so-far-none : (a : List ℕ) (end first : ℕ) (ws : List Name) → end ≤ 137088 → 188648 ≤ length a → SoFar a a end first ws ws end 0
 unfolding permissionEntries
 so-far-none a end first ws h room = record { done = []; whole = refl; many = refl; entered = entered-none a end h room }
 

@@ -3,44 +3,27 @@
 use mathlib.Core.Path.{_≡_, refl, sym, ap, subst, _∙_}
 use mathlib.Core.Bool.{true}
 use mathlib.Core.List.{List, [], _∷_, _++_, append-assoc, append-nil}
-use Prim.Native.Nat.{ℕ, _+_, _-_, _<_, _≤_}
-use native.Mathlib.Nat.{sub-zero}
+use Prim.Native.Nat.{ℕ, _+_, _-_, _≤_}
 use native.Mathlib.Omega.{arith}
 use lib.ListN.{length, take, drop, length-append}
 use lib.Seq.{length-take-le, take-at, take-take}
-use Rattle.bitset.specs.Parts.{part, put}
+use Rattle.bitset.specs.Parts.{put}
 use Rattle.bitset.specs.Relations.{joined}
 use Rattle.policy.specs.Basics.{each}
 use Rattle.policy.specs.Statements.{Declaration}
 use Rattle.policy.specs.Reading.{isNew, hasRoom}
-use Rattle.policy.specs.Encode.{NameEntry, entryBytes, entriesOf, entriesFrom, entries}
+use Rattle.policy.specs.Encode.{NameEntry, entryBytes, entriesOf, entries}
 use Rattle.policy.specs.Sound.{goodNames, goodFrom}
-use Rattle.policy.proofs.Gathered.{all-map}
 use Rattle.policy.proofs.Good.{GoodFirst, good-first, good-rest}
 use Rattle.policy.specs.Names.{environmentOf}
-use Rattle.symbols.specs.Symbols.{Symbols}
+use Rattle.name_chains.specs.Symbols.{Symbols}
 use Rattle.symbols.proofs.Declaring.{entries-more}
-use Rattle.symbols.proofs.ReadBack.{Small}
-use Rattle.symbols.proofs.Written.{entries-written}
-use Rattle.table_laws.proofs.NamesFit.{GoodEntry, entries-fit}
 use Rattle.table_laws.proofs.NamesRoom.{names-length, names-room}
 use Rattle.declarations.specs.Declaring.{sectionOf, Holds, Adds}
 use Rattle.declarations.proofs.EnteringLaws.{bytes-append}
 
-small : (ds : List Declaration) → goodFrom [] ds ≡ true → Small (entries ds)
-unfolding entries
-small ds h = all-map GoodEntry (λ (e : NameEntry). e .number < 65536) (λ e g. g .number) (entriesFrom [] ds) (entries-fit [] ds h)
-
-pub holds-symbols : {table : List ℕ} {end : ℕ} {ds : List Declaration} → Holds table end ds → Symbols table end (environmentOf ds)
-unfolding sectionOf part
-holds-symbols {table} {end} {ds} h = record {
-  declared = ds;
-  is = refl;
-  inside = h .inside;
-  holds = entries-written table 0 end (entries ds) (small ds (h .good)) (ap (λ (n : ℕ). take n table) (sub-zero end) ∙ h .front);
-  good = h .good;
-  indexed = h .indexed;
-}
+pub holds-symbols : {table : List ℕ} {end : ℕ} {ds : List Declaration} → Holds table end ds → Symbols table (environmentOf ds)
+holds-symbols {end = end} {ds} h = record { declared = ds; end = end; is = refl; good = h .good; chained = h .chained }
 
 -- ---- one more declaration
 
@@ -84,7 +67,7 @@ unfolding put
 adds-holds {before} {after} {end} {past} {ds} {d} h g a =
     let new = joined (each entryBytes (entriesOf ds d)) in
     let names = take 137088 before in
-    let names-end : take end names ≡ take end before = take-take end 137088 before (h .indexed .below) in
+    let names-end : take end names ≡ take end before = take-take end 137088 before (h .chained .below) in
     let front : length (take end names ++ new) ≡ past =
     length-append (take end names) new ∙ omega (arith, ap length names-end, length-take-le end before (h .inside), a .moved) in
     let is : take 137088 after ≡ (take end names ++ new) ++ drop (end + length new) names = a .written ∙ sym (append-assoc (take end names) new (drop (end + length new) names)) in
@@ -92,7 +75,7 @@ adds-holds {before} {after} {end} {past} {ds} {d} h g a =
       front =
           sym (take-take past 137088 after (a .fits)) ∙ ap (take past) is ∙ take-at (take end names ++ new) (drop (end + length new) names) past front
           ∙ ap (λ (l : List ℕ). l ++ new) (names-end ∙ h .front) ∙ sym (section-more ds d);
-      inside = omega (arith, a .fits, a .long, h .indexed .room);
-      indexed = a .indexed;
+      inside = omega (arith, a .fits, a .long, h .chained .room);
+      chained = a .chained;
       good = good-more ds d (h .good) (record { names = g; new = a .new; room = a .room });
     }

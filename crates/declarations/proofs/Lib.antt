@@ -1,5 +1,6 @@
 pub mod Standings
 pub mod Rows
+pub mod Fronts
 pub mod Repeating
 pub mod EnteringLaws
 pub mod Holding

@@ -16,25 +16,25 @@ use Rattle.policy.specs.Reading.{isNew, hasRoom}
 use Rattle.policy.specs.Encode.{NameEntry, nameEntry, sortCode, entriesOf, entries}
 use Rattle.policy.specs.Sound.{isGood}
 use Rattle.policy.proofs.Lists.{both-true}
+use Rattle.policy.proofs.Counts.{few-classes}
 use Rattle.symbols.specs.Lookup.{familyNumber, firstNamed}
-use Rattle.symbols.specs.Resolving.{isFound}
+use Rattle.symbols.specs.Resolving.{isFound, familyCode}
 use Rattle.symbols.specs.declared.Found.{Found}
-use Rattle.symbols.specs.Index.{Indexed}
-use Rattle.symbols.proofs.ReferencesFound.{reference-found, code-of}
+use Rattle.symbols.proofs.ReferencesFound.{reference-found, code-of, family-below}
 use Rattle.symbols.proofs.Declaring.{entries-more}
 use Rattle.table_laws.proofs.NamesFit.{code-below}
-use Rattle.table_laws.proofs.NamesRoom.{name-short}
+use Rattle.table_laws.proofs.NamesRoom.{name-short, entries-room}
 use Rattle.declarations.specs.Counting.{standing, MostIs, Stands}
 use Rattle.declarations.specs.WordRows.{WordHere, WordIs}
-use Rattle.declarations.specs.Entering.{AllNew, Entered, Enters, answerOf}
+use Rattle.declarations.specs.Entering.{Entered, Enters, answerOf, Indexable}
 use Rattle.declarations.specs.Declaring.{Holds, Declares, DeclaresName}
 use Rattle.declarations.specs.declared.Declared.{Declared}
 use Rattle.declarations.specs.declared.Added.{Added}
 use Rattle.declarations.specs.declared.Standing.{Standing}
 use Rattle.declarations.specs.declared.NextWord.{NextWord}
-use Rattle.declarations.proofs.Standings.{not-found, family-alone}
 use Rattle.declarations.proofs.Holding.{room-for}
 use Rattle.declarations.proofs.Formed.{plain-has-word, plain-here}
+use Rattle.name_chains.specs.Chains.{Chained}
 
 -- ---- what the walk said
 
@@ -75,18 +75,18 @@ module _ (t : List ℕ) (at sort : ℕ) (before : List ℕ) (end : ℕ) where
     is-in s e ds = ap (λ (n : ℕ). isFound (firstNamed n w (entries ds))) (ap (λ (x : ℕ). familyNumber x 0) e ∙ code-of s 0) ∙ reference-found ds (familyOf s) w
 
     -- "name declared again in its family"
-    pub name-taken : Stands before end sort w Standing.Taken → DeclaresName t at sort before before end Declared.Again
+    pub name-taken : Stands before sort w Standing.Taken → DeclaresName t at sort before before end Declared.Again
     name-taken q = record {
       of = λ s e. record {
         says = λ ds d y g f.
             subst (λ (x : Declaration). Declares before before end ds x Declared.Again) (sym (plain-here h s d g f .0))
-            (ap not (sym (is-in s e ds) ∙ taken-found (found ds) (count s ds) (q .names ds s y e)), refl);
+            (ap not (sym (is-in s e ds) ∙ taken-found (found ds) (count s ds) (q .names end ds s y e)), refl);
       };
     }
 
-    module _ {number most : ℕ} (q : Stands before end sort w (Standing.Free number)) (m : MostIs sort most) where
+    module _ {number most : ℕ} (q : Stands before sort w (Standing.Free number)) (m : MostIs sort most) where
       is-free : (s : Sort) → sort ≡ sortCode s → {ds : List Declaration} → Holds before end ds → (isFound (found ds) ≡ false) × (count s ds ≡ number)
-      is-free s e {ds} y = free-missing (found ds) (count s ds) number (q .names ds s y e)
+      is-free s e {ds} y = free-missing (found ds) (count s ds) number (q .names end ds s y e)
 
       is-new : (s : Sort) → sort ≡ sortCode s → {ds : List Declaration} → Holds before end ds → isNew ds (plain s w) ≡ true
       is-new s e {ds} y = ap not (sym (is-in s e ds) ∙ is-free s e y .0)
@@ -111,14 +111,15 @@ module _ (t : List ℕ) (at sort : ℕ) (before : List ℕ) (end : ℕ) where
         entries-are : (s : Sort) → sort ≡ sortCode s → {ds : List Declaration} → Holds before end ds → nameEntry sort number w ∷ [] ≡ entriesOf ds (plain s w)
         entries-are s e y = ap₂ (λ (k n : ℕ). nameEntry k n w ∷ []) e (sym (count-is s e y))
 
-        entry-new : (s : Sort) → sort ≡ sortCode s → {ds : List Declaration} → Holds before end ds → AllNew (entries ds) (nameEntry sort number w ∷ [])
-        unfolding AllNew
-        entry-new s e {ds} y = (
-          ap (λ (g : ℕ). firstNamed g w (entries ds)) (family-alone sort number 0 (omega (arith, code-below s)))
-              ∙ not-found (found ds) (is-free s e y .0),
-          omega (arith, l, m .is s e, most-small s),
-          tt,
-        )
+        entry-indexable : (s : Sort) → sort ≡ sortCode s → {ds : List Declaration} → Holds before end ds → Indexable (entries ds) (nameEntry sort number w ∷ [])
+        unfolding Indexable
+        entry-indexable s e {ds} y =
+            let family : familyNumber sort number ≡ familyCode (familyOf s) = ap (λ (x : ℕ). familyNumber x number) e ∙ code-of s number in (
+              omega (arith, entries-room ds (y .good), few-classes ds (y .good)),
+              omega (arith, l, m .is s e, most-small s),
+              omega (arith, family, family-below (familyOf s)),
+              tt,
+            )
 
         added : (a : Added) → Enters before after end (nameEntry sort number w ∷ []) a → (s : Sort) → sort ≡ sortCode s → (ds : List Declaration) → Holds before end ds
             → isGood w ≡ true → Declares before after end ds (plain s w) (answerOf a)
@@ -131,9 +132,9 @@ module _ (t : List ℕ) (at sort : ℕ) (before : List ℕ) (end : ℕ) where
               long = x .long;
               moved = x .moved;
               fits = x .fits;
-              indexed =
-                  subst (Indexed after past) (ap (λ (es : List NameEntry). entries ds ++ es) (entries-are s e y) ∙ sym (entries-more ds (plain s w)))
-                  (n .is .indexed (entries ds) (y .indexed) (entry-new s e y));
+              chained =
+                  subst (Chained after past) (ap (λ (es : List NameEntry). entries ds ++ es) (entries-are s e y) ∙ sym (entries-more ds (plain s w)))
+                  (n .is .chained (entries ds) (y .chained) (entry-indexable s e y));
             }
         added Added.NoRoom n s e ds y good =
             let room = room-for y (plain s w) good (is-new s e y) (has-room s e y) in

@@ -1,21 +1,17 @@
--- The permissions of a class that is declared last: those that differ are each new among the entries before it. Assumes nothing.
+-- The permissions of a class that is declared last: the index has room for them, and a chain for each. Assumes nothing.
 use mathlib.Core.Path.{_≡_, sym, ap, subst, _∙_}
-use mathlib.Core.Bool.{true}
 use mathlib.Core.List.{List, [], _∷_, _++_, append-assoc}
-use Prim.Native.Nat.{ℕ, _+_, _*_, _≤_}
+use Prim.Native.Nat.{ℕ, _+_, _*_, _≤_, _<_}
 use native.Mathlib.Omega.{arith}
 use lib.ListN.{length, length-append}
-use Rattle.policy.specs.Basics.{Name, differ, All}
+use Rattle.policy.specs.Basics.{Name}
 use Rattle.policy.specs.Statements.{Declaration, classNames}
 use Rattle.policy.specs.Encode.{NameEntry, nameEntry, permissionEntries, entries}
-use Rattle.symbols.specs.Lookup.{familyNumber, firstNamed}
-use Rattle.symbols.specs.Resolving.{FewPermissions}
-use Rattle.symbols.proofs.Declaring.{permission-more, permission-last-found}
-use Rattle.name_filter.proofs.Differing.{differ-new}
-use Rattle.declarations.specs.Entering.{AllNew}
-use Rattle.declarations.proofs.Standings.{not-found}
+use Rattle.symbols.proofs.Declaring.{permission-more}
+use Rattle.table_laws.proofs.NamesRoom.{permissions-length}
+use Rattle.declarations.specs.Entering.{Indexable}
 
-module _ (ds : List Declaration) (v : Name) (few : All FewPermissions ds) (small : length (classNames ds) ≤ 32) where
+module _ (ds : List Declaration) (v : Name) (small : length (classNames ds) < 32) (short : length (entries ds) ≤ 1983) where
   abbrev number : ℕ
   number = length (classNames ds)
 
@@ -23,27 +19,28 @@ module _ (ds : List Declaration) (v : Name) (few : All FewPermissions ds) (small
   abbrev sofar : List Name → List NameEntry
   sofar qs = entries ds ++ (nameEntry 6 number v ∷ permissionEntries (number * 32) qs)
 
+  sofar-long : (qs : List Name) → length (sofar qs) ≡ length (entries ds) + 1 + length qs
+  sofar-long qs = omega (arith, length-append (entries ds) (nameEntry 6 number v ∷ permissionEntries (number * 32) qs), permissions-length (number * 32) qs)
+
   -- the permissions qs stand before; ps are the others
-  pub permissions-after : (qs ps : List Name) → length (qs ++ ps) ≤ 32 → differ (qs ++ ps) ≡ true → AllNew (sofar qs) (permissionEntries (number * 32 + length qs) ps)
-  unfolding AllNew permissionEntries
-  permissions-after qs [] h d = tt
-  permissions-after qs (p ∷ ps) h d =
+  permissions-after : (qs ps : List Name) → length (qs ++ ps) ≤ 32 → Indexable (sofar qs) (permissionEntries (number * 32 + length qs) ps)
+  unfolding Indexable permissionEntries
+  permissions-after qs [] h = tt
+  permissions-after qs (p ∷ ps) h =
       let long = length-append qs (p ∷ ps) in
-      let family : familyNumber 7 (number * 32 + length qs) ≡ 4 + number = omega arith in
       let next : sofar qs ++ (nameEntry 7 (number * 32 + length qs) p ∷ []) ≡ sofar (qs ++ (p ∷ [])) =
       append-assoc (entries ds) (nameEntry 6 number v ∷ permissionEntries (number * 32) qs) (nameEntry 7 (number * 32 + length qs) p ∷ [])
       ∙ ap (λ (es : List NameEntry). entries ds ++ (nameEntry 6 number v ∷ es)) (sym (permission-more (number * 32) qs p)) in
       let joined : (qs ++ (p ∷ [])) ++ ps ≡ qs ++ (p ∷ ps) = append-assoc qs (p ∷ []) ps in
       let count : number * 32 + length (qs ++ (p ∷ [])) ≡ number * 32 + length qs + 1 = omega (arith, length-append qs (p ∷ [])) in (
-        ap (λ (f : ℕ). firstNamed f p (sofar qs)) family
-            ∙ not-found (firstNamed (4 + number) p (sofar qs)) (permission-last-found ds v qs p few (omega arith) ∙ differ-new qs p ps d),
+        omega (arith, sofar-long qs),
         omega arith,
-        subst (λ (es : List NameEntry). AllNew es (permissionEntries (number * 32 + length qs + 1) ps)) (sym next)
-            (subst (λ (n : ℕ). AllNew (sofar (qs ++ (p ∷ []))) (permissionEntries n ps)) count
-            (permissions-after (qs ++ (p ∷ [])) ps (rw joined h) (rw joined d))),
+        omega arith,
+        subst (λ (es : List NameEntry). Indexable es (permissionEntries (number * 32 + length qs + 1) ps)) (sym next)
+            (subst (λ (n : ℕ). Indexable (sofar (qs ++ (p ∷ []))) (permissionEntries n ps)) count (permissions-after (qs ++ (p ∷ [])) ps (rw joined h))),
       )
 
-  pub permissions-new : (ps : List Name) → length ps ≤ 32 → differ ps ≡ true → AllNew (entries ds ++ (nameEntry 6 number v ∷ [])) (permissionEntries (number * 32) ps)
+  pub permissions-indexable : (ps : List Name) → length ps ≤ 32 → Indexable (entries ds ++ (nameEntry 6 number v ∷ [])) (permissionEntries (number * 32) ps)
   unfolding permissionEntries
-  permissions-new ps h d =
-      subst (λ (n : ℕ). AllNew (entries ds ++ (nameEntry 6 number v ∷ [])) (permissionEntries n ps)) (omega arith) (permissions-after [] ps h d)
+  permissions-indexable ps h =
+      subst (λ (n : ℕ). Indexable (entries ds ++ (nameEntry 6 number v ∷ [])) (permissionEntries n ps)) (omega arith) (permissions-after [] ps h)

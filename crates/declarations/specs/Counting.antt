@@ -14,9 +14,9 @@ use Rattle.declarations.specs.Declaring.{Holds}
 use Rattle.declarations.specs.declared.Standing.{Standing}
 
 -- "Things are numbered from 0 in text order within their sort": so many of a sort are declared; sort 6 is class
-pub record Counts (table : List ℕ) (end sort r : ℕ) : Type 0 where
-  pub things : (ds : List Declaration) (s : Sort) → Holds table end ds → sort ≡ sortCode s → r ≡ statements.count s ds
-  pub classes : (ds : List Declaration) → Holds table end ds → sort ≡ 6 → r ≡ length (classNames ds)
+pub record Counts (table : List ℕ) (sort r : ℕ) : Type 0 where
+  pub things : (end : ℕ) (ds : List Declaration) (s : Sort) → Holds table end ds → sort ≡ sortCode s → r ≡ statements.count s ds
+  pub classes : (end : ℕ) (ds : List Declaration) → Holds table end ds → sort ≡ 6 → r ≡ length (classNames ds)
 
 -- "Users 128, roles 128, types 512, attributes 64 per family"
 pub record MostIs (sort r : ℕ) : Type 0 where
@@ -28,7 +28,7 @@ standing (Found.At s n) k = Standing.Taken
 standing Found.Missing k = Standing.Free k
 
 -- what the symbols say of the name w, in the family of a sort
-pub record Stands (table : List ℕ) (end sort : ℕ) (w : Name) (r : Standing) : Type 0 where
-  pub names : (ds : List Declaration) (s : Sort) → Holds table end ds → sort ≡ sortCode s
+pub record Stands (table : List ℕ) (sort : ℕ) (w : Name) (r : Standing) : Type 0 where
+  pub names : (end : ℕ) (ds : List Declaration) (s : Sort) → Holds table end ds → sort ≡ sortCode s
       → r ≡ standing (firstNamed (familyNumber sort 0) w (entries ds)) (statements.count s ds)
-  pub classes : (ds : List Declaration) → Holds table end ds → sort ≡ 6 → r ≡ standing (firstNamed (familyNumber sort 0) w (entries ds)) (length (classNames ds))
+  pub classes : (end : ℕ) (ds : List Declaration) → Holds table end ds → sort ≡ 6 → r ≡ standing (firstNamed (familyNumber sort 0) w (entries ds)) (length (classNames ds))

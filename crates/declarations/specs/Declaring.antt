@@ -15,21 +15,21 @@ use Rattle.policy.specs.Grammar.{formed}
 use Rattle.policy.specs.Reading.{isNew, hasRoom}
 use Rattle.policy.specs.Encode.{sortCode, entryBytes, entriesOf, entries}
 use Rattle.policy.specs.Sound.{goodFrom}
-use Rattle.symbols.specs.Index.{Indexed}
+use Rattle.name_chains.specs.Chains.{Chained}
 use Rattle.declarations.specs.declared.Declared.{Declared}
 
 -- body 1 of the declarations: "Names in text order, permissions directly after their class"
 unfoldable pub sectionOf : List Declaration → List ℕ
 sectionOf ds = joined (each entryBytes (entries ds))
 
--- the memory begins with the symbols of ds, which end at a place, and has an index of them
+-- the memory begins with the symbols of ds, which end at a place, and has their chains
 pub record Holds (table : List ℕ) (end : ℕ) (ds : List Declaration) : Type 0 where
   pub front : take end table ≡ sectionOf ds
   pub inside : end ≤ length table
   pub good : goodFrom [] ds ≡ true
-  pub indexed : Indexed table end (entries ds)
+  pub chained : Chained table end (entries ds)
 
--- the entries of d are written behind those of ds, nothing else is changed before the index, and the index has them: neither fault 4 nor fault 6
+-- the entries of d are written behind those of ds, nothing else is changed before the chains, and the chains have them: neither fault 4 nor fault 6
 pub record Adds (before after : List ℕ) (end past : ℕ) (ds : List Declaration) (d : Declaration) : Type 0 where
   pub new : isNew ds d ≡ true
   pub room : hasRoom ds d ≡ true
@@ -37,7 +37,7 @@ pub record Adds (before after : List ℕ) (end past : ℕ) (ds : List Declaratio
   pub long : length after ≡ length before
   pub moved : past ≡ end + length (joined (each entryBytes (entriesOf ds d)))
   pub fits : past ≤ 137088
-  pub indexed : Indexed after past (entries (ds ++ (d ∷ [])))
+  pub chained : Chained after past (entries (ds ++ (d ∷ [])))
 
 -- "name declared again in its family, or permission twice in a class" before "one of the other maxima passed". A declaration that is refused leaves
 -- the memory as it was

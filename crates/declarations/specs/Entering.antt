@@ -7,26 +7,26 @@ use Rattle.bitset.specs.Parts.{put}
 use Rattle.bitset.specs.Relations.{joined}
 use Rattle.policy.specs.Basics.{each, All}
 use Rattle.policy.specs.Encode.{NameEntry, entryBytes}
-use Rattle.symbols.specs.Lookup.{familyNumber, firstNamed}
-use Rattle.symbols.specs.Index.{Indexed}
-use Rattle.symbols.specs.declared.Found.{Found}
+use Rattle.symbols.specs.Lookup.{familyNumber}
+use Rattle.name_chains.specs.Chains.{Chained}
 use Rattle.declarations.specs.declared.Declared.{Declared}
 use Rattle.declarations.specs.declared.Added.{Added}
 
--- none of the entries es is found among the entries xs and those before it, and their numbers fit 2 bytes
-unfoldable pub AllNew : List NameEntry → List NameEntry → Type 0
-AllNew xs [] = Unit {0}
-AllNew xs (e ∷ es) = (firstNamed (familyNumber (e .sort) (e .number)) (e .name) xs ≡ Found.Missing) × (e .number < 65536) × AllNew (xs ++ (e ∷ [])) es
+-- there is room in the index for the entries es behind the entries xs, and a chain for each of them: their numbers fit 2 bytes, and their families are
+-- among the 36
+unfoldable pub Indexable : List NameEntry → List NameEntry → Type 0
+Indexable xs [] = Unit {0}
+Indexable xs (e ∷ es) = (length xs < 2048) × (e .number < 65536) × (familyNumber (e .sort) (e .number) < 36) × Indexable (xs ++ (e ∷ [])) es
 
--- the bytes of some entries stand at the end, nothing else is changed before the index, and past is the place behind them. The index has them, if it
--- had the entries before them and they are new
+-- the bytes of some entries stand at the end, nothing else is changed before the index, and past is the place behind them. The chains have them, if they
+-- had the entries before them and there is room
 pub record Entered (before after : List ℕ) (end : ℕ) (es : List NameEntry) (past : ℕ) : Type 0 where
-  pub room : 186264 ≤ length before
+  pub room : 188648 ≤ length before
   pub written : take 137088 after ≡ put (take 137088 before) end (joined (each entryBytes es))
   pub long : length after ≡ length before
   pub moved : past ≡ end + length (joined (each entryBytes es))
   pub fits : past ≤ 137088
-  pub indexed : (xs : List NameEntry) → Indexed before end xs → AllNew xs es → Indexed after past (xs ++ es)
+  pub chained : (xs : List NameEntry) → Chained before end xs → Indexable xs es → Chained after past (xs ++ es)
 
 -- there is room for them, and each name is short enough: "1 to 64 bytes"
 pub record Fitting (end : ℕ) (es : List NameEntry) : Type 0 where

@@ -1,12 +1,13 @@
 -- The words of a row, as far as it is of words alone, and how a row goes on at a place of a text. Assumes nothing.
 use Prim.Native.Nat.{ℕ, _+_, _<_, _≤_}
 use mathlib.Core.Path.{_≡_}
-use mathlib.Core.Bool.{Bool}
+use mathlib.Core.Bool.{Bool, _||_}
 use mathlib.Core.List.{List, [], _∷_}
+use lib.Dec.{eqb, ltb}
 use lib.ListN.{length, take}
 use Rattle.bitset.specs.Parts as parts
 use Rattle.lexer.specs.Forms.{Forms, closed, ended, word, part, framesAt}
-use Rattle.policy.specs.Basics.{Name, isIn}
+use Rattle.policy.specs.Basics.{Name, any, isIn}
 use Rattle.declarations.specs.declared.NextWord.{NextWord}
 
 -- the words before anything else
@@ -19,6 +20,11 @@ wordsIn (part p i after) = []
 -- a name is one of the first k words of the row at a place
 abbrev pub isAmongFirst : List ℕ → ℕ → ℕ → Name → Bool
 isAmongFirst t at k w = isIn w (take k (wordsIn (framesAt t at .here)))
+
+-- whether a name may be among the first k words of a row, by its first eight bytes and those that are kept of the row's words: not, where those of all k
+-- are kept and are others
+abbrev pub mayBeAmong : List ℕ → ℕ → ℕ → Bool
+mayBeAmong fronts k front = ltb (length fronts) k || any (eqb front) (take k fronts)
 
 -- the row at a place starts with the word of n bytes at s
 pub record WordHere (t : List ℕ) (at s n : ℕ) : Type 0 where

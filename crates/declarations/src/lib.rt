@@ -4,7 +4,7 @@ ghost use mathlib.Core.Path.{_≡_};
 ghost use mathlib.Core.Bool.{not, false};
 ghost use mathlib.Core.List.{[], _∷_};
 ghost use Prim.Native.Nat.{_+_, _≤_, _<_};
-ghost use lib.ListN.{length};
+ghost use lib.ListN.{length, set};
 ghost use Rattle.bitset.specs.Parts.{part};
 ghost use Rattle.lexer.specs.Forms.{framesAt};
 ghost use Rattle.policy.specs.Basics as basics;
@@ -12,15 +12,15 @@ ghost use Rattle.policy.specs.Basics.{differ};
 ghost use Rattle.policy.specs.Encode.{nameEntry, permissionEntries};
 ghost use Rattle.policy.specs.Words.{classK};
 ghost use Rattle.declarations.specs.Counting.{Counts, MostIs, Stands};
-ghost use Rattle.declarations.specs.WordRows.{wordsIn, isAmongFirst, WordIs, Inside};
+ghost use Rattle.declarations.specs.WordRows.{wordsIn, isAmongFirst, mayBeAmong, WordIs, Inside};
 ghost use Rattle.declarations.specs.Entering.{Enters, answerOf};
 ghost use Rattle.declarations.specs.Declaring.{DeclaresAt, DeclaresName};
 use lexer::Token;
 use symbols::Found;
 
-// The memory of the symbols: their entries, and behind the room for them their index. With no names the index is empty
-// (`symbols::clear_index`).
-pub const SYMBOL_BYTES: usize = symbols::SYMBOL_BYTES;
+// The memory of the symbols: their entries, and behind the room for them their chains. With no names the chains are empty
+// (`name_chains::clear`).
+pub const SYMBOL_BYTES: usize = name_chains::SYMBOL_BYTES;
 
 // What declaring a name comes to: the new end of the symbols, fault 4, or fault 6.
 pub enum Declared {
@@ -59,8 +59,8 @@ const CLASS: usize = 6;
 const PERMISSION: usize = 7;
 
 // How many entries of a sort there are.
-pub fn count(symbols: &[u8], end: usize, sort: usize) -> usize
-    ensures { λ r. ⌜ Counts (now (symbols .entry)) end sort r ⌝ }
+pub fn count(symbols: &[u8], sort: usize) -> usize
+    ensures { λ r. ⌜ Counts (now (symbols .entry)) sort r ⌝ }
 {
     if symbols.len() < SYMBOL_BYTES {
         return 0;
@@ -68,7 +68,7 @@ pub fn count(symbols: &[u8], end: usize, sort: usize) -> usize
     if PERMISSION < sort {
         return 0;
     }
-    symbols::entered(symbols, sort)
+    name_chains::entered(symbols, sort)
 }
 
 // How many names of a sort of things or attributes there may be.
@@ -99,14 +99,14 @@ fn same_name(a: &[u8], i: usize, m: usize, b: &[u8], j: usize, n: usize) -> bool
 }
 
 // What the symbols say of the name of len bytes of the text from a place on: its family has it, or how many its sort has.
-fn stands(symbols: &[u8], end: usize, sort: usize, text: &[u8], from: usize, len: usize) -> Standing
-    ensures { λ r. ⌜ Stands (now (symbols .entry)) end sort (part (now (text .entry)) from len) r ⌝ }
+fn stands(symbols: &[u8], sort: usize, text: &[u8], from: usize, len: usize) -> Standing
+    ensures { λ r. ⌜ Stands (now (symbols .entry)) sort (part (now (text .entry)) from len) r ⌝ }
 {
     let family = symbols::family_of(sort, 0);
-    let found = symbols::lookup(symbols, end, family, text, from, len);
+    let found = name_chains::lookup(symbols, family, text, from, len);
     match found {
         Found::At { .. } => Standing::Taken,
-        Found::Missing => Standing::Free(count(symbols, end, sort)),
+        Found::Missing => Standing::Free(count(symbols, sort)),
     }
 }
 
@@ -120,7 +120,7 @@ fn add(
     from: usize,
     len: usize,
 ) -> Added
-    requires { ⌜ (sort < 8) × (from + len ≤ length (now text)) × (186264 ≤ length (now symbols)) ⌝ }
+    requires { ⌜ (sort < 8) × (from + len ≤ length (now text)) × (188648 ≤ length (now symbols)) ⌝ }
     ensures { λ r. ⌜ Enters (now (symbols .entry)) (now (symbols .exit)) end (nameEntry sort number (part (now (text .entry)) from len) ∷ []) r ⌝ }
 {
     if lexer::Name::MAX < len {
@@ -132,7 +132,7 @@ fn add(
     if symbols::NAME_BYTES - end < 4 + len {
         return Added::NoRoom;
     }
-    Added::Past(symbols::enter(symbols, end, sort, number, text, from, len))
+    Added::Past(name_chains::enter(symbols, end, sort, number, text, from, len))
 }
 
 // What the writing of a declaration's last entries comes to.
@@ -188,7 +188,7 @@ pub fn declare(
     let NextWord::At { start, len } = name else {
         return Declared::Full;
     };
-    let known = stands(symbols, end, sort, text, start, len);
+    let known = stands(symbols, sort, text, start, len);
     let Standing::Free(number) = known else {
         return Declared::Again;
     };
@@ -219,25 +219,56 @@ fn is_among_first(text: &[u8], at: usize, count: usize, start: usize, len: usize
     false
 }
 
-// The same, where a filter of these names was asked first: only a name that shares its marks with them is compared.
-fn is_repeated(text: &[u8], at: usize, count: usize, start: usize, len: usize, shares: bool) -> bool
-    requires { ⌜ (start + len ≤ length (now text)) × (shares ≡ false → isAmongFirst (now text) at count (part (now text) start len) ≡ false) ⌝ }
+// Whether a name may be among the first of a row, of so many of them, by the first eight bytes of each: not where those of all are lent and are others.
+fn may_be_among(fronts: &[usize], count: usize, front: usize) -> bool
+    ensures { λ r. ⌜ r ≡ mayBeAmong (now (fronts .entry)) count front ⌝ }
+{
+    if fronts.len() < count {
+        return true;
+    }
+    let mut k: usize = 0;
+    while k < count {
+        if fronts[k] == front {
+            return true;
+        }
+        k += 1;
+    }
+    false
+}
+
+// Keeps the first eight bytes of a name by the name's number in the row, if there is room for so many.
+fn keep_front(fronts: &mut [usize], k: usize, front: usize)
+    ensures { λ _. ⌜ now (fronts .exit) ≡ set (now (fronts .entry)) k front ⌝ }
+{
+    if k < fronts.len() {
+        fronts[k] = front;
+    }
+}
+
+// Whether a name is one of the first of the row, where their first eight bytes were asked first: only a name that may be among them is compared with them.
+fn is_repeated(
+    text: &[u8],
+    at: usize,
+    count: usize,
+    start: usize,
+    len: usize,
+    possible: bool,
+) -> bool
+    requires { ⌜ (start + len ≤ length (now text)) × (possible ≡ false → isAmongFirst (now text) at count (part (now text) start len) ≡ false) ⌝ }
     ensures { λ r. ⌜ r ≡ isAmongFirst (now (text .entry)) at count (part (now (text .entry)) start len) ⌝ }
 {
-    if !shares {
+    if !possible {
         return false;
     }
     is_among_first(text, at, count, start, len)
 }
 
-// The words of the filter of a class's permissions. A class may name thousands, which are then too many: even these do not fill it.
-const FILTER_WORDS: usize = 2048;
-
-// Whether a name stands twice in the row at a place: each is looked for among those before it.
+// Whether a name stands twice in the row at a place: each is looked for among those before it. The first eight bytes are kept of as many names as a class
+// may have.
 fn repeats(text: &[u8], at: usize) -> bool
     ensures { λ r. ⌜ r ≡ not (differ (wordsIn (framesAt (now (text .entry)) at .here))) ⌝ }
 {
-    let mut filter = [0u64; FILTER_WORDS];
+    let mut fronts = [0usize; policy::Permission::MAX];
     let mut i = at;
     let mut count: usize = 0;
     loop {
@@ -245,11 +276,12 @@ fn repeats(text: &[u8], at: usize) -> bool
         let NextWord::At { start, len } = name else {
             return false;
         };
-        let hash = name_filter::hash_of(text, start, start + len, 0);
-        let shares = name_filter::mark(&mut filter, hash);
-        if is_repeated(text, at, count, start, len, shares) {
+        let front = name_chains::front_of(bitset::part(text, start, len));
+        let possible = may_be_among(&fronts, count, front);
+        if is_repeated(text, at, count, start, len, possible) {
             return true;
         }
+        keep_front(&mut fronts, count, front);
         count += 1;
         i = start + len;
     }
@@ -274,7 +306,7 @@ fn count_names(text: &[u8], at: usize) -> usize
 // Writes the entries of a class's permissions, the names in the row at a place, numbered from a first number on. The caller
 // counts them before: a class with too many is refused with nothing written.
 fn add_permissions(symbols: &mut [u8], end: usize, first: usize, text: &[u8], at: usize) -> Added
-    requires { ⌜ (first ≤ 1024) × (end ≤ 137088) × (186264 ≤ length (now symbols)) × (length (wordsIn (framesAt (now text) at .here)) ≤ 32) ⌝ }
+    requires { ⌜ (first ≤ 1024) × (end ≤ 137088) × (188648 ≤ length (now symbols)) × (length (wordsIn (framesAt (now text) at .here)) ≤ 32) ⌝ }
     ensures { λ r. ⌜ Enters (now (symbols .entry)) (now (symbols .exit)) end (permissionEntries first (wordsIn (framesAt (now (text .entry)) at .here))) r ⌝ }
 {
     let mut i = at;
@@ -309,7 +341,7 @@ pub fn declare_class(
     let NextWord::At { start, len } = name else {
         return Declared::Full;
     };
-    let known = stands(symbols, end, CLASS, text, start, len);
+    let known = stands(symbols, CLASS, text, start, len);
     let Standing::Free(number) = known else {
         return Declared::Again;
     };

@@ -1,2 +1,1 @@
 pub mod FilterLaws
-pub mod Differing

@@ -18,7 +18,7 @@ use Rattle.policy.proofs.Lists.{both-true, true-both, every-append}
 use Rattle.policy.proofs.Good.{GoodFirst, good-first, good-rest}
 use Rattle.table_laws.proofs.ListLaws.{if-some}
 use Rattle.symbols.proofs.Declaring.{entries-more, permission-more}
-use Rattle.name_filter.proofs.Differing.{differ-more, differ-new}
+use Rattle.policy.proofs.Differing.{differ-more, differ-new}
 use Rattle.name_section.specs.Declaring.{Kind, ofThing, ofClass, ofPermission, ofNothing, kindOf, Declaring, complete, opened, declared, closes, isPlaced, isUnused, extended, mayFollow, declaring, finished, declares}
 
 -- ---- kinds

@@ -12,7 +12,7 @@ use Rattle.symbols.specs.Lookup.{familyNumber, isNamed, firstNamed}
 use Rattle.symbols.specs.Resolving.{isFound}
 use Rattle.symbols.specs.declared.Found.{Found}
 use Rattle.symbols.proofs.Searching.{orFound, first-cons, first-append}
-use Rattle.symbols.proofs.Indexing.{named-is}
+use Rattle.symbols.proofs.Searching.{named-is}
 use Rattle.name_filter.specs.Filter.{hashOf, isMarked, marked}
 use Rattle.name_filter.proofs.FilterLaws.{marked-long, covers-none, covers-more, unmarked}
 use Rattle.name_section.specs.Filter.{Knows}

@@ -56,14 +56,14 @@ module _ {p : Policy} {lent : Memory} {sy co cs rs : List ℕ} {s : Progress} (h
   table-holds : declaring.Holds sy (s .symbols) (declarations p)
   unfolding symbolsOf
   table-holds = record {
-    front = sym (take-take (s .symbols) 137088 sy (h .indexed .below)) ∙ front (h .symbols);
-    inside = omega (arith, h .indexed .below, h .indexed .room);
+    front = sym (take-take (s .symbols) 137088 sy (h .chained .below)) ∙ front (h .symbols);
+    inside = omega (arith, h .chained .below, h .chained .room);
     good = h .accepted .names;
-    indexed = h .indexed;
+    chained = h .chained;
   }
 
   names-long : length (take 137088 sy) ≡ 137088
-  names-long = length-take-le 137088 sy (omega (arith, h .indexed .room))
+  names-long = length-take-le 137088 sy (omega (arith, h .chained .room))
 
   module _ (place : ℕ) where
     filled-declared : {sy' co' : List ℕ} {past to : ℕ} (d : Declaration) → declaring.Adds sy sy' (s .symbols) past (declarations p) d
@@ -73,7 +73,7 @@ module _ {p : Policy} {lent : Memory} {sy co cs rs : List ℕ} {s : Progress} (h
         let l = line place (declare d) in
         record {
           symbols = rw (symbols-more p l d refl) (put-behind (h .symbols) _ _ _ (a .written) (a .moved) (omega (arith, a .fits, names-long)));
-          indexed = rw (declared-more p l d refl) (a .indexed);
+          chained = rw (declared-more p l d refl) (a .chained);
           code = rw (code-last p l) (wrote-behind (h .code) _ _ _ w f);
           constraints = rw (constraints-same p l refl) (h .constraints);
           rows = rw (rows-same p l refl) (h .rows);
@@ -90,7 +90,7 @@ module _ {p : Policy} {lent : Memory} {sy co cs rs : List ℕ} {s : Progress} (h
         let l = line place st in
         record {
           symbols = rw (symbols-same p l d) (h .symbols);
-          indexed = rw (declared-same p l d) (h .indexed);
+          chained = rw (declared-same p l d) (h .chained);
           code = rw (code-last p l) (wrote-behind (h .code) _ _ _ w f);
           constraints = rw (constraints-same p l k) (h .constraints);
           rows = rw (rows-same p l k) (h .rows);
@@ -117,7 +117,7 @@ module _ {p : Policy} {lent : Memory} {sy co cs rs : List ℕ} {s : Progress} (h
         let numbered : next ≡ rowCount (constrains p ++ (k ∷ [])) = omega (arith, a .next-row, h .row-count, row-count-more (constrains p) k) in
         record {
           symbols = rw (symbols-same p l refl) (h .symbols);
-          indexed = rw (declared-same p l refl) (h .indexed);
+          chained = rw (declared-same p l refl) (h .chained);
           code = rw (code-last p l, append-nil) (h .code);
           constraints = rw (constraints-more p l k refl) (put-behind (h .constraints) head cs' (10 * (s .constraints + 1))
               (a .head ∙ ap (λ (n : ℕ). put cs (10 * s .constraints) (headBytes (headOf c ps e n))) (h .row-count))
@@ -223,7 +223,7 @@ module _ {p : Policy} {lent : Memory} {sy co co' cs rs : List ℕ} {s : Progress
       go false e = stepped-as p place lent (memory sy co' cs rs) (judged false e) (step false e) refl
 
 module _ {t : List ℕ} {at place : ℕ} {sy co co' cs rs : List ℕ} {s : Progress} (kind : CodedKind) where
-  pub coded-steps : (r : Coded) → WritesStatement t at (codedKeyword kind) place sy (s .symbols) co (s .code) co' r
+  pub coded-steps : (r : Coded) → WritesStatement t at (codedKeyword kind) place sy co (s .code) co' r
       → Steps t at place (codedKeyword kind) (memory sy co cs rs) (memory sy co' cs rs) s (codedStep kind r s)
   coded-steps r a = record { says = says }
     where
@@ -274,7 +274,7 @@ module _ {p : Policy} {lent : Memory} {sy co cs rs : List ℕ} {s : Progress} (h
   constrained-sized place cs' rs' wide long Constrained.Deep a = stepped-as p place lent (memory sy co cs' rs') (judged-constrained true false (a .0) (a .1)) refl refl
 
 module _ {t : List ℕ} {at place : ℕ} {sy co cs cs' rs rs' : List ℕ} {s : Progress} where
-  pub constrained-steps : (r : Constrained) → WritesConstrain t at sy (s .symbols) cs cs' (s .constraints) rs rs' (s .rows) r
+  pub constrained-steps : (r : Constrained) → WritesConstrain t at sy cs cs' (s .constraints) rs rs' (s .rows) r
       → Steps t at place constrainK (memory sy co cs rs) (memory sy co cs' rs') s (constrainedStep r s)
   constrained-steps r a = record { says = says }
     where

@@ -39,9 +39,10 @@ use Rattle.code_laws.specs.Weight.{weight}
 use Rattle.code_laws.proofs.TextWeight.{text-weight}
 use Rattle.code_laws.proofs.StatementShape.{statement-fits}
 use Rattle.code_laws.proofs.CodeFits.{part-fits}
-use Rattle.symbols.specs.Index.{Indexed, Cleared}
+use Rattle.name_chains.specs.Chains.{Chained}
+use Rattle.name_chains.specs.Entered.{Cleared}
 use Rattle.declarations.specs.Declaring.{sectionOf}
-use Rattle.parser.specs.Memory.{Memory, symbolsOf, constraintsOf, rowsOf, Holds, Reads, memory, Starts, Parses, ParsesIndexed}
+use Rattle.parser.specs.Memory.{Memory, symbolsOf, constraintsOf, rowsOf, Holds, Reads, memory, Starts, Parses, ParsesCleared}
 use Rattle.parser.specs.Steps.{Filled, Stepped, RowIs, Room, StepsAt, nothingRead}
 use Rattle.parser.specs.declared.Progress.{Progress}
 use Rattle.parser.specs.declared.Parsed.{Parsed}
@@ -63,12 +64,12 @@ nothing-accepted : Accepted []
 unfolding declarations transitions constrains gather goodFrom rowCount
 nothing-accepted = record { names = refl; statements = tt; few-transitions = omega arith; few-constrains = omega arith; few-rows = omega arith }
 
-nothing-holds : (lent : Memory) → Indexed (lent .symbols) 0 [] → Holds [] lent lent nothingRead
+nothing-holds : (lent : Memory) → Chained (lent .symbols) 0 [] → Holds [] lent lent nothingRead
 unfolding symbolsOf sectionOf codeOf constraintsOf rowsOf declarations transitions constrains gather rowCount entries entriesFrom headsFrom joined each
 nothing-holds lent index = record {
   accepted = nothing-accepted;
   symbols = empty;
-  indexed = index;
+  chained = index;
   code = empty;
   constraints = empty;
   rows = empty;
@@ -81,7 +82,7 @@ no-code : length (codeOf []) ≡ 0
 unfolding codeOf joined each
 no-code = refl
 
-pub begins : (t : List ℕ) (lent : Memory) → scan t ≡ Scanned.Clean → Indexed (lent .symbols) 0 [] → Rest t 0 lent lent nothingRead
+pub begins : (t : List ℕ) (lent : Memory) → scan t ≡ Scanned.Clean → Chained (lent .symbols) 0 [] → Rest t 0 lent lent nothingRead
 unfolding formsOf
 begins t lent clean index = record {
   sofar = [];
@@ -231,7 +232,7 @@ module _ {t : List ℕ} {at place next past : ℕ} {lent now : Memory} {s : Prog
         holds = record {
           accepted = statement-accepted (r .sofar) (inner r o) place st (r .holds .accepted) (inner-names r o .0) j;
           symbols = g .symbols;
-          indexed = g .indexed;
+          chained = g .chained;
           code = g .code;
           constraints = g .constraints;
           rows = g .rows;
@@ -276,7 +277,7 @@ module _ (lent other c k r : List ℕ) (same : take 137088 other ≡ take 137088
   lent-alike (policy p) now (Parsed.Accepted s) h = record {
     accepted = h .accepted;
     symbols = subst (λ (l : List ℕ). Starts l (symbolsOf p) (take 137088 (now .symbols)) (s .symbols)) same (h .symbols);
-    indexed = h .indexed;
+    chained = h .chained;
     code = h .code;
     constraints = h .constraints;
     rows = h .rows;
@@ -288,9 +289,9 @@ module _ (lent other c k r : List ℕ) (same : take 137088 other ≡ take 137088
   lent-alike (refused n at) now (Parsed.Accepted s) h = h
   lent-alike (refused n at) now (Parsed.Refused m q) h = h
 
--- with the index cleared first, the text is read whatever the memory held
-pub parses : {t lent other c k r : List ℕ} {now : Memory} {y : Parsed} → Cleared lent other → 186264 ≤ length lent → ParsesIndexed t (memory other c k r) now y
+-- with the chains cleared first, the text is read whatever the memory held
+pub parses : {t lent other c k r : List ℕ} {now : Memory} {y : Parsed} → Cleared lent other → 188648 ≤ length lent → ParsesCleared t (memory other c k r) now y
     → Parses t (memory lent c k r) now y
-parses {t} {lent} {other} {c} {k} {r} {now} {y} index room h = record {
-  reads = λ clean. lent-alike lent other c k r (index .front room) (readFrom (formsOf t) []) now y (h .reads clean (index .indexed room));
+parses {t} {lent} {other} {c} {k} {r} {now} {y} cleared room h = record {
+  reads = λ clean. lent-alike lent other c k r (cleared .front room) (readFrom (formsOf t) []) now y (h .reads clean (cleared .chained room));
 }

@@ -15,7 +15,7 @@ use Rattle.policy.specs.Accepted.{Accepted}
 use Rattle.policy.specs.Image.{ConstraintEntry, constraintEntry}
 use Rattle.policy.specs.Encode.{entries, headBytes, headsFrom, rowBytes}
 use Rattle.statement_code.specs.Code.{codeOf}
-use Rattle.symbols.specs.Index.{Indexed}
+use Rattle.name_chains.specs.Chains.{Chained}
 use Rattle.declarations.specs.Declaring.{sectionOf}
 use Rattle.parser.specs.declared.Progress.{Progress}
 use Rattle.parser.specs.declared.Parsed.{Parsed}
@@ -52,7 +52,7 @@ pub record Starts (lent content now : List ℕ) (end : ℕ) : Type 0 where
 pub record Holds (p : Policy) (lent now : Memory) (s : Progress) : Type 0 where
   pub accepted : Accepted p
   pub symbols : Starts (take 137088 (lent .symbols)) (symbolsOf p) (take 137088 (now .symbols)) (s .symbols)
-  pub indexed : Indexed (now .symbols) (s .symbols) (entries (declarations p))
+  pub chained : Chained (now .symbols) (s .symbols) (entries (declarations p))
   pub code : Starts (lent .code) (codeOf p) (now .code) (s .code)
   pub constraints : Starts (lent .constraints) (constraintsOf p) (now .constraints) (10 * s .constraints)
   pub rows : Starts (lent .rows) (rowsOf p) (now .rows) (6 * s .rows)
@@ -67,10 +67,10 @@ Reads (policy p) lent now (Parsed.Refused m q) = ⊥
 Reads (refused n at) lent now (Parsed.Accepted s) = ⊥
 Reads (refused n at) lent now (Parsed.Refused m q) = (m ≡ n) × (q ≡ at)
 
--- for every text that the scan leaves clean, whatever the lent memory held. What the index behind the symbols holds is free
+-- for every text that the scan leaves clean, whatever the lent memory held. What the chains behind the symbols hold is free
 pub record Parses (t : List ℕ) (lent now : Memory) (r : Parsed) : Type 0 where
   pub reads : scan t ≡ Scanned.Clean → Reads (readFrom (formsOf t) []) lent now r
 
--- the same where the index is known to be empty
-pub record ParsesIndexed (t : List ℕ) (lent now : Memory) (r : Parsed) : Type 0 where
-  pub reads : scan t ≡ Scanned.Clean → Indexed (lent .symbols) 0 [] → Reads (readFrom (formsOf t) []) lent now r
+-- the same where the chains are known to be empty
+pub record ParsesCleared (t : List ℕ) (lent now : Memory) (r : Parsed) : Type 0 where
+  pub reads : scan t ≡ Scanned.Clean → Chained (lent .symbols) 0 [] → Reads (readFrom (formsOf t) []) lent now r

@@ -16,7 +16,7 @@ use Rattle.policy.specs.Grammar.{formed, written}
 use Rattle.policy.specs.Reading.{Judged, reads, fault, naming, rowCount}
 use Rattle.policy.specs.Answers.{familyOf, relationOf}
 use Rattle.policy.specs.Encode.{entries}
-use Rattle.symbols.specs.Index.{Indexed}
+use Rattle.name_chains.specs.Chains.{Chained}
 use Rattle.statement_code.specs.Code.{statementCode, codeOf}
 use Rattle.declarations.specs.declared.Declared.{Declared}
 use Rattle.statement_writer.specs.declared.Coded.{Coded}
@@ -35,7 +35,7 @@ codedKeyword CodedKind.Transition = transitionK
 -- the lent memory holds what the statements of p leave there
 pub record Filled (p : Policy) (lent now : Memory) (s : Progress) : Type 0 where
   pub symbols : Starts (take 137088 (lent .symbols)) (symbolsOf p) (take 137088 (now .symbols)) (s .symbols)
-  pub indexed : Indexed (now .symbols) (s .symbols) (entries (declarations p))
+  pub chained : Chained (now .symbols) (s .symbols) (entries (declarations p))
   pub code : Starts (lent .code) (codeOf p) (now .code) (s .code)
   pub constraints : Starts (lent .constraints) (constraintsOf p) (now .constraints) (10 * s .constraints)
   pub rows : Starts (lent .rows) (rowsOf p) (now .rows) (6 * s .rows)

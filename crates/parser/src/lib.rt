@@ -11,7 +11,7 @@ ghost use Rattle.policy.specs.Encode.{sortCode};
 ghost use Rattle.policy.specs.Answers.{familyOf};
 ghost use Rattle.items.specs.Looks.{itemAt};
 ghost use Rattle.statement_writer.specs.Coding.{WritesStatement};
-ghost use Rattle.parser.specs.Memory.{memory, Parses, ParsesIndexed};
+ghost use Rattle.parser.specs.Memory.{memory, Parses, ParsesCleared};
 ghost use Rattle.parser.specs.Steps.{codedKeyword, Steps, StepsAt, declaredStep, withCode, codedStep, constrainedStep, nothingRead};
 use constrain_statement::CONSTRAINT_BYTES;
 use constrain_statement::Constrained;
@@ -157,21 +157,20 @@ fn write_coded(
     place: u16,
     kind: CodedKind,
     symbols: &[u8; SYMBOL_BYTES],
-    end: usize,
     code: &mut [u16; CODE_UNITS],
     to: usize,
 ) -> Coded
-    ensures { λ r. ⌜ WritesStatement (now (text .entry)) at (codedKeyword kind) place (now (symbols .entry)) end (now (code .entry)) to (now (code .exit)) r ⌝ }
+    ensures { λ r. ⌜ WritesStatement (now (text .entry)) at (codedKeyword kind) place (now (symbols .entry)) (now (code .entry)) to (now (code .exit)) r ⌝ }
 {
     match kind {
         CodedKind::Set(family) => {
-            statement_writer::write_attribute_set(text, at, place, family, symbols, end, code, to)
+            statement_writer::write_attribute_set(text, at, place, family, symbols, code, to)
         }
         CodedKind::Relation(relation) => {
-            statement_writer::write_relation(text, at, place, relation, symbols, end, code, to)
+            statement_writer::write_relation(text, at, place, relation, symbols, code, to)
         }
         CodedKind::Transition => {
-            statement_writer::write_transition(text, at, place, symbols, end, code, to)
+            statement_writer::write_transition(text, at, place, symbols, code, to)
         }
     }
 }
@@ -222,8 +221,7 @@ fn coded(
     ensures { λ r. ⌜ ((cs rs : List ℕ) → Steps (now (text .entry)) at place (codedKeyword kind)
         (memory (now (symbols .entry)) (now (code .entry)) cs rs) (memory (now (symbols .entry)) (now (code .exit)) cs rs) progress r) ⌝ }
 {
-    let end = progress.symbols;
-    let written = write_coded(text, at, place, kind, symbols, end, code, progress.code);
+    let written = write_coded(text, at, place, kind, symbols, code, progress.code);
     coded_step(kind, written, progress)
 }
 
@@ -269,7 +267,6 @@ fn constrain(
         text,
         at,
         symbols,
-        progress.symbols,
         constraints,
         progress.constraints,
         rows,
@@ -364,15 +361,15 @@ fn nothing_read() -> Progress
     }
 }
 
-// The statements of a text that the scan leaves clean, with an index that is empty. In such a text only a statement or the end can come next.
-fn parse_indexed(
+// The statements of a text that the scan leaves clean, with chains that are empty. In such a text only a statement or the end can come next.
+fn parse_cleared(
     text: &[u8],
     symbols: &mut [u8; SYMBOL_BYTES],
     code: &mut [u16; CODE_UNITS],
     constraints: &mut [u8; CONSTRAINT_BYTES],
     rows: &mut [u8; ROW_BYTES],
 ) -> Parsed
-    ensures { λ r. ⌜ ParsesIndexed (now (text .entry))
+    ensures { λ r. ⌜ ParsesCleared (now (text .entry))
         (memory (now (symbols .entry)) (now (code .entry)) (now (constraints .entry)) (now (rows .entry)))
         (memory (now (symbols .exit)) (now (code .exit)) (now (constraints .exit)) (now (rows .exit))) r ⌝ }
 {
@@ -427,6 +424,6 @@ pub fn parse(
         (memory (now (symbols .entry)) (now (code .entry)) (now (constraints .entry)) (now (rows .entry)))
         (memory (now (symbols .exit)) (now (code .exit)) (now (constraints .exit)) (now (rows .exit))) r ⌝ }
 {
-    symbols::clear_index(symbols);
-    parse_indexed(text, symbols, code, constraints, rows)
+    name_chains::clear(symbols);
+    parse_cleared(text, symbols, code, constraints, rows)
 }

@@ -4,4 +4,5 @@ pub mod Gathered
 pub mod Good
 pub mod IfAny
 pub mod Counts
+pub mod Differing
 pub mod Environments

@@ -20,7 +20,7 @@ use Rattle.statement_code.specs.Code.{setCode}
 use Rattle.code_laws.specs.Weight.{weight}
 use Rattle.code_laws.proofs.TextWeight.{frames-weight}
 use Rattle.code_laws.proofs.SetShape.{set-fits}
-use Rattle.symbols.specs.Symbols.{Symbols}
+use Rattle.name_chains.specs.Symbols.{Symbols}
 use Rattle.set_writer.specs.Sets.{Past, Answers, WritesSet}
 use Rattle.set_writer.specs.declared.SetWritten.{SetWritten}
 
@@ -33,9 +33,9 @@ pub record Stands (t : List ℕ) (at : ℕ) (before : List ℕ) (to : ℕ) (s : 
   pub past : Past t at to close (to + length (setCode s))
   pub code : after ≡ put before to (setCode s)
 
-module _ {t : List ℕ} {at levels : ℕ} {table : List ℕ} {end family : ℕ} {before : List ℕ} {to : ℕ} {after : List ℕ} (env : Environment) (f : Family) (w : SetExpr Name)
-    (y : Symbols table end env) (e : familyCode f ≡ family) (g : setIn (trim (framesAt t at .here) levels) ≡ some w) where
-  pub when-declared : (r : SetWritten) → WritesSet t at levels table end family before to after r → (s : SetExpr Reference) → referS env f w ≡ some s
+module _ {t : List ℕ} {at levels : ℕ} {table : List ℕ} {family : ℕ} {before : List ℕ} {to : ℕ} {after : List ℕ} (env : Environment) (f : Family) (w : SetExpr Name)
+    (y : Symbols table env) (e : familyCode f ≡ family) (g : setIn (trim (framesAt t at .here) levels) ≡ some w) where
+  pub when-declared : (r : SetWritten) → WritesSet t at levels table family before to after r → (s : SetExpr Reference) → referS env f w ≡ some s
       → to + length (setCode s) ≤ length before → Stands t at before to s after r
   when-declared SetWritten.Undeclared h s d room = absurd (subst (λ (o : Option (SetExpr Reference)). Answers before to o after SetWritten.Undeclared) d (h .says env f w y e g))
   when-declared (SetWritten.Next q u) h s d room =
@@ -43,7 +43,7 @@ module _ {t : List ℕ} {at levels : ℕ} {table : List ℕ} {end family : ℕ} 
       let same : u ≡ to + length (setCode s) = a .past room in
       record { close = q; is = ap (SetWritten.Next q) same; past = subst (Past t at to q) same (h .moves); code = a .code room }
 
-  pub when-undeclared : (r : SetWritten) → WritesSet t at levels table end family before to after r → referS env f w ≡ none → r ≡ SetWritten.Undeclared
+  pub when-undeclared : (r : SetWritten) → WritesSet t at levels table family before to after r → referS env f w ≡ none → r ≡ SetWritten.Undeclared
   when-undeclared SetWritten.Undeclared h d = refl
   when-undeclared (SetWritten.Next q u) h d = absurd (subst (λ (o : Option (SetExpr Reference)). Answers before to o after (SetWritten.Next q u)) d (h .says env f w y e g))
 

@@ -18,7 +18,7 @@ use Rattle.items.specs.declared.Item.{Item}
 use Rattle.items.proofs.Frames.{around-of, closes, by-word, by-part, by-close, by-end, too-deep}
 use Rattle.statement_code.specs.Code.{referenceUnit, setCode, endUnit}
 use Rattle.set_writer.specs.Writing.{Wrote, Keeps, Stored}
-use Rattle.symbols.specs.Symbols.{Symbols}
+use Rattle.name_chains.specs.Symbols.{Symbols}
 use Rattle.set_writer.specs.Naming.{Refers}
 use Rattle.set_writer.specs.Sets.{Begins, Past, Moves, Answers, WritesSet}
 use Rattle.set_writer.specs.declared.Begun.{Begun}
@@ -29,18 +29,18 @@ use Rattle.set_writer.proofs.Referring.{known, unknown}
 use Rattle.set_writer.proofs.Leaving.{split-word, split-part, is-name, Left, begun, step, stop, done, cut, undeclared}
 
 -- between two operands: the row at hand is that of S, and what is left of S stands in it
-pub record Going (t : List ℕ) (at levels : ℕ) (table : List ℕ) (end family : ℕ) (before : List ℕ) (to i : ℕ) (code : List ℕ) (u : ℕ) : Type 0 where
+pub record Going (t : List ℕ) (at levels : ℕ) (table : List ℕ) (family : ℕ) (before : List ℕ) (to i : ℕ) (code : List ℕ) (u : ℕ) : Type 0 where
   pub low : at ≤ i
   pub around : framesAt t i .around ≡ framesAt t at .around
   pub keeps : Keeps before to code
   pub ahead : to ≤ u
-  pub left : (env : Environment) (f : Family) (w : SetExpr Name) → Symbols table end env → familyCode f ≡ family
+  pub left : (env : Environment) (f : Family) (w : SetExpr Name) → Symbols table env → familyCode f ≡ family
       → setIn (trim (framesAt t at .here) levels) ≡ some w → Left env f w before to (trim (framesAt t i .here) levels) code u
 
 -- the operator is written
-pub going : {t : List ℕ} {at : ℕ} (levels : ℕ) (table : List ℕ) (end family : ℕ) {before code : List ℕ} {to u : ℕ} {r : Begun} → Begins t at r → Stored before to (r .operator) code u
-    → Going t at levels table end family before to (r .next) code u
-going levels table end family b s = record {
+pub going : {t : List ℕ} {at : ℕ} (levels : ℕ) (table : List ℕ) (family : ℕ) {before code : List ℕ} {to u : ℕ} {r : Begun} → Begins t at r → Stored before to (r .operator) code u
+    → Going t at levels table family before to (r .next) code u
+going levels table family b s = record {
   low = b .ahead;
   around = b .around;
   keeps = s .keeps;
@@ -64,8 +64,8 @@ unwritten none code u after h = refl
 unwritten (some s) code u after h = absurd h
 
 -- the place past the close of an operand that was written
-pub past : {t : List ℕ} {at levels : ℕ} {table : List ℕ} {end family : ℕ} {before : List ℕ} {to : ℕ} {after : List ℕ} {r : SetWritten} {q u : ℕ}
-    → WritesSet t at levels table end family before to after r → r ≡ SetWritten.Next q u → Past t at to q u
+pub past : {t : List ℕ} {at levels : ℕ} {table : List ℕ} {family : ℕ} {before : List ℕ} {to : ℕ} {after : List ℕ} {r : SetWritten} {q u : ℕ}
+    → WritesSet t at levels table family before to after r → r ≡ SetWritten.Next q u → Past t at to q u
 past {t} {at} {to = to} h e = subst (Moves t at to) e (h .moves)
 
 refer-name : (env : Environment) (f : Family) (n : Name) (o : Option Reference) → refer env f n ≡ o → referS env f (nameS n) ≡ (o >>= λ r. some (nameS r))
@@ -76,26 +76,26 @@ name-code : (r : Reference) (unit : ℕ) → referenceUnit r ≡ unit → unit �
 unfolding setCode
 name-code r unit e = rw e
 
-module _ {t : List ℕ} {at levels : ℕ} {table : List ℕ} {end family : ℕ} {before : List ℕ} {to i : ℕ} {code : List ℕ} {u : ℕ}
-    (o : Going t at levels table end family before to i code u) where
+module _ {t : List ℕ} {at levels : ℕ} {table : List ℕ} {family : ℕ} {before : List ℕ} {to i : ℕ} {code : List ℕ} {u : ℕ}
+    (o : Going t at levels table family before to i code u) where
   -- the row at hand by what stands in it
   by-row : {env : Environment} {f : Family} {w : SetExpr Name} {c : List ℕ} {v : ℕ} (g h : Forms) → operands g ≡ operands h → Left env f w before to g c v → Left env f w before to h c v
   by-row g h e l = record { each = l .each; row = sym e ∙ l .row; units = l .units; wrote = l .wrote; whole = l .whole }
 
   -- an undeclared name is found, the code as far as it is written
-  stops : {after : List ℕ} → Keeps before to after → ((env : Environment) (f : Family) (w : SetExpr Name) → Symbols table end env → familyCode f ≡ family
-      → setIn (trim (framesAt t at .here) levels) ≡ some w → referS env f w ≡ none) → WritesSet t at levels table end family before to after SetWritten.Undeclared
+  stops : {after : List ℕ} → Keeps before to after → ((env : Environment) (f : Family) (w : SetExpr Name) → Symbols table env → familyCode f ≡ family
+      → setIn (trim (framesAt t at .here) levels) ≡ some w → referS env f w ≡ none) → WritesSet t at levels table family before to after SetWritten.Undeclared
   stops {after} k h = record { keeps = k; moves = tt; says = λ env f w y e g. undeclared before after to (referS env f w) (h env f w y e g) }
 
   -- ---- a word
 
-  module _ {s n k q : ℕ} (l : Looked t i (Item.Word s n k q)) {r : Referred} (m : Refers table end family (parts.part t s n) r) where
-    left-word : (env : Environment) (f : Family) (w : SetExpr Name) → Symbols table end env → familyCode f ≡ family → setIn (trim (framesAt t at .here) levels) ≡ some w
+  module _ {s n k q : ℕ} (l : Looked t i (Item.Word s n k q)) {r : Referred} (m : Refers table family (parts.part t s n) r) where
+    left-word : (env : Environment) (f : Family) (w : SetExpr Name) → Symbols table env → familyCode f ≡ family → setIn (trim (framesAt t at .here) levels) ≡ some w
         → Left env f w before to (word s (take n (drop s t)) (trim (framesAt t q .here) levels)) code u
     left-word env f w y e g = by-row _ _ (by-word operands levels l) (o .left env f w y e g)
 
     -- that is declared
-    pub past-word : {unit v : ℕ} {after : List ℕ} → r ≡ Referred.Unit unit → Stored code u unit after v → Going t at levels table end family before to q after v
+    pub past-word : {unit v : ℕ} {after : List ℕ} → r ≡ Referred.Unit unit → Stored code u unit after v → Going t at levels table family before to q after v
     unfolding parts.part
     past-word {unit} {v} {after} h st = record {
       low = omega (arith, o .low, l .ahead .0);
@@ -111,7 +111,7 @@ module _ {t : List ℕ} {at levels : ℕ} {table : List ℕ} {end family : ℕ} 
     }
 
     -- that is not
-    pub stop-word : r ≡ Referred.Missing → WritesSet t at levels table end family before to code SetWritten.Undeclared
+    pub stop-word : r ≡ Referred.Missing → WritesSet t at levels table family before to code SetWritten.Undeclared
     unfolding parts.part
     stop-word h = stops (o .keeps) λ env f w y e g.
         let x = left-word env f w y e g in
@@ -123,18 +123,18 @@ module _ {t : List ℕ} {at levels : ℕ} {table : List ℕ} {end family : ℕ} 
 
   module _ {p q : ℕ} (l : Looked t i (Item.Open p q)) where
     -- that lies too deep
-    pub stop-deep : levels ≡ 0 → WritesSet t at levels table end family before to code SetWritten.Undeclared
+    pub stop-deep : levels ≡ 0 → WritesSet t at levels table family before to code SetWritten.Undeclared
     stop-deep h = stops (o .keeps) λ env f w y e g. absurd (cut env f (by-row _ ended (too-deep operands levels l h) (o .left env f w y e g)))
 
-    module _ (h : levels ≡ 0 → ⊥) {after : List ℕ} {r : SetWritten} (m : WritesSet t q (levels - 1) table end family code u after r) where
-      left-part : (env : Environment) (f : Family) (w : SetExpr Name) → Symbols table end env → familyCode f ≡ family → setIn (trim (framesAt t at .here) levels) ≡ some w
+    module _ (h : levels ≡ 0 → ⊥) {after : List ℕ} {r : SetWritten} (m : WritesSet t q (levels - 1) table family code u after r) where
+      left-part : (env : Environment) (f : Family) (w : SetExpr Name) → Symbols table env → familyCode f ≡ family → setIn (trim (framesAt t at .here) levels) ≡ some w
           → Left env f w before to (part p (trim (framesAt t q .here) (levels - 1)) (trim (head (framesAt t q .around)) levels)) code u
       left-part env f w y e g = by-row _ _ (by-part operands levels l h) (o .left env f w y e g)
 
       -- that is written
-      pub past-part : {j v : ℕ} → r ≡ SetWritten.Next j v → Going t at levels table end family before to j after v
+      pub past-part : {j v : ℕ} → r ≡ SetWritten.Next j v → Going t at levels table family before to j after v
       past-part {j} {v} d =
-          let z = subst (λ (a : SetWritten). WritesSet t q (levels - 1) table end family code u after a) d m in
+          let z = subst (λ (a : SetWritten). WritesSet t q (levels - 1) table family code u after a) d m in
           record {
             low = omega (arith, o .low, l .ahead .0, z .moves .less);
             around = sym (around-of l ∙ ap (λ (x : Frames). x .around) (z .moves .rest)) ∙ o .around;
@@ -149,9 +149,9 @@ module _ {t : List ℕ} {at levels : ℕ} {table : List ℕ} {end family : ℕ} 
           }
 
       -- that has an undeclared name
-      pub stop-part : r ≡ SetWritten.Undeclared → WritesSet t at levels table end family before to after SetWritten.Undeclared
+      pub stop-part : r ≡ SetWritten.Undeclared → WritesSet t at levels table family before to after SetWritten.Undeclared
       stop-part d =
-          let z = subst (λ (a : SetWritten). WritesSet t q (levels - 1) table end family code u after a) d m in
+          let z = subst (λ (a : SetWritten). WritesSet t q (levels - 1) table family code u after a) d m in
           stops (keeps-then (o .ahead) (o .keeps) (z .keeps)) λ env f w y e g.
           let x = left-part env f w y e g in
           let c = split-part _ _ _ (x .each) (x .row) in
@@ -159,12 +159,12 @@ module _ {t : List ℕ} {at levels : ℕ} {table : List ℕ} {end family : ℕ} 
 
   -- ---- the close, and the end of the text
 
-  pub past-close : {q v : ℕ} {after : List ℕ} → Looked t i (Item.Close q) → Stored code u endUnit after v → WritesSet t at levels table end family before to after (SetWritten.Next q v)
+  pub past-close : {q v : ℕ} {after : List ℕ} → Looked t i (Item.Close q) → Stored code u endUnit after v → WritesSet t at levels table family before to after (SetWritten.Next q v)
   past-close {q} {v} {after} l st = record {
     keeps = keeps-then (o .ahead) (o .keeps) (st .keeps);
     moves = record { rest = closes at l (o .around); less = omega (arith, o .low, l .ahead .0); fits = l .ahead .1; ahead = omega (arith, o .ahead, st .ahead) };
     says = λ env f w y e g. done env f q (by-row _ closed (by-close operands levels l) (o .left env f w y e g)) (o .keeps .long) (st .wrote);
   }
 
-  pub stop-end : Looked t i Item.End → WritesSet t at levels table end family before to code SetWritten.Undeclared
+  pub stop-end : Looked t i Item.End → WritesSet t at levels table family before to code SetWritten.Undeclared
   stop-end l = stops (o .keeps) λ env f w y e g. absurd (cut env f (by-row _ ended (by-end operands levels l) (o .left env f w y e g)))

@@ -16,8 +16,8 @@ use Rattle.policy.proofs.IfAny.{IfAny}
 use Rattle.symbols.specs.Resolving.{foundNamed}
 use Rattle.symbols.specs.declared.Found.{Found}
 use Rattle.statement_code.specs.Code.{referenceUnit}
-use Rattle.symbols.specs.Symbols.{Looks}
-use Rattle.symbols.proofs.Bounds.{bounded}
+use Rattle.name_chains.specs.Symbols.{Looks}
+use Rattle.name_chains.proofs.Bounds.{bounded}
 use Rattle.set_writer.specs.Naming.{referred, Refers}
 use Rattle.set_writer.specs.declared.Referred.{Referred}
 
@@ -45,8 +45,8 @@ unit-of (some d) h = by (d .sort)
     by (thingOf f) = rw (lt-leb 1024 (d .number) (omega (arith, h .has d refl)), lt-ltb (sortCode (thingOf f)) 3 (thing-sort f))
     by (attributeOf f) = rw (lt-leb 1024 (d .number) (omega (arith, h .has d refl)), le-ltb (sortCode (attributeOf f)) 3 (attribute-sort f))
 
-pub refers : {table : List ℕ} {end family : ℕ} {w : Name} {r : Referred} {found : Found} → Looks table end family w found → r ≡ unitOf found
-    → Refers table end family w r
+pub refers : {table : List ℕ} {family : ℕ} {w : Name} {r : Referred} {found : Found} → Looks table family w found → r ≡ unitOf found
+    → Refers table family w r
 unfolding refer
 refers {w = w} e h = record {
   resolves = λ env f s g.

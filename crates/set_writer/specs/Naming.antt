@@ -6,7 +6,7 @@ use Prim.Native.Nat.{ℕ}
 use Rattle.policy.specs.Basics.{Name}
 use Rattle.policy.specs.Statements.{Family, Reference}
 use Rattle.policy.specs.Names.{refer, Environment}
-use Rattle.symbols.specs.Symbols.{Symbols}
+use Rattle.name_chains.specs.Symbols.{Symbols}
 use Rattle.symbols.specs.Resolving.{familyCode}
 use Rattle.statement_code.specs.Code.{referenceUnit}
 use Rattle.set_writer.specs.declared.Referred.{Referred}
@@ -17,5 +17,5 @@ referred none = Referred.Missing
 referred (some r) = Referred.Unit (referenceUnit r)
 
 -- the name w is resolved as `refer` resolves it
-pub record Refers (table : List ℕ) (end family : ℕ) (w : Name) (r : Referred) : Type 0 where
-  pub resolves : (env : Environment) (f : Family) → Symbols table end env → familyCode f ≡ family → r ≡ referred (refer env f w)
+pub record Refers (table : List ℕ) (family : ℕ) (w : Name) (r : Referred) : Type 0 where
+  pub resolves : (env : Environment) (f : Family) → Symbols table env → familyCode f ≡ family → r ≡ referred (refer env f w)

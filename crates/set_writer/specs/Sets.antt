@@ -14,7 +14,7 @@ use Rattle.policy.specs.Names.{Environment}
 use Rattle.symbols.specs.Resolving.{familyCode}
 use Rattle.statement_code.specs.Code.{setCode, allUnit, notUnit, andUnit, orUnit, xorUnit, unionUnit, endUnit}
 use Rattle.set_writer.specs.Writing.{Wrote, Keeps}
-use Rattle.symbols.specs.Symbols.{Symbols}
+use Rattle.name_chains.specs.Symbols.{Symbols}
 use Rattle.set_writer.specs.declared.Begun.{Begun}
 use Rattle.set_writer.specs.declared.SetWritten.{SetWritten}
 
@@ -71,8 +71,8 @@ Answers before to (some s) after SetWritten.Undeclared = ⊥
 Answers before to (some s) after (SetWritten.Next q u) = Wrote before to (setCode s) after u
 
 -- what writing the S at a place of the text answers and leaves. Nothing is said of a row that is no S, but that the code before the place to is kept
-pub record WritesSet (t : List ℕ) (at levels : ℕ) (table : List ℕ) (end family : ℕ) (before : List ℕ) (to : ℕ) (after : List ℕ) (r : SetWritten) : Type 0 where
+pub record WritesSet (t : List ℕ) (at levels : ℕ) (table : List ℕ) (family : ℕ) (before : List ℕ) (to : ℕ) (after : List ℕ) (r : SetWritten) : Type 0 where
   pub keeps : Keeps before to after
   pub moves : Moves t at to r
-  pub says : (env : Environment) (f : Family) (w : SetExpr Name) → Symbols table end env → familyCode f ≡ family
+  pub says : (env : Environment) (f : Family) (w : SetExpr Name) → Symbols table env → familyCode f ≡ family
       → setIn (trim (framesAt t at .here) levels) ≡ some w → Answers before to (referS env f w) after r

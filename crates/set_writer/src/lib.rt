@@ -42,17 +42,10 @@ pub fn put_unit(code: &mut [u16], at: usize, unit: u16) -> usize
 }
 
 // The unit of what the len bytes of the text from a place on name in a family.
-pub fn reference(
-    symbols: &[u8],
-    end: usize,
-    family: usize,
-    text: &[u8],
-    start: usize,
-    len: usize,
-) -> Referred
-    ensures { λ r. ⌜ Refers (now (symbols .entry)) end family (part (now (text .entry)) start len) r ⌝ }
+pub fn reference(symbols: &[u8], family: usize, text: &[u8], start: usize, len: usize) -> Referred
+    ensures { λ r. ⌜ Refers (now (symbols .entry)) family (part (now (text .entry)) start len) r ⌝ }
 {
-    let found = symbols::lookup(symbols, end, family, text, start, len);
+    let found = name_chains::lookup(symbols, family, text, start, len);
     match found {
         Found::At { sort, number } => {
             if Unit::ATTRIBUTE as usize <= number {
@@ -108,12 +101,11 @@ pub fn write_set(
     at: usize,
     levels: usize,
     symbols: &[u8],
-    end: usize,
     family: usize,
     code: &mut [u16],
     to: usize,
 ) -> SetWritten
-    ensures { λ r. ⌜ WritesSet (now (text .entry)) at levels (now (symbols .entry)) end family (now (code .entry)) to (now (code .exit)) r ⌝ }
+    ensures { λ r. ⌜ WritesSet (now (text .entry)) at levels (now (symbols .entry)) family (now (code .entry)) to (now (code .exit)) r ⌝ }
 {
     let begun = set_start(text, at);
     let mut i = begun.next;
@@ -127,7 +119,7 @@ pub fn write_set(
                 next,
                 ..
             } => {
-                let name = reference(symbols, end, family, text, start, len);
+                let name = reference(symbols, family, text, start, len);
                 let Referred::Unit(unit) = name else {
                     return SetWritten::Undeclared;
                 };
@@ -138,7 +130,7 @@ pub fn write_set(
                 if levels == 0 {
                     return SetWritten::Undeclared;
                 }
-                let operand = write_set(text, next, levels - 1, symbols, end, family, code, u);
+                let operand = write_set(text, next, levels - 1, symbols, family, code, u);
                 let SetWritten::Next { at: past, to: v } = operand else {
                     return SetWritten::Undeclared;
                 };

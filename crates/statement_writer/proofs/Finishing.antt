@@ -60,10 +60,10 @@ module _ {a b : List ℕ} {i u tag place : ℕ} (head : Stores a i (tag ∷ plac
   answered o (some us) (NamesWritten.Next q v) e h = coded a c i place o e (wrote-then (head .keeps .long) (head .wrote) h)
 
   -- a statement of names alone
-  named : {t : List ℕ} {at : ℕ} {k : Keyword} {table : List ℕ} {end : ℕ} (ks : List Kind)
+  named : {t : List ℕ} {at : ℕ} {k : Keyword} {table : List ℕ} (ks : List Kind)
       → ((env : Environment) (w : Written) → formed k (trim (framesAt t at .here) (maxLevel - 1)) ≡ some w
       → codeIn place (resolved env w) ≡ headed tag place (namesUnits env ks (trim (framesAt t at .here) (maxLevel - 1))))
-      → (r : NamesWritten) → WritesNames t at ks table end b u c r → WritesStatement t at k place table end a i c (codedBy r)
+      → (r : NamesWritten) → WritesNames t at ks table b u c r → WritesStatement t at k place table a i c (codedBy r)
   named {t} {at} ks whole r m = record {
     keeps = keeps-then (head .ahead) (head .keeps) (m .keeps);
     says = λ env w y h. answered (resolved env w) (namesUnits env ks (trim (framesAt t at .here) (maxLevel - 1))) r (whole env w h) (m .says env (maxLevel - 1) y);
@@ -71,17 +71,17 @@ module _ {a b : List ℕ} {i u tag place : ℕ} (head : Stores a i (tag ∷ plac
 
 -- ---- the statements
 
-module _ {t : List ℕ} {at place : ℕ} {table : List ℕ} {end : ℕ} {a b c : List ℕ} {i u : ℕ} {r : NamesWritten} (x : NamesWritten) (e : r ≡ x) where
+module _ {t : List ℕ} {at place : ℕ} {table : List ℕ} {a b c : List ℕ} {i u : ℕ} {r : NamesWritten} (x : NamesWritten) (e : r ≡ x) where
   pub relation-coded : (k : Relation) (n : ℕ) {f g : theFamily.Family} → n ≡ relationNumber k → Stores a i ((4102 + n) ∷ place ∷ []) b u
-      → familyOf f ≡ fromOf k → familyOf g ≡ toOf k → WritesNames t at (Kind.Reference f ∷ Kind.Reference g ∷ []) table end b u c r
-      → WritesStatement t at (relationK k) place table end a i c (codedBy x)
+      → familyOf f ≡ fromOf k → familyOf g ≡ toOf k → WritesNames t at (Kind.Reference f ∷ Kind.Reference g ∷ []) table b u c r
+      → WritesStatement t at (relationK k) place table a i c (codedBy x)
   relation-coded k n {f} {g} d head from to m =
       named (tagged 4102 d head) c (Kind.Reference f ∷ Kind.Reference g ∷ [])
       (λ env w h. relation-whole env place k f g from to (trim (framesAt t at .here) (maxLevel - 1)) w h) x
-      (subst (λ (z : NamesWritten). WritesNames t at (Kind.Reference f ∷ Kind.Reference g ∷ []) table end b u c z) e m)
+      (subst (λ (z : NamesWritten). WritesNames t at (Kind.Reference f ∷ Kind.Reference g ∷ []) table b u c z) e m)
 
-  pub transition-coded : Stores a i (4105 ∷ place ∷ []) b u → WritesNames t at transitionKinds table end b u c r
-      → WritesStatement t at transitionK place table end a i c (codedBy x)
+  pub transition-coded : Stores a i (4105 ∷ place ∷ []) b u → WritesNames t at transitionKinds table b u c r
+      → WritesStatement t at transitionK place table a i c (codedBy x)
   transition-coded head m =
       named head c transitionKinds (λ env w h. transition-whole env place (trim (framesAt t at .here) (maxLevel - 1)) w h) x
-      (subst (λ (z : NamesWritten). WritesNames t at transitionKinds table end b u c z) e m)
+      (subst (λ (z : NamesWritten). WritesNames t at transitionKinds table b u c z) e m)

@@ -19,9 +19,9 @@ use Rattle.statement_code.specs.Code as code
 use Rattle.statement_code.specs.Code.{referenceUnit}
 use Rattle.symbols.specs.Lookup.{familyNumber}
 use Rattle.symbols.specs.Resolving.{familyCode, foundClass, foundNamed}
-use Rattle.symbols.specs.Symbols.{Looks}
+use Rattle.name_chains.specs.Symbols.{Looks}
 use Rattle.symbols.specs.declared.Found.{Found}
-use Rattle.symbols.proofs.Bounds.{bounded}
+use Rattle.name_chains.proofs.Bounds.{bounded}
 use Rattle.symbols.proofs.CountLaws.{same-code}
 use Rattle.symbols.proofs.ReferencesFound.{code-of}
 use Rattle.set_writer.specs.Naming.{referred, Refers}
@@ -57,8 +57,8 @@ by-class : (o : Option ℕ) → IfAny (λ c. c < 32) o → numberBy 6 (foundClas
 by-class none h = refl
 by-class (some n) h = ap (λ (k : ℕ). small (some k)) (zero-add n) ∙ small-is n (omega (arith, h .has n refl))
 
-pub numbers : {table : List ℕ} {end sort family : ℕ} {w : Name} {r : Referred} {found : Found} → family ≡ familyNumber sort 0
-    → Looks table end family w found → r ≡ numberBy sort found → Numbers table end sort w r
+pub numbers : {table : List ℕ} {sort family : ℕ} {w : Name} {r : Referred} {found : Found} → family ≡ familyNumber sort 0
+    → Looks table family w found → r ≡ numberBy sort found → Numbers table sort w r
 unfolding numberIn
 numbers {sort = sort} {family} {w} {found = found} f e h = record {
   of-sort = λ env s y q.
@@ -98,23 +98,23 @@ reference-unit : (o : Option Reference) → referred o ≡ referredBy (o >>= λ 
 reference-unit none = refl
 reference-unit (some r) = refl
 
-module _ {table : List ℕ} {end : ℕ} {k : Kind} {w : Name} {r : Referred} where
-  pub as-reference : (f : theFamily.Family) (n : ℕ) → k ≡ Kind.Reference f → n ≡ code.familyNumber (answers.familyOf f) → Refers table end n w r → Names table end k w r
+module _ {table : List ℕ} {k : Kind} {w : Name} {r : Referred} where
+  pub as-reference : (f : theFamily.Family) (n : ℕ) → k ≡ Kind.Reference f → n ≡ code.familyNumber (answers.familyOf f) → Refers table n w r → Names table k w r
   as-reference f n q e m = record {
     resolves = λ env y.
         m .resolves env (answers.familyOf f) y (same-number (answers.familyOf f) ∙ sym e) ∙ reference-unit (refer env (answers.familyOf f) w)
         ∙ ap (λ (x : Kind). referredBy (unitIn env x w)) (sym q);
   }
 
-  pub as-attribute : (f : theFamily.Family) (n : ℕ) → k ≡ Kind.Attribute f → n ≡ code.familyNumber (answers.familyOf f) → Numbers table end (3 + n) w r → Names table end k w r
+  pub as-attribute : (f : theFamily.Family) (n : ℕ) → k ≡ Kind.Attribute f → n ≡ code.familyNumber (answers.familyOf f) → Numbers table (3 + n) w r → Names table k w r
   as-attribute f n q e m = record {
     resolves = λ env y.
         m .of-sort env (attributeOf (answers.familyOf f)) y (attribute-number (answers.familyOf f) ∙ ap (λ (i : ℕ). 3 + i) (sym e))
         ∙ ap (λ (x : Kind). referredBy (unitIn env x w)) (sym q);
   }
 
-  pub as-class : k ≡ Kind.Class → Numbers table end 6 w r → Names table end k w r
+  pub as-class : k ≡ Kind.Class → Numbers table 6 w r → Names table k w r
   as-class q m = record { resolves = λ env y. m .of-class env y refl ∙ ap (λ (x : Kind). referredBy (unitIn env x w)) (sym q) }
 
-  pub as-role : k ≡ Kind.Role → Numbers table end 1 w r → Names table end k w r
+  pub as-role : k ≡ Kind.Role → Numbers table 1 w r → Names table k w r
   as-role q m = record { resolves = λ env y. m .of-sort env (thingOf roles) y refl ∙ ap (λ (x : Kind). referredBy (unitIn env x w)) (sym q) }

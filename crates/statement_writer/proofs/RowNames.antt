@@ -41,19 +41,19 @@ is-missing (some n) e = absurd (let z : _≡_ {A = ℕ} 0 1 = cc in omega arith)
 abbrev pub alone : Option ℕ → Option (List ℕ)
 alone o = o >>= λ u. some (u ∷ [])
 
-module _ {t : List ℕ} {at : ℕ} {k : Kind} {table : List ℕ} {end : ℕ} {before : List ℕ} {to : ℕ} where
+module _ {t : List ℕ} {at : ℕ} {k : Kind} {table : List ℕ} {before : List ℕ} {to : ℕ} where
   -- no word stands there
   pub no-word : ((env : Environment) (levels : ℕ) → firstUnit env k (trim (framesAt t at .here) levels) ≡ none)
-      → WritesNames t at (k ∷ []) table end before to before NamesWritten.Undeclared
+      → WritesNames t at (k ∷ []) table before to before NamesWritten.Undeclared
   no-word h = record {
     keeps = keeps-all;
     moves = tt;
     says = λ env levels y. lacking before before to (namesUnits env (k ∷ []) (trim (framesAt t at .here) levels)) (ap alone (h env levels));
   }
 
-  module _ {s n i q : ℕ} (l : Looked t at (Item.Word s n i q)) {r : Referred} (m : Names table end k (parts.part t s n) r) where
+  module _ {s n i q : ℕ} (l : Looked t at (Item.Word s n i q)) {r : Referred} (m : Names table k (parts.part t s n) r) where
     -- a name that is not declared
-    pub no-name : r ≡ Referred.Missing → WritesNames t at (k ∷ []) table end before to before NamesWritten.Undeclared
+    pub no-name : r ≡ Referred.Missing → WritesNames t at (k ∷ []) table before to before NamesWritten.Undeclared
     unfolding parts.part
     no-name e = record {
       keeps = keeps-all;
@@ -66,7 +66,7 @@ module _ {t : List ℕ} {at : ℕ} {k : Kind} {table : List ℕ} {end : ℕ} {be
 
     -- one that is
     pub one-name : {unit u : ℕ} {after : List ℕ} → r ≡ Referred.Unit unit → Stored before to unit after u
-        → WritesNames t at (k ∷ []) table end before to after (NamesWritten.Next q u)
+        → WritesNames t at (k ∷ []) table before to after (NamesWritten.Next q u)
     unfolding parts.part
     one-name {unit} {u} {after} e st = record {
       keeps = st .keeps;
@@ -110,11 +110,11 @@ module _ (a b c : List ℕ) (i u q : ℕ) (long : length b ≡ length a) where
   answers-then (some us) (some vs) NamesWritten.Undeclared h g = absurd g
   answers-then (some us) (some vs) (NamesWritten.Next p v) h g = wrote-then long h g
 
-module _ {t : List ℕ} {at : ℕ} {table : List ℕ} {end : ℕ} {a b : List ℕ} {i : ℕ} {r : NamesWritten} (ks ls : List Kind) (m : WritesNames t at ks table end a i b r) where
+module _ {t : List ℕ} {at : ℕ} {table : List ℕ} {a b : List ℕ} {i : ℕ} {r : NamesWritten} (ks ls : List Kind) (m : WritesNames t at ks table a i b r) where
   -- the first of them are not all declared
-  pub names-stop : r ≡ NamesWritten.Undeclared → WritesNames t at (ks ++ ls) table end a i b NamesWritten.Undeclared
+  pub names-stop : r ≡ NamesWritten.Undeclared → WritesNames t at (ks ++ ls) table a i b NamesWritten.Undeclared
   names-stop e =
-      let z = subst (λ (x : NamesWritten). WritesNames t at ks table end a i b x) e m in
+      let z = subst (λ (x : NamesWritten). WritesNames t at ks table a i b x) e m in
       record {
         keeps = z .keeps;
         moves = tt;
@@ -125,9 +125,9 @@ module _ {t : List ℕ} {at : ℕ} {table : List ℕ} {end : ℕ} {a b : List �
       }
 
   -- they are, and the others are written behind them
-  pub names-then : {q u : ℕ} {c : List ℕ} {p : NamesWritten} → r ≡ NamesWritten.Next q u → WritesNames t q ls table end b u c p → WritesNames t at (ks ++ ls) table end a i c p
+  pub names-then : {q u : ℕ} {c : List ℕ} {p : NamesWritten} → r ≡ NamesWritten.Next q u → WritesNames t q ls table b u c p → WritesNames t at (ks ++ ls) table a i c p
   names-then {q} {u} {c} {p} e n =
-      let z = subst (λ (x : NamesWritten). WritesNames t at ks table end a i b x) e m in
+      let z = subst (λ (x : NamesWritten). WritesNames t at ks table a i b x) e m in
       record {
         keeps = keeps-then (z .moves .ahead) (z .keeps) (n .keeps);
         moves = go (z .moves) p (n .moves);

@@ -62,8 +62,8 @@ module _ {a b : List ℕ} {i u tag place : ℕ} (head : Stores a i (tag ∷ plac
   answered o (some n) (some x) (SetWritten.Next p w) e h g =
       coded a d i place o e (wrote-then (long ∙ head .keeps .long) (wrote-then (head .keeps .long) (head .wrote) h) g)
 
-module _ {t : List ℕ} {at place : ℕ} {table : List ℕ} {end : ℕ} {a b c : List ℕ} {i u n : ℕ} {f : theFamily.Family} {r : NamesWritten}
-    (d : n ≡ familyNumber (familyOf f)) (h : Stores a i ((4099 + n) ∷ place ∷ []) b u) (m : WritesNames t at (Kind.Attribute f ∷ []) table end b u c r) where
+module _ {t : List ℕ} {at place : ℕ} {table : List ℕ} {a b c : List ℕ} {i u n : ℕ} {f : theFamily.Family} {r : NamesWritten}
+    (d : n ≡ familyNumber (familyOf f)) (h : Stores a i ((4099 + n) ∷ place ∷ []) b u) (m : WritesNames t at (Kind.Attribute f ∷ []) table b u c r) where
   abbrev row : Forms
   row = trim (framesAt t at .here) (maxLevel - 1)
 
@@ -71,9 +71,9 @@ module _ {t : List ℕ} {at place : ℕ} {table : List ℕ} {end : ℕ} {a b c :
   head = tagged 4099 d h
 
   -- the attribute is not declared
-  pub no-attribute : r ≡ NamesWritten.Undeclared → WritesStatement t at (setK (familyOf f)) place table end a i c Coded.Undeclared
+  pub no-attribute : r ≡ NamesWritten.Undeclared → WritesStatement t at (setK (familyOf f)) place table a i c Coded.Undeclared
   no-attribute e =
-      let z = subst (λ (x : NamesWritten). WritesNames t at (Kind.Attribute f ∷ []) table end b u c x) e m in
+      let z = subst (λ (x : NamesWritten). WritesNames t at (Kind.Attribute f ∷ []) table b u c x) e m in
       record {
         keeps = keeps-then (h .ahead) (h .keeps) (m .keeps);
         says = λ env w y g.
@@ -85,14 +85,14 @@ module _ {t : List ℕ} {at place : ℕ} {table : List ℕ} {end : ℕ} {a b c :
       }
 
   module _ {q v : ℕ} (e : r ≡ NamesWritten.Next q v) where
-    name : WritesNames t at (Kind.Attribute f ∷ []) table end b u c (NamesWritten.Next q v)
-    name = subst (λ (x : NamesWritten). WritesNames t at (Kind.Attribute f ∷ []) table end b u c x) e m
+    name : WritesNames t at (Kind.Attribute f ∷ []) table b u c (NamesWritten.Next q v)
+    name = subst (λ (x : NamesWritten). WritesNames t at (Kind.Attribute f ∷ []) table b u c x) e m
 
     behind : trim (framesAt t q .here) (maxLevel - 1) ≡ behindFirst row
     behind = name .moves .row (maxLevel - 1)
 
     -- no part stands behind it
-    pub no-part : startsPart (trim (framesAt t q .here) (maxLevel - 1)) ≡ false → WritesStatement t at (setK (familyOf f)) place table end a i c Coded.Undeclared
+    pub no-part : startsPart (trim (framesAt t q .here) (maxLevel - 1)) ≡ false → WritesStatement t at (setK (familyOf f)) place table a i c Coded.Undeclared
     no-part p = record {
       keeps = keeps-then (h .ahead) (h .keeps) (m .keeps);
       says = λ env w y g.
@@ -101,10 +101,10 @@ module _ {t : List ℕ} {at place : ℕ} {table : List ℕ} {end : ℕ} {a b c :
     }
 
     -- S is written, or a name of it is not declared
-    pub set-coded : {j p : ℕ} {after : List ℕ} {x : SetWritten} (z : SetWritten) → Looked t q (Item.Open p j) → WritesSet t j (maxLevel - 1 - 1) table end n c v after x → x ≡ z
-        → WritesStatement t at (setK (familyOf f)) place table end a i after (codedSet z)
+    pub set-coded : {j p : ℕ} {after : List ℕ} {x : SetWritten} (z : SetWritten) → Looked t q (Item.Open p j) → WritesSet t j (maxLevel - 1 - 1) table n c v after x → x ≡ z
+        → WritesStatement t at (setK (familyOf f)) place table a i after (codedSet z)
     set-coded {j} {p} {after} {x} z l k g =
-        let k = subst (λ (y : SetWritten). WritesSet t j (maxLevel - 1 - 1) table end n c v after y) g k in
+        let k = subst (λ (y : SetWritten). WritesSet t j (maxLevel - 1 - 1) table n c v after y) g k in
         record {
           keeps = keeps-then (h .ahead) (h .keeps) (keeps-then (name .moves .ahead) (name .keeps) (k .keeps));
           says = λ env w y g.

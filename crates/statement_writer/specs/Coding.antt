@@ -11,7 +11,7 @@ use Rattle.policy.specs.Grammar.{formed}
 use Rattle.policy.specs.Reading.{resolved}
 use Rattle.policy.specs.Names.{Environment}
 use Rattle.statement_code.specs.Code.{statementCode}
-use Rattle.symbols.specs.Symbols.{Symbols}
+use Rattle.name_chains.specs.Symbols.{Symbols}
 use Rattle.set_writer.specs.Writing.{Wrote, Keeps}
 use Rattle.statement_writer.specs.declared.Coded.{Coded}
 
@@ -30,7 +30,7 @@ Answers before to place (some s) after (Coded.Next u) = Wrote before to (stateme
 
 -- what writing the statement with the keyword k, behind which the place at is, answers and leaves. Nothing is said of a row that is not of the
 -- keyword's form, but that the code before the place to is kept
-pub record WritesStatement (t : List ℕ) (at : ℕ) (k : Keyword) (place : ℕ) (table : List ℕ) (end : ℕ) (before : List ℕ) (to : ℕ) (after : List ℕ) (r : Coded) : Type 0 where
+pub record WritesStatement (t : List ℕ) (at : ℕ) (k : Keyword) (place : ℕ) (table : List ℕ) (before : List ℕ) (to : ℕ) (after : List ℕ) (r : Coded) : Type 0 where
   pub keeps : Keeps before to after
-  pub says : (env : Environment) (w : Written) → Symbols table end env → formed k (trim (framesAt t at .here) (maxLevel - 1)) ≡ some w
+  pub says : (env : Environment) (w : Written) → Symbols table env → formed k (trim (framesAt t at .here) (maxLevel - 1)) ≡ some w
       → Answers before to place (resolved env w) after r

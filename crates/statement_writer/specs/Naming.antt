@@ -10,7 +10,7 @@ use Rattle.policy.specs.Statements.{roles, Sort, thingOf, attributeOf}
 use Rattle.policy.specs.Encode.{sortCode}
 use Rattle.policy.specs.Names.{refer, Environment, numberIn}
 use Rattle.statement_code.specs.Code.{referenceUnit}
-use Rattle.symbols.specs.Symbols.{Symbols}
+use Rattle.name_chains.specs.Symbols.{Symbols}
 use Rattle.set_writer.specs.Writing.{Wrote, Keeps}
 use Rattle.set_writer.specs.declared.Referred.{Referred}
 use Rattle.statement_writer.specs.declared.Kind.{Kind}
@@ -30,13 +30,13 @@ referredBy none = Referred.Missing
 referredBy (some n) = Referred.Unit n
 
 -- "of the wrong sort": the name w is resolved as a name of one sort alone, which is given by its number in the symbol table; class is 6
-pub record Numbers (table : List ℕ) (end sort : ℕ) (w : Name) (r : Referred) : Type 0 where
-  pub of-sort : (env : Environment) (s : Sort) → Symbols table end env → sortCode s ≡ sort → r ≡ referredBy (numberIn env s w)
-  pub of-class : (env : Environment) → Symbols table end env → 6 ≡ sort → r ≡ referredBy (env .class w)
+pub record Numbers (table : List ℕ) (sort : ℕ) (w : Name) (r : Referred) : Type 0 where
+  pub of-sort : (env : Environment) (s : Sort) → Symbols table env → sortCode s ≡ sort → r ≡ referredBy (numberIn env s w)
+  pub of-class : (env : Environment) → Symbols table env → 6 ≡ sort → r ≡ referredBy (env .class w)
 
 -- the name w is resolved as a name of the kind
-pub record Names (table : List ℕ) (end : ℕ) (k : Kind) (w : Name) (r : Referred) : Type 0 where
-  pub resolves : (env : Environment) → Symbols table end env → r ≡ referredBy (unitIn env k w)
+pub record Names (table : List ℕ) (k : Kind) (w : Name) (r : Referred) : Type 0 where
+  pub resolves : (env : Environment) → Symbols table env → r ≡ referredBy (unitIn env k w)
 
 -- ---- names in a row
 
@@ -79,7 +79,7 @@ AnswersNames before to (some us) after NamesWritten.Undeclared = ⊥
 AnswersNames before to (some us) after (NamesWritten.Next q u) = Wrote before to us after u
 
 -- what writing the names at a place of the text, one for each kind, answers and leaves. What stands behind them is not looked at
-pub record WritesNames (t : List ℕ) (at : ℕ) (ks : List Kind) (table : List ℕ) (end : ℕ) (before : List ℕ) (to : ℕ) (after : List ℕ) (r : NamesWritten) : Type 0 where
+pub record WritesNames (t : List ℕ) (at : ℕ) (ks : List Kind) (table : List ℕ) (before : List ℕ) (to : ℕ) (after : List ℕ) (r : NamesWritten) : Type 0 where
   pub keeps : Keeps before to after
   pub moves : Moves t at ks to r
-  pub says : (env : Environment) (levels : ℕ) → Symbols table end env → AnswersNames before to (namesUnits env ks (trim (framesAt t at .here) levels)) after r
+  pub says : (env : Environment) (levels : ℕ) → Symbols table env → AnswersNames before to (namesUnits env ks (trim (framesAt t at .here) levels)) after r

@@ -61,18 +61,11 @@ fn family_number(family: Family) -> u16
 }
 
 // The number of what the len bytes of the text from a place on name in a sort of the symbol table. What has the name and another sort is missing.
-fn number_of(
-    symbols: &[u8],
-    end: usize,
-    sort: usize,
-    text: &[u8],
-    start: usize,
-    len: usize,
-) -> Referred
-    ensures { λ r. ⌜ Numbers (now (symbols .entry)) end sort (part (now (text .entry)) start len) r ⌝ }
+fn number_of(symbols: &[u8], sort: usize, text: &[u8], start: usize, len: usize) -> Referred
+    ensures { λ r. ⌜ Numbers (now (symbols .entry)) sort (part (now (text .entry)) start len) r ⌝ }
 {
     let family = symbols::family_of(sort, 0);
-    let found = symbols::lookup(symbols, end, family, text, start, len);
+    let found = name_chains::lookup(symbols, family, text, start, len);
     match found {
         Found::At { sort: s, number } => {
             if s != sort {
@@ -88,27 +81,20 @@ fn number_of(
 }
 
 // The unit of what the len bytes of the text from a place on name, as a name of a kind.
-fn name_unit(
-    kind: Kind,
-    symbols: &[u8],
-    end: usize,
-    text: &[u8],
-    start: usize,
-    len: usize,
-) -> Referred
-    ensures { λ r. ⌜ Names (now (symbols .entry)) end kind (part (now (text .entry)) start len) r ⌝ }
+fn name_unit(kind: Kind, symbols: &[u8], text: &[u8], start: usize, len: usize) -> Referred
+    ensures { λ r. ⌜ Names (now (symbols .entry)) kind (part (now (text .entry)) start len) r ⌝ }
 {
     match kind {
         Kind::Reference(family) => {
             let number = family_number(family) as usize;
-            set_writer::reference(symbols, end, number, text, start, len)
+            set_writer::reference(symbols, number, text, start, len)
         }
         Kind::Attribute(family) => {
             let number = family_number(family) as usize;
-            number_of(symbols, end, FIRST_ATTRIBUTE + number, text, start, len)
+            number_of(symbols, FIRST_ATTRIBUTE + number, text, start, len)
         }
-        Kind::Class => number_of(symbols, end, CLASS, text, start, len),
-        Kind::Role => number_of(symbols, end, ROLE, text, start, len),
+        Kind::Class => number_of(symbols, CLASS, text, start, len),
+        Kind::Role => number_of(symbols, ROLE, text, start, len),
     }
 }
 
@@ -118,11 +104,10 @@ fn write_name(
     at: usize,
     kind: Kind,
     symbols: &[u8],
-    end: usize,
     code: &mut [u16],
     to: usize,
 ) -> NamesWritten
-    ensures { λ r. ⌜ WritesNames (now (text .entry)) at (kind ∷ []) (now (symbols .entry)) end (now (code .entry)) to (now (code .exit)) r ⌝ }
+    ensures { λ r. ⌜ WritesNames (now (text .entry)) at (kind ∷ []) (now (symbols .entry)) (now (code .entry)) to (now (code .exit)) r ⌝ }
 {
     let item = items::look(text, at);
     let Item::Word {
@@ -134,7 +119,7 @@ fn write_name(
     else {
         return NamesWritten::Undeclared;
     };
-    let name = name_unit(kind, symbols, end, text, start, len);
+    let name = name_unit(kind, symbols, text, start, len);
     let Referred::Unit(unit) = name else {
         return NamesWritten::Undeclared;
     };
@@ -149,17 +134,16 @@ fn write_pair(
     first: Kind,
     second: Kind,
     symbols: &[u8],
-    end: usize,
     code: &mut [u16],
     to: usize,
 ) -> NamesWritten
-    ensures { λ r. ⌜ WritesNames (now (text .entry)) at (first ∷ second ∷ []) (now (symbols .entry)) end (now (code .entry)) to (now (code .exit)) r ⌝ }
+    ensures { λ r. ⌜ WritesNames (now (text .entry)) at (first ∷ second ∷ []) (now (symbols .entry)) (now (code .entry)) to (now (code .exit)) r ⌝ }
 {
-    let name = write_name(text, at, first, symbols, end, code, to);
+    let name = write_name(text, at, first, symbols, code, to);
     let NamesWritten::Next { at: next, to: u } = name else {
         return NamesWritten::Undeclared;
     };
-    write_name(text, next, second, symbols, end, code, u)
+    write_name(text, next, second, symbols, code, u)
 }
 
 // ---- statements
@@ -219,17 +203,16 @@ pub fn write_relation(
     place: u16,
     relation: Relation,
     symbols: &[u8],
-    end: usize,
     code: &mut [u16],
     to: usize,
 ) -> Coded
-    ensures { λ r. ⌜ WritesStatement (now (text .entry)) at (relationK (relationOf relation)) place (now (symbols .entry)) end (now (code .entry)) to (now (code .exit)) r ⌝ }
+    ensures { λ r. ⌜ WritesStatement (now (text .entry)) at (relationK (relationOf relation)) place (now (symbols .entry)) (now (code .entry)) to (now (code .exit)) r ⌝ }
 {
     let tag = Unit::RELATION + relation_number(relation);
     let u = write_head(tag, place, code, to);
     let first = Kind::Reference(first_family(relation));
     let second = Kind::Reference(second_family(relation));
-    let names = write_pair(text, at, first, second, symbols, end, code, u);
+    let names = write_pair(text, at, first, second, symbols, code, u);
     match names {
         NamesWritten::Next { to: v, .. } => Coded::Next(v),
         NamesWritten::Undeclared => Coded::Undeclared,
@@ -242,20 +225,19 @@ pub fn write_transition(
     at: usize,
     place: u16,
     symbols: &[u8],
-    end: usize,
     code: &mut [u16],
     to: usize,
 ) -> Coded
-    ensures { λ r. ⌜ WritesStatement (now (text .entry)) at transitionK place (now (symbols .entry)) end (now (code .entry)) to (now (code .exit)) r ⌝ }
+    ensures { λ r. ⌜ WritesStatement (now (text .entry)) at transitionK place (now (symbols .entry)) (now (code .entry)) to (now (code .exit)) r ⌝ }
 {
     let u = write_head(Unit::TRANSITION, place, code, to);
     let first = Kind::Reference(Family::Roles);
     let second = Kind::Reference(Family::Types);
-    let names = write_pair(text, at, first, second, symbols, end, code, u);
+    let names = write_pair(text, at, first, second, symbols, code, u);
     let NamesWritten::Next { at: next, to: v } = names else {
         return Coded::Undeclared;
     };
-    let others = write_pair(text, next, Kind::Class, Kind::Role, symbols, end, code, v);
+    let others = write_pair(text, next, Kind::Class, Kind::Role, symbols, code, v);
     match others {
         NamesWritten::Next { to: w, .. } => Coded::Next(w),
         NamesWritten::Undeclared => Coded::Undeclared,
@@ -270,15 +252,14 @@ pub fn write_attribute_set(
     place: u16,
     family: Family,
     symbols: &[u8],
-    end: usize,
     code: &mut [u16],
     to: usize,
 ) -> Coded
-    ensures { λ r. ⌜ WritesStatement (now (text .entry)) at (setK (familyOf family)) place (now (symbols .entry)) end (now (code .entry)) to (now (code .exit)) r ⌝ }
+    ensures { λ r. ⌜ WritesStatement (now (text .entry)) at (setK (familyOf family)) place (now (symbols .entry)) (now (code .entry)) to (now (code .exit)) r ⌝ }
 {
     let number = family_number(family);
     let u = write_head(Unit::ATTRIBUTE_SET + number, place, code, to);
-    let name = write_name(text, at, Kind::Attribute(family), symbols, end, code, u);
+    let name = write_name(text, at, Kind::Attribute(family), symbols, code, u);
     let NamesWritten::Next { at: next, to: v } = name else {
         return Coded::Undeclared;
     };
@@ -291,7 +272,6 @@ pub fn write_attribute_set(
         inner,
         Level::MAX - 2,
         symbols,
-        end,
         number as usize,
         code,
         v,

@@ -5,9 +5,11 @@ use mathlib.Core.List.{List, [], _∷_, _++_, append-assoc}
 use Prim.Native.Nat.{ℕ, suc, _+_, _-_, _/_, _%_, _≤_, _<_}
 use native.Mathlib.Nat.{add-zero, add-suc, suc-add}
 use native.Mathlib.Omega.{arith}
+use native.Mathlib.Decide.{decLt}
 use lib.ListN.{length, getD, take, drop, set, length-set}
-use lib.Seq.{sets, sets-eq, length-sets}
+use lib.Seq.{sets, sets-eq, length-sets, ext-getD, getD-take, length-take-le}
 use Rattle.bitset.specs.Parts.{part, put}
+use Rattle.bitset.proofs.PartLaws.{getD-put-in, getD-put-before, getD-put-after}
 use Rattle.policy.specs.Basics.{le}
 use Rattle.policy.specs.Encode.{nameEntry, entryBytes}
 use Rattle.symbols.specs.Append.{Appended}
@@ -77,3 +79,22 @@ module _ (t : List ℕ) (end s n : ℕ) (w : List ℕ) (room : end + 4 + length 
     past = omega arith;
     inside = omega arith;
   })
+
+-- what is put before a place is put into the bytes before it
+pub take-put : (n : ℕ) (t : List ℕ) (o : ℕ) (s : List ℕ) → o + length s ≤ n → n ≤ length t → take n (put t o s) ≡ put (take n t) o s
+take-put n t o s h g =
+    let f : o + length s ≤ length t = omega arith in
+    let short : length (take n t) ≡ n = length-take-le n t g in
+    let k : o + length s ≤ length (take n t) = omega arith in
+    let whole : length (put t o s) ≡ length t = length-put t o s f in
+    let long : length (take n (put t o s)) ≡ n = length-take-le n (put t o s) (omega arith) in
+    ext-getD 0 (take n (put t o s)) (put (take n t) o s) (long ∙ sym (length-put (take n t) o s k ∙ short))
+    (λ i l. let m : i < n = omega arith in getD-take n (put t o s) i 0 m ∙ at f k i m (decLt i o) (decLt i (o + length s)))
+  where
+    at : o + length s ≤ length t → o + length s ≤ length (take n t) → (i : ℕ) → i < n → Dec (i < o) → Dec (i < o + length s) → getD (put t o s) i 0 ≡ getD (put (take n t) o s) i 0
+    at f k i m (yes a) d = getD-put-before t o s f i a ∙ sym (getD-put-before (take n t) o s k i a ∙ getD-take n t i 0 m)
+    at f k i m (no a) (yes b) =
+        let e : o + (i - o) ≡ i = omega arith in
+        subst (λ (j : ℕ). getD (put t o s) j 0 ≡ getD (put (take n t) o s) j 0) e
+        (getD-put-in t o s f (i - o) (omega arith) ∙ sym (getD-put-in (take n t) o s k (i - o) (omega arith)))
+    at f k i m (no a) (no b) = getD-put-after t o s f i (omega arith) ∙ sym (getD-put-after (take n t) o s k i (omega arith) ∙ getD-take n t i 0 m)

@@ -1,23 +1,22 @@
--- How the search for a name, and for a sort and number, goes on by what `look` found. Assumes nothing.
+-- How the search for a sort and number goes on by what `look` found. Assumes nothing.
 use mathlib.Core.Path.{_≡_, refl, sym, ap, _∙_}
 use mathlib.Core.Bool.{Bool, true, false, _&&_}
 use mathlib.Core.List.{List, [], _∷_}
-use Prim.Native.Nat.{ℕ, zero, suc, min, _+_, _-_, _<_}
+use Prim.Native.Nat.{ℕ, min, _+_, _-_}
 use native.Mathlib.Omega.{arith}
 use borrow.Author.Tests.{eq-eqb, ne-eqb, leb-true, leb-false}
 use lib.Dec.{eqb, leb}
 use lib.ListN.{length}
-use Rattle.policy.specs.Basics.{Name, le}
+use Rattle.policy.specs.Basics.{le}
 use Rattle.policy.specs.Encode.{NameEntry, nameEntry, entryBytes}
 use Rattle.policy.specs.Deciding.{refused}
 use Rattle.policy.specs.Questions.{nameFrom}
 use Rattle.symbols.specs.Section.{entriesRead, entriesAt, between, EntryIs}
-use Rattle.symbols.specs.Lookup.{isNamed, firstNamed, replyOf}
+use Rattle.symbols.specs.Lookup.{replyOf}
 use Rattle.symbols.specs.declared.Entry.{Entry}
-use Rattle.symbols.specs.declared.Found.{Found}
 use Rattle.symbols.specs.declared.NamePlace.{NamePlace}
 use Rattle.symbols.proofs.PartLaws.{length-part}
-use Rattle.symbols.proofs.LookLaws.{is-end, is-short, none-past, begins}
+use Rattle.symbols.proofs.LookLaws.{none-past, begins}
 
 -- where no entry stands, none is left
 pub none-done : {t : List ℕ} {at end : ℕ} → EntryIs t at end Entry.Done → entriesAt t at end ≡ []
@@ -27,18 +26,6 @@ none-done h = ap entriesRead (h .reads)
 pub none-broken : {t : List ℕ} {at end : ℕ} → EntryIs t at end Entry.Broken → entriesAt t at end ≡ []
 unfolding entriesRead
 none-broken h = ap entriesRead (h .reads)
-
--- nor where less is left than the head of an entry
-pub none-near : (t : List ℕ) (at end : ℕ) → end < at + 4 → entriesAt t at end ≡ []
-none-near t at end h = by (min (end - at) (length t - at)) refl
-  where
-    by : (left : ℕ) → left ≡ min (end - at) (length t - at) → entriesAt t at end ≡ []
-    by zero e = none-done (is-end t at end zero e refl)
-    by (suc n) e = none-broken (is-short t at end (suc n) e (omega arith) (omega arith))
-
-pub none-named : (f : ℕ) (w : Name) (es : List NameEntry) → es ≡ [] → Found.Missing ≡ firstNamed f w es
-unfolding firstNamed
-none-named f w es h = rw h
 
 pub none-numbered : (s n o : ℕ) (es : List NameEntry) → es ≡ [] → refused 12 0 ≡ nameFrom s n o es
 unfolding nameFrom
@@ -62,21 +49,12 @@ name-begins s n t end last e start first f = go (leb start last) refl
 
 -- where an entry stands, it is the first of those that are left
 module _ {t : List ℕ} {at end s n past : ℕ} (h : EntryIs t at end (Entry.Named s n past)) where
-  ahead : entriesAt t at end ≡ nameEntry s n (between t (at + 4) past) ∷ entriesAt t past end
+  pub ahead : entriesAt t at end ≡ nameEntry s n (between t (at + 4) past) ∷ entriesAt t past end
   unfolding entriesRead
   ahead = ap entriesRead (h .reads)
 
   long : length (between t (at + 4) past) ≡ past - at - 4
   long = length-part t (at + 4) (past - (at + 4)) ∙ omega (arith, h .within)
-
-  module _ (f : ℕ) (w : Name) where
-    pub past-named : isNamed f w (nameEntry s n (between t (at + 4) past)) ≡ false → firstNamed f w (entriesAt t past end) ≡ firstNamed f w (entriesAt t at end)
-    unfolding firstNamed
-    past-named q = sym (ap (firstNamed f w) ahead ∙ rw q)
-
-    pub this-named : isNamed f w (nameEntry s n (between t (at + 4) past)) ≡ true → Found.At s n ≡ firstNamed f w (entriesAt t at end)
-    unfolding firstNamed
-    this-named q = sym (ap (firstNamed f w) ahead ∙ rw q)
 
   module _ (s′ n′ : ℕ) where
     passes : (eqb s s′ && eqb n n′) ≡ false → nameFrom s′ n′ past (entriesAt t past end) ≡ nameFrom s′ n′ at (entriesAt t at end)

@@ -6,13 +6,9 @@ pub mod AppendLaws
 pub mod ReadBack
 pub mod Appending
 pub mod Searching
-pub mod Bounds
 pub mod ClassesFound
 pub mod ReferencesFound
 pub mod Declaring
 pub mod Written
 pub mod Walking
 pub mod CountLaws
-pub mod SlotLaws
-pub mod Indexing
-pub mod Entering

@@ -39,10 +39,10 @@ code-of (attributeOf users) n = refl
 code-of (attributeOf roles) n = refl
 code-of (attributeOf types) n = refl
 
-code-below : (f : Family) → familyCode f < 3
-code-below users = omega arith
-code-below roles = omega arith
-code-below types = omega arith
+pub family-below : (f : Family) → familyCode f < 3
+family-below users = omega arith
+family-below roles = omega arith
+family-below types = omega arith
 
 module _ (f : Family) (w : Name) (e : List Declaration) where
   -- a search goes by the family of a declaration, and then by its name
@@ -57,7 +57,7 @@ module _ (f : Family) (w : Name) (e : List Declaration) where
       → firstNamed (familyCode f) w (entriesFrom e (class v ps ∷ ds)) ≡ firstNamed (familyCode f) w (entriesFrom (e ++ (class v ps ∷ [])) ds)
   by-class v ps ds =
       skip-permissions (familyCode f) w e v ps ds
-      (permissions-other (familyCode f) w (length (classNames e) * 32) ps (λ k l g q. omega (arith, code-below f))) (λ q. omega (arith, code-below f))
+      (permissions-other (familyCode f) w (length (classNames e) * 32) ps (λ k l g q. omega (arith, family-below f))) (λ q. omega (arith, family-below f))
 
 -- the families 0 to 2 answer as names are looked up
 named-from : (f : Family) (w : Name) (e ds : List Declaration) → firstNamed (familyCode f) w (entriesFrom e ds) ≡ foundNamed (firstFrom e ds f w)

@@ -6,11 +6,13 @@ use mathlib.Core.List.{List, [], _∷_, _++_}
 use mathlib.Core.Option.{Option, none, some}
 use Prim.Native.Nat.{ℕ, _+_, _-_, _*_, _/_, _≤_, _<_}
 use native.Mathlib.Omega.{arith}
-use borrow.Author.Tests.{eq-eqb, ne-eqb}
+use borrow.Author.Tests.{eq-eqb, ne-eqb, eqb-true}
 use lib.ListN.{length}
+use lib.Dec.{eqb}
 use Rattle.policy.specs.Basics.{Name, same, any, isIn, next, indexOf}
 use Rattle.policy.specs.Statements.{users, roles, types, Sort, thingOf, attributeOf, Declaration, plain, class, classNames, count}
 use Rattle.policy.specs.Encode.{NameEntry, nameEntry, sortCode, permissionEntries, entriesFrom}
+use Rattle.policy.proofs.Lists.{both-true, same-is}
 use Rattle.symbols.specs.Lookup.{familyNumber, isNamed, firstNamed}
 use Rattle.symbols.specs.Resolving.{foundNumber, isFound}
 use Rattle.symbols.specs.declared.Found.{Found}
@@ -118,3 +120,9 @@ module _ (f : ℕ) (w : Name) (e : List Declaration) (v : Name) (ps : List Name)
   pub skip-permissions : firstNamed f w (permissionEntries (length (classNames e) * 32) ps) ≡ Found.Missing → (f ≡ 3 → ⊥)
       → firstNamed f w (entriesFrom e (class v ps ∷ ds)) ≡ firstNamed f w (entriesFrom (e ++ (class v ps ∷ [])) ds)
   skip-permissions q h = after-class h ∙ ap (λ (r : Found). orFound r (firstNamed f w (entriesFrom (e ++ (class v ps ∷ [])) ds))) q
+
+-- an entry that a search is for has its family and its name
+pub named-is : (f : ℕ) (w : Name) (e : NameEntry) → isNamed f w e ≡ true → (familyNumber (e .sort) (e .number) ≡ f) × (w ≡ e .name)
+named-is f w e h =
+    let b = both-true (eqb (familyNumber (e .sort) (e .number)) f) (same w (e .name)) h in
+    (eqb-true (familyNumber (e .sort) (e .number)) f (b .0), same-is w (e .name) (b .1))

@@ -21,11 +21,6 @@ familyNumber sort number = cond (ltb sort 3) sort (cond (ltb sort 6) (sort - 3) 
 abbrev pub isNamed : ℕ → Name → NameEntry → Bool
 isNamed f w e = eqb (familyNumber (e .sort) (e .number)) f && same w (e .name)
 
--- the first entry, if it is such a one
-unfoldable pub headNamed : ℕ → Name → List NameEntry → Found
-headNamed f w [] = Found.Missing
-headNamed f w (e ∷ es) = cond (isNamed f w e) (Found.At (e .sort) (e .number)) Found.Missing
-
 -- the first of them
 unfoldable pub firstNamed : ℕ → Name → List NameEntry → Found
 firstNamed f w [] = Found.Missing

@@ -55,7 +55,7 @@ same-things : (w : Name) (ps : List Name) (ds : List Declaration) → things (cl
 unfolding things count namesOf gather
 same-things w ps ds = refl
 
-permissions-length : (n : ℕ) (ps : List Name) → length (permissionEntries n ps) ≡ length ps
+pub permissions-length : (n : ℕ) (ps : List Name) → length (permissionEntries n ps) ≡ length ps
 unfolding permissionEntries
 permissions-length n [] = refl
 permissions-length n (p ∷ ps) = ap suc (permissions-length (n + 1) ps)
@@ -75,11 +75,11 @@ entries-few e (class w ps ∷ ds) h =
       leb-true (length ps) 32 (both-true (ltb (length (classNames e)) 32) (leb (length ps) 32) (good-first e (class w ps) ds h .room) .1),
     )
 
-pub names-room : (ds : List Declaration) → goodFrom [] ds ≡ true → namesLength (entries ds) ≤ 137088
+-- "Users 128, roles 128, types 512, attributes 64 per family"
+pub entries-room : (ds : List Declaration) → goodFrom [] ds ≡ true → length (entries ds) ≤ 960 + 33 * length (classNames ds)
 unfolding entries things
-names-room ds h = omega (
+entries-room ds h = omega (
   arith,
-  names-short (entriesFrom [] ds) (entries-fit [] ds h),
   entries-few [] ds h,
   few-of (thingOf users) ds h,
   few-of (thingOf roles) ds h,
@@ -87,5 +87,8 @@ names-room ds h = omega (
   few-of (attributeOf users) ds h,
   few-of (attributeOf roles) ds h,
   few-of (attributeOf types) ds h,
-  few-classes ds h,
 )
+
+pub names-room : (ds : List Declaration) → goodFrom [] ds ≡ true → namesLength (entries ds) ≤ 137088
+unfolding entries
+names-room ds h = omega (arith, names-short (entriesFrom [] ds) (entries-fit [] ds h), entries-room ds h, few-classes ds h)

@@ -1,4 +1,4 @@
-//! Seeded cases: policies, damaged texts, both sides of each maximum, tables and questions.
+//! Seeded cases: policies, damaged texts, both sides of each maximum, tables, questions and tries at names.
 
 pub mod asked;
 pub mod cases;
@@ -9,3 +9,4 @@ pub mod policies;
 pub mod questions;
 pub mod scans;
 pub mod tables;
+pub mod tries;

@@ -9,10 +9,10 @@ use Rattle.constrain_statement.proofs.permission_mask.Statement.{statem
 use Rattle.constrain_statement.proofs.permission_mask.Tie as tie
 
 abbrev Inv-loop : tie.InvT-loop
-Inv-loop text at symbols end family i₀ mask₀ i mask = Going text at symbols end family i mask
+Inv-loop text at symbols family i₀ mask₀ i mask = Going text at symbols family i mask
 
 abbrev μ-loop : tie.MeasureT-loop
-μ-loop text at symbols end family i₀ mask₀ i mask = length text - i
+μ-loop text at symbols family i₀ mask₀ i mask = length text - i
 
 loop-holds : tie.Need-loop-holds Inv-loop μ-loop
 loop-holds c = begun

@@ -55,11 +55,11 @@ claims t = (
 )
 
 abbrev Inv-loop : lts.InvT-loop
-Inv-loop text at levels symbols end rows₀ row number next kind i₀ n₀ count₀ need₀ rows i n count need =
-    Loop text at levels symbols end kind row rows₀ i n count need rows
+Inv-loop text at levels symbols rows₀ row number next kind i₀ n₀ count₀ need₀ rows i n count need =
+    Loop text at levels symbols kind row rows₀ i n count need rows
 
 abbrev μ-loop : lts.MeasureT-loop
-μ-loop text at levels symbols end rows₀ row number next kind i₀ n₀ count₀ need₀ rows i n count need = length text - i
+μ-loop text at levels symbols rows₀ row number next kind i₀ n₀ count₀ need₀ rows i n count need = length text - i
 
 module _ (t : ℕ) where
   look-requires : lts.Need-look-requires (claims t) (at-level t) write-constraint.Post Inv-loop μ-loop

@@ -20,7 +20,7 @@ returns-3 c = no-room _ _ _ _ _ _ _ (c .before .before .before .before .before .
 enter-requires : tie.Need-enter-requires
 enter-requires c κs =
     let s = c .before .before .before .before .before .before in
-    record { index = s .pre .2; room = omega arith; sort-known = s .pre .0; length-byte = omega arith }
+    record { index = s .pre .2; room = omega arith; sort-known = s .pre .0; length-known = omega arith }
 
 same-length : tie.Need-same-length
 same-length c = search needs

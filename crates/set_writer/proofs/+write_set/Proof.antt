@@ -34,11 +34,11 @@ claims t = (set-start-reads.Asked, set-start-reads.Learnt, put-unit-reads.Asked,
 
 -- what held of the operands where they begin holds of those that are left
 abbrev Inv-loop : lts.InvT-loop
-Inv-loop text at levels symbols end family code₀ to i₀ u₀ code i u =
-    (before : List ℕ) → Going text at levels symbols end family before to i₀ code₀ u₀ → Going text at levels symbols end family before to i code u
+Inv-loop text at levels symbols family code₀ to i₀ u₀ code i u =
+    (before : List ℕ) → Going text at levels symbols family before to i₀ code₀ u₀ → Going text at levels symbols family before to i code u
 
 abbrev μ-loop : lts.MeasureT-loop
-μ-loop text at levels symbols end family code₀ to i₀ u₀ code i u = length text - i
+μ-loop text at levels symbols family code₀ to i₀ u₀ code i u = length text - i
 
 module _ (t : ℕ) where
   set-start-requires : lts.Need-set-start-requires (claims t) (at-level t) write-set.Post Inv-loop μ-loop
@@ -67,12 +67,12 @@ module _ (t : ℕ) where
 
   same-length : lts.Need-same-length (claims t) (at-level t) write-set.Post Inv-loop μ-loop
   same-length c =
-      let o = c .before .before .before .before .before .before .before .loop .inv _ (going _ _ _ _ (c .before .before .before .before .before .before .before .before .before .before .before .before .set-start .ensures) (c .before .before .before .before .before .before .before .before .before .before .put-unit .ensures)) in
+      let o = c .before .before .before .before .before .before .before .loop .inv _ (going _ _ _ (c .before .before .before .before .before .before .before .before .before .before .before .before .set-start .ensures) (c .before .before .before .before .before .before .before .before .before .before .put-unit .ensures)) in
       o .keeps .long
 
   returns : lts.Need-returns (claims t) (at-level t) write-set.Post Inv-loop μ-loop
   returns c =
-      let o = c .before .before .before .before .before .before .before .loop .inv _ (going _ _ _ _ (c .before .before .before .before .before .before .before .before .before .before .before .before .set-start .ensures) (c .before .before .before .before .before .before .before .before .before .before .put-unit .ensures)) in
+      let o = c .before .before .before .before .before .before .before .loop .inv _ (going _ _ _ (c .before .before .before .before .before .before .before .before .before .before .before .before .set-start .ensures) (c .before .before .before .before .before .before .before .before .before .before .put-unit .ensures)) in
       let l = sees (c .before .before .before .before .before .before .look .ensures) (c .before .before .before .before .item .given .1) in
       stop-word o l (c .before .before .reference .ensures) (c .enum-told .given .1)
 
@@ -94,12 +94,12 @@ module _ (t : ℕ) where
 
   same-length-2 : lts.Need-same-length-2 (claims t) (at-level t) write-set.Post Inv-loop μ-loop
   same-length-2 c =
-      let o = c .before .before .before .before .before .loop .inv _ (going _ _ _ _ (c .before .before .before .before .before .before .before .before .before .before .set-start .ensures) (c .before .before .before .before .before .before .before .before .put-unit .ensures)) in
+      let o = c .before .before .before .before .before .loop .inv _ (going _ _ _ (c .before .before .before .before .before .before .before .before .before .before .set-start .ensures) (c .before .before .before .before .before .before .before .before .put-unit .ensures)) in
       o .keeps .long
 
   returns-2 : lts.Need-returns-2 (claims t) (at-level t) write-set.Post Inv-loop μ-loop
   returns-2 c =
-      let o = c .before .before .before .before .before .loop .inv _ (going _ _ _ _ (c .before .before .before .before .before .before .before .before .before .before .set-start .ensures) (c .before .before .before .before .before .before .before .before .put-unit .ensures)) in
+      let o = c .before .before .before .before .before .loop .inv _ (going _ _ _ (c .before .before .before .before .before .before .before .before .before .before .set-start .ensures) (c .before .before .before .before .before .before .before .before .put-unit .ensures)) in
       let l = sees (c .before .before .before .before .look .ensures) (c .before .before .item2 .given .1) in
       stop-deep o l (c .if1 .taken)
 
@@ -117,12 +117,12 @@ module _ (t : ℕ) where
 
   same-length-3 : lts.Need-same-length-3 (claims t) (at-level t) write-set.Post Inv-loop μ-loop
   same-length-3 c =
-      let o = c .before .before .before .before .before .before .before .before .before .before .before .loop .inv _ (going _ _ _ _ (c .before .before .before .before .before .before .before .before .before .before .before .before .before .before .before .before .set-start .ensures) (c .before .before .before .before .before .before .before .before .before .before .before .before .before .before .put-unit .ensures)) in
+      let o = c .before .before .before .before .before .before .before .before .before .before .before .loop .inv _ (going _ _ _ (c .before .before .before .before .before .before .before .before .before .before .before .before .before .before .before .before .set-start .ensures) (c .before .before .before .before .before .before .before .before .before .before .before .before .before .before .put-unit .ensures)) in
       c .before .before .before .before .write-set .ensures .keeps .long ∙ o .keeps .long
 
   returns-3 : lts.Need-returns-3 (claims t) (at-level t) write-set.Post Inv-loop μ-loop
   returns-3 c =
-      let o = c .before .before .before .before .before .before .before .before .before .before .before .loop .inv _ (going _ _ _ _ (c .before .before .before .before .before .before .before .before .before .before .before .before .before .before .before .before .set-start .ensures) (c .before .before .before .before .before .before .before .before .before .before .before .before .before .before .put-unit .ensures)) in
+      let o = c .before .before .before .before .before .before .before .before .before .before .before .loop .inv _ (going _ _ _ (c .before .before .before .before .before .before .before .before .before .before .before .before .before .before .before .before .set-start .ensures) (c .before .before .before .before .before .before .before .before .before .before .before .before .before .before .put-unit .ensures)) in
       let l = sees (c .before .before .before .before .before .before .before .before .before .before .look .ensures) (c .before .before .before .before .before .before .before .before .item2 .given .1) in
       stop-part o l (c .before .before .before .before .before .before .if1 .left) (c .before .before .before .before .write-set .ensures) (c .enum-told2 .given .1)
 
@@ -145,12 +145,12 @@ module _ (t : ℕ) where
 
   same-length-4 : lts.Need-same-length-4 (claims t) (at-level t) write-set.Post Inv-loop μ-loop
   same-length-4 c =
-      let o = c .before .before .before .before .before .before .before .before .loop .inv _ (going _ _ _ _ (c .before .before .before .before .before .before .before .before .before .before .before .before .before .set-start .ensures) (c .before .before .before .before .before .before .before .before .before .before .before .put-unit .ensures)) in
+      let o = c .before .before .before .before .before .before .before .before .loop .inv _ (going _ _ _ (c .before .before .before .before .before .before .before .before .before .before .before .before .before .set-start .ensures) (c .before .before .before .before .before .before .before .before .before .before .before .put-unit .ensures)) in
       c .before .before .put-unit3 .ensures .keeps .long ∙ o .keeps .long
 
   returns-4 : lts.Need-returns-4 (claims t) (at-level t) write-set.Post Inv-loop μ-loop
   returns-4 c =
-      let o = c .before .before .before .before .before .before .before .before .loop .inv _ (going _ _ _ _ (c .before .before .before .before .before .before .before .before .before .before .before .before .before .set-start .ensures) (c .before .before .before .before .before .before .before .before .before .before .before .put-unit .ensures)) in
+      let o = c .before .before .before .before .before .before .before .before .loop .inv _ (going _ _ _ (c .before .before .before .before .before .before .before .before .before .before .before .before .before .set-start .ensures) (c .before .before .before .before .before .before .before .before .before .before .before .put-unit .ensures)) in
       let l = sees (c .before .before .before .before .before .before .before .look .ensures) (c .before .before .before .before .before .item3 .given .1) in
       past-close o l (c .before .before .put-unit3 .ensures)
 
@@ -159,12 +159,12 @@ module _ (t : ℕ) where
 
   same-length-5 : lts.Need-same-length-5 (claims t) (at-level t) write-set.Post Inv-loop μ-loop
   same-length-5 c =
-      let o = c .before .before .before .loop .inv _ (going _ _ _ _ (c .before .before .before .before .before .before .before .before .set-start .ensures) (c .before .before .before .before .before .before .put-unit .ensures)) in
+      let o = c .before .before .before .loop .inv _ (going _ _ _ (c .before .before .before .before .before .before .before .before .set-start .ensures) (c .before .before .before .before .before .before .put-unit .ensures)) in
       o .keeps .long
 
   returns-5 : lts.Need-returns-5 (claims t) (at-level t) write-set.Post Inv-loop μ-loop
   returns-5 c =
-      let o = c .before .before .before .loop .inv _ (going _ _ _ _ (c .before .before .before .before .before .before .before .before .set-start .ensures) (c .before .before .before .before .before .before .put-unit .ensures)) in
+      let o = c .before .before .before .loop .inv _ (going _ _ _ (c .before .before .before .before .before .before .before .before .set-start .ensures) (c .before .before .before .before .before .before .put-unit .ensures)) in
       let l = sees (c .before .before .look .ensures) (c .enum-told3 .given .1) in
       stop-end o l
 

@@ -16,17 +16,17 @@ cast-if1 c = search needs
 returns : tie.Need-returns
 returns c = refers (c .before .before .before .before .lookup .ensures) (rw (c .before .before .found .given .1) (too-large (c .before .before .found .given .0 .0) _ (c .if1 .taken)))
 
-cast-t13 : tie.Need-cast-t13
-cast-t13 c = search needs
+cast-t12 : tie.Need-cast-t12
+cast-t12 c = search needs
 
 returns-2 : tie.Need-returns-2
 returns-2 c = refers (c .before .before .before .before .before .lookup .ensures) (rw (c .before .before .before .found .given .1) (a-thing _ _ (c .before .if1 .left) (c .if2 .taken)))
 
-cast-t14 : tie.Need-cast-t14
-cast-t14 c = search needs
+cast-t13 : tie.Need-cast-t13
+cast-t13 c = search needs
 
-add-t15 : tie.Need-add-t15
-add-t15 c = search needs
+add-t14 : tie.Need-add-t14
+add-t14 c = search needs
 
 enum-told : tie.Need-enum-told
 enum-told c = search needs
@@ -45,10 +45,10 @@ reference-spec =
     enum-known-found
     cast-if1
     returns
-    cast-t13
+    cast-t12
     returns-2
-    cast-t14
-    add-t15
+    cast-t13
+    add-t14
     enum-told
     returns-3
     returns-4)

@@ -1,0 +1,8 @@
+pub mod Words
+pub mod LikeLaws
+pub mod TryLaws
+pub mod FindLaws
+pub mod Chaining
+pub mod Entering
+pub mod Starting
+pub mod Bounds

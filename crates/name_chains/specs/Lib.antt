@@ -1,0 +1,5 @@
+pub mod Compared
+pub mod Chains
+pub mod Entered
+pub mod Worked
+pub mod Symbols
