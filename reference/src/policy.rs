@@ -238,8 +238,8 @@ pub fn most_things(family: Family) -> usize {
     }
 }
 
-/// Reading 60 of document 02: declarations make tries as well. Each permission is tried among those before it; there may be
-/// more than 32 of them, since 4 comes before 6.
+/// Reading 60 of document 02 leaves free how a class's row is tested. Here each permission is tried among those before it;
+/// there may be more than 32 of them, since 4 comes before 6.
 fn has_repeats(permissions: &[Name]) -> bool {
     let numbered = permissions.iter().enumerate();
     let entries: Vec<NameEntry> = numbered

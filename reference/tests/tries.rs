@@ -140,7 +140,7 @@ fn reading_60_permissions_so_far() {
     assert_eq!(tried(&format!("(class c({}))", many(32)), PERMISSIONS, "p31"), found(7, 31, 22));
 }
 
-/// Reading 62: "A hit needs equal length and every byte equal; no hash, no early stop."
+/// Reading 62: a hit has the name's length and every byte of it.
 #[test]
 fn reading_62_every_byte() {
     let short = "(type aaaa)(type aaab)(type aaa)(type aaac)(type baac)";

@@ -21,7 +21,7 @@ use Rattle.policy.specs.Questions.{change, changed, changeOn, matches, firstTra
 use Rattle.policy.proofs.Lists.{both-true, each-length}
 use Rattle.policy.proofs.Counts.{few-of}
 use Rattle.policy.proofs.Gathered.{all-map}
-use Rattle.symbols.proofs.Appending.{entry-length}
+use Rattle.symbols.proofs.AppendLaws.{entry-length}
 use Rattle.table_laws.proofs.Pieces.{wide-length}
 use Rattle.table_laws.proofs.Records.{head-wide}
 use Rattle.table_laws.proofs.ImageReadBack.{every-wide, transitions-wide}

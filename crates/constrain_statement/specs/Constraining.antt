@@ -59,7 +59,7 @@ Answers (some (attributeset f a s)) before after count rowsBefore rowsAfter row 
 Answers (some (gives k x y)) before after count rowsBefore rowsAfter row r = Unit {0}
 Answers (some (roletransition x y c n)) before after count rowsBefore rowsAfter row r = Unit {0}
 
--- of the statement whose keyword is before the place at, where the symbol table holds the declarations before it
+-- of the statement whose keyword is before the place at, in every environment that the symbols have
 pub record WritesConstrain (t : List ℕ) (at : ℕ) (table : List ℕ) (before after : List ℕ) (count : ℕ) (rowsBefore rowsAfter : List ℕ) (row : ℕ) (r : Constrained) : Type 0 where
   pub says : (env : Environment) (w : Written) → Symbols table env → row ≤ maxRows
       → formed constrainK (trim (framesAt t at .here) (maxLevel - 1)) ≡ some w

@@ -58,7 +58,7 @@ abbrev pub ScopePlace : List ℕ → ℕ → Scope → Type 0
 ScopePlace t at (Scope.Of class mask q) = rowEnd t at ≡ q
 ScopePlace t at Scope.Undeclared = Unit {0}
 
--- of the row at the place at, where the symbol table holds the declarations before it
+-- of the row at the place at, in every environment that the symbols have
 pub record Scopes (t : List ℕ) (at : ℕ) (table : List ℕ) (r : Scope) : Type 0 where
   pub place : ScopePlace t at r
   pub says : (env : Environment) (c : Name) (ps : List Name) → Symbols table env → ScopeForm (trim (framesAt t at .here) (maxLevel - 2)) c ps

@@ -14,8 +14,7 @@ use Rattle.policy.specs.Encode.{NameEntry, nameEntry, entryBytes, permissionEnt
 use Rattle.policy.proofs.Lists.{each-append, joined-append, all-right}
 use Rattle.name_chains.specs.Entered as symbol
 use Rattle.name_chains.specs.Chains.{Chained}
-use Rattle.symbols.proofs.AppendLaws.{put-sets, length-put}
-use Rattle.symbols.proofs.Appending.{entry-length}
+use Rattle.symbols.proofs.AppendLaws.{entry-length, put-sets, length-put}
 use Rattle.symbols.proofs.Declaring.{permission-more}
 use Rattle.declarations.specs.Entering.{Indexable, Entered, Fitting, Enters}
 use Rattle.declarations.specs.declared.Added.{Added}

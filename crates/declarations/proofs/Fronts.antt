@@ -1,6 +1,6 @@
 -- The first eight bytes of the first names of a row. A name whose own are none of them is none of those names. Assumes nothing.
 use mathlib.Core.Path.{_≡_, refl, sym, ap, ap₂, _∙_}
-use mathlib.Core.Bool.{Bool, true, false, _||_, false≢true}
+use mathlib.Core.Bool.{Bool, true, false, _||_, or-true, false≢true}
 use mathlib.Core.List.{List, [], _∷_, _++_, append-assoc}
 use Prim.Native.Nat.{ℕ, zero, suc, _+_, _-_, _<_, _≤_}
 use native.Mathlib.Omega.{arith}
@@ -14,10 +14,6 @@ use Rattle.name_chains.specs.Chains.{frontOf}
 use Rattle.declarations.specs.WordRows.{mayBeAmong}
 
 -- ---- is a number among the first of a list
-
-or-true : (a b : Bool) → b ≡ true → (a || b) ≡ true
-or-true true b h = refl
-or-true false b h = h
 
 module _ (fs : List ℕ) (x : ℕ) where
   pub too-few : (n : ℕ) → length fs < n → true ≡ mayBeAmong fs n x
@@ -41,13 +37,13 @@ module _ (fs : List ℕ) (x : ℕ) where
       let all : take (k + suc m) fs ≡ take k fs ++ (getD fs k 0 ∷ take m (drop (suc k) fs)) =
       take-add k (suc m) fs ∙ ap (λ (r : List ℕ). take k fs ++ take (suc m) r) (drop-cons fs k 0 l) in
       let this : any (eqb x) (getD fs k 0 ∷ take m (drop (suc k) fs)) ≡ true = rw (eq-eqb x (getD fs k 0) (sym e)) in
-      ap (any (eqb x)) all ∙ any-append (eqb x) (take k fs) (getD fs k 0 ∷ take m (drop (suc k) fs)) ∙ or-true (any (eqb x) (take k fs)) _ this
+      ap (any (eqb x)) all ∙ any-append (eqb x) (take k fs) (getD fs k 0 ∷ take m (drop (suc k) fs)) ∙ rw (this, or-true (any (eqb x) (take k fs)))
 
   pub hit : (k n : ℕ) → k < n → n ≤ length fs → getD fs k 0 ≡ x → true ≡ mayBeAmong fs n x
   hit k n a l e =
       let at : k + suc (n - suc k) ≡ n = omega arith in
       let found : any (eqb x) (take n fs) ≡ true = ap (λ (i : ℕ). any (eqb x) (take i fs)) (sym at) ∙ has k (n - suc k) (omega arith) e in
-      sym (or-true (ltb (length fs) n) (any (eqb x) (take n fs)) found)
+      rw (found, or-true (ltb (length fs) n))
 
   pub none : (k n : ℕ) → k ≤ n → n ≤ k → n ≤ length fs → any (eqb x) (take k fs) ≡ false → false ≡ mayBeAmong fs n x
   none k n a b l q = let at : k ≡ n = omega arith in rw (le-ltb (length fs) n l) (sym (ap (λ (i : ℕ). any (eqb x) (take i fs)) (sym at) ∙ q))
@@ -69,7 +65,7 @@ among w (v ∷ ws) h = by (same w v) refl (λ g. among w ws g) h
     by : (q : Bool) → same w v ≡ q → (isIn w ws ≡ true → any (eqb (frontOf w)) (each frontOf ws) ≡ true) → (q || any (same w) ws) ≡ true
         → any (eqb (frontOf w)) (each frontOf (v ∷ ws)) ≡ true
     by true q ih h = rw (eq-eqb (frontOf w) (frontOf v) (ap frontOf (same-is w v q)))
-    by false q ih h = or-true (eqb (frontOf w) (frontOf v)) _ (ih h)
+    by false q ih h = rw (ih h, or-true (eqb (frontOf w) (frontOf v)))
 
 -- fs has the first eight bytes of the first k of the names, if it has room for so many
 abbrev pub Keeps : List ℕ → ℕ → List Name → Type 0

@@ -1,4 +1,4 @@
--- What declaring a name comes to: what the walk over the symbols said of it decides fault 4, the count of its sort fault 6, and otherwise its entry
+-- What declaring a name comes to: what the lookup said of it decides fault 4, the count of its sort fault 6, and otherwise its entry
 -- has room and is written. Assumes nothing.
 use mathlib.Core.Path.{_≡_, refl, sym, ap, ap₂, subst, _∙_}
 use mathlib.Core.Bool.{true, false, not}
@@ -9,7 +9,7 @@ use borrow.Author.Tests.{lt-ltb, le-ltb}
 use Rattle.bitset.specs.Parts.{part}
 use Rattle.lexer.specs.Class.{isName}
 use Rattle.policy.specs.Basics.{Name, isIn}
-use Rattle.policy.specs.Statements.{users, roles, types, Sort, thingOf, attributeOf, Declaration, plain, familyOf, familyNames, count}
+use Rattle.policy.specs.Statements.{Sort, Declaration, plain, familyOf, familyNames, count}
 use Rattle.policy.specs.Maxima.{maxOf}
 use Rattle.policy.specs.Words.{isReserved}
 use Rattle.policy.specs.Reading.{isNew, hasRoom}
@@ -22,7 +22,7 @@ use Rattle.symbols.specs.Resolving.{isFound, familyCode}
 use Rattle.symbols.specs.declared.Found.{Found}
 use Rattle.symbols.proofs.ReferencesFound.{reference-found, code-of, family-below}
 use Rattle.symbols.proofs.Declaring.{entries-more}
-use Rattle.table_laws.proofs.NamesFit.{code-below}
+use Rattle.table_laws.proofs.NamesFit as fit
 use Rattle.table_laws.proofs.NamesRoom.{name-short, entries-room}
 use Rattle.declarations.specs.Counting.{standing, MostIs, Stands}
 use Rattle.declarations.specs.WordRows.{WordHere, WordIs}
@@ -36,7 +36,7 @@ use Rattle.declarations.proofs.Holding.{room-for}
 use Rattle.declarations.proofs.Formed.{plain-has-word, plain-here}
 use Rattle.name_chains.specs.Chains.{Chained}
 
--- ---- what the walk said
+-- ---- what the lookup said
 
 pub taken-found : (f : Found) (c : ℕ) → Standing.Taken ≡ standing f c → isFound f ≡ true
 taken-found (Found.At s n) c h = refl
@@ -48,18 +48,10 @@ free-missing Found.Missing c n h = (refl, let z : c ≡ n = cc in z)
 
 -- ---- names
 
-most-small : (s : Sort) → maxOf s ≤ 512
-most-small (thingOf users) = omega arith
-most-small (thingOf roles) = omega arith
-most-small (thingOf types) = omega arith
-most-small (attributeOf users) = omega arith
-most-small (attributeOf roles) = omega arith
-most-small (attributeOf types) = omega arith
-
 module _ (t : List ℕ) (at sort : ℕ) (before : List ℕ) (end : ℕ) where
   -- no sort of things or attributes has such a number; no name stands there
   pub no-sort : (after : List ℕ) (r : Declared) → 6 ≤ sort → DeclaresName t at sort before after end r
-  no-sort after r h = record { of = λ s e. absurd (omega (arith, code-below s)) }
+  no-sort after r h = record { of = λ s e. absurd (omega (arith, fit.code-below s)) }
 
   pub no-name : (after : List ℕ) (r : Declared) → WordIs t at NextWord.Missing → DeclaresName t at sort before after end r
   no-name after r h = record { of = λ s e. record { says = λ ds d y g f. absurd (plain-has-word s d h f) } }
@@ -116,7 +108,7 @@ module _ (t : List ℕ) (at sort : ℕ) (before : List ℕ) (end : ℕ) where
         entry-indexable s e {ds} y =
             let family : familyNumber sort number ≡ familyCode (familyOf s) = ap (λ (x : ℕ). familyNumber x number) e ∙ code-of s number in (
               omega (arith, entries-room ds (y .good), few-classes ds (y .good)),
-              omega (arith, l, m .is s e, most-small s),
+              omega (arith, l, m .is s e, fit.most s),
               omega (arith, family, family-below (familyOf s)),
               tt,
             )

@@ -21,8 +21,8 @@ wordsIn (part p i after) = []
 abbrev pub isAmongFirst : List ℕ → ℕ → ℕ → Name → Bool
 isAmongFirst t at k w = isIn w (take k (wordsIn (framesAt t at .here)))
 
--- whether a name may be among the first k words of a row, by its first eight bytes and those that are kept of the row's words: not, where those of all k
--- are kept and are others
+-- whether a name may be one of the first k words of a row, by its first eight bytes and theirs: it is none of them where those of all k are kept and none is
+-- its own; where fewer are kept, it may be
 abbrev pub mayBeAmong : List ℕ → ℕ → ℕ → Bool
 mayBeAmong fronts k front = ltb (length fronts) k || any (eqb front) (take k fronts)
 

@@ -219,7 +219,8 @@ fn is_among_first(text: &[u8], at: usize, count: usize, start: usize, len: usize
     false
 }
 
-// Whether a name may be among the first of a row, of so many of them, by the first eight bytes of each: not where those of all are lent and are others.
+// Whether a name may be one of the first names of a row, so many of them, by their first eight bytes. It is none of them where those of all are lent and none
+// is its own; where fewer are lent than there are names, it may be.
 fn may_be_among(fronts: &[usize], count: usize, front: usize) -> bool
     ensures { λ r. ⌜ r ≡ mayBeAmong (now (fronts .entry)) count front ⌝ }
 {

@@ -1,16 +1,16 @@
 -- What the symbols of declarations give to whoever looks names up in them: an entry that is found is what the environment has, and the numbers in it
 -- keep the maxima. Assumes nothing.
-use Prim.Native.Nat.{ℕ, _≤_}
+use Prim.Native.Nat.{ℕ}
 use native.Mathlib.Omega.{arith}
 use mathlib.Core.Path.{_≡_, sym, ap, _∙_}
 use mathlib.Core.List.{List}
 use Rattle.policy.specs.Basics.{Name}
-use Rattle.policy.specs.Statements.{users, roles, types, Sort, thingOf, attributeOf, permissions}
-use Rattle.policy.specs.Maxima.{maxOf}
+use Rattle.policy.specs.Statements.{permissions}
 use Rattle.policy.specs.Names.{Environment}
 use Rattle.policy.specs.Encode.{entries}
 use Rattle.policy.proofs.Counts.{few-of, few-classes, few-permissions-of}
 use Rattle.policy.proofs.Environments.{named-in, class-below, permission-below}
+use Rattle.table_laws.proofs.NamesFit.{most}
 use Rattle.symbols.specs.Lookup.{firstNamed}
 use Rattle.symbols.specs.Resolving.{foundNamed, foundClass, foundPermission}
 use Rattle.name_chains.specs.Symbols.{Symbols, Looks, Bounded}
@@ -35,14 +35,6 @@ looks {t} {family} {w} {r} h = record {
   where
     is : (env : Environment) (y : Symbols t env) → r .found ≡ firstNamed family w (entries (y .declared))
     is env y = h .tries (y .end) (entries (y .declared)) (y .chained) .finds
-
-most : (s : Sort) → maxOf s ≤ 512
-most (thingOf users) = omega arith
-most (thingOf roles) = omega arith
-most (thingOf types) = omega arith
-most (attributeOf users) = omega arith
-most (attributeOf roles) = omega arith
-most (attributeOf types) = omega arith
 
 pub bounded : {t : List ℕ} {env : Environment} → Symbols t env → Bounded env
 bounded {env = env} y = record {

@@ -14,8 +14,7 @@ use Rattle.bitset.proofs.PartLaws.{length-put, part-put-same, part-put-before, 
 use Rattle.policy.specs.Basics.{le, unle}
 use Rattle.policy.specs.Encode.{NameEntry, entryBytes}
 use Rattle.symbols.specs.Lookup.{familyNumber}
-use Rattle.symbols.proofs.Appending.{entry-length}
-use Rattle.symbols.proofs.AppendLaws.{take-put}
+use Rattle.symbols.proofs.AppendLaws.{entry-length, take-put}
 use Rattle.name_chains.specs.Chains.{frontOf, wordIn, chainAt, chainIn, chainWord, linkIn, linkWord, ChainFits, LinkFits}
 use Rattle.name_chains.specs.Entered.{putWord, putNode, linkedTo, putNext, begun, longer, putLast, putMore, newAt, newLink, putEntry}
 use Rattle.name_chains.specs.declared.Chain.{Chain}

@@ -14,15 +14,16 @@ use Rattle.policy.specs.Basics.{Name, unle}
 use Rattle.policy.specs.Encode.{NameEntry, nameEntry, entryBytes}
 use Rattle.symbols.specs.Append.{Appended}
 use Rattle.symbols.specs.Lookup.{familyNumber, countSort}
-use Rattle.symbols.proofs.Appending.{entry-length}
+use Rattle.symbols.proofs.AppendLaws.{entry-length}
 use Rattle.symbols.proofs.CountLaws.{count-append}
-use Rattle.name_chains.specs.Compared.{isLike}
-use Rattle.name_chains.specs.Chains.{howMany, firstLike, lastLike, frontOf, wordIn, chainAt, chainIn, chainWord, linkIn, linkWord}
+use Rattle.name_chains.specs.Compared.{isCandidate}
+use Rattle.name_chains.specs.Chains.{howMany, firstCandidate, lastCandidate, frontOf, wordIn, chainAt, chainIn, chainWord, linkIn, linkWord}
 use Rattle.name_chains.specs.Chains.{ChainIs, NodeIs, Nth, Chained}
 use Rattle.name_chains.specs.Entered.{putNode, linkedTo, begun, longer, putLast, putMore, newAt, newLink, putEntry, EntryRoom, Entered}
 use Rattle.name_chains.specs.declared.Chain.{Chain}
-use Rattle.name_chains.proofs.LikeLaws.{nth-more, nth-below, like-is, like-self, none-many, many-more, many-length, many-nth, first-kept, first-new}
-use Rattle.name_chains.proofs.LikeLaws.{last-new, last-kept, last-below, last-is, none-behind, last-like}
+use Rattle.name_chains.proofs.CandidateLaws.{nth-more, nth-below, candidate-is, candidate-self, none-many, many-more, many-length, many-nth}
+use Rattle.name_chains.proofs.CandidateLaws.{first-kept, first-new}
+use Rattle.name_chains.proofs.CandidateLaws.{last-new, last-kept, last-below, last-is, none-behind, last-candidate}
 use Rattle.name_chains.proofs.Chaining.{Changed, changed, bytes-word, linked-rest, linked-next}
 
 -- how many entries of a sort there are, with one more
@@ -77,8 +78,8 @@ module _ {t u : List ℕ} {end r : ℕ} {e : NameEntry} {es : List NameEntry} (h
   abbrev old : Chain
   old = chainIn (wordIn t (chainAt f n))
 
-  own : isLike f n e ≡ true
-  own = like-self f n e refl refl
+  own : isCandidate f n e ≡ true
+  own = candidate-self f n e refl refl
 
   was : ChainIs old f n es
   was = h .chains f n family short
@@ -94,10 +95,10 @@ module _ {t u : List ℕ} {end r : ℕ} {e : NameEntry} {es : List NameEntry} (h
   not-empty g z = omega (arith, was .count)
 
   -- the last of the chain was an entry before the new one
-  last-word : (old .count ≡ 0 → ⊥) → old .last ≡ 2 * lastLike f n es
+  last-word : (old .count ≡ 0 → ⊥) → old .last ≡ 2 * lastCandidate f n es
   last-word d = was .last (some-of d)
 
-  last-old : (old .count ≡ 0 → ⊥) → lastLike f n es < m
+  last-old : (old .count ≡ 0 → ⊥) → lastCandidate f n es < m
   last-old d = last-below f n es (some-of d)
 
   -- ---- the chains
@@ -126,13 +127,13 @@ module _ {t u : List ℕ} {end r : ℕ} {e : NameEntry} {es : List NameEntry} (h
         last = λ g. ap (λ (c : Chain). c .last) is ∙ ap (λ (i : ℕ). 2 * i) (sym (last-new f n es e own));
       }
 
-  chains : (g l : ℕ) → g < 36 → l ≤ 64 → (q : Bool) → isLike g l e ≡ q → ChainIs (chainIn (wordIn u (chainAt g l))) g l (es ++ (e ∷ []))
+  chains : (g l : ℕ) → g < 36 → l ≤ 64 → (q : Bool) → isCandidate g l e ≡ q → ChainIs (chainIn (wordIn u (chainAt g l))) g l (es ++ (e ∷ []))
   chains g l a b true q =
-      let is = like-is g l e q in
+      let is = candidate-is g l e q in
       subst (λ (k : ℕ). ChainIs (chainIn (wordIn u (chainAt k l))) k l (es ++ (e ∷ []))) (is .0)
       (subst (λ (k : ℕ). ChainIs (chainIn (wordIn u (chainAt f k))) f k (es ++ (e ∷ []))) (is .1) (own-chain (eqb (old .count) 0) refl))
   chains g l a b false q =
-      let other : chainAt g l ≡ chainAt f n → ⊥ = λ z. false≢true (sym q ∙ like-self g l e (omega arith) (omega arith)) in
+      let other : chainAt g l ≡ chainAt f n → ⊥ = λ z. false≢true (sym q ∙ candidate-self g l e (omega arith) (omega arith)) in
       let same-word : wordIn u (chainAt g l) ≡ wordIn t (chainAt g l) =
       w .others (chainAt g l) (omega arith) (λ z. omega arith) (λ z. omega arith) other (λ d z. omega (arith, last-word d, last-old d)) in
       let many : howMany g l (es ++ (e ∷ [])) ≡ howMany g l es + 0 = many-more g l es e false q in
@@ -153,12 +154,12 @@ module _ {t u : List ℕ} {end r : ℕ} {e : NameEntry} {es : List NameEntry} (h
   old-front : (k : ℕ) → k < m → wordIn u (2 * k) ≡ wordIn t (2 * k)
   old-front k l = w .others (2 * k) (omega arith) (λ z. omega arith) (λ z. omega arith) (λ z. omega arith) (λ d z. omega (arith, last-word d))
 
-  old-link : (k : ℕ) → k < m → ((old .count ≡ 0 → ⊥) → k ≡ lastLike f n es → ⊥) → wordIn u (2 * k + 1) ≡ wordIn t (2 * k + 1)
+  old-link : (k : ℕ) → k < m → ((old .count ≡ 0 → ⊥) → k ≡ lastCandidate f n es → ⊥) → wordIn u (2 * k + 1) ≡ wordIn t (2 * k + 1)
   old-link k l d =
       w .others (2 * k + 1) (omega arith) (λ z. omega arith) (λ z. omega arith) (λ z. omega arith) (λ c z. d c (omega (arith, last-word c)))
 
   -- the entry that was the last of the chain
-  last-link : (k : ℕ) (d : NameEntry) → Nth es k d → (c : old .count ≡ 0 → ⊥) → k ≡ lastLike f n es
+  last-link : (k : ℕ) (d : NameEntry) → Nth es k d → (c : old .count ≡ 0 → ⊥) → k ≡ lastCandidate f n es
       → wordIn u (2 * k + 1) ≡ linkWord (linkedTo (2 * m) (linkIn (wordIn t (2 * k + 1))))
   last-link k d g c z =
       let is = h .nodes k d g in
@@ -170,17 +171,17 @@ module _ {t u : List ℕ} {end r : ℕ} {e : NameEntry} {es : List NameEntry} (h
 
   -- what the link of an entry says but for the next
   old-rest : (k : ℕ) (d : NameEntry) → Nth es k d → wordIn u (2 * k + 1) / 4096 ≡ wordIn t (2 * k + 1) / 4096
-  old-rest k d g = by (eqb (old .count) 0) refl (eqb k (lastLike f n es)) refl
+  old-rest k d g = by (eqb (old .count) 0) refl (eqb k (lastCandidate f n es)) refl
     where
       below : k < m
       below = nth-below es k d g
 
-      by : (p : Bool) → eqb (old .count) 0 ≡ p → (q : Bool) → eqb k (lastLike f n es) ≡ q → wordIn u (2 * k + 1) / 4096 ≡ wordIn t (2 * k + 1) / 4096
+      by : (p : Bool) → eqb (old .count) 0 ≡ p → (q : Bool) → eqb k (lastCandidate f n es) ≡ q → wordIn u (2 * k + 1) / 4096 ≡ wordIn t (2 * k + 1) / 4096
       by true p q s = ap (λ (i : ℕ). i / 4096) (old-link k below (λ c z. c (eqb-true (old .count) 0 p)))
       by false p true s =
-          ap (λ (i : ℕ). i / 4096) (last-link k d g (eqb-false (old .count) 0 p) (eqb-true k (lastLike f n es) s))
+          ap (λ (i : ℕ). i / 4096) (last-link k d g (eqb-false (old .count) 0 p) (eqb-true k (lastCandidate f n es) s))
           ∙ linked-rest (wordIn t (2 * k + 1)) (2 * m) (omega (arith, few))
-      by false p false s = ap (λ (i : ℕ). i / 4096) (old-link k below (λ c z. eqb-false k (lastLike f n es) s z))
+      by false p false s = ap (λ (i : ℕ). i / 4096) (old-link k below (λ c z. eqb-false k (lastCandidate f n es) s z))
 
   old-node : (k : ℕ) (d : NameEntry) → Nth es k d → NodeIs u r (wordIn u (2 * k)) (linkIn (wordIn u (2 * k + 1))) d
   old-node k d g =
@@ -225,15 +226,15 @@ module _ {t u : List ℕ} {end r : ℕ} {e : NameEntry} {es : List NameEntry} (h
   behind : (k : ℕ) → k < m → drop (suc k) (es ++ (e ∷ [])) ≡ drop (suc k) es ++ (e ∷ [])
   behind k l = drop-append-le (suc k) es (e ∷ []) (omega arith)
 
-  module _ (k : ℕ) (d : NameEntry) (t-nth : Nth es k d) (g l : ℕ) (like : isLike g l d ≡ true) where
+  module _ (k : ℕ) (d : NameEntry) (t-nth : Nth es k d) (g l : ℕ) (like : isCandidate g l d ≡ true) where
     abbrev Follows : Type 0
-    Follows = linkIn (wordIn u (2 * k + 1)) .next ≡ 2 * (suc k + firstLike g l (drop (suc k) es ++ (e ∷ [])))
+    Follows = linkIn (wordIn u (2 * k + 1)) .next ≡ 2 * (suc k + firstCandidate g l (drop (suc k) es ++ (e ∷ [])))
 
     -- where one of its chain stood behind it, it was not the last of the chain of the new one
-    not-last : 0 < howMany g l (drop (suc k) es) → (old .count ≡ 0 → ⊥) → k ≡ lastLike f n es → ⊥
+    not-last : 0 < howMany g l (drop (suc k) es) → (old .count ≡ 0 → ⊥) → k ≡ lastCandidate f n es → ⊥
     not-last some c z =
-        let a = like-is f n d (last-like f n es k d (some-of c) (sym z) t-nth) in
-        let b = like-is g l d like in
+        let a = candidate-is f n d (last-candidate f n es k d (some-of c) (sym z) t-nth) in
+        let b = candidate-is g l d like in
         let none = none-behind f n es k (some-of c) (sym z) in
         let same-many : howMany g l (drop (suc k) es) ≡ howMany f n (drop (suc k) es) =
         ap₂ (λ (x y : ℕ). howMany x y (drop (suc k) es)) (sym (b .0) ∙ a .0) (sym (b .1) ∙ a .1) in
@@ -246,31 +247,31 @@ module _ {t u : List ℕ} {end r : ℕ} {e : NameEntry} {es : List NameEntry} (h
         ∙ ap (λ (i : ℕ). 2 * (suc k + i)) (sym (first-kept g l (drop (suc k) es) (e ∷ []) some))
 
     -- where none did, the new one is the next, if it is of the chain
-    next-new : howMany g l (drop (suc k) es) ≡ 0 → isLike g l e ≡ true → Follows
+    next-new : howMany g l (drop (suc k) es) ≡ 0 → isCandidate g l e ≡ true → Follows
     next-new none q =
-        let a = like-is g l e q in
-        let like-f : isLike f n d ≡ true = ap₂ (λ (x y : ℕ). isLike x y d) (a .0) (a .1) ∙ like in
+        let a = candidate-is g l e q in
+        let like-f : isCandidate f n d ≡ true = ap₂ (λ (x y : ℕ). isCandidate x y d) (a .0) (a .1) ∙ like in
         let none-f : howMany f n (drop (suc k) es) ≡ 0 = ap₂ (λ (x y : ℕ). howMany x y (drop (suc k) es)) (a .0) (a .1) ∙ none in
         let some = many-nth f n es k d t-nth like-f in
-        let is : k ≡ lastLike f n es = sym (last-is f n es k d t-nth like-f none-f) in
-        let to : 2 * m ≡ 2 * (suc k + firstLike g l (drop (suc k) es ++ (e ∷ []))) =
+        let is : k ≡ lastCandidate f n es = sym (last-is f n es k d t-nth like-f none-f) in
+        let to : 2 * m ≡ 2 * (suc k + firstCandidate g l (drop (suc k) es ++ (e ∷ []))) =
         omega (arith, first-new g l (drop (suc k) es) e none q, length-drop (suc k) es, nth-below es k d t-nth) in
         ap (λ (i : ℕ). i % 4096) (last-link k d t-nth (not-empty some) is) ∙ linked-next (wordIn t (2 * k + 1)) (2 * m) (omega (arith, few)) ∙ to
 
     next : 0 < howMany g l (drop (suc k) es ++ (e ∷ [])) → Follows
-    next some = by (eqb (howMany g l (drop (suc k) es)) 0) refl (isLike g l e) refl
+    next some = by (eqb (howMany g l (drop (suc k) es)) 0) refl (isCandidate g l e) refl
       where
-        by : (p : Bool) → eqb (howMany g l (drop (suc k) es)) 0 ≡ p → (q : Bool) → isLike g l e ≡ q → Follows
+        by : (p : Bool) → eqb (howMany g l (drop (suc k) es)) 0 ≡ p → (q : Bool) → isCandidate g l e ≡ q → Follows
         by true p true q = next-new (eqb-true (howMany g l (drop (suc k) es)) 0 p) q
         by true p false q = absurd (omega (arith, many-more g l (drop (suc k) es) e false q, eqb-true (howMany g l (drop (suc k) es)) 0 p))
         by false p q s = let z = eqb-false (howMany g l (drop (suc k) es)) 0 p in next-kept (omega arith)
 
-  links : (k : ℕ) (d : NameEntry) → (Nth es k d × (k < m)) ⊎ ((k ≡ m) × (d ≡ e)) → (g l : ℕ) → isLike g l d ≡ true
-      → 0 < howMany g l (drop (suc k) (es ++ (e ∷ []))) → linkIn (wordIn u (2 * k + 1)) .next ≡ 2 * (suc k + firstLike g l (drop (suc k) (es ++ (e ∷ []))))
+  links : (k : ℕ) (d : NameEntry) → (Nth es k d × (k < m)) ⊎ ((k ≡ m) × (d ≡ e)) → (g l : ℕ) → isCandidate g l d ≡ true
+      → 0 < howMany g l (drop (suc k) (es ++ (e ∷ []))) → linkIn (wordIn u (2 * k + 1)) .next ≡ 2 * (suc k + firstCandidate g l (drop (suc k) (es ++ (e ∷ []))))
   links k d (inl a) g l like some =
       let is = behind k (a .1) in
       next k d (a .0) g l like (subst (λ (x : List NameEntry). 0 < howMany g l x) is some)
-      ∙ ap (λ (x : List NameEntry). 2 * (suc k + firstLike g l x)) (sym is)
+      ∙ ap (λ (x : List NameEntry). 2 * (suc k + firstCandidate g l x)) (sym is)
   links k d (inr a) g l like some =
       let none : drop (suc k) (es ++ (e ∷ [])) ≡ [] =
       drop-of-length-le (es ++ (e ∷ [])) {i = suc k} (omega (arith, a .0, length-append es (e ∷ []))) in
@@ -294,7 +295,7 @@ module _ {t u : List ℕ} {end r : ℕ} {e : NameEntry} {es : List NameEntry} (h
     few = omega (arith, length-append es (e ∷ []));
     all = omega (arith, w .all, h .all, length-append es (e ∷ []));
     counts = λ s l. counts s l (eqb (e .sort) s) refl;
-    chains = λ g l a b. chains g l a b (isLike g l e) refl;
+    chains = λ g l a b. chains g l a b (isCandidate g l e) refl;
     nodes = λ k d g. nodes k d (nth-more es e k d g);
     links = λ k d g f n q c. links k d (nth-more es e k d g) f n q c;
   }

@@ -4,25 +4,25 @@ use mathlib.Core.Bool.{Bool, true, false}
 use mathlib.Core.List.{List, [], _∷_}
 use Prim.Native.Nat.{ℕ, suc, _+_, _-_, _*_, _<_, _≤_}
 use native.Mathlib.Omega.{arith}
-use lib.ListN.{length, take}
+use lib.ListN.{length}
 use lib.Seq.{take-all}
 use Rattle.bitset.specs.Parts.{part}
 use Rattle.bitset.proofs.PartLaws.{small-part}
 use Rattle.policy.specs.Basics.{Name, same, unle}
 use Rattle.policy.specs.Encode.{NameEntry, nameEntry}
 use Rattle.policy.proofs.Lists.{same-is}
+use Rattle.policy.proofs.AsNumbers.{Small, alike}
 use Rattle.symbols.specs.Section.{entriesAt, between, EntryIs}
 use Rattle.symbols.specs.Lookup.{familyNumber, firstNamed}
 use Rattle.symbols.specs.declared.Entry.{Entry}
 use Rattle.symbols.specs.declared.Found.{Found}
 use Rattle.symbols.proofs.PartLaws.{part-whole, length-part}
-use Rattle.name_chains.specs.Compared.{isLike, comparedIn, TriedIn}
+use Rattle.name_chains.specs.Compared.{isCandidate, comparedIn, TriedIn}
 use Rattle.name_chains.specs.Chains.{frontOf, howMany, wordIn, chainIn, linkIn, Nth, Chained, ChainIs, HasChain, Tries, Compares}
 use Rattle.name_chains.specs.declared.Tried.{Tried}
 use Rattle.name_chains.specs.declared.Chain.{Chain}
 use Rattle.name_chains.specs.declared.Link.{Link}
-use Rattle.name_chains.proofs.Words.{Small, alike}
-use Rattle.name_chains.proofs.LikeLaws.{like-is, like-self}
+use Rattle.name_chains.proofs.CandidateLaws.{candidate-is, candidate-self}
 use Rattle.name_chains.proofs.TryLaws.{Going, starts, is-hit, goes-on, this-first, this-compared}
 
 -- ---- comparing
@@ -43,7 +43,7 @@ module _ {t : List ℕ} {at : ℕ} {w : Name} where
         let small : Small (v .name) = subst Small (is .stands) (small-part t (linkIn (wordIn t (2 * k + 1)) .place) (length (v .name)) s) in
         let fronts : frontOf w ≡ frontOf (v .name) = sym f ∙ sym q ∙ e ∙ ap (wordIn t) z ∙ is .front in
         let whole : unle w ≡ unle (v .name) = ap unle (sym (take-all 8 w short)) ∙ fronts ∙ ap unle (take-all 8 (v .name) (omega arith)) in
-        sym (alike w (v .name) b small (sym l) whole);
+        sym (alike 0 w (v .name) b small (sym l) refl whole);
   }
 
   pub all-bytes : {link : Link} {r : Bool} → link ≡ linkIn (wordIn t (at + 1)) → r ≡ same (part w 0 (length w)) (part t (link .place) (length w))
@@ -57,20 +57,20 @@ module _ {t : List ℕ} {at : ℕ} {w : Name} where
 
 -- ---- the chain that a try walks
 
-none-of : (f n : ℕ) (es : List NameEntry) → ((k : ℕ) (e : NameEntry) → Nth es k e → isLike f n e ≡ false) → howMany f n es ≡ 0
+none-of : (f n : ℕ) (es : List NameEntry) → ((k : ℕ) (e : NameEntry) → Nth es k e → isCandidate f n e ≡ false) → howMany f n es ≡ 0
 unfolding howMany
 none-of f n [] h = refl
 none-of f n (x ∷ es) h = rw (h 0 x refl) (none-of f n es (λ k e g. h (suc k) e g))
 
-not-like : (f n : ℕ) (e : NameEntry) → (familyNumber (e .sort) (e .number) ≡ f → length (e .name) ≡ n → ⊥) → isLike f n e ≡ false
-not-like f n e h = by (isLike f n e) refl
+not-like : (f n : ℕ) (e : NameEntry) → (familyNumber (e .sort) (e .number) ≡ f → length (e .name) ≡ n → ⊥) → isCandidate f n e ≡ false
+not-like f n e h = by (isCandidate f n e) refl
   where
-    by : (q : Bool) → isLike f n e ≡ q → isLike f n e ≡ false
-    by true q = let z = like-is f n e q in absurd (h (z .0) (z .1))
+    by : (q : Bool) → isCandidate f n e ≡ q → isCandidate f n e ≡ false
+    by true q = let z = candidate-is f n e q in absurd (h (z .0) (z .1))
     by false q = q
 
 module _ {t : List ℕ} {f n : ℕ} {c : Chain} where
-  -- where no memory with an index has entries of the family and length, the chain is that in the word 0
+  -- where no memory with an index has entries of the family and length, the chain is what the number 0 reads as, which is empty
   none-there : c ≡ chainIn 0 → ((end : ℕ) (es : List NameEntry) → Chained t end es → howMany f n es ≡ 0) → HasChain t f n c
   none-there q h =
       let count : c .count ≡ 0 = ap (λ (a : Chain). a .count) q in
@@ -114,7 +114,9 @@ module _ {t : List ℕ} {f : ℕ} {w : Name} where
   module _ {count at compared : ℕ} {link : Link} {q : Bool} (i : link ≡ linkIn (wordIn t (at + 1))) (c : Compares t at w q) (some : compared < count)
       (g : Walks t f w count at compared) where
     told : (end : ℕ) (es : List NameEntry) (h : Chained t end es) → q ≡ same w (g end es h .here some .entry .name)
-    told end es h = let x = g end es h .here some in c .compares end es h (x .k) (x .word) (x .entry) (x .nth) (like-is f (length w) (x .entry) (x .like) .1)
+    told end es h =
+        let x = g end es h .here some in
+        c .compares end es h (x .k) (x .word) (x .entry) (x .nth) (candidate-is f (length w) (x .entry) (x .like) .1)
 
     -- the link that was read is that of the entry
     read : (end : ℕ) (es : List NameEntry) (h : Chained t end es) → link ≡ linkIn (wordIn t (2 * g end es h .here some .k + 1))
@@ -150,16 +152,16 @@ name-long : {t : List ℕ} {at end s n past : ℕ} → EntryIs t at end (Entry.N
 name-long {t} {at} {end} {s} {n} {past} h = length-part t (at + 4) (past - (at + 4)) ∙ omega (arith, h .within)
 
 module _ {t : List ℕ} {at end s n past : ℕ} (h : EntryIs t at end (Entry.Named s n past)) (f : ℕ) (w : Name) where
-  pub other-length : (past - (at + 4) ≡ length w → ⊥) → isLike f (length w) (nameEntry s n (between t (at + 4) past)) ≡ false
+  pub other-length : (past - (at + 4) ≡ length w → ⊥) → isCandidate f (length w) (nameEntry s n (between t (at + 4) past)) ≡ false
   other-length d = not-like f (length w) (nameEntry s n (between t (at + 4) past)) (λ a b. d (sym (name-long h) ∙ b))
 
-  pub other-family : {g : ℕ} → g ≡ familyNumber s n → (g ≡ f → ⊥) → isLike f (length w) (nameEntry s n (between t (at + 4) past)) ≡ false
+  pub other-family : {g : ℕ} → g ≡ familyNumber s n → (g ≡ f → ⊥) → isCandidate f (length w) (nameEntry s n (between t (at + 4) past)) ≡ false
   other-family e d = not-like f (length w) (nameEntry s n (between t (at + 4) past)) (λ a b. d (e ∙ a))
 
   module _ {g : ℕ} (e : g ≡ familyNumber s n) (i : g ≡ f) (l : past - (at + 4) ≡ length w) {r : Bool}
       (q : r ≡ same (part w 0 (length w)) (part t (at + 4) (length w))) where
-    like : isLike f (length w) (nameEntry s n (between t (at + 4) past)) ≡ true
-    like = like-self f (length w) (nameEntry s n (between t (at + 4) past)) (sym e ∙ i) (name-long h ∙ l)
+    like : isCandidate f (length w) (nameEntry s n (between t (at + 4) past)) ≡ true
+    like = candidate-self f (length w) (nameEntry s n (between t (at + 4) past)) (sym e ∙ i) (name-long h ∙ l)
 
     compared-as : r ≡ same w (between t (at + 4) past)
     compared-as = q ∙ ap₂ same (part-whole w) (ap (part t (at + 4)) (sym l))

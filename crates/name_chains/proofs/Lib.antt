@@ -1,5 +1,5 @@
 pub mod Words
-pub mod LikeLaws
+pub mod CandidateLaws
 pub mod TryLaws
 pub mod FindLaws
 pub mod Chaining

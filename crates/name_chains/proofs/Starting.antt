@@ -14,7 +14,7 @@ use Rattle.symbols.specs.Lookup.{countSort}
 use Rattle.name_chains.specs.Chains.{wordIn, chainAt, chainIn, Chained}
 use Rattle.name_chains.specs.Entered.{Cleared}
 use Rattle.name_chains.specs.declared.Chain.{Chain}
-use Rattle.name_chains.proofs.LikeLaws.{none-many, nth-below}
+use Rattle.name_chains.proofs.CandidateLaws.{none-many, nth-below}
 
 unle-zero : (l : List ℕ) → ((i : ℕ) → i < length l → getD l i 0 ≡ 0) → unle l ≡ 0
 unfolding unle

@@ -16,23 +16,23 @@ use Rattle.symbols.specs.declared.Entry.{Entry}
 use Rattle.symbols.specs.declared.Found.{Found}
 use Rattle.symbols.proofs.PartLaws.{same-length}
 use Rattle.symbols.proofs.FindLaws.{ahead}
-use Rattle.name_chains.specs.Compared.{isLike, comparedIn, TriedIn}
-use Rattle.name_chains.specs.Chains.{howMany, firstLike, Nth}
-use Rattle.name_chains.proofs.LikeLaws.{like-is, none-many}
+use Rattle.name_chains.specs.Compared.{isCandidate, comparedIn, TriedIn}
+use Rattle.name_chains.specs.Chains.{howMany, firstCandidate, Nth}
+use Rattle.name_chains.proofs.CandidateLaws.{candidate-is, none-many}
 
 -- ---- by one entry
 
 module _ (f : ℕ) (w : Name) (e : NameEntry) (es : List NameEntry) where
   -- an entry of the family and length is compared
-  pub first-by : isLike f (length w) e ≡ true → firstNamed f w (e ∷ es) ≡ cond (same w (e .name)) (Found.At (e .sort) (e .number)) (firstNamed f w es)
+  pub first-by : isCandidate f (length w) e ≡ true → firstNamed f w (e ∷ es) ≡ cond (same w (e .name)) (Found.At (e .sort) (e .number)) (firstNamed f w es)
   unfolding firstNamed
-  first-by q = rw (eq-eqb (familyNumber (e .sort) (e .number)) f (like-is f (length w) e q .0))
+  first-by q = rw (eq-eqb (familyNumber (e .sort) (e .number)) f (candidate-is f (length w) e q .0))
 
-  pub compared-by : isLike f (length w) e ≡ true → comparedIn f w (e ∷ es) ≡ cond (same w (e .name)) 1 (1 + comparedIn f w es)
+  pub compared-by : isCandidate f (length w) e ≡ true → comparedIn f w (e ∷ es) ≡ cond (same w (e .name)) 1 (1 + comparedIn f w es)
   unfolding comparedIn
   compared-by q = rw q
 
-  pub many-by : isLike f (length w) e ≡ true → howMany f (length w) (e ∷ es) ≡ 1 + howMany f (length w) es
+  pub many-by : isCandidate f (length w) e ≡ true → howMany f (length w) (e ∷ es) ≡ 1 + howMany f (length w) es
   unfolding howMany
   many-by q = rw q
 
@@ -43,24 +43,24 @@ module _ (f : ℕ) (w : Name) (e : NameEntry) (es : List NameEntry) where
   not-named true false a b h = same-length w (e .name) (λ z. eqb-false (length (e .name)) (length w) b (sym z))
   not-named false r a b h = refl
 
-  pub first-past : isLike f (length w) e ≡ false → firstNamed f w (e ∷ es) ≡ firstNamed f w es
+  pub first-past : isCandidate f (length w) e ≡ false → firstNamed f w (e ∷ es) ≡ firstNamed f w es
   unfolding firstNamed
   first-past q = rw (not-named (eqb (familyNumber (e .sort) (e .number)) f) (eqb (length (e .name)) (length w)) refl refl q)
 
-  pub compared-past : isLike f (length w) e ≡ false → comparedIn f w (e ∷ es) ≡ comparedIn f w es
+  pub compared-past : isCandidate f (length w) e ≡ false → comparedIn f w (e ∷ es) ≡ comparedIn f w es
   unfolding comparedIn
   compared-past q = rw q
 
-  pub many-past : isLike f (length w) e ≡ false → howMany f (length w) (e ∷ es) ≡ howMany f (length w) es
+  pub many-past : isCandidate f (length w) e ≡ false → howMany f (length w) (e ∷ es) ≡ howMany f (length w) es
   unfolding howMany
   many-past q = rw q
 
-  pub at-by : isLike f (length w) e ≡ true → firstLike f (length w) (e ∷ es) ≡ 0
-  unfolding firstLike
+  pub at-by : isCandidate f (length w) e ≡ true → firstCandidate f (length w) (e ∷ es) ≡ 0
+  unfolding firstCandidate
   at-by q = rw q
 
-  pub at-past : isLike f (length w) e ≡ false → firstLike f (length w) (e ∷ es) ≡ suc (firstLike f (length w) es)
-  unfolding firstLike
+  pub at-past : isCandidate f (length w) e ≡ false → firstCandidate f (length w) (e ∷ es) ≡ suc (firstCandidate f (length w) es)
+  unfolding firstCandidate
   at-past q = rw q (omega arith)
 
 -- ---- along a chain
@@ -69,18 +69,18 @@ module _ (f : ℕ) (w : Name) (e : NameEntry) (es : List NameEntry) where
 pub record Met (f : ℕ) (w : Name) (xs : List NameEntry) (i : ℕ) : Type 0 where
   pub entry : NameEntry
   pub nth : Nth xs i entry
-  pub like : isLike f (length w) entry ≡ true
+  pub like : isCandidate f (length w) entry ≡ true
   pub many : howMany f (length w) xs ≡ 1 + howMany f (length w) (drop (suc i) xs)
   pub finds : firstNamed f w xs ≡ cond (same w (entry .name)) (Found.At (entry .sort) (entry .number)) (firstNamed f w (drop (suc i) xs))
   pub compares : comparedIn f w xs ≡ cond (same w (entry .name)) 1 (1 + comparedIn f w (drop (suc i) xs))
 
 module _ (f : ℕ) (w : Name) where
-  pub met : (xs : List NameEntry) (i : ℕ) → 0 < howMany f (length w) xs → firstLike f (length w) xs ≡ i → Met f w xs i
+  pub met : (xs : List NameEntry) (i : ℕ) → 0 < howMany f (length w) xs → firstCandidate f (length w) xs ≡ i → Met f w xs i
   met [] i h e = absurd (omega (arith, none-many f (length w)))
-  met (x ∷ xs) i h e = by (λ j g d. met xs j g d) (isLike f (length w) x) refl i e
+  met (x ∷ xs) i h e = by (λ j g d. met xs j g d) (isCandidate f (length w) x) refl i e
     where
-      by : ((j : ℕ) → 0 < howMany f (length w) xs → firstLike f (length w) xs ≡ j → Met f w xs j) → (q : Bool) → isLike f (length w) x ≡ q
-          → (i : ℕ) → firstLike f (length w) (x ∷ xs) ≡ i → Met f w (x ∷ xs) i
+      by : ((j : ℕ) → 0 < howMany f (length w) xs → firstCandidate f (length w) xs ≡ j → Met f w xs j) → (q : Bool) → isCandidate f (length w) x ≡ q
+          → (i : ℕ) → firstCandidate f (length w) (x ∷ xs) ≡ i → Met f w (x ∷ xs) i
       by ih true q zero e = record {
         entry = x;
         nth = refl;
@@ -106,9 +106,9 @@ module _ (f : ℕ) (w : Name) where
   pub nothing : (xs : List NameEntry) → howMany f (length w) xs ≡ 0 → (firstNamed f w xs ≡ Found.Missing) × (comparedIn f w xs ≡ 0)
   unfolding firstNamed comparedIn
   nothing [] h = (refl, refl)
-  nothing (x ∷ xs) h = by (λ g. nothing xs g) (isLike f (length w) x) refl
+  nothing (x ∷ xs) h = by (λ g. nothing xs g) (isCandidate f (length w) x) refl
     where
-      by : (howMany f (length w) xs ≡ 0 → (firstNamed f w xs ≡ Found.Missing) × (comparedIn f w xs ≡ 0)) → (q : Bool) → isLike f (length w) x ≡ q
+      by : (howMany f (length w) xs ≡ 0 → (firstNamed f w xs ≡ Found.Missing) × (comparedIn f w xs ≡ 0)) → (q : Bool) → isCandidate f (length w) x ≡ q
           → (firstNamed f w (x ∷ xs) ≡ Found.Missing) × (comparedIn f w (x ∷ xs) ≡ 0)
       by ih true q = absurd (omega (arith, many-by f w x xs q))
       by ih false q =
@@ -121,7 +121,7 @@ pub record Here (f : ℕ) (w : Name) (es : List NameEntry) (count at compared : 
   pub word : at ≡ 2 * k
   pub entry : NameEntry
   pub nth : Nth es k entry
-  pub like : isLike f (length w) entry ≡ true
+  pub like : isCandidate f (length w) entry ≡ true
   pub many : count ≡ compared + (1 + howMany f (length w) (drop (suc k) es))
   pub finds : firstNamed f w es ≡ cond (same w (entry .name)) (Found.At (entry .sort) (entry .number)) (firstNamed f w (drop (suc k) es))
   pub compares : comparedIn f w es ≡ compared + cond (same w (entry .name)) 1 (1 + comparedIn f w (drop (suc k) es))
@@ -132,11 +132,12 @@ pub record Going (f : ℕ) (w : Name) (es : List NameEntry) (count at compared :
 
 module _ {f : ℕ} {w : Name} {es : List NameEntry} where
   -- it begins at the first entry of the chain
-  pub starts : (count at : ℕ) → count ≡ howMany f (length w) es → (0 < howMany f (length w) es → at ≡ 2 * firstLike f (length w) es) → Going f w es count at 0
+  pub starts : (count at : ℕ) → count ≡ howMany f (length w) es → (0 < howMany f (length w) es → at ≡ 2 * firstCandidate f (length w) es)
+      → Going f w es count at 0
   starts count at c a = record {
     here = λ l.
         let some : 0 < howMany f (length w) es = omega (arith, c) in
-        let i : ℕ = firstLike f (length w) es in
+        let i : ℕ = firstCandidate f (length w) es in
         let m = met f w es i some refl in
         record {
           k = i;
@@ -162,7 +163,7 @@ module _ {f : ℕ} {w : Name} {es : List NameEntry} where
 
     -- it is another, and the try goes on at the next of the chain
     pub goes-on : same w (h .entry .name) ≡ false → (next : ℕ)
-        → (0 < howMany f (length w) (drop (suc (h .k)) es) → next ≡ 2 * (suc (h .k) + firstLike f (length w) (drop (suc (h .k)) es)))
+        → (0 < howMany f (length w) (drop (suc (h .k)) es) → next ≡ 2 * (suc (h .k) + firstCandidate f (length w) (drop (suc (h .k)) es)))
         → Going f w es count next (compared + 1)
     goes-on q next n =
         let k : ℕ = h .k in
@@ -171,7 +172,7 @@ module _ {f : ℕ} {w : Name} {es : List NameEntry} where
         record {
           here = λ l.
               let more : 0 < howMany f (length w) (drop (suc k) es) = omega (arith, h .many) in
-              let i : ℕ = firstLike f (length w) (drop (suc k) es) in
+              let i : ℕ = firstCandidate f (length w) (drop (suc k) es) in
               let j : ℕ = suc k + i in
               let m = met f w (drop (suc k) es) i more refl in
               let to : drop i (drop (suc k) es) ≡ drop j es = drop-drop i (suc k) es in
@@ -203,18 +204,18 @@ module _ {f : ℕ} {w : Name} {es : List NameEntry} where
 
 module _ {t : List ℕ} {at end s n past : ℕ} (h : EntryIs t at end (Entry.Named s n past)) where
   module _ (f : ℕ) (w : Name) where
-    pub past-first : isLike f (length w) (nameEntry s n (between t (at + 4) past)) ≡ false
+    pub past-first : isCandidate f (length w) (nameEntry s n (between t (at + 4) past)) ≡ false
         → firstNamed f w (entriesAt t past end) ≡ firstNamed f w (entriesAt t at end)
     past-first q = sym (ap (firstNamed f w) (ahead h) ∙ first-past f w (nameEntry s n (between t (at + 4) past)) (entriesAt t past end) q)
 
-    pub past-compared : isLike f (length w) (nameEntry s n (between t (at + 4) past)) ≡ false
+    pub past-compared : isCandidate f (length w) (nameEntry s n (between t (at + 4) past)) ≡ false
         → comparedIn f w (entriesAt t past end) ≡ comparedIn f w (entriesAt t at end)
     past-compared q = sym (ap (comparedIn f w) (ahead h) ∙ compared-past f w (nameEntry s n (between t (at + 4) past)) (entriesAt t past end) q)
 
-    pub this-first : isLike f (length w) (nameEntry s n (between t (at + 4) past)) ≡ true
+    pub this-first : isCandidate f (length w) (nameEntry s n (between t (at + 4) past)) ≡ true
         → firstNamed f w (entriesAt t at end) ≡ cond (same w (between t (at + 4) past)) (Found.At s n) (firstNamed f w (entriesAt t past end))
     this-first q = ap (firstNamed f w) (ahead h) ∙ first-by f w (nameEntry s n (between t (at + 4) past)) (entriesAt t past end) q
 
-    pub this-compared : isLike f (length w) (nameEntry s n (between t (at + 4) past)) ≡ true
+    pub this-compared : isCandidate f (length w) (nameEntry s n (between t (at + 4) past)) ≡ true
         → comparedIn f w (entriesAt t at end) ≡ cond (same w (between t (at + 4) past)) 1 (1 + comparedIn f w (entriesAt t past end))
     this-compared q = ap (comparedIn f w) (ahead h) ∙ compared-by f w (nameEntry s n (between t (at + 4) past)) (entriesAt t past end) q

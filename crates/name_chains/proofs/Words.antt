@@ -1,27 +1,22 @@
 -- The words of the index: the number that a word's bytes make, what a word holds after a store, and what a store leaves as it was. Assumes nothing.
 use mathlib.Core.Path.{_≡_, refl, sym, ap, subst, _∙_}
-use mathlib.Core.Bool.{true}
 use mathlib.Core.List.{List, [], _∷_}
 use Prim.Native.Nat.{ℕ, zero, suc, _+_, _-_, _*_, _/_, _%_, _^_, _≤_, _<_}
 use native.Mathlib.Decide.{decLt}
 use native.Mathlib.Omega.{arith}
-use borrow.Author.Tests.{eq-eqb}
 use lib.ListN.{length, getD, take, drop, set, length-drop, drop-of-length-le}
 use lib.Seq.{drop-cons, getD-drop}
 use Rattle.bitset.specs.Parts.{part, put}
 use Rattle.bitset.proofs.PartLaws.{small-part, length-part-le, length-put, part-put-same, part-put-before, part-put-after}
-use Rattle.policy.specs.Basics.{same, le, unle}
+use Rattle.policy.specs.Basics.{le, unle}
 use Rattle.symbols.proofs.AppendLaws.{put-sets}
+use Rattle.policy.proofs.AsNumbers.{Small}
 use Rattle.symbols.proofs.PartLaws.{part-none, part-head}
 use Rattle.table_laws.proofs.LittleEndian.{le-length, unle-le}
 use Rattle.name_chains.specs.Chains.{wordIn}
 use Rattle.name_chains.specs.Entered.{putWord}
 
 -- ---- bytes as one number
-
--- a list of bytes
-abbrev pub Small : List ℕ → Type 0
-Small t = (i : ℕ) → getD t i 0 < 256
 
 unle-head : (a b c d : ℕ) (r : List ℕ) → unle (a ∷ b ∷ c ∷ d ∷ r) ≡ a + 256 * (b + 256 * (c + 256 * d)) + 4294967296 * unle r
 unfolding unle
@@ -79,15 +74,6 @@ front-fits v w left n i s some h e =
 pub front-ends : (v w : List ℕ) (left n : ℕ) → w ≡ part v 0 8 → left ≤ 0 → n ≡ unle (drop left w) → n ≡ unle (take 8 v)
 unfolding part
 front-ends v w left n i z e = let none : left ≡ 0 = omega arith in e ∙ ap (λ (k : ℕ). unle (drop k w)) none ∙ ap unle i
-
--- bytes of a length that make the same number are the same
-pub alike : (v w : List ℕ) → Small v → Small w → length v ≡ length w → unle v ≡ unle w → same v w ≡ true
-unfolding unle same
-alike [] [] s t l e = refl
-alike [] (y ∷ w) s t l e = absurd (omega arith)
-alike (x ∷ v) [] s t l e = absurd (omega arith)
-alike (x ∷ v) (y ∷ w) s t l e =
-    rw (eq-eqb x y (omega (arith, s 0, t 0))) (alike v w (λ i. s (suc i)) (λ i. t (suc i)) (omega arith) (omega (arith, s 0, t 0)))
 
 -- ---- a store
 

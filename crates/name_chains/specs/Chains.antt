@@ -14,7 +14,7 @@ use Rattle.bitset.specs.Parts.{part}
 use Rattle.policy.specs.Basics.{Name, same, unle}
 use Rattle.policy.specs.Encode.{NameEntry}
 use Rattle.symbols.specs.Lookup.{familyNumber, countSort}
-use Rattle.name_chains.specs.Compared.{isLike, TriedIn}
+use Rattle.name_chains.specs.Compared.{isCandidate, TriedIn}
 use Rattle.name_chains.specs.declared.Tried.{Tried}
 use Rattle.name_chains.specs.declared.Chain.{Chain}
 use Rattle.name_chains.specs.declared.Link.{Link}
@@ -24,17 +24,17 @@ use Rattle.name_chains.specs.declared.Link.{Link}
 -- how many they are
 unfoldable pub howMany : ℕ → ℕ → List NameEntry → ℕ
 howMany f n [] = 0
-howMany f n (e ∷ es) = cond (isLike f n e) (1 + howMany f n es) (howMany f n es)
+howMany f n (e ∷ es) = cond (isCandidate f n e) (1 + howMany f n es) (howMany f n es)
 
 -- the number of the first of them, where there is one
-unfoldable pub firstLike : ℕ → ℕ → List NameEntry → ℕ
-firstLike f n [] = 0
-firstLike f n (e ∷ es) = cond (isLike f n e) 0 (1 + firstLike f n es)
+unfoldable pub firstCandidate : ℕ → ℕ → List NameEntry → ℕ
+firstCandidate f n [] = 0
+firstCandidate f n (e ∷ es) = cond (isCandidate f n e) 0 (1 + firstCandidate f n es)
 
 -- the number of the last of them, where there is one
-unfoldable pub lastLike : ℕ → ℕ → List NameEntry → ℕ
-lastLike f n [] = 0
-lastLike f n (e ∷ es) = cond (eqb (howMany f n es) 0) 0 (1 + lastLike f n es)
+unfoldable pub lastCandidate : ℕ → ℕ → List NameEntry → ℕ
+lastCandidate f n [] = 0
+lastCandidate f n (e ∷ es) = cond (eqb (howMany f n es) 0) 0 (1 + lastCandidate f n es)
 
 -- ---- the words of the index
 
@@ -53,7 +53,8 @@ chainAt f n = 4096 + 65 * f + n
 abbrev pub chainIn : ℕ → Chain
 chainIn h = record { count = h % 65536; first = h / 65536 % 4096; last = h / 268435456 % 4096 }
 
--- a chain as one word, where its parts fit
+-- a chain as one word, where its parts fit. A count of 65536 is let through, so that a chain that is made longer asks nothing of the memory; it is not read
+-- back, and no chain of at most 2,048 entries has it
 abbrev pub chainWord : Chain → ℕ
 chainWord c = c .count + 65536 * c .first + 268435456 * c .last
 
@@ -81,8 +82,8 @@ pub record LinkFits (l : Link) : Type 0 where
 -- c is the chain of the family f and the length n
 pub record ChainIs (c : Chain) (f n : ℕ) (es : List NameEntry) : Type 0 where
   pub count : c .count ≡ howMany f n es
-  pub first : 0 < howMany f n es → c .first ≡ 2 * firstLike f n es
-  pub last : 0 < howMany f n es → c .last ≡ 2 * lastLike f n es
+  pub first : 0 < howMany f n es → c .first ≡ 2 * firstCandidate f n es
+  pub last : 0 < howMany f n es → c .last ≡ 2 * lastCandidate f n es
 
 -- the word x and the link l are those of the entry e, whose name stands before the end
 pub record NodeIs (t : List ℕ) (end x : ℕ) (l : Link) (e : NameEntry) : Type 0 where
@@ -107,8 +108,8 @@ pub record Chained (t : List ℕ) (end : ℕ) (es : List NameEntry) : Type 0 whe
   pub counts : (s : ℕ) → s < 8 → wordIn t (6436 + s) ≡ countSort s es
   pub chains : (f n : ℕ) → f < 36 → n ≤ 64 → ChainIs (chainIn (wordIn t (chainAt f n))) f n es
   pub nodes : (k : ℕ) (e : NameEntry) → Nth es k e → NodeIs t end (wordIn t (2 * k)) (linkIn (wordIn t (2 * k + 1))) e
-  pub links : (k : ℕ) (e : NameEntry) → Nth es k e → (f n : ℕ) → isLike f n e ≡ true → 0 < howMany f n (drop (suc k) es)
-      → linkIn (wordIn t (2 * k + 1)) .next ≡ 2 * (suc k + firstLike f n (drop (suc k) es))
+  pub links : (k : ℕ) (e : NameEntry) → Nth es k e → (f n : ℕ) → isCandidate f n e ≡ true → 0 < howMany f n (drop (suc k) es)
+      → linkIn (wordIn t (2 * k + 1)) .next ≡ 2 * (suc k + firstCandidate f n (drop (suc k) es))
 
 -- ---- what the functions of a try say
 

@@ -10,19 +10,16 @@ use Rattle.policy.specs.Encode.{NameEntry}
 use Rattle.symbols.specs.Lookup.{familyNumber, firstNamed}
 use Rattle.name_chains.specs.declared.Tried.{Tried}
 
--- an entry of the family f whose name has n bytes. The permissions of each class are a family of their own
-abbrev pub isLike : ℕ → ℕ → NameEntry → Bool
-isLike f n e = eqb (familyNumber (e .sort) (e .number)) f && eqb (length (e .name)) n
-
--- an entry that can have the name w: "those of its family (for a permission, its class) and length"
-abbrev pub candidate : ℕ → Name → NameEntry → Bool
-candidate f w e = isLike f (length w) e
+-- an entry that can match a name of n bytes: "those of its family (for a permission, its class) and length". The permissions of each class are a family of
+-- their own
+abbrev pub isCandidate : ℕ → ℕ → NameEntry → Bool
+isCandidate f n e = eqb (familyNumber (e .sort) (e .number)) f && eqb (length (e .name)) n
 
 -- "Each try at a full name also tells how many entries it compared byte by byte: exactly those of its family (for a permission, its class) and length, in
 -- order of declaration, up to and including the hit."
 unfoldable pub comparedIn : ℕ → Name → List NameEntry → ℕ
 comparedIn f w [] = 0
-comparedIn f w (e ∷ es) = cond (candidate f w e) (cond (same w (e .name)) 1 (1 + comparedIn f w es)) (comparedIn f w es)
+comparedIn f w (e ∷ es) = cond (isCandidate f (length w) e) (cond (same w (e .name)) 1 (1 + comparedIn f w es)) (comparedIn f w es)
 
 -- a try at the name w in the family f, among the entries es: the first of the family with the name, and how many were compared
 pub record TriedIn (f : ℕ) (w : Name) (es : List NameEntry) (r : Tried) : Type 0 where

@@ -28,7 +28,7 @@ pub record Looks (table : List ℕ) (family : ℕ) (w : Name) (r : Found) : Type
   pub classes : (env : Environment) → Symbols table env → 3 ≡ family → r ≡ foundClass (env .class w)
   pub permissions : (env : Environment) (c : ℕ) → Symbols table env → 4 + c ≡ family → r ≡ foundPermission c (env .permission c w)
 
--- the numbers that names stand for keep the maxima
+-- the numbers that names stand for are below the largest maximum of their kind
 pub record Bounded (env : Environment) : Type 0 where
   pub names : (f : Family) (w : Name) (d : Named) → env .find f w ≡ some d → d .number < 512
   pub classes : (w : Name) (c : ℕ) → env .class w ≡ some c → c < 32

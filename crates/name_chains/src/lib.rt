@@ -114,11 +114,11 @@ struct Chain {
 }
 
 impl Chain {
-    // How many counts a word can tell: more than there are entries.
-    const COUNTS: usize = 65_536;
+    // What a count is below: more than there are entries.
+    const COUNT_LIMIT: usize = 65_536;
 
     // The count stands lowest in the word of a chain. These are the weights of the other parts.
-    const FIRST: usize = Chain::COUNTS;
+    const FIRST: usize = Chain::COUNT_LIMIT;
 
     const LAST: usize = Chain::FIRST * CHAINS;
 }
@@ -128,7 +128,7 @@ fn chain_in(word: usize) -> Chain
     ensures { λ r. ⌜ r ≡ chainIn word ⌝ }
 {
     Chain {
-        count: word % Chain::COUNTS,
+        count: word % Chain::COUNT_LIMIT,
         first: word / Chain::FIRST % CHAINS,
         last: word / Chain::LAST % CHAINS,
     }
@@ -208,8 +208,8 @@ fn chain_of(symbols: &[u8], family: usize, long: usize) -> Chain
 
 // ---- a try
 
-// How many bytes of a name stand in the first word of its entry.
-const FRONT: usize = 8;
+// How many bytes of a name stand in the first word of its entry: as many as a word has.
+const FRONT: usize = WORD_BYTES;
 
 // The first eight bytes of a name as one number, the lowest first; or all, where it has less.
 pub fn front_of(name: &[u8]) -> usize
@@ -301,9 +301,10 @@ pub fn find_in_section(table: &[u8], start: usize, end: usize, family: usize, na
                     continue;
                 }
                 if symbols::same(name, 0, table, first, long) {
+                    let compared = others + 1;
                     return Tried {
                         found: Found::At { sort, number },
-                        compared: others + 1,
+                        compared,
                     };
                 }
                 others += 1;
@@ -375,7 +376,7 @@ fn count_one(symbols: &mut [u8], k: usize)
     requires { ⌜ (k < 6445) × (188648 ≤ length (now symbols)) ⌝ }
     ensures { λ _. ⌜ now (symbols .exit) ≡ putMore (now (symbols .entry)) k ⌝ }
 {
-    let count = word(symbols, k) % Chain::COUNTS;
+    let count = word(symbols, k) % Chain::COUNT_LIMIT;
     set_word(symbols, k, count + 1);
 }
 
@@ -387,8 +388,8 @@ pub fn entered(symbols: &[u8], sort: usize) -> usize
     word(symbols, COUNTS + sort)
 }
 
-// Writes an entry at the end of the symbols, and at the end of its chain; the place past it. A number of more than 2 bytes is cut to 2, and a family that
-// there is not to one that there is: a caller has neither.
+// Writes an entry at the end of the symbols, and at the end of its chain; the place past it. A number of more than 2 bytes is cut to 2, a family that there
+// is not to one that there is, and the 2,049th entry takes the words of the first: the compiler has none of these.
 pub fn enter(
     symbols: &mut [u8],
     end: usize,

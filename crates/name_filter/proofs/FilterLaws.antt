@@ -3,33 +3,17 @@ use mathlib.Core.Path.{_≡_, refl, sym, ap, ap₂, _∙_}
 use mathlib.Core.Logic.{_⊎_, ⊎-elim}
 use mathlib.Core.Bool.{Bool, true, false, false≢true}
 use mathlib.Core.List.{List}
-use Prim.Native.Nat.{ℕ, zero, _+_, _-_, _*_, _/_, _%_, _≤_, _<_, max}
+use Prim.Native.Nat.{ℕ, _+_, _*_, _/_, _%_, _<_, max}
 use native.Mathlib.Nat.{mod-lt}
 use native.Mathlib.Decide.{ℕ-discrete}
 use native.Mathlib.Omega.{arith}
 use borrow.Author.Tests.{eq-eqb, eqb-true}
 use lib.Arith.{bin-ind}
 use lib.Bits.{bitOr, or-step, or-comm, or-self}
-use lib.Dec.{eqb}
-use lib.ListN.{length, getD, set, length-set}
+use lib.ListN.{length, getD, length-set}
 use lib.Seq.{getD-set-same, getD-set-other}
 use Rattle.policy.specs.Basics.{Name}
-use Rattle.symbols.specs.Section.{between}
-use Rattle.symbols.proofs.PartLaws.{part-cons, part-none}
-use Rattle.name_filter.specs.Filter.{stepped, hashFrom, hashOf, maskOf, wordOf, withMarks, isMarked, marked, Covers}
-
--- ---- the hash, byte by byte
-
-module _ (t : List ℕ) (from past h : ℕ) where
-  pub hash-done : past ≤ from → hashFrom (between t from past) h ≡ h
-  unfolding hashFrom
-  hash-done l = rw (part-none t from (past - from) (omega arith))
-
-  pub hash-next : from < past → past ≤ length t → hashFrom (between t from past) h ≡ hashFrom (between t (from + 1) past) (stepped h (getD t from 0))
-  unfolding hashFrom
-  hash-next l g =
-      let e : (past - from) - 1 ≡ past - (from + 1) = omega arith in
-      rw (part-cons t from (past - from) (omega arith) (omega arith), e)
+use Rattle.name_filter.specs.Filter.{hashOf, maskOf, wordOf, withMarks, isMarked, marked, Covers}
 
 -- ---- the bits of a word
 

@@ -1,10 +1,9 @@
 // A filter of names: three marks for each name that was put into it, all in one word of it, by the name's hash. A name without its marks was not put in; one with
 // its marks may share them with others, so that it still has to be compared.
 ghost use mathlib.Core.Path.{_≡_};
-ghost use Prim.Native.Nat.{_≤_, _<_};
+ghost use Prim.Native.Nat.{_<_};
 ghost use lib.ListN.{length};
-ghost use Rattle.symbols.specs.Section.{between};
-ghost use Rattle.name_filter.specs.Filter.{stepped, hashOf, bitOf, maskOf, isMarked, marked};
+ghost use Rattle.name_filter.specs.Filter.{stepped, bitOf, maskOf, isMarked, marked};
 
 // How many hashes there are, and what each step multiplies by: an odd number whose multiples are spread over all hashes.
 const HASHES: usize = 4_294_967_296;
@@ -22,32 +21,12 @@ const THIRD_SHARE: usize = 8;
 
 const WORD_BITS: usize = 64;
 
-fn wide(x: u8) -> usize
-    ensures { λ r. ⌜ (r ≡ x) × (r < 256) ⌝ }
-{
-    x as usize
-}
-
 // The hash of what has a hash so far and goes on with a number: the next byte of a name, or its family behind the last.
 pub fn step(hash: usize, number: usize) -> usize
     requires { ⌜ hash < 4294967296 ⌝ }
     ensures { λ r. ⌜ (r ≡ stepped hash number) × (r < 4294967296) ⌝ }
 {
     (hash + number % HASHES) * FACTOR % HASHES
-}
-
-// The hash of a family and of the name that stands from a place to before another.
-pub fn hash_of(bytes: &[u8], from: usize, past: usize, family: usize) -> usize
-    requires { ⌜ past ≤ length (now bytes) ⌝ }
-    ensures { λ r. ⌜ (r ≡ hashOf family (between (now (bytes .entry)) from past)) × (r < 4294967296) ⌝ }
-{
-    let mut hash: usize = 0;
-    let mut i = from;
-    while i < past {
-        hash = step(hash, wide(bytes[i]));
-        i += 1;
-    }
-    step(hash, family)
 }
 
 // The word with the mark of a group of bits alone.

@@ -1,4 +1,5 @@
 pub mod Lists
+pub mod AsNumbers
 pub mod Sameness
 pub mod Gathered
 pub mod Good

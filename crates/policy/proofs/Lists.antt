@@ -9,7 +9,7 @@ use mathlib.Core.Option.{Option, none, some}
 use native.Mathlib.Omega.{arith}
 use lib.Dec.{eqb}
 use lib.ListN.{length, getD, getElem?}
-use borrow.Author.Tests.{eq-eqb, eqb-true}
+use borrow.Author.Tests.{eqb-true}
 use Rattle.bitset.specs.Relations.{joined}
 use Rattle.policy.specs.Basics.{Name, same, gather, any, every, keep, each, All}
 
@@ -32,7 +32,7 @@ pub neither : (a b : Bool) → (a || b) ≡ false → (a ≡ false) × (b ≡ fa
 neither false b h = (refl, h)
 neither true b h = absurd (false≢true (sym h))
 
--- names are the same exactly where the test says so
+-- names are the same where the test says so
 pub same-is : (v w : Name) → same v w ≡ true → v ≡ w
 unfolding same
 same-is [] [] e = refl
@@ -43,11 +43,6 @@ same-is (x ∷ v) (y ∷ w) e =
     let h = eqb-true x y (b .0) in
     let t = same-is v w (b .1) in
     cc
-
-pub same-self : (w : Name) → same w w ≡ true
-unfolding same
-same-self [] = refl
-same-self (x ∷ w) = rw (eq-eqb x x refl, same-self w)
 
 module _ {A : Type 0} where
   -- what stands at a place

@@ -1,4 +1,4 @@
--- A name that is searched for in the symbol table of some declarations is resolved: what is found is a reference, and its unit is that of `refer`.
+-- A name that is looked up in an environment that the symbols have is resolved: what is found is a reference, and its unit is that of `refer`.
 -- Assumes nothing.
 use mathlib.Core.Path.{_≡_, refl, sym, ap, _∙_}
 use mathlib.Core.Bool.{cond}

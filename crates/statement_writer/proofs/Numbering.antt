@@ -1,4 +1,4 @@
--- A name that is searched for in the symbol table of some declarations as a name of one sort, or of a kind, is resolved so. Assumes nothing.
+-- A name that is looked up in an environment that the symbols have as a name of one sort, or of a kind, is resolved so. Assumes nothing.
 use mathlib.Core.Path.{_≡_, refl, sym, ap, _∙_}
 use mathlib.Core.Bool.{Bool, true, false, cond}
 use mathlib.Core.List.{List}

@@ -11,9 +11,13 @@ use lib.Seq.{sets, sets-eq, length-sets, ext-getD, getD-take, length-take-le}
 use Rattle.bitset.specs.Parts.{part, put}
 use Rattle.bitset.proofs.PartLaws.{getD-put-in, getD-put-before, getD-put-after}
 use Rattle.policy.specs.Basics.{le}
-use Rattle.policy.specs.Encode.{nameEntry, entryBytes}
+use Rattle.policy.specs.Encode.{NameEntry, nameEntry, entryBytes}
 use Rattle.symbols.specs.Append.{Appended}
 use Rattle.symbols.proofs.PartLaws.{length-part, part-whole, part-none, part-cons, part-join}
+
+pub entry-length : (e : NameEntry) → length (entryBytes e) ≡ 4 + length (e .name)
+unfolding le
+entry-length e = omega arith
 
 pub put-sets : (t : List ℕ) (o : ℕ) (s : List ℕ) → o + length s ≤ length t → sets t o s ≡ put t o s
 unfolding put

@@ -1,20 +1,15 @@
--- The entries of one more declaration, and of one more permission of a class; and the search in them. Assumes nothing.
+-- The entries of one more declaration, and of one more permission of a class. Assumes nothing.
 use mathlib.Core.Path.{_≡_, refl, sym, ap, _∙_}
 use mathlib.Core.List.{List, [], _∷_, _++_, append-nil, append-assoc}
-use Prim.Native.Nat.{ℕ, suc, _+_, _*_, _≤_}
+use Prim.Native.Nat.{ℕ, suc, _+_}
 use native.Mathlib.Nat.{add-zero}
 use native.Mathlib.Omega.{arith}
 use lib.ListN.{length, getD}
 use lib.Seq.{getD-at}
-use Rattle.policy.specs.Basics.{Name, isIn, indexOf, gather, All}
+use Rattle.policy.specs.Basics.{Name, gather}
 use Rattle.policy.specs.Statements.{Declaration, plain, class, withPermissions, ofClass, classNames, permissions}
 use Rattle.policy.specs.Encode.{NameEntry, nameEntry, permissionEntries, entriesOf, entriesFrom, entries}
-use Rattle.policy.proofs.Lists.{gather-last, all-append}
-use Rattle.policy.specs.Names.{environmentOf}
-use Rattle.symbols.specs.Lookup.{firstNamed}
-use Rattle.symbols.specs.Resolving.{foundPermission, isFound, FewPermissions}
-use Rattle.symbols.proofs.Searching.{found-in}
-use Rattle.symbols.proofs.ClassesFound.{find-permission}
+use Rattle.policy.proofs.Lists.{gather-last}
 
 entries-from-more : (e ds : List Declaration) (d : Declaration) → entriesFrom e (ds ++ (d ∷ [])) ≡ entriesFrom e ds ++ entriesOf (e ++ ds) d
 unfolding entriesFrom
@@ -47,19 +42,3 @@ unfolding permissions classNames
 permissions-last ds v ps =
     ap (λ (xs : List (List Name)). getD xs (length (gather ofClass ds)) []) (gather-last withPermissions ds (class v ps) ps refl)
     ∙ getD-at (gather withPermissions ds) ps [] [] (length (gather ofClass ds)) (class-lists ds)
-
--- a permission is looked for among those that its class has so far
-module _ (ds : List Declaration) (v : Name) (ps : List Name) (w : Name) (few : All FewPermissions ds) (short : length ps ≤ 32) where
-  pub find-permission-last :
-      firstNamed (4 + length (classNames ds)) w (entries ds ++ (nameEntry 6 (length (classNames ds)) v ∷ permissionEntries (length (classNames ds) * 32) ps))
-      ≡ foundPermission (length (classNames ds)) (indexOf w ps)
-  unfolding environmentOf
-  find-permission-last =
-      ap (firstNamed (4 + length (classNames ds)) w) (sym (entries-more ds (class v ps)))
-      ∙ find-permission (ds ++ (class v ps ∷ [])) (length (classNames ds)) w (all-append FewPermissions ds (class v ps ∷ []) few (short, tt))
-      ∙ ap (λ (xs : List Name). foundPermission (length (classNames ds)) (indexOf w xs)) (permissions-last ds v ps)
-
-  pub permission-last-found :
-      isFound (firstNamed (4 + length (classNames ds)) w (entries ds ++ (nameEntry 6 (length (classNames ds)) v ∷ permissionEntries (length (classNames ds) * 32) ps)))
-      ≡ isIn w ps
-  permission-last-found = ap isFound find-permission-last ∙ found-in w 7 (length (classNames ds) * 32) ps

@@ -4,7 +4,6 @@ pub mod LookLaws
 pub mod FindLaws
 pub mod AppendLaws
 pub mod ReadBack
-pub mod Appending
 pub mod Searching
 pub mod ClassesFound
 pub mod ReferencesFound

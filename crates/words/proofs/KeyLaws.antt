@@ -2,7 +2,7 @@
 use mathlib.Core.Path.{_≡_, refl, sym, ap, ap₂, _∙_}
 use mathlib.Core.Bool.{Bool, true, false, _&&_, cond}
 use mathlib.Core.List.{List, [], _∷_}
-use Prim.Native.Nat.{ℕ, zero, suc, _+_, _<_}
+use Prim.Native.Nat.{ℕ, zero, suc, _+_}
 use native.Mathlib.Nat.{zero-add}
 use native.Mathlib.Omega.{arith}
 use borrow.Author.Tests.{eqb-true, eq-eqb, ltb-true}
@@ -12,32 +12,15 @@ use Rattle.lexer.proofs.Marks.{tabulate}
 use Rattle.policy.specs.Basics.{Name, same, every, unle}
 use Rattle.policy.specs.Words.{reserved}
 use Rattle.policy.proofs.Lists.{both-true, same-is}
+use Rattle.policy.proofs.AsNumbers.{Small, alike}
 use Rattle.words.specs.Numbers.{keywords, words, numberIn, numberOf}
 use Rattle.words.specs.Keys.{numberAmong, numberBy}
-
--- the letters are bytes
-abbrev pub Small : Name → Type 0
-Small w = (i : ℕ) → getD w i 0 < 256
 
 small : (w : Name) → every (λ b. ltb b 256) w ≡ true → Small w
 unfolding every
 small [] e i = omega arith
 small (x ∷ w) e zero = ltb-true x 256 (both-true (ltb x 256) (every (λ b. ltb b 256) w) e .0)
 small (x ∷ w) e (suc i) = small w (both-true (ltb x 256) (every (λ b. ltb b 256) w) e .1) i
-
--- two words of a length are the same if the numbers of their first n letters are, and those of the letters behind them
-alike : (n : ℕ) (v w : Name) → Small v → Small w → length v ≡ length w → unle (take n v) ≡ unle (take n w) → unle (drop n v) ≡ unle (drop n w)
-    → same v w ≡ true
-unfolding unle same
-alike n [] [] s t l a b = refl
-alike n [] (y ∷ w) s t l a b = absurd (omega arith)
-alike n (x ∷ v) [] s t l a b = absurd (omega arith)
-alike zero (x ∷ v) (y ∷ w) s t l a b =
-    rw (eq-eqb x y (omega (arith, s 0, t 0)))
-    (alike zero v w (λ i. s (suc i)) (λ i. t (suc i)) (omega arith) refl (omega (arith, s 0, t 0)))
-alike (suc n) (x ∷ v) (y ∷ w) s t l a b =
-    rw (eq-eqb x y (omega (arith, s 0, t 0)))
-    (alike n v w (λ i. s (suc i)) (λ i. t (suc i)) (omega arith) (omega (arith, s 0, t 0)) b)
 
 -- the test of the length and the two numbers
 abbrev keyed : Name → Name → Bool

@@ -1,4 +1,4 @@
--- `declarations::count` meets its contract: the slot of the sort counts its entries. Assumes nothing.
+-- `declarations::count` meets its contract: the word of the sort counts its entries. Assumes nothing.
 use Rattle.declarations.proofs.Standings.{counts, no-index, no-sort}
 use native.Mathlib.Omega.{arith}
 use borrow.Author.Needs.{needs}

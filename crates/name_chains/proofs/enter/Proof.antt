@@ -9,7 +9,7 @@ use Rattle.bitset.specs.Parts.{part}
 use Rattle.bitset.proofs.PartLaws.{length-part-le}
 use Rattle.policy.specs.Basics.{unle}
 use Rattle.policy.specs.Encode.{nameEntry}
-use Rattle.symbols.proofs.Appending.{entry-length}
+use Rattle.symbols.proofs.AppendLaws.{entry-length}
 use Rattle.name_chains.proofs.Entering.{entered-from}
 use Rattle.name_chains.proofs.enter.Statement.{statement}
 use Rattle.name_chains.proofs.enter.Tie as tie

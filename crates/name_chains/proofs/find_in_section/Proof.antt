@@ -57,8 +57,8 @@ loop-again-2 c =
     let q = other-family m (a .family) (a .name .now) (c .before .family-of .ensures) (c .if2 .taken) in
     (omega (arith, m .within, l .inv .0), past-first m _ _ q ∙ l .inv .1, ap (λ (n : ℕ). l .others + n) (past-compared m _ _ q) ∙ l .inv .2)
 
-add-t18 : tie.Need-add-t18 Inv-loop μ-loop
-add-t18 c =
+add-compared : tie.Need-add-compared Inv-loop μ-loop
+add-compared c =
     let at-k = c .before .before .before .before .before .before in
     let at-look = at-k .before .before in
     omega (arith, met (at-look .look .ensures) (at-k .k .given .1) .within, at-look .before .loop .inv .0)
@@ -126,7 +126,7 @@ find-in-section-spec =
     loop-less-2
     loop-again-2
     (λ c κs. search needs)
-    add-t18
+    add-compared
     returns
     add-others
     loop-less-3
