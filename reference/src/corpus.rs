@@ -223,6 +223,7 @@ fn compile_cases_at_maxima(random: &mut Random) -> Vec<(usize, Vec<u8>)> {
     list.push((65_536, maxima::everything()));
     list.push((65_536, maxima::wide()));
     list.push((MOST_LENT, maxima::wide()));
+    list.extend(maxima::permission_rows().into_iter().map(|(_, text, _)| (65_536, text)));
     list
 }
 

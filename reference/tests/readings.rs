@@ -37,6 +37,9 @@ fn order_of_faults_at_the_maxima() {
     for (label, text, fault) in maxima::orders() {
         assert_eq!(table_of(&text).err(), Some(fault), "{label}");
     }
+    for (label, text, fault) in maxima::permission_rows() {
+        assert_eq!(table_of(&text).err(), fault, "{label}");
+    }
 }
 
 #[test]

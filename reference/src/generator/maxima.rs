@@ -187,6 +187,34 @@ pub fn orders() -> Vec<(&'static str, Vec<u8>, Fault)> {
     cases.into_iter().map(finish).collect()
 }
 
+/// Rows of permissions around the 32nd, of names that start alike: "permission twice in a class" comes before 6, wherever in the
+/// row the two stand. With what each text is refused, if it is.
+pub fn permission_rows() -> Vec<(&'static str, Vec<u8>, Option<Fault>)> {
+    let differ = |count: usize| (0..count).map(|n| format!("abcdefgh{n}")).collect::<Vec<_>>();
+    let repeat = |count: usize, first: usize, again: usize| {
+        let mut names = differ(count);
+        names[again] = names[first].clone();
+        names
+    };
+    let longer = |count: usize| (1..=count).map(|length| "a".repeat(length)).collect::<Vec<_>>();
+    let cases: Vec<(&'static str, Vec<String>, Option<u8>)> = vec![
+        ("32 names that start alike", differ(32), None),
+        ("33 names that start alike", differ(33), Some(6)),
+        ("40 names that start alike", differ(40), Some(6)),
+        ("the last of 32 is the first", repeat(32, 0, 31), Some(4)),
+        ("the last of 33 is the one before it", repeat(33, 31, 32), Some(4)),
+        ("the 36th of 40 is the third", repeat(40, 2, 35), Some(4)),
+        ("the 39th of 40 is the 35th", repeat(40, 34, 38), Some(4)),
+        ("32 names that each start the next", longer(32), None),
+        ("40 names that each start the next", longer(40), Some(6)),
+    ];
+    let finish = |(label, names, number): (&'static str, Vec<String>, Option<u8>)| {
+        let text = format!("(user u)(class c({}))", names.join(" "));
+        (label, text.into_bytes(), number.map(|number| Fault::new(number, 8)))
+    };
+    cases.into_iter().map(finish).collect()
+}
+
 /// Every count at its maximum in one policy.
 pub fn everything() -> Vec<u8> {
     let mut text = String::new();
