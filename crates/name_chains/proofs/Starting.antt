@@ -88,6 +88,7 @@ module _ (t : List ℕ) (room : 188648 ≤ length t) where
 
 pub cleared : (t u : List ℕ) → u ≡ put t 169856 (emptied (part t 169856 18792)) → length u ≡ length t → Cleared t u
 cleared t u e long = record {
+  is = e;
   long = long;
   front = λ room. ap (take 137088) e ∙ clear-front t room;
   chained = λ room. subst (λ (l : List ℕ). Chained l 0 []) (sym e) (none-chained _ (clear-zero t room) (omega (arith, clear-long t room)));

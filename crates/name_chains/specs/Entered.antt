@@ -5,7 +5,8 @@ use mathlib.Core.List.{List, [], _∷_, _++_}
 use Prim.Native.Nat.{ℕ, _+_, _*_, _%_, _<_, _≤_}
 use lib.Dec.{eqb}
 use lib.ListN.{length, take}
-use Rattle.bitset.specs.Parts.{put}
+use Rattle.bitset.specs.Parts.{part, put}
+use Rattle.bitset.specs.Sets.{emptied}
 use Rattle.policy.specs.Basics.{le}
 use Rattle.policy.specs.Encode.{NameEntry, entryBytes}
 use Rattle.symbols.specs.Lookup.{familyNumber}
@@ -79,8 +80,9 @@ pub record Entered (before after : List ℕ) (end : ℕ) (e : NameEntry) (r : �
   pub chained : (es : List NameEntry) → Chained before end es → length es < 2048 → e .number < 65536 → familyNumber (e .sort) (e .number) < 36
       → Chained after r (es ++ (e ∷ []))
 
--- the memory has the chains of no entries, whatever it held; the bytes before the index are kept
+-- the words of the chains and of the counts become 0, and nothing else is changed. So the memory has the chains of no entries, whatever it held
 pub record Cleared (before after : List ℕ) : Type 0 where
+  pub is : after ≡ put before 169856 (emptied (part before 169856 18792))
   pub long : length after ≡ length before
   pub front : 188648 ≤ length before → take 137088 after ≡ take 137088 before
   pub chained : 188648 ≤ length before → Chained after 0 []
