@@ -55,18 +55,32 @@ const MOST_BYTES: usize = 100_000;
 const MOST_TEXT: usize = 160;
 const MOST_TABLE: usize = 400;
 
-/// Every file, `Lib.antt` last: it names the others.
-pub fn definitions(seed: u64) -> Vec<File> {
+/// What the theorems of one crate are about: texts and what becomes of them, or tables and questions about them.
+#[derive(Clone, Copy)]
+pub enum Subject {
+    Texts,
+    Tables,
+}
+
+impl Subject {
+    pub fn of(name: &str) -> Option<Subject> {
+        match name {
+            "texts" => Some(Subject::Texts),
+            "tables" => Some(Subject::Tables),
+            _ => None,
+        }
+    }
+}
+
+/// Every file about a subject, `Lib.antt` last: it names the others. Both subjects are made from the seed in one order, whichever is asked for.
+pub fn definitions(seed: u64, subject: Subject) -> Vec<File> {
     let mut random = Random::new(seed);
-    let chapters = [
-        refused(&mut random),
-        accepted(&mut random),
-        lent(),
-        questions(&mut random),
-        unsound(&mut random),
-        odd(&mut random),
-        printed(),
-    ];
+    let texts = vec![refused(&mut random), accepted(&mut random), lent(), printed()];
+    let tables = vec![questions(&mut random), unsound(&mut random), odd(&mut random)];
+    let chapters = match subject {
+        Subject::Texts => texts,
+        Subject::Tables => tables,
+    };
     let mut files: Vec<File> = chapters.iter().flat_map(files_of).collect();
     let names = files.iter().map(|file| format!("pub mod {}\n", file.name.trim_end_matches(".antt")));
     let text = names.collect();
@@ -484,8 +498,10 @@ fn printed() -> Chapter {
 mod tests {
     use super::*;
 
+    const SUBJECTS: [Subject; 2] = [Subject::Texts, Subject::Tables];
+
     fn all() -> String {
-        definitions(1).into_iter().map(|file| file.text).collect()
+        SUBJECTS.iter().flat_map(|subject| definitions(1, *subject)).map(|file| file.text).collect()
     }
 
     #[test]
@@ -511,9 +527,11 @@ mod tests {
 
     #[test]
     fn the_same_seed_gives_the_same_files_and_none_is_large() {
-        let files = definitions(3);
-        assert!(files.iter().zip(definitions(3)).all(|(a, b)| a.name == b.name && a.text == b.text));
-        assert!(files.iter().all(|file| file.text.len() < 150_000));
-        assert_eq!(files.last().unwrap().text.lines().count(), files.len() - 1);
+        for subject in SUBJECTS {
+            let files = definitions(3, subject);
+            assert!(files.iter().zip(definitions(3, subject)).all(|(a, b)| a.name == b.name && a.text == b.text));
+            assert!(files.iter().all(|file| file.text.len() < 150_000));
+            assert_eq!(files.last().unwrap().text.lines().count(), files.len() - 1);
+        }
     }
 }

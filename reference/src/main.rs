@@ -2,7 +2,7 @@
 
 use reference::compare::{compare, linked};
 use reference::corpus::{answer, write, Layer};
-use reference::definitions::definitions;
+use reference::definitions::{definitions, Subject};
 use reference::roll::roll;
 use reference::statistics::statistics;
 use std::io::{Read, Write};
@@ -12,7 +12,8 @@ use std::process::ExitCode;
 const USAGE: &str = "usage: reference roll                     text on standard input, prints the roll
        reference corpus LAYER SEED         writes a corpus; LAYER is scan, compile, sound, questions or tries
        reference answer LAYER              corpus on standard input, writes the expected lines
-       reference definitions SEED FOLDER   writes theorems that hold the prover's definitions to small cases
+       reference definitions SUBJECT SEED FOLDER
+                                           writes theorems that hold the prover's definitions to small cases; SUBJECT is texts or tables
        reference statistics LAYER [SEED]   counts the answers of a corpus
        reference compare SECONDS SEED      compares with the linked library";
 
@@ -38,7 +39,7 @@ fn run(words: &[&str]) -> Result<Vec<u8>, String> {
         ["roll"] => Ok(roll(&input()?)),
         ["corpus", name, seed] => Ok(write(layer(name)?, number(seed)?)),
         ["answer", name] => Ok(lines(answer(layer(name)?, &input()?)?)),
-        ["definitions", seed, folder] => written(number(seed)?, Path::new(folder)),
+        ["definitions", name, seed, folder] => written(subject(name)?, number(seed)?, Path::new(folder)),
         ["statistics", name] => Ok(lines(statistics(layer(name)?, 1))),
         ["statistics", name, seed] => Ok(lines(statistics(layer(name)?, number(seed)?))),
         ["compare", seconds, seed] => compared(number(seconds)?, number(seed)?),
@@ -47,8 +48,8 @@ fn run(words: &[&str]) -> Result<Vec<u8>, String> {
 }
 
 /// Writes the files into the folder and says how many theorems they hold.
-fn written(seed: u64, folder: &Path) -> Result<Vec<u8>, String> {
-    let files = definitions(seed);
+fn written(subject: Subject, seed: u64, folder: &Path) -> Result<Vec<u8>, String> {
+    let files = definitions(seed, subject);
     for file in &files {
         std::fs::write(folder.join(&file.name), &file.text).map_err(|error| format!("{}: {error}", file.name))?;
     }
@@ -73,6 +74,10 @@ fn input() -> Result<Vec<u8>, String> {
 
 fn layer(name: &str) -> Result<Layer, String> {
     Layer::of(name).ok_or(format!("no layer {name}"))
+}
+
+fn subject(name: &str) -> Result<Subject, String> {
+    Subject::of(name).ok_or(format!("no subject {name}"))
 }
 
 fn number(word: &str) -> Result<u64, String> {

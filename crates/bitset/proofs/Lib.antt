@@ -1,13 +1,9 @@
 pub mod AllLaws
 pub mod BitLaws
 pub mod CountLaws
-pub mod GapLaws
-pub mod GrantLaws
 pub mod KeptLaws
 pub mod LoopLaws
-pub mod OperatorLaws
 pub mod PartLaws
-pub mod RelationLaws
 pub mod SetLaws
 pub mod StoreLaws
 pub mod Tests

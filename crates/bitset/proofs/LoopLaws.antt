@@ -1,15 +1,13 @@
 -- Loops that store every byte of a set in turn: each turn stores the byte that the result's rule tells. Assumes nothing.
-use mathlib.Core.Path.{_≡_, sym, ap, ap₂, _∙_}
+use mathlib.Core.Path.{_≡_, sym, ap, _∙_}
 use mathlib.Core.Bool.{Bool, false, not}
 use mathlib.Core.List.{List}
 use Prim.Native.Nat.{ℕ, _+_, _-_, _*_, _<_}
 use native.Mathlib.Omega.{arith}
 use lib.ListN.{length, getD, set}
-use Rattle.bitset.specs.Sets.{bit, member, fromBits, setOf, emptied}
+use Rattle.bitset.specs.Sets.{bit, member, setOf, emptied}
 use Rattle.bitset.specs.Complements.{flipped}
-use Rattle.bitset.specs.Operators.{truth, combined, combinedByte}
-use Rattle.bitset.specs.declared.SetOp.{SetOp}
-use Rattle.bitset.proofs.BitLaws.{bit-fromBits, fromBits-lt, bit-zero}
+use Rattle.bitset.proofs.BitLaws.{bit-zero}
 use Rattle.bitset.proofs.SetLaws.{length-setOf, member-at, byte-eq}
 use Rattle.bitset.proofs.Tests.{bit-not}
 use Rattle.bitset.proofs.Turns.{Turned, turned-read, turned-more}
@@ -23,15 +21,6 @@ byte-turn f {d} {e} {i} v s h l bits =
 -- the bits of the byte that comes next are still those of the set that was
 pub turned-bit : (f : ℕ → Bool) {d e : List ℕ} {i : ℕ} → Turned (setOf (length d) f) d e i → (k : ℕ) → k < 8 → bit (getD e i 0) k ≡ member d (8 * i + k)
 turned-bit f {d} {e} {i} s k l = ap (λ (b : ℕ). bit b k) (turned-read (length-setOf (length d) f) s) ∙ sym (member-at d i k l)
-
-pub combine-turn : (op : SetOp) (a b : List ℕ) {e : List ℕ} {i : ℕ} → Turned (combined op a b) a e i → i < length e
-    → Turned (combined op a b) a (set e i (combinedByte op (getD e i 0) (getD b i 0))) (i + 1)
-unfolding combined combinedByte
-combine-turn op a b {e} {i} s h =
-    let f : ℕ → Bool = λ n. truth op (member a n) (member b n) in
-    let g : ℕ → Bool = λ k. truth op (bit (getD e i 0) k) (bit (getD b i 0) k) in
-    byte-turn f (fromBits 8 g) s h (fromBits-lt 8 g)
-    (λ k l. bit-fromBits 8 g k l ∙ ap₂ (truth op) (turned-bit f s k l) (sym (member-at b i k l)))
 
 pub flip-turn : (d : List ℕ) {e : List ℕ} {i : ℕ} → Turned (flipped d) d e i → i < length e → getD e i 0 < 256
     → Turned (flipped d) d (set e i (255 - getD e i 0)) (i + 1)

@@ -1,5 +1,4 @@
 pub mod Sets
-pub mod Operators
 pub mod Complements
 pub mod Parts
 pub mod Relations

@@ -1,4 +1,4 @@
-// Runs every function of `bitset` on sets of several widths and writes what each answers, a line for an answer: the function, two of the
+// Runs every function of `bitset`, `set_operators` and `set_rows` on sets of several widths and writes what each answers, a line for an answer: the function, two of the
 // numbers that it was given, and the answer, a set as its bytes in hexadecimal digits.
 use libc::STDOUT_FILENO;
 
@@ -39,7 +39,9 @@ fn number(n: usize) {
     io::print_decimal(STDOUT_FILENO, n as u64);
 }
 
-fn given(a: usize, b: usize) {
+// The start of a line: the function and two of the numbers that it was given.
+fn given(name: &[u8], a: usize, b: usize) {
+    say(name);
     number(a);
     number(b);
     say(b":");
@@ -63,13 +65,14 @@ fn show(set: &[u8]) {
     say(b"\n");
 }
 
-// The end of a line whose answer is a set.
-fn line(a: usize, b: usize, set: &[u8]) {
-    given(a, b);
+// A line whose answer is a set, a yes or a no, a number.
+fn line(name: &[u8], a: usize, b: usize, set: &[u8]) {
+    given(name, a, b);
     show(set);
 }
 
-fn yes_or_no(answer: bool) {
+fn yes_or_no(name: &[u8], a: usize, b: usize, answer: bool) {
+    given(name, a, b);
     if answer {
         say(b" yes\n");
     } else {
@@ -77,7 +80,8 @@ fn yes_or_no(answer: bool) {
     }
 }
 
-fn how_many(n: usize) {
+fn how_many(name: &[u8], a: usize, b: usize, n: usize) {
+    given(name, a, b);
     number(n);
     say(b"\n");
 }
@@ -104,31 +108,24 @@ fn second(set: &mut [u8]) {
 // ---- a set and a number
 
 fn ask_number(set: &[u8], n: usize) {
-    say(b"contains");
-    given(set.len(), n);
-    yes_or_no(bitset::contains(set, n));
-    say(b"is_within");
-    given(set.len(), n);
-    yes_or_no(bitset::is_within(set, n));
+    yes_or_no(b"contains", set.len(), n, bitset::contains(set, n));
+    yes_or_no(b"is_within", set.len(), n, bitset::is_within(set, n));
 }
 
 fn change_number(way: usize, set: &mut [u8], n: usize) {
     first(set);
     match way {
         0 => {
-            say(b"insert");
             bitset::insert(set, n);
-            line(set.len(), n, set);
+            line(b"insert", set.len(), n, set);
         }
         1 => {
-            say(b"remove");
             bitset::remove(set, n);
-            line(set.len(), n, set);
+            line(b"remove", set.len(), n, set);
         }
         _ => {
-            say(b"complement");
             bitset::complement(set, n);
-            line(set.len(), n, set);
+            line(b"complement", set.len(), n, set);
         }
     }
 }
@@ -151,45 +148,34 @@ fn numbers(set: &mut [u8]) {
 
 // A set is counted where its count is sure to be a usize.
 fn ask_other(a: &[u8], b: &[u8]) {
-    say(b"meets");
-    given(a.len(), b.len());
-    yes_or_no(bitset::meets(a, b));
-    say(b"equal");
-    given(a.len(), b.len());
-    yes_or_no(bitset::equal(a, b));
+    yes_or_no(b"meets", a.len(), b.len(), set_operators::meets(a, b));
+    yes_or_no(b"equal", a.len(), b.len(), set_operators::equal(a, b));
     if a.len() < 65536 {
-        say(b"count");
-        given(a.len(), b.len());
-        how_many(bitset::count(a));
+        how_many(b"count", a.len(), b.len(), bitset::count(a));
     }
 }
 
 fn change_other(way: usize, a: &mut [u8], b: &[u8]) {
     match way {
         0 => {
-            say(b"union");
-            bitset::union(a, b);
-            line(a.len(), b.len(), a);
+            set_operators::union(a, b);
+            line(b"union", a.len(), b.len(), a);
         }
         1 => {
-            say(b"intersection");
-            bitset::intersection(a, b);
-            line(a.len(), b.len(), a);
+            set_operators::intersection(a, b);
+            line(b"intersection", a.len(), b.len(), a);
         }
         2 => {
-            say(b"exclusive_or");
-            bitset::exclusive_or(a, b);
-            line(a.len(), b.len(), a);
+            set_operators::exclusive_or(a, b);
+            line(b"exclusive_or", a.len(), b.len(), a);
         }
         3 => {
-            say(b"difference");
-            bitset::difference(a, b);
-            line(a.len(), b.len(), a);
+            set_operators::difference(a, b);
+            line(b"difference", a.len(), b.len(), a);
         }
         _ => {
-            say(b"copy");
-            bitset::copy(a, b);
-            line(a.len(), b.len(), a);
+            set_operators::copy(a, b);
+            line(b"copy", a.len(), b.len(), a);
         }
     }
 }
@@ -235,56 +221,45 @@ fn sets(space: &mut [u8], other: &mut [u8]) {
 // ---- sets at offsets of a table
 
 fn ask_part(table: &[u8], o: usize, w: usize) {
-    say(b"part");
-    line(o, w, bitset::part(table, o, w));
-    say(b"contains_at");
-    given(o, w);
-    yes_or_no(bitset::contains_at(table, o, w, 7));
+    line(b"part", o, w, bitset::part(table, o, w));
+    yes_or_no(b"contains_at", o, w, set_rows::contains_at(table, o, w, 7));
     if w < 65536 {
-        say(b"count_at");
-        given(o, w);
-        how_many(bitset::count_at(table, o, w));
+        how_many(b"count_at", o, w, set_rows::count_at(table, o, w));
     }
 }
 
 fn compare_part(table: &[u8], o: usize, w: usize, b: &[u8]) {
-    say(b"is_within_at");
-    given(o, w);
-    yes_or_no(bitset::is_within_at(table, o, w, 8));
-    say(b"meets_at");
-    given(o, w);
-    yes_or_no(bitset::meets_at(table, o, w, b));
-    say(b"equal_at");
-    given(o, w);
-    yes_or_no(bitset::equal_at(table, o, w, b));
+    yes_or_no(
+        b"is_within_at",
+        o,
+        w,
+        set_rows::is_within_at(table, o, w, 8),
+    );
+    yes_or_no(b"meets_at", o, w, set_rows::meets_at(table, o, w, b));
+    yes_or_no(b"equal_at", o, w, set_rows::equal_at(table, o, w, b));
 }
 
 fn change_part(way: usize, table: &mut [u8], o: usize, w: usize, b: &mut [u8]) {
     match way {
         0 => {
-            say(b"insert_at");
-            bitset::insert_at(table, o, w, 9);
-            line(o, w, table);
+            set_rows::insert_at(table, o, w, 9);
+            line(b"insert_at", o, w, table);
         }
         1 => {
-            say(b"remove_at");
-            bitset::remove_at(table, o, w, 7);
-            line(o, w, table);
+            set_rows::remove_at(table, o, w, 7);
+            line(b"remove_at", o, w, table);
         }
         2 => {
-            say(b"clear_at");
             bitset::clear_at(table, o, w);
-            line(o, w, table);
+            line(b"clear_at", o, w, table);
         }
         3 => {
-            say(b"union_at");
-            bitset::union_at(table, o, w, b);
-            line(o, w, table);
+            set_rows::union_at(table, o, w, b);
+            line(b"union_at", o, w, table);
         }
         4 => {
-            say(b"copy_at");
-            bitset::copy_at(table, o, w, b);
-            line(o, w, table);
+            set_rows::copy_at(table, o, w, b);
+            line(b"copy_at", o, w, table);
         }
         _ => change_more(way, table, o, w, b),
     }
@@ -295,19 +270,16 @@ fn change_more(way: usize, table: &mut [u8], o: usize, w: usize, b: &mut [u8]) {
     let gained = [66u8, 2];
     match way {
         5 => {
-            say(b"read_at");
-            bitset::read_at(b, table, o, w);
-            line(o, w, b);
+            set_rows::read_at(b, table, o, w);
+            line(b"read_at", o, w, b);
         }
         6 => {
-            say(b"grant");
-            bitset::grant(table, b, &gained, w);
-            line(0, w, table);
+            set_rows::grant(table, b, &gained, w);
+            line(b"grant", 0, w, table);
         }
         _ => {
-            say(b"grant_at");
-            bitset::grant_at(table, o, 13, b, &gained, w);
-            line(o, w, table);
+            set_rows::grant_at(table, o, 13, b, &gained, w);
+            line(b"grant_at", o, w, table);
         }
     }
 }

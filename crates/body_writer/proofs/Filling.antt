@@ -11,13 +11,13 @@ use Rattle.bitset.specs.Parts.{part, put}
 use Rattle.bitset.specs.Relations.{joined, relation}
 use Rattle.bitset.proofs.SetLaws.{setOf-ext, length-setOf}
 use Rattle.bitset.proofs.PartLaws.{part-setOf}
-use Rattle.bitset.proofs.GrantLaws.{row-of, place-of, row-next}
-use Rattle.bitset.proofs.RelationLaws.{setOf-add, relation-setOf, length-relation, row-relation}
+use Rattle.set_rows.proofs.GrantLaws.{row-of, place-of, row-next}
+use Rattle.set_rows.proofs.RelationLaws.{setOf-add, relation-setOf, length-relation, row-relation}
 use Rattle.policy.specs.Statements.{Family, users, roles, types, Policy}
 use Rattle.policy.specs.Meaning.{final}
 use Rattle.policy.specs.Image as image
 use Rattle.policy.specs.Image.{setsOf}
-use Rattle.resolver.specs.Resolving.{finalSets}
+use Rattle.code_reader.specs.AttributeSets.{finalSets}
 use Rattle.body_writer.specs.Writing.{Appended}
 use Rattle.body_writer.proofs.Putting.{appended-then, appended-none}
 

@@ -18,14 +18,14 @@ use Rattle.policy.proofs.Lists.{joined-append, each-append, gather-over, gather
 use Rattle.policy.proofs.Counts.{few-of, few-classes}
 use Rattle.statement_code.specs.Code.{transitionTag}
 use Rattle.set_code.specs.Evaluation.{valueOf}
-use Rattle.resolver.specs.Clashes.{Codes}
-use Rattle.resolver.specs.Resolving.{finalSets}
-use Rattle.resolver.specs.declared.Move.{Move}
-use Rattle.resolver.specs.Reading.{stepOf}
-use Rattle.resolver.proofs.Items.{Item, moves, unitsOf, itemsCode, items, ItemIn, moveIn, transitions-items, tag-moves, tag-no-move}
-use Rattle.resolver.proofs.Numbers.{items-declared}
-use Rattle.resolver.proofs.ClashLaws.{Reads}
-use Rattle.resolver.proofs.Passes.{Through, Met, meet, onward}
+use Rattle.clashes.specs.Clashes.{Codes}
+use Rattle.code_reader.specs.AttributeSets.{finalSets}
+use Rattle.code_reader.specs.declared.Move.{Move}
+use Rattle.code_reader.specs.Reading.{stepOf}
+use Rattle.code_reader.proofs.Items.{Item, moves, unitsOf, itemsCode, items, ItemIn, moveIn, transitions-items, tag-moves, tag-no-move}
+use Rattle.code_reader.proofs.Numbers.{items-declared}
+use Rattle.clashes.proofs.ClashLaws.{Reads}
+use Rattle.code_reader.proofs.Passes.{Through, Met, meet, onward}
 use Rattle.body_writer.specs.Writing.{Appended}
 use Rattle.body_writer.specs.Bodies.{WritesTransition}
 use Rattle.body_writer.proofs.Putting.{appended-then, appended-none}

@@ -11,7 +11,7 @@ use Rattle.bitset.specs.Sets.{member, setOf, copyOf}
 use Rattle.bitset.specs.Parts.{part, put}
 use Rattle.bitset.proofs.SetLaws.{setOf-ext, setOf-member}
 use Rattle.bitset.proofs.PartLaws.{length-part, small-part, length-put, put-none}
-use Rattle.bitset.proofs.GrantLaws.{member-take}
+use Rattle.set_rows.proofs.GrantLaws.{member-take}
 use Rattle.body_writer.specs.Writing.{Appended, Copies}
 
 -- ---- one run behind the other

@@ -13,9 +13,9 @@ use Rattle.policy.specs.Accepted.{ReferenceIn, Accepted}
 use Rattle.statement_code.specs.Code.{referenceUnit}
 use Rattle.set_code.specs.Evaluation.{setsIn, valueOf}
 use Rattle.set_code.proofs.Leaves.{value-of-reference}
-use Rattle.resolver.specs.Resolving.{finalSets}
-use Rattle.resolver.proofs.Numbers.{few-attributes, numbered-R}
-use Rattle.resolver.proofs.ClosureLaws.{sets-in}
+use Rattle.code_reader.specs.AttributeSets.{finalSets}
+use Rattle.code_reader.proofs.Numbers.{few-attributes, numbered-R}
+use Rattle.code_reader.proofs.RowLaws.{sets-in}
 
 module _ (p : Policy) (ok : Accepted p) (f : Family) (rows : List ℕ) (h : rows ≡ finalSets p f) where
   pub value-stands : (r : Reference) → ReferenceIn (declarations p) f r → (n : ℕ) → n < 512 → valueOf rows (referenceUnit r) n ≡ stands p f r n

@@ -17,9 +17,9 @@ use Rattle.policy.specs.Accepted.{Accepted}
 use Rattle.policy.specs.Answers.{relationOf}
 use Rattle.policy.specs.declared.Relation.{Relation}
 use Rattle.statement_code.specs.Code.{codeOf}
-use Rattle.resolver.specs.Resolving.{finalSets}
-use Rattle.resolver.specs.Clashes.{Codes}
-use Rattle.resolver.specs.declared.Move.{Move}
+use Rattle.code_reader.specs.AttributeSets.{finalSets}
+use Rattle.clashes.specs.Clashes.{Codes}
+use Rattle.code_reader.specs.declared.Move.{Move}
 use Rattle.body_writer.specs.Writing.{Appended}
 
 -- "2. Roles of each user, 16 bytes each. 3. Types of each role, 64 each. 4. Roles each role may become, 16 each."

@@ -15,13 +15,13 @@ ghost use Rattle.statement_code.specs.Code.{relationNumber};
 ghost use Rattle.set_code.specs.Evaluation.{valueOf};
 ghost use Rattle.body_writer.specs.Writing.{Appended, Copies};
 ghost use Rattle.body_writer.specs.Bodies.{WritesRelation, WritesTransition, WritesTransitions, WritesSets};
+use code_reader::FAMILY_BYTES;
+use code_reader::Move;
 use policy::Attribute;
 use policy::Relation;
 use policy::Role;
 use policy::Type;
 use policy::User;
-use resolver::FAMILY_BYTES;
-use resolver::Move;
 use statement_code::Unit;
 
 // ---- bytes
@@ -30,7 +30,7 @@ use statement_code::Unit;
 pub fn copy(src: &[u8], len: usize, table: &mut [u8], at: usize)
     ensures { λ _. ⌜ Copies (now (src .entry)) len (now (table .entry)) at (now (table .exit)) ⌝ }
 {
-    bitset::copy_at(table, at, len, src);
+    set_rows::copy_at(table, at, len, src);
 }
 
 // The same, and the answer is the place behind them, or the same place where there is no room.
@@ -112,12 +112,12 @@ fn grant_row(
     let row = at + start;
     let reach = bitset::least(width, body - start);
     if to < Unit::ATTRIBUTE {
-        bitset::insert_at(table, row, reach, to as usize);
+        set_rows::insert_at(table, row, reach, to as usize);
         return;
     }
     let mut gained = [0u8; Type::SET_BYTES];
     set_code::reference(to, sets, &mut gained);
-    bitset::union_at(table, row, reach, &gained);
+    set_rows::union_at(table, row, reach, &gained);
 }
 
 // The same for each row of a reference. The row of a single thing is found without a walk over all rows; a number that no set holds, or rows wider
@@ -146,7 +146,7 @@ fn grant_line(
     set_code::reference(from, from_sets, &mut rows);
     let mut gained = [0u8; Type::SET_BYTES];
     set_code::reference(to, to_sets, &mut gained);
-    bitset::grant_at(table, at, size, &rows, &gained, width);
+    set_rows::grant_at(table, at, size, &rows, &gained, width);
 }
 
 // Body 2, 3 or 4: so many sets, in so many bytes each. A statement of the relation has two operands, so the next one starts four units on.
@@ -174,12 +174,12 @@ pub fn write_relation(
     let mut place = 0;
     while place < code.len() {
         if code[place] == tag {
-            let from = resolver::unit(code, place, 2);
-            let to = resolver::unit(code, place, 3);
+            let from = code_reader::unit(code, place, 2);
+            let to = code_reader::unit(code, place, 3);
             grant_line(from, to, from_sets, to_sets, table, at, size, width);
             place += 4;
         } else {
-            place = resolver::next_statement(code, place);
+            place = code_reader::next_statement(code, place);
         }
     }
 }
@@ -219,9 +219,9 @@ pub fn write_transitions(
     let mut to = at;
     let mut place = 0;
     while place < code.len() {
-        let next = resolver::next_statement(code, place);
+        let next = code_reader::next_statement(code, place);
         if code[place] == Unit::TRANSITION {
-            let operands = resolver::transition(code, place);
+            let operands = code_reader::transition(code, place);
             to = write_transition(operands, role_sets, type_sets, table, to);
         }
         place = next;

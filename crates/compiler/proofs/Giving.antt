@@ -19,9 +19,10 @@ use Rattle.policy.specs.Encode.{encode}
 use Rattle.policy.specs.Outcome.{accept, policyOf, Compiled, refuses, fitted, compiled, outcome, after}
 use Rattle.resolver.specs.declared.Resolved.{Resolved}
 use Rattle.resolver.specs.Resolving.{readOf, Resolves}
-use Rattle.parser.specs.declared.Progress.{Progress}
+use Rattle.statement_reader.specs.declared.Progress.{Progress}
 use Rattle.parser.specs.declared.Parsed.{Parsed}
-use Rattle.parser.specs.Memory.{Memory, Holds, Reads, Parses}
+use Rattle.statement_reader.specs.Memory.{Memory, Holds}
+use Rattle.parser.specs.Parsing.{Reads, Parses}
 use Rattle.demand_laws.proofs.Demand3.{demand-3}
 use Rattle.compiler.specs.Passes.{Gives, compiledBy}
 use Rattle.compiler.specs.Promise.{Compiles}

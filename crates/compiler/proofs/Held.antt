@@ -13,8 +13,8 @@ use Rattle.statement_code.specs.Code.{codeOf}
 use Rattle.declarations.specs.Counting.{Counts}
 use Rattle.declarations.specs.Declaring as declaring
 use Rattle.declarations.specs.Declaring.{sectionOf}
-use Rattle.parser.specs.declared.Progress.{Progress}
-use Rattle.parser.specs.Memory.{Memory, symbolsOf, constraintsOf, rowsOf, Starts, Holds}
+use Rattle.statement_reader.specs.declared.Progress.{Progress}
+use Rattle.statement_reader.specs.Memory.{Memory, symbolsOf, constraintsOf, rowsOf, Starts, Holds}
 use Rattle.table_writer.specs.declared.Sizes.{Sizes}
 use Rattle.table_writer.specs.Sizing.{body, attributesIn, SizesOf}
 

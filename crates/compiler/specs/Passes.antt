@@ -14,8 +14,8 @@ use Rattle.policy.specs.Accepted.{Accepted}
 use Rattle.policy.specs.Image.{imageOf}
 use Rattle.policy.specs.Outcome.{accept, Compiled, refuses, fitted, compiled, outcomeOf, afterOf}
 use Rattle.statement_code.specs.Code.{codeOf}
-use Rattle.parser.specs.declared.Progress.{Progress}
-use Rattle.parser.specs.Memory.{Memory, memory, Holds}
+use Rattle.statement_reader.specs.declared.Progress.{Progress}
+use Rattle.statement_reader.specs.Memory.{Memory, memory, Holds}
 use Rattle.table_writer.specs.declared.Sizes.{Sizes}
 use Rattle.table_writer.specs.Sizing.{body, SizesOf}
 use Rattle.table_writer.specs.Assembling.{Sources}

@@ -4,17 +4,17 @@ ghost use mathlib.Core.Path.{_≡_};
 ghost use lib.ListN.{take};
 ghost use Rattle.compiler.specs.Passes.{Measures, Fits, ResolvesAndWrites, CompilesStatements, CompilesClean};
 ghost use Rattle.compiler.specs.Promise.{Compiles};
+use code_reader::FAMILY_BYTES;
 use constrain_statement::CONSTRAINT_BYTES;
 use constrain_statement::ROW_BYTES;
 use declarations::SYMBOL_BYTES;
 use lexer::Scanned;
 use lexer::Text;
-use parser::CODE_UNITS;
 use parser::Parsed;
-use parser::Progress;
 use policy::Compiling;
-use resolver::FAMILY_BYTES;
 use resolver::Resolved;
+use statement_reader::CODE_UNITS;
+use statement_reader::Progress;
 use table_writer::Sizes;
 
 // The numbers of the sorts of names in the symbols.

@@ -192,7 +192,7 @@ fn is_same(table: &[u8], bodies: Bodies, row: RowRecord, sides: &[usize]) -> boo
         return here == number as usize;
     }
     let start = set_start(bodies, component, number);
-    bitset::contains_at(table, start, set_width(component), here)
+    set_rows::contains_at(table, start, set_width(component), here)
 }
 
 // What a comparison says.

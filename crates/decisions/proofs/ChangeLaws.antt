@@ -18,7 +18,8 @@ use Rattle.policy.proofs.Counts.{few-of}
 use Rattle.table_laws.specs.SoundTable.{Sound}
 use Rattle.table_laws.proofs.WellFormed.{formed}
 use Rattle.table_laws.proofs.SoundLaws.{sound-read}
-use Rattle.decisions.specs.TableAnswers.{countIn, countsIn, declaresQuestion, isValidIn, asksRoleIn, setHas}
+use Rattle.decisions.specs.TableAnswers.{declaresQuestion, isValidIn, setHas}
+use Rattle.table_names.specs.TableNames.{countIn, countsIn, asksRoleIn}
 use Rattle.decisions.proofs.SoundLaws.{things-of, declared-numbers, role-role}
 use Rattle.decisions.proofs.ContextLaws.{is-valid-of}
 use Rattle.decisions.proofs.NameLaws.{declares-question, asks-role-of}

@@ -7,7 +7,8 @@ use Rattle.policy.specs.Meaning.{Context}
 use Rattle.policy.specs.Deciding.{validBy, declaredContext, answered, refused}
 use Rattle.policy.specs.Questions.{givenIn, valid, validOn}
 use Rattle.table_laws.specs.SoundTable.{Sound}
-use Rattle.decisions.specs.TableAnswers.{countsIn, declaresContext, isGivenIn, isValidIn}
+use Rattle.decisions.specs.TableAnswers.{declaresContext, isGivenIn, isValidIn}
+use Rattle.table_names.specs.TableNames.{countsIn}
 use Rattle.decisions.proofs.SoundLaws.{asked-image, declares-context, declared-numbers, user-role, role-type}
 use Rattle.decisions.proofs.NameLaws.{object-of}
 

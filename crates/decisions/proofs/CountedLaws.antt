@@ -20,8 +20,8 @@ use Rattle.table_laws.proofs.SoundLaws.{sound-read}
 use Rattle.soundness.specs.IsSound.{isSound}
 use Rattle.soundness.specs.Telling.{Tells}
 use Rattle.soundness.proofs.Deciding.{sound-by}
-use Rattle.decisions.specs.declared.Counts.{Counts}
-use Rattle.decisions.specs.TableAnswers.{countIn, countsIn, permissionIn, isFoundName}
+use Rattle.table_names.specs.declared.Counts.{Counts}
+use Rattle.table_names.specs.TableNames.{countIn, countsIn, permissionIn, isFoundName}
 use Rattle.decisions.proofs.SoundLaws.{sound-table, things-of, classes-of}
 use Rattle.decisions.proofs.NameLaws.{permission-found, class-below}
 

@@ -1,5 +1,3 @@
--- Laws for the proofs of this crate.
-pub mod TallyLaws
 pub mod SoundLaws
 pub mod TransitionLaws
 pub mod NameLaws

@@ -1,4 +1,4 @@
--- The names of roles, classes and permissions: compared with a word in the bytes of a table, and on a sound table. Assumes nothing.
+-- The names of roles, classes and permissions on a sound table. Assumes nothing.
 use Prim.Native.Nat.{ℕ, zero, suc, _+_, _*_, _/_, _%_, _<_, _≤_}
 use native.Mathlib.Omega.{arith}
 use mathlib.Core.Path.{_≡_, refl, sym, ap, ap₂, _∙_}
@@ -7,7 +7,6 @@ use mathlib.Core.List.{List, [], _∷_}
 use mathlib.Core.Option.{Option, none, some}
 use lib.Dec.{ltb}
 use lib.ListN.{length, getD, getElem?, take, drop}
-use lib.Seq.{take-all}
 use borrow.Author.Tests.{lt-ltb, le-ltb, ltb-true, ltb-false}
 use Rattle.bitset.specs.Parts.{part}
 use Rattle.policy.specs.Basics.{Name, same, any, isIn}
@@ -18,30 +17,14 @@ use Rattle.policy.specs.Deciding.{isObject, Question, declaredContext, declared
 use Rattle.policy.specs.Questions.{Part, nameFrom, nameOf}
 use Rattle.policy.proofs.Lists.{both-true, at-place}
 use Rattle.policy.proofs.Counts.{few-permissions-of, few-classes}
-use Rattle.symbols.proofs.PartLaws.{length-part, same-length}
 use Rattle.image_rows.specs.SoundRows.{isSome}
 use Rattle.table_laws.specs.SoundTable.{Sound}
 use Rattle.table_laws.specs.Shown.{shown, orTwelve, nameIn}
 use Rattle.table_laws.proofs.NameShown.{name-shown}
 use Rattle.table_laws.proofs.WellFormed.{formed}
-use Rattle.decisions.specs.TableAnswers.{namesIn, countsIn, nameAt, permissionIn, isFoundName, bears, declaresQuestion, asksRoleIn}
+use Rattle.decisions.specs.TableAnswers.{declaresQuestion}
+use Rattle.table_names.specs.TableNames.{namesIn, countsIn, nameAt, permissionIn, isFoundName, bears, asksRoleIn}
 use Rattle.decisions.proofs.SoundLaws.{names-of, classes-of, declares-context}
-
--- THE COMPARISON
-
--- a part that is shorter than the word; the whole word
-pub shorter : (t : List ℕ) (o n : ℕ) (w : Name) → n < length w → same (part t o n) w ≡ false
-shorter t o n w h = same-length (part t o n) w (λ e. omega (arith, length-part t o n, e))
-
-pub whole-word : (w : Name) (n : ℕ) → length w ≤ n → part w 0 n ≡ w
-unfolding part
-whole-word w n h = take-all n w h
-
--- the second of two words
-pub or-second : (a b : Bool) → a ≡ false → (a || (b || false)) ≡ b
-or-second true b h = absurd (false≢true (sym h))
-or-second false true h = refl
-or-second false false h = refl
 
 -- WHAT IS SHOWN
 

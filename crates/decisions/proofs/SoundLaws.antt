@@ -36,7 +36,8 @@ use Rattle.table_reader.specs.Records.{bodyPlace, startIn, lengthIn}
 use Rattle.table_reader.proofs.RecordLaws.{Stands, set-part}
 use Rattle.table_reader.proofs.BodyPlaces.{body-stands, start-part, length-part}
 use Rattle.soundness.specs.IsSound.{isSound}
-use Rattle.decisions.specs.TableAnswers.{namesEnd, namesIn, countIn, countsIn, declaresContext, setHas}
+use Rattle.decisions.specs.TableAnswers.{declaresContext, setHas}
+use Rattle.table_names.specs.TableNames.{namesEnd, namesIn, countIn, countsIn}
 use Rattle.symbols.specs.Lookup.{countSort}
 use Rattle.symbols.proofs.CountLaws.{count-things, count-classes}
 

@@ -24,7 +24,8 @@ use Rattle.table_laws.proofs.WellFormedLaid.{well-formed-laid}
 use Rattle.table_reader.specs.Records.{records, startIn, lengthIn}
 use Rattle.table_reader.proofs.RecordLaws.{records-step, records-none}
 use Rattle.table_reader.proofs.BodyRecords.{transitions-part}
-use Rattle.decisions.specs.TableAnswers.{countIn, transitionsIn}
+use Rattle.decisions.specs.TableAnswers.{transitionsIn}
+use Rattle.table_names.specs.TableNames.{countIn}
 use Rattle.decisions.proofs.SoundLaws.{asked-image, length-of, stands-of, things-of, classes-of}
 
 -- ONE BY ONE

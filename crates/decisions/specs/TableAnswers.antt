@@ -1,87 +1,29 @@
 -- What the bytes of a table say of a question's parts, whatever the bytes are. On a sound table it is what the image says. Assumes nothing.
-use Prim.Native.Nat.{ℕ, _<_, _+_, _*_, _/_}
-use mathlib.Core.Path.{_≡_}
-use mathlib.Core.Bool.{Bool, true, false, _&&_, _||_, cond}
-use mathlib.Core.List.{List, [], _∷_}
-use lib.Dec.{eqb, ltb}
-use lib.ListN.{getD, drop}
+use Prim.Native.Nat.{ℕ, _+_, _*_, _/_}
+use mathlib.Core.Bool.{Bool, false, _&&_, _||_, cond}
+use mathlib.Core.List.{List}
+use lib.Dec.{ltb}
+use lib.ListN.{drop}
 use Rattle.bitset.specs.Sets.{member}
 use Rattle.bitset.specs.Parts.{part}
-use Rattle.policy.specs.Basics.{Name, same, any}
 use Rattle.policy.specs.Meaning.{Context}
-use Rattle.policy.specs.Words.{process, transitionWords, objectR}
+use Rattle.policy.specs.Words.{objectR}
 use Rattle.policy.specs.Image.{TransitionEntry}
-use Rattle.policy.specs.Encode.{NameEntry, firstBody}
 use Rattle.policy.specs.Sound.{transitionAt}
-use Rattle.policy.specs.Deciding.{Question, Reply, answered, refused}
-use Rattle.policy.specs.Questions.{Part, nameFrom}
-use Rattle.symbols.specs.Section.{entriesAt}
-use Rattle.symbols.specs.Lookup.{countSort}
+use Rattle.policy.specs.Deciding.{Question}
 use Rattle.table_reader.specs.Records.{records, startIn, lengthIn}
-use Rattle.decisions.specs.declared.Counts.{Counts}
-
--- BODY 1
-
--- "the bodies follow from byte 68 in order": where body 1 ends, and its entries
-abbrev pub namesEnd : List ℕ → ℕ
-namesEnd t = firstBody + lengthIn t 0
-
-abbrev pub namesIn : List ℕ → List NameEntry
-namesIn t = entriesAt t firstBody (namesEnd t)
-
--- "Things are numbered from 0 in text order within their sort": how many names of a sort there are
-abbrev pub countIn : List ℕ → ℕ → ℕ
-countIn t s = countSort s (namesIn t)
-
--- at each sort's number how many there are
-pub record Tallied (t counts : List ℕ) : Type 0 where
-  pub of-sort : (s : ℕ) → s < 8 → getD counts s 0 ≡ countIn t s
-
-abbrev pub countsIn : List ℕ → Counts
-countsIn t = record {
-  users = countIn t 0;
-  roles = countIn t 1;
-  types = countIn t 2;
-  userattributes = countIn t 3;
-  roleattributes = countIn t 4;
-  classes = countIn t 6;
-}
+use Rattle.table_names.specs.TableNames.{nameAt, permissionIn, isFoundName, bears}
+use Rattle.table_names.specs.declared.Counts.{Counts}
 
 -- "number not declared in the table": a context's numbers are declared
 unfoldable pub declaresContext : Counts → Context → Bool
 declaresContext n c = ltb (c .user) (n .users) && ltb (c .role) (n .roles) && ltb (c .type) (n .types)
-
--- "**Name of** a sort and number"
-abbrev pub nameAt : List ℕ → ℕ → ℕ → Reply Part
-nameAt t x n = nameFrom x n firstBody (namesIn t)
-
--- a permission, "class x 32 + its place", which is below 32 as the class is
-unfoldable pub permissionIn : List ℕ → ℕ → ℕ → Reply Part
-permissionIn t c k = cond (ltb c 32 && ltb k 32) (nameAt t 7 (c * 32 + k)) (refused 12 0)
-
-abbrev pub isFoundName : Reply Part → Bool
-isFoundName (answered p) = true
-isFoundName (refused n k) = false
-
--- the part of the table is the word; it is one of the words
-abbrev pub bears : List ℕ → Reply Part → Name → Bool
-bears t (answered p) w = same (part t (p .start) (p .long)) w
-bears t (refused n k) w = false
-
-abbrev pub bearsOne : List ℕ → Reply Part → List Name → Bool
-bearsOne t r ws = any (bears t r) ws
 
 -- a question's numbers are declared
 unfoldable pub declaresQuestion : List ℕ → Counts → Question → Bool
 declaresQuestion t n q =
     declaresContext n (q .source) && declaresContext n (q .target)
     && ltb (q .class) (n .classes) && isFoundName (permissionIn t (q .class) (q .perm))
-
--- "class `process`, permission `transition` or `dyntransition`"; 6 is the sort of classes
-unfoldable pub asksRoleIn : List ℕ → ℕ → ℕ → Bool
-asksRoleIn t c k = bears t (nameAt t 6 c) process && bearsOne t (permissionIn t c k) transitionWords
-
--- BODIES 2 TO 5
 
 -- set k of the sets of w bytes of a body, counted from 0, has the number n; no sound table has 65,536 sets in a body
 unfoldable pub setHas : List ℕ → ℕ → ℕ → ℕ → ℕ → Bool

@@ -3,29 +3,25 @@
 // table all this is what its image says, the three questions promise.
 use policy::Attribute;
 use policy::Change;
-use policy::Class;
 use policy::NewRole;
-use policy::Permission;
 use policy::Role;
 use policy::Type;
 use policy::Validity;
-use symbols::Entry;
-use symbols::NamePlace;
+use table_names::Counts;
 ghost use mathlib.Core.Path.{_≡_};
 ghost use mathlib.Core.Bool.{true};
 ghost use mathlib.Core.List.{List};
 ghost use Prim.Native.Nat.{ℕ, _≤_, _<_};
-ghost use lib.ListN.{drop, replicate};
+ghost use lib.ListN.{drop};
 ghost use Rattle.policy.specs.Sound.{transitionAt};
 ghost use Rattle.policy.specs.Deciding.{contextsOf, firstFailing, roleMay};
 ghost use Rattle.policy.specs.Answers.{validityOf, changeOf, newRoleOf};
 ghost use Rattle.policy.specs.Questions.{matches, firstTransition, entryNames, entryHolds, validOn, newRoleOn, changeOn};
-ghost use Rattle.policy.specs.Words.{transitionWords};
-ghost use Rattle.symbols.specs.Lookup.{replyOf};
 ghost use Rattle.table_laws.specs.SoundTable.{Sound};
 ghost use Rattle.soundness.specs.IsSound.{isSound};
 ghost use Rattle.decisions.specs.Asked.{context, contextOf, question};
-ghost use Rattle.decisions.specs.TableAnswers.{namesEnd, countsIn, Tallied, setHas, declaresContext, isGivenIn, isValidIn, transitionsIn, isFoundName, nameAt, permissionIn, bears, bearsOne, declaresQuestion, asksRoleIn};
+ghost use Rattle.decisions.specs.TableAnswers.{setHas, declaresContext, isGivenIn, isValidIn, transitionsIn, declaresQuestion};
+ghost use Rattle.table_names.specs.TableNames.{countsIn, isFoundName, permissionIn, asksRoleIn};
 
 // A context by its numbers. `kind` is the type: the language has another use for that word.
 pub struct Context {
@@ -37,9 +33,7 @@ pub struct Context {
 // The refusal of a number that is not declared.
 const UNDECLARED: usize = 12;
 
-// The bodies, counted from 0: names; the roles of each user, the types of each role, the roles that each role may become; transitions.
-const NAMES: u8 = 0;
-
+// The bodies, counted from 0: the roles of each user, the types of each role, the roles that each role may become; transitions.
 const USER_ROLES: u8 = 1;
 
 const ROLE_TYPES: u8 = 2;
@@ -48,79 +42,8 @@ const ROLE_ROLES: u8 = 3;
 
 const TRANSITIONS: u8 = 4;
 
-// The numbers of sorts in body 1: 0 user, 1 role, 2 type, 3 to 5 their attributes, 6 class, 7 permission.
+// The number of the sort of roles in body 1.
 const ROLE: usize = 1;
-
-const CLASS: usize = 6;
-
-const PERMISSION: usize = 7;
-
-const SORTS: usize = 8;
-
-// ---- what body 1 declares
-
-// Where the names start.
-const FIRST_BODY: usize = 68;
-
-// Where the names end, as the header says.
-fn names_end(table: &[u8]) -> usize
-    ensures { λ r. ⌜ r ≡ namesEnd (now (table .entry)) ⌝ }
-{
-    FIRST_BODY + table_reader::body_length(table, NAMES) as usize
-}
-
-// How many names of some sorts there are.
-pub struct Counts {
-    pub users: usize,
-    pub roles: usize,
-    pub types: usize,
-    pub userattributes: usize,
-    pub roleattributes: usize,
-    pub classes: usize,
-}
-
-// Counts the names of each sort in one walk, with counts that are 0 at first.
-fn tally(table: &[u8], counts: &mut [usize])
-    requires { ⌜ now counts ≡ replicate 8 0 ⌝ }
-    ensures { λ _. ⌜ Tallied (now (table .entry)) (now (counts .exit)) ⌝ }
-{
-    let end = names_end(table);
-    let mut at = FIRST_BODY;
-    loop {
-        let k = symbols::look(table, at, end);
-        match k {
-            Entry::Named {
-                sort,
-                number: _n,
-                past,
-            } => {
-                at = past;
-                if SORTS <= sort {
-                    continue;
-                }
-                counts[sort] += 1;
-            }
-            Entry::Done => return,
-            Entry::Broken => return,
-        }
-    }
-}
-
-// How many names of each sort that a question asks for there are.
-fn count_names(table: &[u8]) -> Counts
-    ensures { λ r. ⌜ r ≡ countsIn (now (table .entry)) ⌝ }
-{
-    let mut counts = [0usize; SORTS];
-    tally(table, &mut counts);
-    Counts {
-        users: counts[0],
-        roles: counts[1],
-        types: counts[2],
-        userattributes: counts[3],
-        roleattributes: counts[4],
-        classes: counts[CLASS],
-    }
-}
 
 // Whether a context's numbers are declared.
 fn declares_context(counts: Counts, asked: Context) -> bool
@@ -133,38 +56,6 @@ fn declares_context(counts: Counts, asked: Context) -> bool
         return false;
     }
     asked.kind < counts.types
-}
-
-// ---- names
-
-// Where the name of a sort and number stands.
-fn name_place(table: &[u8], sort: usize, number: usize) -> NamePlace
-    ensures { λ r. ⌜ replyOf r ≡ nameAt (now (table .entry)) sort number ⌝ }
-{
-    symbols::name_of(table, FIRST_BODY, names_end(table), sort, number)
-}
-
-// Whether a name is a word. Where a table ends within a part, the part is cut there, so that a longer part is compared too.
-fn is_word(table: &[u8], place: NamePlace, word: &[u8]) -> bool
-    ensures { λ r. ⌜ r ≡ bears (now (table .entry)) (replyOf place) (now (word .entry)) ⌝ }
-{
-    match place {
-        NamePlace::At { start, length } => {
-            if length < word.len() {
-                return false;
-            }
-            symbols::same(table, start, word, 0, length)
-        }
-        NamePlace::Nowhere => false,
-    }
-}
-
-// Whether the name of a sort and number is a word.
-fn is_named(table: &[u8], sort: usize, number: usize, word: &[u8]) -> bool
-    ensures { λ r. ⌜ r ≡ bears (now (table .entry)) (nameAt (now (table .entry)) sort number) (now (word .entry)) ⌝ }
-{
-    let place = name_place(table, sort, number);
-    is_word(table, place, word)
 }
 
 // ---- valid context
@@ -180,7 +71,7 @@ fn set_has(table: &[u8], body: u8, width: u16, set: usize, number: usize) -> boo
         return false;
     }
     let start = table_reader::body_start(table, body) as usize;
-    bitset::contains_at(table, start + width as usize * set, width as usize, number)
+    set_rows::contains_at(table, start + width as usize * set, width as usize, number)
 }
 
 // Whether the role is among the user's, and the type among the role's.
@@ -216,7 +107,7 @@ fn is_valid(table: &[u8], asked: Context) -> bool
         return true;
     }
     let word = OBJECT;
-    is_named(table, ROLE, asked.role, &word)
+    table_names::is_named(table, ROLE, asked.role, &word)
 }
 
 // **Valid context**: whether the role is among the user's, and the type, `kind`, among the role's, or the role is `object_r`. The table is one that `isSound`
@@ -226,7 +117,7 @@ pub fn valid_in_sound(table: &[u8], user: usize, role: usize, kind: usize) -> Va
     ensures { λ r. ⌜ validityOf r ≡ validOn (now (table .entry)) (context user role kind) ⌝ }
 {
     let asked = Context { user, role, kind };
-    let counts = count_names(table);
+    let counts = table_names::count_names(table);
     if !declares_context(counts, asked) {
         return Validity::Refused { number: UNDECLARED };
     }
@@ -246,10 +137,10 @@ fn matches_at(table: &[u8], at: usize, role: usize, kind: usize, class: usize) -
     requires { ⌜ at ≤ 1099511627776 ⌝ }
     ensures { λ r. ⌜ r ≡ matches role kind class (transitionAt (drop at (now (table .entry)))) ⌝ }
 {
-    if !bitset::contains_at(table, at, Role::SET_BYTES, role) {
+    if !set_rows::contains_at(table, at, Role::SET_BYTES, role) {
         return false;
     }
-    if !bitset::contains_at(table, at + Role::SET_BYTES, Type::SET_BYTES, kind) {
+    if !set_rows::contains_at(table, at + Role::SET_BYTES, Type::SET_BYTES, kind) {
         return false;
     }
     table_reader::byte_at(table, at + 80) as usize == class
@@ -278,7 +169,7 @@ pub fn new_role_in_sound(table: &[u8], role: usize, kind: usize, class: usize) -
     requires { ⌜ isSound (now table) ≡ true ⌝ }
     ensures { λ r. ⌜ newRoleOf r ≡ newRoleOn (now (table .entry)) role kind class ⌝ }
 {
-    let counts = count_names(table);
+    let counts = table_names::count_names(table);
     if counts.roles <= role {
         return NewRole::Refused { number: UNDECLARED };
     }
@@ -294,34 +185,6 @@ pub fn new_role_in_sound(table: &[u8], role: usize, kind: usize, class: usize) -
 }
 
 // ---- change: the numbers of a question
-
-// Where the name of a permission stands, by its place in its class.
-fn permission_name(table: &[u8], class: usize, permission: usize) -> NamePlace
-    ensures { λ r. ⌜ replyOf r ≡ permissionIn (now (table .entry)) class permission ⌝ }
-{
-    if Class::MAX <= class {
-        return NamePlace::Nowhere;
-    }
-    if Permission::MAX <= permission {
-        return NamePlace::Nowhere;
-    }
-    let number = class * Permission::MAX + permission;
-    name_place(table, PERMISSION, number)
-}
-
-// Whether a class has a permission.
-fn declares_permission(table: &[u8], class: usize, permission: usize) -> bool
-    ensures { λ r. ⌜ r ≡ isFoundName (permissionIn (now (table .entry)) class permission) ⌝ }
-{
-    let k = permission_name(table, class, permission);
-    match k {
-        NamePlace::At {
-            start: _s,
-            length: _n,
-        } => true,
-        NamePlace::Nowhere => false,
-    }
-}
 
 // Whether all numbers of a question are declared, where it is known of a declared class whether it has the permission.
 fn declares_question(
@@ -348,37 +211,6 @@ fn declares_question(
 
 // ---- change: the role
 
-// The words of denial 3.
-const PROCESS: [u8; 7] = *b"process";
-
-const TRANSITION: [u8; 10] = *b"transition";
-
-const DYNTRANSITION: [u8; 13] = *b"dyntransition";
-
-// Whether a permission is `transition` or `dyntransition`.
-fn is_transition(table: &[u8], class: usize, permission: usize) -> bool
-    ensures { λ r. ⌜ r ≡ bearsOne (now (table .entry)) (permissionIn (now (table .entry)) class permission) transitionWords ⌝ }
-{
-    let transition = TRANSITION;
-    let dyntransition = DYNTRANSITION;
-    let place = permission_name(table, class, permission);
-    if is_word(table, place, &transition) {
-        return true;
-    }
-    is_word(table, place, &dyntransition)
-}
-
-// Whether the class and the permission are those at which a change of role must be allowed.
-fn asks_role(table: &[u8], class: usize, permission: usize) -> bool
-    ensures { λ r. ⌜ r ≡ asksRoleIn (now (table .entry)) class permission ⌝ }
-{
-    let word = PROCESS;
-    if !is_named(table, CLASS, class, &word) {
-        return false;
-    }
-    is_transition(table, class, permission)
-}
-
 // Whether the role stays, or may become the other, or nothing asks for it. The names come last, since they are found by a walk.
 fn role_may(table: &[u8], source: usize, target: usize, class: usize, permission: usize) -> bool
     ensures { λ r. ⌜ r ≡ roleMay (asksRoleIn (now (table .entry)) class permission) source target (setHas (now (table .entry)) 3 16 source target) ⌝ }
@@ -389,7 +221,7 @@ fn role_may(table: &[u8], source: usize, target: usize, class: usize, permission
     if set_has(table, ROLE_ROLES, Role::SET_BYTES as u16, source, target) {
         return true;
     }
-    !asks_role(table, class, permission)
+    !table_names::asks_role(table, class, permission)
 }
 
 // ---- change: the constraints
@@ -471,7 +303,7 @@ pub fn change_in_sound(
     requires { ⌜ isSound (now table) ≡ true ⌝ }
     ensures { λ r. ⌜ changeOf r ≡ changeOn (now (table .entry)) (question source target class permission) ⌝ }
 {
-    let counts = count_names(table);
-    let has = declares_permission(table, class, permission);
+    let counts = table_names::count_names(table);
+    let has = table_names::declares_permission(table, class, permission);
     change_in_counted(table, counts, has, source, target, class, permission)
 }

@@ -1,7 +1,4 @@
 pub mod Standings
-pub mod Rows
-pub mod Fronts
-pub mod Repeating
 pub mod EnteringLaws
 pub mod Holding
 pub mod Maxima

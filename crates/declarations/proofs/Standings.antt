@@ -11,7 +11,7 @@ use Rattle.policy.specs.Encode.{entries, sortCode}
 use Rattle.policy.specs.Names.{environmentOf}
 use Rattle.symbols.specs.Lookup.{familyNumber, firstNamed, countSort}
 use Rattle.symbols.specs.Resolving.{familyCode}
-use Rattle.name_chains.specs.Chains.{wordIn}
+use Rattle.name_index.specs.Index.{wordIn}
 use Rattle.name_chains.specs.Symbols.{Looks}
 use Rattle.symbols.specs.declared.Found.{Found}
 use Rattle.symbols.proofs.CountLaws.{count-things, count-classes}

@@ -1,4 +1,3 @@
 pub mod Declaring
 pub mod Counting
-pub mod WordRows
 pub mod Entering

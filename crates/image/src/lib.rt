@@ -71,7 +71,7 @@ fn is_within_at(table: &[u8], place: usize, width: usize, total: usize) -> bool
     if width <= filled {
         return true;
     }
-    bitset::is_within_at(table, place + filled, width - filled, total % 8)
+    set_rows::is_within_at(table, place + filled, width - filled, total % 8)
 }
 
 // Whether so many sets of `width` bytes from `start` on have no number at or above total. The start is so low that no place overflows.

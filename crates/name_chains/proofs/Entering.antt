@@ -17,14 +17,15 @@ use Rattle.symbols.specs.Lookup.{familyNumber, countSort}
 use Rattle.symbols.proofs.AppendLaws.{entry-length}
 use Rattle.symbols.proofs.CountLaws.{count-append}
 use Rattle.name_chains.specs.Compared.{isCandidate}
-use Rattle.name_chains.specs.Chains.{howMany, firstCandidate, lastCandidate, frontOf, wordIn, chainAt, chainIn, chainWord, linkIn, linkWord}
+use Rattle.name_chains.specs.Chains.{howMany, firstCandidate, lastCandidate}
+use Rattle.name_index.specs.Index.{frontOf, wordIn, chainAt, chainIn, chainWord, linkIn, linkWord, putNode, linkedTo, begun, longer, putLast, putMore, newAt, newLink, putEntry}
 use Rattle.name_chains.specs.Chains.{ChainIs, NodeIs, Nth, Chained}
-use Rattle.name_chains.specs.Entered.{putNode, linkedTo, begun, longer, putLast, putMore, newAt, newLink, putEntry, EntryRoom, Entered}
-use Rattle.name_chains.specs.declared.Chain.{Chain}
+use Rattle.name_chains.specs.Entered.{EntryRoom, Entered}
+use Rattle.name_index.specs.declared.Chain.{Chain}
 use Rattle.name_chains.proofs.CandidateLaws.{nth-more, nth-below, candidate-is, candidate-self, none-many, many-more, many-length, many-nth}
 use Rattle.name_chains.proofs.CandidateLaws.{first-kept, first-new}
 use Rattle.name_chains.proofs.CandidateLaws.{last-new, last-kept, last-below, last-is, none-behind, last-candidate}
-use Rattle.name_chains.proofs.Chaining.{Changed, changed, bytes-word, linked-rest, linked-next}
+use Rattle.name_index.proofs.Chaining.{Changed, changed, bytes-word, linked-rest, linked-next}
 
 -- how many entries of a sort there are, with one more
 one-sort : (s : ℕ) (e : NameEntry) (q : Bool) → eqb (e .sort) s ≡ q → countSort s (e ∷ []) ≡ cond q 1 0

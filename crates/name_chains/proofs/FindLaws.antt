@@ -18,10 +18,11 @@ use Rattle.symbols.specs.declared.Entry.{Entry}
 use Rattle.symbols.specs.declared.Found.{Found}
 use Rattle.symbols.proofs.PartLaws.{part-whole, length-part}
 use Rattle.name_chains.specs.Compared.{isCandidate, comparedIn, TriedIn}
-use Rattle.name_chains.specs.Chains.{frontOf, howMany, wordIn, chainIn, linkIn, Nth, Chained, ChainIs, HasChain, Tries, Compares}
+use Rattle.name_chains.specs.Chains.{howMany, Nth, Chained, ChainIs, HasChain, Tries, Compares}
+use Rattle.name_index.specs.Index.{frontOf, wordIn, chainIn, linkIn}
 use Rattle.name_chains.specs.declared.Tried.{Tried}
-use Rattle.name_chains.specs.declared.Chain.{Chain}
-use Rattle.name_chains.specs.declared.Link.{Link}
+use Rattle.name_index.specs.declared.Chain.{Chain}
+use Rattle.name_index.specs.declared.Link.{Link}
 use Rattle.name_chains.proofs.CandidateLaws.{candidate-is, candidate-self}
 use Rattle.name_chains.proofs.TryLaws.{Going, starts, is-hit, goes-on, this-first, this-compared}
 

@@ -11,9 +11,10 @@ use Rattle.bitset.proofs.SetLaws.{length-setOf, byte-setOf}
 use Rattle.bitset.proofs.PartLaws.{length-put, length-part, length-part-le, getD-part, getD-put-in, part-put-before}
 use Rattle.policy.specs.Basics.{unle}
 use Rattle.symbols.specs.Lookup.{countSort}
-use Rattle.name_chains.specs.Chains.{wordIn, chainAt, chainIn, Chained}
+use Rattle.name_chains.specs.Chains.{Chained}
+use Rattle.name_index.specs.Index.{wordIn, chainAt, chainIn}
 use Rattle.name_chains.specs.Entered.{Cleared}
-use Rattle.name_chains.specs.declared.Chain.{Chain}
+use Rattle.name_index.specs.declared.Chain.{Chain}
 use Rattle.name_chains.proofs.CandidateLaws.{none-many, nth-below}
 
 unle-zero : (l : List ℕ) → ((i : ℕ) → i < length l → getD l i 0 ≡ 0) → unle l ≡ 0

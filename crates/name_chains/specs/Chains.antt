@@ -1,23 +1,20 @@
--- The index of the symbols: chains of the entries of each family and length, in order of declaration, in the same memory behind the room for the
--- entries. Nobody outside sees it; what is looked up is what the entries say. Assumes nothing.
---
--- The index is words of 8 bytes. The entry k has the words 2k, the first eight bytes of its name, and 2k + 1, its link. From word 4096 on each family and
--- length has its chain. From word 6436 on the entries of each sort are counted, and in word 6444 all. Where a chain or a link names an entry k, it holds the
--- number of the entry's first word, 2k: a try reads on there, and need not double k at each entry.
+-- The index of the symbols: chains of the entries of each family and length, in order of declaration. Nobody outside sees it; what is looked up is what the
+-- entries say. Assumes nothing.
 use mathlib.Core.Path.{_≡_}
 use mathlib.Core.Bool.{Bool, true, cond}
 use mathlib.Core.List.{List, [], _∷_}
-use Prim.Native.Nat.{ℕ, suc, _+_, _*_, _/_, _%_, _<_, _≤_}
+use Prim.Native.Nat.{ℕ, suc, _+_, _*_, _<_, _≤_}
 use lib.Dec.{eqb}
-use lib.ListN.{length, take, drop}
+use lib.ListN.{length, drop}
 use Rattle.bitset.specs.Parts.{part}
-use Rattle.policy.specs.Basics.{Name, same, unle}
+use Rattle.policy.specs.Basics.{Name, same}
 use Rattle.policy.specs.Encode.{NameEntry}
 use Rattle.symbols.specs.Lookup.{familyNumber, countSort}
+use Rattle.name_index.specs.Index.{frontOf, wordIn, chainAt, chainIn, linkIn}
 use Rattle.name_chains.specs.Compared.{isCandidate, TriedIn}
 use Rattle.name_chains.specs.declared.Tried.{Tried}
-use Rattle.name_chains.specs.declared.Chain.{Chain}
-use Rattle.name_chains.specs.declared.Link.{Link}
+use Rattle.name_index.specs.declared.Chain.{Chain}
+use Rattle.name_index.specs.declared.Link.{Link}
 
 -- ---- the chain of a family f and a length n among the entries es
 
@@ -35,47 +32,6 @@ firstCandidate f n (e ∷ es) = cond (isCandidate f n e) 0 (1 + firstCandidate f
 unfoldable pub lastCandidate : ℕ → ℕ → List NameEntry → ℕ
 lastCandidate f n [] = 0
 lastCandidate f n (e ∷ es) = cond (eqb (howMany f n es) 0) 0 (1 + lastCandidate f n es)
-
--- ---- the words of the index
-
--- the first eight bytes of a name as one number, the lowest first; or all, where it has less
-abbrev pub frontOf : Name → ℕ
-frontOf w = unle (take 8 w)
-
-unfoldable pub wordIn : List ℕ → ℕ → ℕ
-wordIn t k = unle (part t (137088 + 8 * k) 8)
-
--- where the chain of a family and a length stands: 36 families, and names of 0 to 64 bytes
-abbrev pub chainAt : ℕ → ℕ → ℕ
-chainAt f n = 4096 + 65 * f + n
-
--- the chain in a word: its count is cut to 2 bytes, and the numbers of words to those of the entries' words, so that they are such on any bytes
-abbrev pub chainIn : ℕ → Chain
-chainIn h = record { count = h % 65536; first = h / 65536 % 4096; last = h / 268435456 % 4096 }
-
--- a chain as one word, where its parts fit. A count of 65536 is let through, so that a chain that is made longer asks nothing of the memory; it is not read
--- back, and no chain of at most 2,048 entries has it
-abbrev pub chainWord : Chain → ℕ
-chainWord c = c .count + 65536 * c .first + 268435456 * c .last
-
-pub record ChainFits (c : Chain) : Type 0 where
-  pub count : c .count ≤ 65536
-  pub first : c .first < 4096
-  pub last : c .last < 4096
-
--- the link in a word
-abbrev pub linkIn : ℕ → Link
-linkIn h = record { next = h % 4096; sort = h / 4096 % 8; number = h / 32768 % 65536; place = h / 2147483648 }
-
--- a link as one word, where its parts fit
-abbrev pub linkWord : Link → ℕ
-linkWord l = l .next + 4096 * l .sort + 32768 * l .number + 2147483648 * l .place
-
-pub record LinkFits (l : Link) : Type 0 where
-  pub next : l .next < 4096
-  pub sort : l .sort < 8
-  pub number : l .number < 65536
-  pub place : l .place < 8589934592
 
 -- ---- the index of some entries
 

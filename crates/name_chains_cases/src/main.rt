@@ -6,8 +6,8 @@ ghost use mathlib.Core.Path.{_≡_};
 ghost use lib.ListN.{length};
 use corpus::Next;
 use libc::STDOUT_FILENO;
-use name_chains::SYMBOL_BYTES;
 use name_chains::Tried;
+use name_index::SYMBOL_BYTES;
 use symbols::Entry;
 use symbols::Found;
 

@@ -1,6 +1,4 @@
 pub mod FilterLaws
-pub mod SpellingLaws
-pub mod NameLaws
 pub mod DeclaringLaws
 pub mod BodyLaws
 pub mod TallyLaws

@@ -1,6 +1,1 @@
-pub mod Filling
-pub mod Sections
-pub mod KeywordKinds
-pub mod Stepping
-pub mod ByKeyword
 pub mod Turning

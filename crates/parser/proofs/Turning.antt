@@ -42,12 +42,13 @@ use Rattle.code_laws.proofs.CodeFits.{part-fits}
 use Rattle.name_chains.specs.Chains.{Chained}
 use Rattle.name_chains.specs.Entered.{Cleared}
 use Rattle.declarations.specs.Declaring.{sectionOf}
-use Rattle.parser.specs.Memory.{Memory, symbolsOf, constraintsOf, rowsOf, Holds, Reads, memory, Starts, Parses, ParsesCleared}
-use Rattle.parser.specs.Steps.{Filled, Stepped, RowIs, Room, StepsAt, nothingRead}
-use Rattle.parser.specs.declared.Progress.{Progress}
+use Rattle.statement_reader.specs.Memory.{Memory, symbolsOf, constraintsOf, rowsOf, Holds, memory, Starts}
+use Rattle.parser.specs.Parsing.{Reads, Parses, ParsesCleared}
+use Rattle.statement_reader.specs.Steps.{Filled, Stepped, RowIs, Room, StepsAt, nothingRead}
+use Rattle.statement_reader.specs.declared.Progress.{Progress}
 use Rattle.parser.specs.declared.Parsed.{Parsed}
-use Rattle.parser.specs.declared.Step.{Step}
-use Rattle.parser.proofs.Filling.{empty}
+use Rattle.statement_reader.specs.declared.Step.{Step}
+use Rattle.statement_reader.proofs.Filling.{empty}
 
 -- the statements so far are in the memory, and the rest of the text's row after them reads as the whole row does
 pub record Rest (t : List ℕ) (at : ℕ) (lent now : Memory) (s : Progress) : Type 0 where

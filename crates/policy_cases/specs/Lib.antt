@@ -6,9 +6,4 @@ pub mod Refused4
 pub mod Accepted0
 pub mod Accepted1
 pub mod Lent0
-pub mod Asked0
-pub mod Asked1
-pub mod Unsound0
-pub mod Unsound1
-pub mod Odd0
 pub mod Printed0

@@ -3,11 +3,11 @@
 //
 // Each asks first whether the table is sound, which goes over all of it. A caller that knows a table to be sound asks `decisions` instead.
 use decisions::Context;
-use decisions::Counts;
 use name_section::Counted;
 use policy::Change;
 use policy::NewRole;
 use policy::Validity;
+use table_names::Counts;
 ghost use mathlib.Core.Path.{_≡_};
 ghost use Prim.Native.Nat.{_<_};
 ghost use lib.Dec.{ltb};

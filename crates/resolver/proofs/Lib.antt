@@ -1,14 +1,1 @@
-pub mod TestLaws
-pub mod OperandLaws
-pub mod ColumnLaws
-pub mod Items
-pub mod Numbers
-pub mod Passes
-pub mod RowLaws
-pub mod ClosureLaws
-pub mod SetPasses
-pub mod FinalLaws
-pub mod SegmentLaws
-pub mod SharingLaws
-pub mod ClashLaws
 pub mod Judging

@@ -1,4 +1,1 @@
-pub mod Reading
-pub mod Closure
-pub mod Clashes
 pub mod Resolving

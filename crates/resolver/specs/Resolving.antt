@@ -1,17 +1,12 @@
--- Document 01: "An attribute always stands for its final set", and "then 8; 9". Assumes nothing.
+-- Document 01: "then 8; 9". Assumes nothing.
 use Prim.Native.Nat.{ℕ}
 use mathlib.Core.Path.{_≡_}
 use mathlib.Core.List.{List}
-use Rattle.bitset.specs.Relations.{relation}
-use Rattle.policy.specs.Statements.{Family, users, roles, types, Policy}
-use Rattle.policy.specs.Meaning.{final}
+use Rattle.policy.specs.Statements.{users, roles, types, Policy}
 use Rattle.policy.specs.Reading.{Read, policy, refused}
 use Rattle.policy.specs.Outcome.{accept}
+use Rattle.code_reader.specs.AttributeSets.{finalSets}
 use Rattle.resolver.specs.declared.Resolved.{Resolved}
-
--- the final sets of a family's attributes, 64 bytes for each of 64
-abbrev pub finalSets : Policy → Family → List ℕ
-finalSets p f = relation 64 64 (final p f)
 
 -- the numbers of the faults
 abbrev pub readOf : Policy → Resolved → Read

@@ -40,10 +40,10 @@ fn join(operator: u16, out: &mut [u8; Type::SET_BYTES], operand: &[u8; Type::SET
     ensures { λ _. ⌜ now (out .exit) ≡ joinedBy operator (now (out .entry)) (now (operand .entry)) ⌝ }
 {
     match operator {
-        Unit::NOT => bitset::difference(out, operand),
-        Unit::AND => bitset::intersection(out, operand),
-        Unit::XOR => bitset::exclusive_or(out, operand),
-        _ => bitset::union(out, operand),
+        Unit::NOT => set_operators::difference(out, operand),
+        Unit::AND => set_operators::intersection(out, operand),
+        Unit::XOR => set_operators::exclusive_or(out, operand),
+        _ => set_operators::union(out, operand),
     }
 }
 
@@ -56,7 +56,7 @@ pub fn reference(unit: u16, sets: &[u8], out: &mut [u8; Type::SET_BYTES])
         bitset::insert(out, unit as usize);
     } else {
         let attribute = (unit - Unit::ATTRIBUTE) as usize;
-        bitset::read_at(out, sets, Type::SET_BYTES * attribute, Type::SET_BYTES);
+        set_rows::read_at(out, sets, Type::SET_BYTES * attribute, Type::SET_BYTES);
     }
 }
 
@@ -83,7 +83,7 @@ fn add_reference(unit: u16, sets: &[u8], out: &mut [u8; Type::SET_BYTES])
         bitset::insert(out, unit as usize);
     } else {
         let attribute = (unit - Unit::ATTRIBUTE) as usize;
-        bitset::union(
+        set_operators::union(
             out,
             bitset::part(sets, Type::SET_BYTES * attribute, Type::SET_BYTES),
         );

@@ -17,7 +17,7 @@ use Rattle.policy.specs.Image.{imageOf, width, setsOf, transitionEntry}
 use Rattle.policy.specs.Encode.{transitionBytes, bodies, encode}
 use Rattle.table_laws.proofs.LayoutLaws.{pairs-length}
 use Rattle.statement_code.specs.Code.{codeOf}
-use Rattle.resolver.specs.Resolving.{finalSets}
+use Rattle.code_reader.specs.AttributeSets.{finalSets}
 use Rattle.body_writer.specs.Writing.{Copies}
 use Rattle.body_writer.specs.Bodies.{WritesRelation, WritesTransitions, WritesSets}
 use Rattle.table_writer.specs.declared.Starts.{Starts}

@@ -8,7 +8,7 @@ use Rattle.policy.specs.Accepted.{Accepted}
 use Rattle.policy.specs.Image.{imageOf}
 use Rattle.policy.specs.Encode.{encode}
 use Rattle.statement_code.specs.Code.{codeOf}
-use Rattle.resolver.specs.Resolving.{finalSets}
+use Rattle.code_reader.specs.AttributeSets.{finalSets}
 use Rattle.table_writer.specs.declared.Sizes.{Sizes}
 use Rattle.table_writer.specs.declared.Starts.{Starts}
 use Rattle.table_writer.specs.Putting.{Puts}

@@ -5,11 +5,11 @@ ghost use Rattle.policy.specs.Basics.{le};
 ghost use Rattle.table_writer.specs.Putting.{Puts, pair};
 ghost use Rattle.table_writer.specs.Sizing.{Few, Spaced, Needs, WritesPairs, WritesHeader};
 ghost use Rattle.table_writer.specs.Assembling.{WritesRoleRelations, WritesRelations, WritesRules, WritesAttributes, WritesTable};
+use code_reader::FAMILY_BYTES;
 use policy::Relation;
 use policy::Role;
 use policy::Type;
 use policy::User;
-use resolver::FAMILY_BYTES;
 
 // How many of each a table has, and how many bytes its names take.
 pub struct Sizes {

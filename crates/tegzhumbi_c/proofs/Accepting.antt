@@ -16,8 +16,8 @@ use Rattle.policy.specs.Outcome.{accept, policyOf, compiles, refuses, compiled,
 use Rattle.policy.specs.Answers.{compilingOf}
 use Rattle.policy.specs.declared.Compiling.{Compiling}
 use Rattle.reading_laws.proofs.FaultOrder.{fault-order, refusal-number}
-use Rattle.tegzhumbi_c.specs.declared.Compiled.{Compiled}
-use Rattle.tegzhumbi_c.specs.Numbers.{compiledOf, compiledNumbers}
+use Rattle.answer_numbers.specs.declared.Compiled.{Compiled}
+use Rattle.answer_numbers.specs.Numbers.{compiledOf, compiledNumbers}
 
 abbrev NumberedRead : Read → Type 0
 NumberedRead (policy p) = Unit {0}

@@ -3,7 +3,6 @@ use Prim.Native.Nat.{ℕ, _≤_}
 use native.Mathlib.Omega.{arith}
 use mathlib.Core.Bool.{Bool, true, false, cond}
 use mathlib.Core.Option.{Option, none, some}
-use mathlib.Core.Path.{_≡_, subst}
 use mathlib.Core.List.{List}
 use Rattle.policy.specs.Meaning.{Context}
 use Rattle.policy.specs.Image.{Image}
@@ -12,15 +11,9 @@ use Rattle.policy.specs.Deciding.{validBy, Question, Verdict, granted, denied, 
 use Rattle.policy.specs.Questions as replies
 use Rattle.policy.specs.Questions.{asked, givenIn, valid, validOn, newRoleOn, changeOn, nameOn, entryOn}
 use Rattle.policy.specs.Outcome.{Outcome, accepted, rejected, outcome}
-use Rattle.policy.specs.Answers.{compilingOf, validityOf, changeOf, newRoleOf, placeOf}
-use Rattle.policy.specs.declared.Compiling.{Compiling}
-use Rattle.policy.specs.declared.Validity.{Validity}
-use Rattle.policy.specs.declared.Change.{Change}
-use Rattle.policy.specs.declared.NewRole.{NewRole}
-use Rattle.policy.specs.declared.Place.{Place}
 use Rattle.bound_laws.proofs.Outcomes.{SmallOutcome, outcome-small}
 use Rattle.bound_laws.proofs.Answers.{SmallVerdict, change-small, SmallRole, new-role-small, SmallPart, name-part-small, entry-part-small}
-use Rattle.tegzhumbi_c.specs.Numbers.{CompiledFits, Fits, PartFits, compiledNumbers, validNumbers, verdictNumbers, changeNumbers, newRoleNumbers, partNumbers}
+use Rattle.answer_numbers.specs.Numbers.{CompiledFits, Fits, PartFits, compiledNumbers, validNumbers, verdictNumbers, changeNumbers, newRoleNumbers, partNumbers}
 
 small-fits : (o : Outcome) → SmallOutcome o → CompiledFits (compiledNumbers o)
 small-fits (accepted n) s = record { number = omega arith; place = omega arith }
@@ -74,20 +67,3 @@ name-fits t s n = part-fits (nameOn t s n) (name-part-small t s n)
 
 pub entry-fits : (t : List ℕ) (b k : ℕ) → PartFits (partNumbers (entryOn t b k))
 entry-fits t b k = part-fits (entryOn t b k) (entry-part-small t b k)
-
--- WHICH CASE IT IS: what fits in an answer fits in the case that it is
-
-pub compiled-as : {a b : Compiling} → a ≡ b → CompiledFits (compiledNumbers (compilingOf a)) → CompiledFits (compiledNumbers (compilingOf b))
-compiled-as e f = subst (λ (x : Compiling). CompiledFits (compiledNumbers (compilingOf x))) e f
-
-pub valid-as : {a b : Validity} → a ≡ b → Fits (validNumbers (validityOf a)) → Fits (validNumbers (validityOf b))
-valid-as e f = subst (λ (x : Validity). Fits (validNumbers (validityOf x))) e f
-
-pub change-as : {a b : Change} → a ≡ b → Fits (changeNumbers (changeOf a)) → Fits (changeNumbers (changeOf b))
-change-as e f = subst (λ (x : Change). Fits (changeNumbers (changeOf x))) e f
-
-pub new-role-as : {a b : NewRole} → a ≡ b → Fits (newRoleNumbers (newRoleOf a)) → Fits (newRoleNumbers (newRoleOf b))
-new-role-as e f = subst (λ (x : NewRole). Fits (newRoleNumbers (newRoleOf x))) e f
-
-pub part-as : {a b : Place} → a ≡ b → PartFits (partNumbers (placeOf a)) → PartFits (partNumbers (placeOf b))
-part-as e f = subst (λ (x : Place). PartFits (partNumbers (placeOf x))) e f

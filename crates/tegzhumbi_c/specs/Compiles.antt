@@ -6,8 +6,8 @@ use lib.ListN.{length}
 use Rattle.policy.specs.Outcome as outcomes
 use Rattle.policy.specs.Outcome.{outcome}
 use Rattle.demand_laws.specs.ByText.{TableAnswers}
-use Rattle.tegzhumbi_c.specs.declared.Compiled.{Compiled}
-use Rattle.tegzhumbi_c.specs.Numbers.{compiledOf, compiledNumbers}
+use Rattle.answer_numbers.specs.declared.Compiled.{Compiled}
+use Rattle.answer_numbers.specs.Numbers.{compiledOf, compiledNumbers}
 
 -- the answer is that of the rules, by its numbers; "On refusal the lent memory is unchanged. On success bytes past the table are unchanged"; and the
 -- table of n bytes that the number 0 tells of "gives the answer that the statements give, never a refusal"

@@ -10,7 +10,7 @@ use Rattle.bitset.specs.Sets.{unionOf}
 use Rattle.bitset.specs.Parts.{part, put}
 use Rattle.bitset.proofs.SetLaws.{length-setOf, union-one}
 use Rattle.bitset.proofs.PartLaws.{length-part-min, length-part-le}
-use Rattle.bitset.proofs.GrantLaws.{row-at, past-at}
+use Rattle.set_rows.proofs.GrantLaws.{row-at, past-at}
 use Rattle.set_code.proofs.Leaves.{thing-alone}
 use Rattle.body_writer.proofs.grant_row.Statement.{statement}
 use Rattle.body_writer.proofs.grant_row.Tie as tie

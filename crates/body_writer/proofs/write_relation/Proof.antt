@@ -6,12 +6,12 @@ use native.Mathlib.Omega.{arith}
 use Prim.Native.Nat.{ℕ, _+_, _-_, _≤_}
 use mathlib.Core.List.{List, []}
 use borrow.Author.Needs.{needs}
-use Rattle.resolver.proofs.SetPasses.{start}
+use Rattle.code_reader.proofs.SetPasses.{start}
 use Rattle.bitset.specs.Parts.{put}
 use Rattle.statement_code.specs.Code.{relationNumber}
-use Rattle.resolver.proofs.Items.{items}
+use Rattle.code_reader.proofs.Items.{items}
 use Rattle.policy.specs.Statements.{Relation, toOf, Policy}
-use Rattle.resolver.proofs.Passes.{Through}
+use Rattle.code_reader.proofs.Passes.{Through}
 use Rattle.body_writer.proofs.Relating.{Asked, bodyOf, line-more, line-over, lines-all}
 use Rattle.body_writer.proofs.Filling.{narrow}
 use Rattle.body_writer.proofs.write_relation.Statement.{statement}

@@ -4,7 +4,7 @@ use lib.ListN.{length}
 use native.Mathlib.Omega.{arith}
 use Prim.Native.Nat.{_-_, _≤_}
 use borrow.Author.Needs.{needs}
-use Rattle.resolver.specs.Resolving.{finalSets}
+use Rattle.code_reader.specs.AttributeSets.{finalSets}
 use Rattle.bitset.specs.Relations.{relation}
 use Rattle.policy.specs.Meaning.{final}
 use Rattle.policy.specs.Statements.{Family, Policy}

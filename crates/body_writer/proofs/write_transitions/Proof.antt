@@ -5,12 +5,12 @@ use Prim.Native.Nat.{_-_}
 use borrow.Author.Needs.{needs}
 use Rattle.policy.specs.Accepted.{Accepted}
 use Rattle.policy.specs.Basics.{gather}
-use Rattle.resolver.proofs.SetPasses.{start}
+use Rattle.code_reader.proofs.SetPasses.{start}
 use Rattle.statement_code.specs.Code.{codeOf}
-use Rattle.resolver.proofs.Passes.{Through, finish}
+use Rattle.code_reader.proofs.Passes.{Through, finish}
 use Rattle.policy.specs.Statements.{roles, types, Policy}
-use Rattle.resolver.proofs.Items.{items, moveIn}
-use Rattle.resolver.specs.Resolving.{finalSets}
+use Rattle.code_reader.proofs.Items.{items, moveIn}
+use Rattle.code_reader.specs.AttributeSets.{finalSets}
 use Rattle.body_writer.proofs.Moving.{bytesOf, bytes-none, bytes-all, move-more, move-over}
 use Rattle.body_writer.specs.Writing.{Appended}
 use Rattle.body_writer.proofs.write_transitions.Statement.{statement}

@@ -1,7 +1,8 @@
 -- `decisions::role_may` meets its contract: the names are asked last. Assumes nothing.
 use mathlib.Core.Path.{sym, ap, _∙_}
 use mathlib.Core.Bool.{not}
-use Rattle.decisions.specs.TableAnswers.{asksRoleIn, setHas}
+use Rattle.decisions.specs.TableAnswers.{setHas}
+use Rattle.table_names.specs.TableNames.{asksRoleIn}
 use Rattle.decisions.proofs.ChangeLaws.{role-stays, role-allowed, role-asked}
 use borrow.Author.Needs.{needs}
 use Rattle.decisions.proofs.role_may.Statement.{statement}

@@ -8,7 +8,7 @@ use lib.ListN.{length}
 use Rattle.symbols.specs.Section.{between, entriesAt}
 use Rattle.name_section.specs.Filter.{Knows}
 use Rattle.name_section.proofs.FilterLaws.{not-found}
-use Rattle.name_section.proofs.SpellingLaws.{is-spelled, not-spelled, hashed-by}
+use Rattle.name_spelling.proofs.SpellingLaws.{is-spelled, not-spelled, hashed-by}
 use Rattle.name_section.proofs.WalkLaws.{Walk, walk-begin, walk-room, walk-next, walk-refused, walk-done, walk-halts, not-free, free-by, counted-long, permitted-long, knows-begin, knows-next}
 use Rattle.table_laws.proofs.ListLaws.{all-places}
 use Rattle.name_section.proofs.walk.Statement.{statement}

@@ -10,7 +10,7 @@ use lib.ListN.{length}
 use Rattle.lexer.specs.declared.Scanned.{Scanned}
 use Rattle.lexer.specs.Scan.{scan}
 use Rattle.name_chains.specs.Chains.{Chained}
-use Rattle.parser.specs.Memory.{memory}
+use Rattle.statement_reader.specs.Memory.{memory}
 use Rattle.parser.proofs.Turning.{Rest, roomy, begins, finishes, opens, further, formless, goes-on, stops}
 use Rattle.parser.proofs.parse_cleared.Statement.{statement}
 use Rattle.parser.proofs.parse_cleared.Tie as tie

@@ -1,7 +1,7 @@
 -- `resolver::resolve` meets its contract: the faults in their order. Assumes nothing.
 use mathlib.Core.Path.{sym, ap, _∙_}
 use borrow.Author.Needs.{needs}
-use Rattle.resolver.specs.Reading.{foundOf}
+use Rattle.code_reader.specs.Reading.{foundOf}
 use Rattle.resolver.proofs.Judging.{cycle-found, cycle-first, clash-next, sound-last}
 use Rattle.resolver.proofs.resolve.Statement.{statement}
 use Rattle.resolver.proofs.resolve.Tie as tie

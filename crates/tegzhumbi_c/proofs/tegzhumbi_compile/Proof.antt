@@ -1,6 +1,6 @@
 -- `tegzhumbi_compile` meets its contract: the numbers of the compiler's answer, which fit. Assumes nothing.
 use mathlib.Core.Path.{sym, ap, _∙_}
-use Rattle.tegzhumbi_c.specs.Numbers.{compiledNumbers}
+use Rattle.answer_numbers.specs.Numbers.{compiledNumbers}
 use Rattle.tegzhumbi_c.proofs.Fitting.{outcome-fits}
 use Rattle.tegzhumbi_c.proofs.Accepting.{accepted-as}
 use borrow.Author.Needs.{needs}

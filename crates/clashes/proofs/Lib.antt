@@ -1,0 +1,3 @@
+pub mod SegmentLaws
+pub mod SharingLaws
+pub mod ClashLaws

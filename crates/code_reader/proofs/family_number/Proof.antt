@@ -1,0 +1,17 @@
+-- `code_reader::family_number` meets its contract, by cases of the family. Assumes nothing.
+use native.Mathlib.Omega.{arith}
+use borrow.Author.Needs.{needs}
+use Rattle.code_reader.proofs.family_number.Statement.{statement}
+use Rattle.code_reader.proofs.family_number.Tie as tie
+
+returns : tie.Need-returns
+returns c = (rw (c .enum-told .given .1), omega arith)
+
+returns-2 : tie.Need-returns-2
+returns-2 c = (rw (c .enum-told2 .given .1), omega arith)
+
+returns-3 : tie.Need-returns-3
+returns-3 c = (rw (c .enum-told3 .given .1), omega arith)
+
+pub family-number-spec : {M : Type 1} → statement M
+family-number-spec = tie.close (tie.spec (λ c. search needs) (λ c. search needs) (λ c. search needs) returns returns-2 returns-3)

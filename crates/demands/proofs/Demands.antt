@@ -1,0 +1,71 @@
+-- DEMAND 3 FROM THE PROMISE OF COMPILE: whoever has the promise has the demand, with no other fact about the compiler. Assumes nothing.
+use Prim.Native.Nat.{ℕ}
+use mathlib.Core.Path.{_≡_, refl, sym, ap, subst, _∙_}
+use mathlib.Core.Bool.{true}
+use mathlib.Core.List.{List, [], _∷_, _++_}
+use lib.ListN.{take}
+use Rattle.lexer.specs.Spell.{bytes}
+use Rattle.policy.specs.declared.Compiling.{Compiling}
+use Rattle.policy.specs.Statements.{Policy}
+use Rattle.policy.specs.Reading.{Read, policy, refused}
+use Rattle.policy.specs.Deciding.{Question, Answer}
+use Rattle.policy.specs.Answer.{answer}
+use Rattle.policy.specs.Image.{imageOf}
+use Rattle.policy.specs.Encode.{encode}
+use Rattle.policy.specs.Sound.{imageIn}
+use Rattle.policy.specs.Outcome.{policyOf}
+use Rattle.policy.specs.Questions.{validOn, newRoleOn, changeOn}
+use Rattle.policy.specs.Opened.{computing}
+use Rattle.answer_laws.specs.Longer.{OneConstrainMore, ConstrainText, KeepsDenials}
+use Rattle.demand_laws.specs.ByText.{isRefusal}
+use Rattle.demand_laws.proofs.Demand3.{Accepts, accepted-table, table-read, table-answers, table-valid, table-new-role, table-grants-only, table-grants-when, declared-unrefused, longer-table-denies, constrain-added}
+use Rattle.compiler.specs.Promise.{Compiles}
+use Rattle.demands.specs.Demands.{Demand3}
+
+-- a text has one list of statements
+abbrev statementsOf : Read → Policy
+statementsOf (policy p) = p
+statementsOf (refused n at) = []
+
+module _ {text before now : List ℕ} {n : ℕ} (c : Compiles text before now (Compiling.Accepted n)) where
+  -- the text's statements, and that their table is written
+  pub accepts : Accepts text before n
+  accepts = accepted-table text before n (sym (c .answer))
+
+  -- the first n bytes of the memory are the table of the statements
+  pub written : take n now ≡ encode (imageOf (accepts .statements))
+  written = ap (take n) (c .memory) ∙ accepts .table
+
+  -- what is asked of those bytes is asked of that table
+  moved : {A : Type 0} (f : List ℕ → A) (behind : List ℕ) → f (take n now ++ behind) ≡ f (encode (imageOf (accepts .statements)) ++ behind)
+  moved f behind = ap (λ (t : List ℕ). f (t ++ behind)) written
+
+-- a text that says the same and then one constrain, compiled too
+keeps : {text before now text′ before′ now′ : List ℕ} {n n′ : ℕ} (c : Compiles text before now (Compiling.Accepted n)) (c′ : Compiles text′ before′ now′ (Compiling.Accepted n′))
+    → OneConstrainMore (accepts c .statements) (accepts c′ .statements) → KeepsDenials (take n now) (take n′ now′)
+keeps {text} {before} {now} {text′} c c′ m =
+    rw (written c, written c′) (longer-table-denies text text′ (accepts c .statements) (accepts c′ .statements) m (accepts c .read) (accepts c′ .read))
+
+pub demand-3 : {text before now : List ℕ} {n : ℕ} → Compiles text before now (Compiling.Accepted n) → Demand3 text (take n now)
+demand-3 {text} {before} {now} {n} c =
+    let p = accepts c .statements in
+    let r = accepts c .read in
+    let answers : (behind : List ℕ) (q : Question) → changeOn (take n now ++ behind) q ≡ _ = λ behind q. moved c (λ t. changeOn t q) behind ∙ table-answers text p r behind q in
+    record {
+      statements = p;
+      read = r;
+      answers = answers;
+      never-refused = λ behind q d. ap (λ (a : Answer). isRefusal (a .verdict)) (answers behind q) ∙ declared-unrefused p q d;
+      grants-only = λ behind q g. table-grants-only text p r behind q (sym (moved c (λ t. changeOn t q .verdict) behind) ∙ g);
+      grants-when = λ behind q d g. moved c (λ t. changeOn t q .verdict) behind ∙ table-grants-when text p r behind q d g;
+      longer-denies = λ longer before′ now′ n′ c′ said r′ m. keeps c c′ (subst (OneConstrainMore p) (ap statementsOf (sym r′ ∙ accepts c′ .read)) m);
+      added-denies = λ more before′ now′ n′ c′ u. keeps c c′ (constrain-added text more p (accepts c′ .statements) u r (accepts c′ .read));
+      valid = λ behind x. moved c (λ t. validOn t x) behind ∙ table-valid text p r behind x;
+      new-role = λ behind x y z. moved c (λ t. newRoleOn t x y z) behind ∙ table-new-role text p r behind x y z;
+      holds = λ behind. moved c imageIn behind ∙ table-read text p r behind;
+    }
+
+-- bytes that one would add are such a text, blanks and comments around it or not
+pub a-constrain : ConstrainText (bytes " (constrain (c (p q)) (or (eq u1 u2) (not (eq r1 a)))) ; the last")
+unfolding computing
+a-constrain = record { place = 1; inner = _; alone = refl; class = _; perms = _; body = _; form = refl }

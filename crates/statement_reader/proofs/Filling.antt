@@ -1,0 +1,50 @@
+-- Memory that starts with some content: what is put behind the content is content too. One law for all four memories. Assumes nothing.
+use Prim.Native.Nat.{ℕ, _+_, _≤_}
+use native.Mathlib.Nat.{zero-add}
+use native.Mathlib.Omega.{arith}
+use mathlib.Core.Path.{_≡_, refl, sym, ap, ap₂, _∙_}
+use mathlib.Core.List.{List, [], _++_}
+use lib.ListN.{length, take, drop, length-append, length-drop}
+use lib.Seq.{take-at}
+use Rattle.bitset.specs.Parts.{put}
+use Rattle.set_writer.specs.Writing.{Wrote}
+use Rattle.set_writer.proofs.Putting.{put-put}
+use Rattle.bitset.proofs.PartLaws.{put-none}
+use Rattle.statement_reader.specs.Memory.{Starts}
+
+-- nothing is there yet
+pub empty : {lent : List ℕ} → Starts lent [] lent 0
+empty = record { is = refl; ends = refl; fits = omega arith }
+
+whole : (lent c : List ℕ) → put lent 0 c ≡ c ++ drop (length c) lent
+unfolding put
+whole lent c = ap (λ (n : ℕ). c ++ drop n lent) (zero-add (length c))
+
+module _ {lent content now : List ℕ} {end : ℕ} (s : Starts lent content now end) where
+  pub now-long : length now ≡ length lent
+  now-long =
+      ap length (s .is) ∙ length-append content (drop (length content) lent)
+      ∙ omega (arith, length-drop (length content) lent, s .fits)
+
+  pub front : take end now ≡ content
+  front = ap₂ take (s .ends) (s .is) ∙ take-at content (drop (length content) lent) (length content) refl
+
+  -- what is put at the end
+  pub put-behind : (bytes after : List ℕ) (past : ℕ) → after ≡ put now end bytes → past ≡ end + length bytes → past ≤ length now → Starts lent (content ++ bytes) after past
+  put-behind bytes after past e m f = record {
+    is =
+        e ∙ ap₂ (λ (x : List ℕ) (n : ℕ). put x n bytes) (s .is ∙ sym (whole lent content)) (s .ends ∙ sym (zero-add (length content)))
+        ∙ put-put lent 0 content bytes (omega (arith, s .fits)) ∙ whole lent (content ++ bytes);
+    ends = omega (arith, m, s .ends, length-append content bytes);
+    fits = omega (arith, m, f, s .ends, now-long, length-append content bytes);
+  }
+
+  -- the same of units that are written where there is room
+  pub wrote-behind : (units after : List ℕ) (past : ℕ) → Wrote now end units after past → length content + length units ≤ length lent → Starts lent (content ++ units) after past
+  wrote-behind units after past w f =
+      let room : end + length units ≤ length now = omega (arith, f, s .ends, now-long) in
+      put-behind units after past (w .code room) (w .past room) (omega (arith, w .past room, room))
+
+-- no units
+pub wrote-none : (now : List ℕ) (end : ℕ) → Wrote now end [] now end
+wrote-none now end = record { past = λ l. omega arith; code = λ l. sym (put-none now end) }

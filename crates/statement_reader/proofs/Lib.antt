@@ -1,0 +1,5 @@
+pub mod Filling
+pub mod Sections
+pub mod KeywordKinds
+pub mod Stepping
+pub mod ByKeyword

@@ -1,0 +1,57 @@
+-- What the memory that is lent to the parser holds of the statements as read: the symbols, the statement code, the constraints and their rows.
+-- Assumes nothing.
+use Prim.Native.Nat.{ℕ, _+_, _*_, _≤_}
+use mathlib.Core.Path.{_≡_}
+use mathlib.Core.List.{List, _++_}
+use lib.ListN.{length, take, drop}
+use Rattle.bitset.specs.Relations.{joined}
+use Rattle.policy.specs.Basics.{each}
+use Rattle.policy.specs.Statements.{Policy, declarations, transitions, constrains}
+use Rattle.policy.specs.Reading.{rowCount}
+use Rattle.policy.specs.Accepted.{Accepted}
+use Rattle.policy.specs.Image.{ConstraintEntry, constraintEntry}
+use Rattle.policy.specs.Encode.{entries, headBytes, headsFrom, rowBytes}
+use Rattle.statement_code.specs.Code.{codeOf}
+use Rattle.name_chains.specs.Chains.{Chained}
+use Rattle.declarations.specs.Declaring.{sectionOf}
+use Rattle.statement_reader.specs.declared.Progress.{Progress}
+
+-- the four lent memories
+pub record Memory : Type 0 where
+  pub symbols : List ℕ
+  pub code : List ℕ
+  pub constraints : List ℕ
+  pub rows : List ℕ
+
+abbrev pub memory : List ℕ → List ℕ → List ℕ → List ℕ → Memory
+memory s c k r = record { symbols = s; code = c; constraints = k; rows = r }
+
+-- body 1: "Names in text order, permissions directly after their class"
+unfoldable pub symbolsOf : Policy → List ℕ
+symbolsOf p = sectionOf (declarations p)
+
+-- body 6: "Constraints in text order: class 2, permission mask 4, first row 2, row count 2"
+unfoldable pub constraintsOf : Policy → List ℕ
+constraintsOf p = joined (each headBytes (headsFrom 0 (each constraintEntry (constrains p))))
+
+-- body 7: "Rows of 6 bytes, operands before operators, left first"
+unfoldable pub rowsOf : Policy → List ℕ
+rowsOf p = joined (each rowBytes (joined (each (λ (c : ConstraintEntry). c .rows) (each constraintEntry (constrains p)))))
+
+-- memory with some content in front, which ends at a place, and as it was lent behind it
+pub record Starts (lent content now : List ℕ) (end : ℕ) : Type 0 where
+  pub is : now ≡ content ++ drop (length content) lent
+  pub ends : end ≡ length content
+  pub fits : length content ≤ length lent
+
+-- the lent memory holds the statements of p, which keep every rule that faults 3 to 7 stand for. The symbols end before their index
+pub record Holds (p : Policy) (lent now : Memory) (s : Progress) : Type 0 where
+  pub accepted : Accepted p
+  pub symbols : Starts (take 137088 (lent .symbols)) (symbolsOf p) (take 137088 (now .symbols)) (s .symbols)
+  pub chained : Chained (now .symbols) (s .symbols) (entries (declarations p))
+  pub code : Starts (lent .code) (codeOf p) (now .code) (s .code)
+  pub constraints : Starts (lent .constraints) (constraintsOf p) (now .constraints) (10 * s .constraints)
+  pub rows : Starts (lent .rows) (rowsOf p) (now .rows) (6 * s .rows)
+  pub transition-count : s .transitions ≡ length (transitions p)
+  pub constraint-count : s .constraints ≡ length (constrains p)
+  pub row-count : s .rows ≡ rowCount (constrains p)

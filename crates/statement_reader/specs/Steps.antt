@@ -1,0 +1,109 @@
+-- What one statement adds to the lent memory, or its fault. The parser's functions for the kinds of statements promise it. Assumes nothing.
+use Prim.Native.Nat.{ℕ, _+_, _-_, _*_, _≤_}
+use mathlib.Core.Path.{_≡_}
+use mathlib.Core.Bool.{true, cond}
+use mathlib.Core.List.{List, [], _∷_, _++_}
+use mathlib.Core.Option.{Option, none, some}
+use lib.Dec.{ltb}
+use lib.ListN.{length, take}
+use Rattle.lexer.specs.Forms.{Forms, framesAt, trim, namesGood}
+use Rattle.lexer.specs.Scan.{maxLevel}
+use Rattle.policy.specs.Words as words
+use Rattle.policy.specs.Words.{setK, relationK, transitionK}
+use Rattle.policy.specs.Statements.{Written, Statement, Policy, declarations, transitions, constrains}
+use Rattle.policy.specs.Maxima.{maxTransitions, maxConstraints}
+use Rattle.policy.specs.Grammar.{formed, written}
+use Rattle.policy.specs.Reading.{Judged, reads, fault, naming, rowCount}
+use Rattle.policy.specs.Answers.{familyOf, relationOf}
+use Rattle.policy.specs.Encode.{entries}
+use Rattle.name_chains.specs.Chains.{Chained}
+use Rattle.statement_code.specs.Code.{statementCode, codeOf}
+use Rattle.declarations.specs.declared.Declared.{Declared}
+use Rattle.statement_writer.specs.declared.Coded.{Coded}
+use Rattle.constrain_statement.specs.declared.Constrained.{Constrained}
+use Rattle.statement_reader.specs.Memory.{Memory, symbolsOf, constraintsOf, rowsOf, Starts, Holds}
+use Rattle.statement_reader.specs.declared.Progress.{Progress}
+use Rattle.statement_reader.specs.declared.Step.{Step}
+use Rattle.statement_reader.specs.declared.CodedKind.{CodedKind}
+
+-- the keyword that an enum of src/ stands for
+abbrev pub codedKeyword : CodedKind → words.Keyword
+codedKeyword (CodedKind.Set f) = setK (familyOf f)
+codedKeyword (CodedKind.Relation r) = relationK (relationOf r)
+codedKeyword CodedKind.Transition = transitionK
+
+-- the lent memory holds what the statements of p leave there
+pub record Filled (p : Policy) (lent now : Memory) (s : Progress) : Type 0 where
+  pub symbols : Starts (take 137088 (lent .symbols)) (symbolsOf p) (take 137088 (now .symbols)) (s .symbols)
+  pub chained : Chained (now .symbols) (s .symbols) (entries (declarations p))
+  pub code : Starts (lent .code) (codeOf p) (now .code) (s .code)
+  pub constraints : Starts (lent .constraints) (constraintsOf p) (now .constraints) (10 * s .constraints)
+  pub rows : Starts (lent .rows) (rowsOf p) (now .rows) (6 * s .rows)
+  pub transition-count : s .transitions ≡ length (transitions p)
+  pub constraint-count : s .constraints ≡ length (constrains p)
+  pub row-count : s .rows ≡ rowCount (constrains p)
+
+-- one statement after those of p: it is read, and the memory holds it too; or its fault is answered
+abbrev pub Stepped : Judged → Policy → ℕ → Memory → Memory → Step → Type 0
+Stepped (reads s) p place lent now (Step.Read q) = Filled (p ++ (record { place = place; says = s } ∷ [])) lent now q
+Stepped (reads s) p place lent now (Step.Fault n) = ⊥
+Stepped (fault n) p place lent now (Step.Read q) = ⊥
+Stepped (fault n) p place lent now (Step.Fault m) = m ≡ n
+
+-- the row that is read as w: its words are names, and no part of it lies too deep
+pub record RowIs (row : Forms) (o : Option Written) (w : Written) : Type 0 where
+  pub names : namesGood row ≡ true
+  pub uncut : trim row (maxLevel - 1) ≡ row
+  pub form : o ≡ some w
+
+-- there is room for the code of w, if it has no fault, and for all constraints and rows that the maxima allow
+pub record Room (lent : Memory) (p : Policy) (place : ℕ) (w : Written) : Type 0 where
+  pub code : (s : Statement) → naming p (some w) ≡ reads s → length (codeOf p) + length (statementCode place s) ≤ length (lent .code)
+  pub constraints : 1280 ≤ length (lent .constraints)
+  pub rows : 12288 ≤ length (lent .rows)
+
+-- the statement behind the keyword k at a place of the text
+pub record Steps (t : List ℕ) (at place : ℕ) (k : words.Keyword) (before after : Memory) (s : Progress) (r : Step) : Type 0 where
+  pub says : (lent : Memory) (p : Policy) (w : Written) → Holds p lent before s
+      → RowIs (framesAt t at .here) (formed k (framesAt t at .here)) w → Room lent p place w → Stepped (naming p (some w)) p place lent after r
+
+-- the statement whose parentheses are open at a place of the text
+pub record StepsAt (t : List ℕ) (at place : ℕ) (before after : Memory) (s : Progress) (r : Step) : Type 0 where
+  pub says : (lent : Memory) (p : Policy) (w : Written) → Holds p lent before s
+      → RowIs (framesAt t at .here) (written (framesAt t at .here)) w → Room lent p place w → Stepped (naming p (some w)) p place lent after r
+
+-- the step of a declaration without code: fault 4 before 6
+abbrev pub withSymbols : Progress → ℕ → Progress
+withSymbols s past = record { symbols = past; code = s .code; transitions = s .transitions; constraints = s .constraints; rows = s .rows }
+
+abbrev pub declaredStep : Declared → Progress → Step
+declaredStep (Declared.Next past) s = Step.Read (withSymbols s past)
+declaredStep Declared.Again s = Step.Fault 4
+declaredStep Declared.Full s = Step.Fault 6
+
+-- the step of a statement with code: fault 5 before 6, "transitions 128"
+abbrev pub withCode : Progress → ℕ → ℕ → Progress
+withCode s to n = record { symbols = s .symbols; code = to; transitions = n; constraints = s .constraints; rows = s .rows }
+
+abbrev pub codedNext : CodedKind → ℕ → Progress → Step
+codedNext (CodedKind.Set f) to s = Step.Read (withCode s to (s .transitions))
+codedNext (CodedKind.Relation r) to s = Step.Read (withCode s to (s .transitions))
+codedNext CodedKind.Transition to s = cond (ltb (s .transitions) maxTransitions) (Step.Read (withCode s to (s .transitions + 1))) (Step.Fault 6)
+
+abbrev pub codedStep : CodedKind → Coded → Progress → Step
+codedStep k (Coded.Next to) s = codedNext k to s
+codedStep k Coded.Undeclared s = Step.Fault 5
+
+-- the step of a constraint: faults 5, 6, 7 in this order
+abbrev pub withRows : Progress → ℕ → Progress
+withRows s next = record { symbols = s .symbols; code = s .code; transitions = s .transitions; constraints = s .constraints + 1; rows = next }
+
+abbrev pub constrainedStep : Constrained → Progress → Step
+constrainedStep (Constrained.Next next) s = cond (ltb (s .constraints) maxConstraints) (Step.Read (withRows s next)) (Step.Fault 6)
+constrainedStep Constrained.Undeclared s = Step.Fault 5
+constrainedStep Constrained.Full s = Step.Fault 6
+constrainedStep Constrained.Deep s = Step.Fault 7
+
+-- the progress before the first statement
+abbrev pub nothingRead : Progress
+nothingRead = record { symbols = 0; code = 0; transitions = 0; constraints = 0; rows = 0 }

@@ -1,0 +1,35 @@
+-- `table_names::asks_role` meets its contract: the class, then the permission. Assumes nothing.
+use mathlib.Core.Path.{_≡_, sym, _∙_}
+use mathlib.Core.Bool.{true, false}
+use borrow.Author.Tests.{not-true, not-false}
+use Rattle.policy.specs.Words.{process}
+use Rattle.table_names.specs.TableNames.{nameAt, bears, asksRoleIn}
+use borrow.Author.Needs.{needs}
+use Rattle.table_names.proofs.asks_role.Statement.{statement}
+use Rattle.table_names.proofs.asks_role.Tie as tie
+
+returns : tie.Need-returns
+unfolding asksRoleIn
+returns c =
+    let start = c .before .before .before .before in
+    let t = start .args .table .now in
+    let other : bears t (nameAt t 6 (start .args .class)) process ≡ false = sym (c .before .is-named .ensures) ∙ not-true _ (c .if1 .taken) in
+    rw other
+
+returns-2 : tie.Need-returns-2
+unfolding asksRoleIn
+returns-2 c =
+    let start = c .before .before .before .before .before in
+    let t = start .args .table .now in
+    let is : bears t (nameAt t 6 (start .args .class)) process ≡ true = sym (c .before .before .is-named .ensures) ∙ not-false _ (c .before .if1 .left) in
+    rw is (c .is-transition .ensures)
+
+pub asks-role-spec : {M : Type 1} → statement M
+asks-role-spec =
+    tie.close
+    (tie.spec
+    (λ c. search needs)
+    (λ c κs. search needs)
+    returns
+    (λ c κs. search needs)
+    returns-2)

@@ -1,0 +1,66 @@
+-- What the names of a table say, body 1, whatever the bytes are. On a sound table it is what the image says. Assumes nothing.
+use Prim.Native.Nat.{ℕ, _<_, _+_, _*_}
+use mathlib.Core.Path.{_≡_}
+use mathlib.Core.Bool.{Bool, true, false, _&&_, cond}
+use mathlib.Core.List.{List}
+use lib.Dec.{ltb}
+use lib.ListN.{getD}
+use Rattle.bitset.specs.Parts.{part}
+use Rattle.policy.specs.Basics.{Name, same, any}
+use Rattle.policy.specs.Words.{process, transitionWords}
+use Rattle.policy.specs.Encode.{NameEntry, firstBody}
+use Rattle.policy.specs.Deciding.{Reply, answered, refused}
+use Rattle.policy.specs.Questions.{Part, nameFrom}
+use Rattle.symbols.specs.Section.{entriesAt}
+use Rattle.symbols.specs.Lookup.{countSort}
+use Rattle.table_reader.specs.Records.{lengthIn}
+use Rattle.table_names.specs.declared.Counts.{Counts}
+
+-- "the bodies follow from byte 68 in order": where body 1 ends, and its entries
+abbrev pub namesEnd : List ℕ → ℕ
+namesEnd t = firstBody + lengthIn t 0
+
+abbrev pub namesIn : List ℕ → List NameEntry
+namesIn t = entriesAt t firstBody (namesEnd t)
+
+-- "Things are numbered from 0 in text order within their sort": how many names of a sort there are
+abbrev pub countIn : List ℕ → ℕ → ℕ
+countIn t s = countSort s (namesIn t)
+
+-- at each sort's number how many there are
+pub record Tallied (t counts : List ℕ) : Type 0 where
+  pub of-sort : (s : ℕ) → s < 8 → getD counts s 0 ≡ countIn t s
+
+abbrev pub countsIn : List ℕ → Counts
+countsIn t = record {
+  users = countIn t 0;
+  roles = countIn t 1;
+  types = countIn t 2;
+  userattributes = countIn t 3;
+  roleattributes = countIn t 4;
+  classes = countIn t 6;
+}
+
+-- "**Name of** a sort and number"
+abbrev pub nameAt : List ℕ → ℕ → ℕ → Reply Part
+nameAt t x n = nameFrom x n firstBody (namesIn t)
+
+-- a permission, "class x 32 + its place", which is below 32 as the class is
+unfoldable pub permissionIn : List ℕ → ℕ → ℕ → Reply Part
+permissionIn t c k = cond (ltb c 32 && ltb k 32) (nameAt t 7 (c * 32 + k)) (refused 12 0)
+
+abbrev pub isFoundName : Reply Part → Bool
+isFoundName (answered p) = true
+isFoundName (refused n k) = false
+
+-- the part of the table is the word; it is one of the words
+abbrev pub bears : List ℕ → Reply Part → Name → Bool
+bears t (answered p) w = same (part t (p .start) (p .long)) w
+bears t (refused n k) w = false
+
+abbrev pub bearsOne : List ℕ → Reply Part → List Name → Bool
+bearsOne t r ws = any (bears t r) ws
+
+-- "class `process`, permission `transition` or `dyntransition`"; 6 is the sort of classes
+unfoldable pub asksRoleIn : List ℕ → ℕ → ℕ → Bool
+asksRoleIn t c k = bears t (nameAt t 6 c) process && bearsOne t (permissionIn t c k) transitionWords
