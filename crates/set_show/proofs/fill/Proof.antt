@@ -1,10 +1,10 @@
--- `bitset_cases::fill` is safe and ends: the set keeps its length. Assumes nothing.
+-- `set_show::fill` is safe and ends: the set keeps its length. Assumes nothing.
 use Prim.Native.Nat.{_≤_, _-_}
 use borrow.Author.Needs.{needs}
 use lib.ListN.{length}
 use mathlib.Core.Path.{_≡_}
-use Rattle.bitset_cases.proofs.fill.Statement.{statement}
-use Rattle.bitset_cases.proofs.fill.Tie as tie
+use Rattle.set_show.proofs.fill.Statement.{statement}
+use Rattle.set_show.proofs.fill.Tie as tie
 
 abbrev Inv-loop : tie.InvT-loop
 Inv-loop set₀ numbers i₀ set i = (i ≤ length numbers) × (length set ≡ length set₀)

@@ -1,9 +1,9 @@
--- `bitset_cases::show` is safe and ends. Assumes nothing.
+-- `set_show::show` is safe and ends. Assumes nothing.
 use Prim.Native.Nat.{_≤_, _-_}
 use borrow.Author.Needs.{needs}
 use lib.ListN.{length}
-use Rattle.bitset_cases.proofs.show.Statement.{statement}
-use Rattle.bitset_cases.proofs.show.Tie as tie
+use Rattle.set_show.proofs.show.Statement.{statement}
+use Rattle.set_show.proofs.show.Tie as tie
 
 abbrev Inv-loop : tie.InvT-loop
 Inv-loop set i₀ t5 i = i ≤ length set
