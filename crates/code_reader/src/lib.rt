@@ -87,7 +87,7 @@ pub fn family_number(family: Family) -> u16
     }
 }
 
-// ---- fault 8
+// ---- the sets of a family's attributes
 
 // The set of attribute a gains what another set has. Past the last attribute there is none.
 pub fn add_row(rows: &mut [u8; FAMILY_BYTES], a: u16, set: &[u8; Type::SET_BYTES])
@@ -97,7 +97,7 @@ pub fn add_row(rows: &mut [u8; FAMILY_BYTES], a: u16, set: &[u8; Type::SET_BYTES
     set_rows::union_at(rows, Type::SET_BYTES * row, Type::SET_BYTES, set);
 }
 
-// ---- fault 9
+// ---- a role transition
 
 // The operands of a role transition: two references, the class and the new role.
 pub struct Move {

@@ -26,13 +26,13 @@ use Rattle.symbols.proofs.ClassesFound.{class-found}
 use Rattle.symbols.proofs.Declaring.{entries-more}
 use Rattle.table_laws.proofs.NamesRoom.{name-short, entries-room}
 use Rattle.declarations.specs.Counting.{Stands}
-use Rattle.permission_names.specs.WordRows.{wordsIn, WordHere, WordIs, Inside}
+use Rattle.name_rows.specs.WordRows.{wordsIn, WordHere, WordIs, Inside}
 use Rattle.declarations.specs.Entering.{Entered, Fitting, Enters, answerOf, Indexable}
 use Rattle.declarations.specs.Declaring.{Holds, Declares, DeclaresAt}
 use Rattle.declarations.specs.declared.Declared.{Declared}
 use Rattle.declarations.specs.declared.Added.{Added}
 use Rattle.declarations.specs.declared.Standing.{Standing}
-use Rattle.permission_names.specs.declared.NextWord.{NextWord}
+use Rattle.name_rows.specs.declared.NextWord.{NextWord}
 use Rattle.declarations.proofs.Holding.{room-for}
 use Rattle.declarations.proofs.EnteringLaws.{bytes-append, entered-then}
 use Rattle.declarations.proofs.NewPermissions.{permissions-indexable}

@@ -15,9 +15,9 @@ use Rattle.policy.specs.Grammar.{namesIn, oneOrMore, formed}
 use Rattle.policy.specs.Sound.{isGood, someGood, goodNames}
 use Rattle.policy.proofs.Lists.{both-true, true-both}
 use Rattle.table_laws.proofs.ListLaws.{bound-then, given-some, more-some}
-use Rattle.permission_names.specs.WordRows.{wordsIn, WordHere, WordIs, Inside}
-use Rattle.permission_names.specs.declared.NextWord.{NextWord}
-use Rattle.permission_names.proofs.Rows.{words-here}
+use Rattle.name_rows.specs.WordRows.{wordsIn, WordHere, WordIs, Inside}
+use Rattle.name_rows.specs.declared.NextWord.{NextWord}
+use Rattle.name_rows.proofs.Rows.{words-here}
 
 -- ---- rows of names
 

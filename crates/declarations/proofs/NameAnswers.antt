@@ -25,13 +25,13 @@ use Rattle.symbols.proofs.Declaring.{entries-more}
 use Rattle.table_laws.proofs.NamesFit as fit
 use Rattle.table_laws.proofs.NamesRoom.{name-short, entries-room}
 use Rattle.declarations.specs.Counting.{standing, MostIs, Stands}
-use Rattle.permission_names.specs.WordRows.{WordHere, WordIs}
+use Rattle.name_rows.specs.WordRows.{WordHere, WordIs}
 use Rattle.declarations.specs.Entering.{Entered, Enters, answerOf, Indexable}
 use Rattle.declarations.specs.Declaring.{Holds, Declares, DeclaresName}
 use Rattle.declarations.specs.declared.Declared.{Declared}
 use Rattle.declarations.specs.declared.Added.{Added}
 use Rattle.declarations.specs.declared.Standing.{Standing}
-use Rattle.permission_names.specs.declared.NextWord.{NextWord}
+use Rattle.name_rows.specs.declared.NextWord.{NextWord}
 use Rattle.declarations.proofs.Holding.{room-for}
 use Rattle.declarations.proofs.Formed.{plain-has-word, plain-here}
 use Rattle.name_chains.specs.Chains.{Chained}

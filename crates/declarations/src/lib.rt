@@ -1,6 +1,6 @@
 // Declarations of names and classes, put into the symbol table: faults 4 and 6. The form of a statement is known to be good where it is
 // declared here, so that a row that should be of names is one.
-use permission_names::NextWord;
+use name_rows::NextWord;
 use symbols::Found;
 ghost use mathlib.Core.Path.{_≡_};
 ghost use mathlib.Core.List.{[], _∷_};
@@ -11,7 +11,7 @@ ghost use Rattle.lexer.specs.Forms.{framesAt};
 ghost use Rattle.policy.specs.Encode.{nameEntry, permissionEntries};
 ghost use Rattle.policy.specs.Words.{classK};
 ghost use Rattle.declarations.specs.Counting.{Counts, MostIs, Stands};
-ghost use Rattle.permission_names.specs.WordRows.{wordsIn};
+ghost use Rattle.name_rows.specs.WordRows.{wordsIn};
 ghost use Rattle.declarations.specs.Entering.{Enters, answerOf};
 ghost use Rattle.declarations.specs.Declaring.{DeclaresAt, DeclaresName};
 
@@ -138,7 +138,7 @@ pub fn declare(
     if CLASS <= sort {
         return Declared::Full;
     }
-    let name = permission_names::word_at(text, at);
+    let name = name_rows::word_at(text, at);
     let NextWord::At { start, len } = name else {
         return Declared::Full;
     };
@@ -162,7 +162,7 @@ fn add_permissions(symbols: &mut [u8], end: usize, first: usize, text: &[u8], at
     let mut past = end;
     let mut place: usize = 0;
     loop {
-        let name = permission_names::word_at(text, i);
+        let name = name_rows::word_at(text, i);
         let NextWord::At { start, len } = name else {
             return Added::Past(past);
         };
@@ -186,7 +186,7 @@ pub fn declare_class(
 ) -> Declared
     ensures { λ r. ⌜ DeclaresAt (now (text .entry)) at classK (now (symbols .entry)) (now (symbols .exit)) end r ⌝ }
 {
-    let name = permission_names::word_at(text, at);
+    let name = name_rows::word_at(text, at);
     let NextWord::At { start, len } = name else {
         return Declared::Full;
     };
@@ -194,14 +194,14 @@ pub fn declare_class(
     let Standing::Free(number) = known else {
         return Declared::Again;
     };
-    let row = permission_names::inside(text, start + len);
-    if permission_names::repeats(text, row) {
+    let row = name_rows::inside(text, start + len);
+    if name_rows::repeats(text, row) {
         return Declared::Again;
     }
     if policy::Class::MAX <= number {
         return Declared::Full;
     }
-    if policy::Permission::MAX < permission_names::count_names(text, row) {
+    if policy::Permission::MAX < name_rows::count_names(text, row) {
         return Declared::Full;
     }
     let added = add(symbols, end, CLASS, number, text, start, len);

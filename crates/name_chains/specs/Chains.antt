@@ -1,4 +1,4 @@
--- The index of the symbols: chains of the entries of each family and length, in order of declaration. Nobody outside sees it; what is looked up is what the
+-- The chains in the index of the symbols: the entries of each family and length, in order of declaration. Nobody outside sees it; what is looked up is what the
 -- entries say. Assumes nothing.
 use mathlib.Core.Path.{_≡_}
 use mathlib.Core.Bool.{Bool, true, cond}

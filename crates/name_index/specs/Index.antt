@@ -1,4 +1,4 @@
--- The words of the index, in the same memory behind the room for the entries: what is read from them, and what an entry more puts there. Assumes nothing.
+-- The words of the index, in the memory of the symbols behind the room for the entries: what is read from them, and what an entry more puts there. Assumes nothing.
 --
 -- The index is words of 8 bytes. The entry k has the words 2k, the first eight bytes of its name, and 2k + 1, its link. From word 4096 on each family and
 -- length has its chain. From word 6436 on the entries of each sort are counted, and in word 6444 all. Where a chain or a link names an entry k, it holds the

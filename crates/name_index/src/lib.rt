@@ -175,7 +175,7 @@ pub fn link_at(symbols: &[u8], at: usize) -> Link
     link_in(word(symbols, at + 1))
 }
 
-// ---- a try
+// ---- the first bytes of a name
 
 // How many bytes of a name stand in the first word of its entry: as many as a word has.
 pub const FRONT: usize = WORD_BYTES;

@@ -98,8 +98,10 @@ pub fn copy_at(table: &mut [u8], o: usize, w: usize, src: &[u8])
     combine_at(SetOp::Second, table, o, w, src);
 }
 
+// ---- rows of sets, one after the other
+
 // How many numbers from n on are not in the set, up to the end of n's byte. The bit above the byte ends the count.
-fn gap_at(set: &[u8], n: usize) -> usize
+fn gap_from(set: &[u8], n: usize) -> usize
     ensures { λ r. ⌜ Gap (now (set .entry)) n r ⌝ }
 {
     let rest = (256 + bitset::byte(set, n / 8) as usize) >> (n % 8);
@@ -128,7 +130,7 @@ pub fn grant(body: &mut [u8], us: &[u8], rs: &[u8], w: usize)
     let rows = row_count(body.len(), w);
     let mut u = 0;
     while u < rows {
-        let gap = gap_at(us, u);
+        let gap = gap_from(us, u);
         if 0 < gap {
             u += bitset::least(gap, rows - u);
             continue;

@@ -42,12 +42,13 @@ fn show(set: &[u8]) {
     say(b"\n");
 }
 
-// A line whose answer is a set, a yes or a no, a number.
+// A line whose answer is a set.
 pub fn line(name: &[u8], a: usize, b: usize, set: &[u8]) {
     given(name, a, b);
     show(set);
 }
 
+// A line whose answer is yes or no.
 pub fn yes_or_no(name: &[u8], a: usize, b: usize, answer: bool) {
     given(name, a, b);
     if answer {
@@ -57,6 +58,7 @@ pub fn yes_or_no(name: &[u8], a: usize, b: usize, answer: bool) {
     }
 }
 
+// A line whose answer is a number.
 pub fn how_many(name: &[u8], a: usize, b: usize, n: usize) {
     given(name, a, b);
     number(n);

@@ -1,4 +1,4 @@
--- What one statement adds to the lent memory, or its fault. The parser's functions for the kinds of statements promise it. Assumes nothing.
+-- What one statement adds to the lent memory, or its fault. The functions for the kinds of statements promise it. Assumes nothing.
 use Prim.Native.Nat.{ℕ, _+_, _-_, _*_, _≤_}
 use mathlib.Core.Path.{_≡_}
 use mathlib.Core.Bool.{true, cond}

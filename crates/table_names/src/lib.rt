@@ -114,7 +114,7 @@ pub fn is_named(table: &[u8], sort: usize, number: usize, word: &[u8]) -> bool
     is_word(table, place, word)
 }
 
-// ---- change: the numbers of a question
+// ---- permissions
 
 // Where the name of a permission stands, by its place in its class.
 fn permission_name(table: &[u8], class: usize, permission: usize) -> NamePlace
@@ -144,7 +144,7 @@ pub fn declares_permission(table: &[u8], class: usize, permission: usize) -> boo
     }
 }
 
-// ---- change: the role
+// ---- the words of denial 3
 
 // The words of denial 3.
 const PROCESS: [u8; 7] = *b"process";

@@ -6,8 +6,8 @@ use mathlib.Core.Path.{_∙_}
 use borrow.Author.Needs.{needs}
 use lib.ListN.{length}
 use Rattle.lexer.specs.Forms.{framesAt}
-use Rattle.permission_names.specs.WordRows.{wordsIn}
-use Rattle.permission_names.proofs.Rows.{told, words-here}
+use Rattle.name_rows.specs.WordRows.{wordsIn}
+use Rattle.name_rows.proofs.Rows.{told, words-here}
 use Rattle.declarations.proofs.EnteringLaws.{SoFar, so-far-none, so-far-long, all-written, one-left, next-no-room, next-written, enters-told}
 use Rattle.declarations.proofs.add_permissions.Statement.{statement}
 use Rattle.declarations.proofs.add_permissions.Tie as tie

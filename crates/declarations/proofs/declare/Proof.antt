@@ -1,7 +1,7 @@
 -- `declarations::declare` meets its contract: each answer by what the symbols said of the name. Assumes nothing.
 use native.Mathlib.Omega.{arith}
 use borrow.Author.Needs.{needs}
-use Rattle.permission_names.proofs.Rows.{told}
+use Rattle.name_rows.proofs.Rows.{told}
 use Rattle.declarations.proofs.Standings.{stands-told}
 use Rattle.declarations.proofs.NameAnswers.{no-sort, no-name, name-taken, name-full, name-added}
 use Rattle.declarations.proofs.declare.Statement.{statement}

@@ -2,7 +2,7 @@
 use native.Mathlib.Omega.{arith}
 use mathlib.Core.Path.{sym, _∙_}
 use borrow.Author.Needs.{needs}
-use Rattle.permission_names.proofs.Rows.{told}
+use Rattle.name_rows.proofs.Rows.{told}
 use Rattle.declarations.proofs.Standings.{stands-told}
 use Rattle.declarations.proofs.EnteringLaws.{enters-told}
 use Rattle.declarations.proofs.ClassAnswers.{no-class, class-taken, class-repeats, class-full, class-too-long, class-no-room, class-added}

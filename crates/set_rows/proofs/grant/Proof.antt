@@ -33,7 +33,7 @@ loop-again c =
     let a = at-loop .before .before .before .before .before .before .args in (
       search needs,
       at-loop .loop .inv .1 ∙ soFar-skips (a .w) (a .body .now) (a .us .now) (a .rs .now) (at-loop .loop .u) (c .least .result)
-          (λ n p q. c .before .before .gap-at .ensures .none n p (omega arith)),
+          (λ n p q. c .before .before .gap-from .ensures .none n p (omega arith)),
       at-loop .loop .inv .2,
     )
 
@@ -57,7 +57,7 @@ loop-again-2 c =
     let u = at-loop .loop .u in
     let v = c .before .before .before .before .least2 .result in
     let inside : w * u ≤ length body = omega (arith, at-loop .before .row-count .ensures .starts u (omega arith)) in
-    let here = c .before .before .before .before .before .before .gap-at .ensures .here (omega arith) in
+    let here = c .before .before .before .before .before .before .gap-from .ensures .here (omega arith) in
     let row : c .before .before .union-at .last .0 ≡ soFar w body (a .us .now) (a .rs .now) (w * (u + 1)) =
     c .before .before .union-at .ensures ∙ ap (λ (b : List ℕ). put b (w * u) (unionOf (part b (w * u) v) (a .rs .now))) (at-loop .loop .inv .1)
     ∙ soFar-row w body (a .us .now) (a .rs .now) u v inside (omega (arith, c .before .before .before .before .least2 .ensures)) here in
