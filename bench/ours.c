@@ -25,7 +25,7 @@ int main(int argc, char **argv) {
     size_t length = fread(text, 1, sizeof text, file);
     int times = atoi(argv[3]);
     int compiling = !strcmp(argv[1], "compile"), sounding = !strcmp(argv[1], "sound");
-    tegzhumbi_compiled compiled = {0, 0};
+    tegzhumbi_compiled compiled = {0, 0, 0};
     if (!compiling) compiled = tegzhumbi_compile(text, length, table, sizeof table);
     size_t used = compiled.place;
     double best = 1e18;

@@ -30,7 +30,7 @@ int main(void) {
     size_t length = fread(text, 1, sizeof text, stdin);
     tegzhumbi_compiled compiled = tegzhumbi_compile(text, length, table, sizeof table);
     if (compiled.number != 0) {
-        printf("refused %u at %u\n", compiled.number, compiled.place);
+        printf("refused %u at %u line %u\n", compiled.number, compiled.place, compiled.line);
         return 1;
     }
     printf("accepted %u bytes\n", compiled.place);

@@ -10,7 +10,7 @@ fn main() {
     let mut table = vec![0xa5; 179_652];
     let compiled = tegzhumbi::compile(&text, &mut table);
     if compiled.number != 0 {
-        println!("refused {} at {}", compiled.number, compiled.place);
+        println!("refused {} at {} line {}", compiled.number, compiled.place, compiled.line);
         std::process::exit(1);
     }
     println!("accepted {} bytes", compiled.place);

@@ -4,9 +4,11 @@
 #[repr(C)]
 #[derive(Clone, Copy, Debug, PartialEq, Eq)]
 pub struct Compiled {
-    /// 0: accepted, and `place` is the length of the table; else the refusal's number, 1 to 10, and its place
+    /// 0: accepted, and `place` is the length of the table; else the refusal's number, 1 to 10, its place, and its line in the text
     pub number: u32,
     pub place: u32,
+    /// counted from 1; 0 where the text is accepted, and for 10, whose place is a length
+    pub line: u32,
 }
 
 #[repr(C)]

@@ -16,10 +16,12 @@
 extern "C" {
 #endif
 
-/* number 0: accepted, and place is the length of the table; else the refusal's number, 1 to 10, and its place */
+/* number 0: accepted, place is the length of the table, and line is 0; else the refusal's number, 1 to 10, its place, and the line of the text that the
+ * place is in, counted from 1; 10 has line 0, since its place is a length */
 typedef struct {
     uint32_t number;
     uint32_t place;
+    uint32_t line;
 } tegzhumbi_compiled;
 
 /* outcome 0: granted, or valid; 1: denied, or not valid; 2: refused. number: that of the denial or the refusal, or the new role; else 0.

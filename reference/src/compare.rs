@@ -352,7 +352,7 @@ mod tests {
         }
         let (_, difference) = compare(&Library { scan: Some(slipped), ..itself() }, 60, 7);
         let text = [b"(".as_slice(), &b"n".repeat(65)].concat();
-        let (here, there) = ("refused 2 at 1".to_string(), "refused 2 at 65".to_string());
+        let (here, there) = ("refused 2 at 1 line 1".to_string(), "refused 2 at 65 line 1".to_string());
         assert_eq!(difference, Some(Difference { case: Case::Scan(text), here, there }));
     }
 
@@ -372,6 +372,36 @@ mod tests {
         let (_, difference) = compare(&Library { compile: Some(slipped), ..itself() }, 60, 7);
         let Some(Case::Compile(text)) = difference.map(|d| d.case) else { panic!("a text differs") };
         assert_eq!(statements(&text).len(), 3, "{}", String::from_utf8_lossy(&text));
+    }
+
+    #[test]
+    fn finds_and_shrinks_a_slip_of_the_line() {
+        // Counts CR as well.
+        fn slipped(text: &[u8], lent: &mut [u8]) -> Outcome {
+            match compile(text, lent) {
+                Outcome::Refused(fault) if fault.line > 0 => {
+                    let returns = text[..fault.place].iter().filter(|&&byte| byte == b'\r').count();
+                    Outcome::Refused(Fault { line: fault.line + returns, ..fault })
+                }
+                outcome => outcome,
+            }
+        }
+        let (_, difference) = compare(&Library { compile: Some(slipped), ..itself() }, 60, 7);
+        let Some(Case::Compile(text)) = difference.map(|d| d.case) else { panic!("a text differs") };
+        assert!(text.len() == 2 && text.contains(&b'\r'), "{}", shown(&text));
+    }
+
+    #[test]
+    fn finds_a_line_where_there_is_none() {
+        // Gives line 1 to refusal 10.
+        fn slipped(text: &[u8], lent: &mut [u8]) -> Outcome {
+            match compile(text, lent) {
+                Outcome::Refused(fault) => Outcome::Refused(Fault { line: fault.line.max(1), ..fault }),
+                outcome => outcome,
+            }
+        }
+        let (_, difference) = compare(&Library { compile: Some(slipped), ..itself() }, 60, 7);
+        assert_eq!(difference.map(|d| d.case), Some(Case::Compile(vec![])));
     }
 
     #[test]

@@ -10,6 +10,9 @@
 //!   be any bytes. Each try has two lines of the same content: `chains found SORT NUMBER compared COUNT` or `chains missing
 //!   compared COUNT` for a lookup that follows the entries of the family and length alone, and `section` with the same words
 //!   for one that walks all entries of the section. Both are the same try, so they must find and count the same.
+//!
+//! What is expected for a refused text, at scan and compile, is worded as on the printed roll: `refused 5 at 8 line 1`
+//! (document 02, W-202). At compile the checksum of the memory follows.
 
 use crate::generator::asked::objects;
 use crate::generator::cases::cases;
@@ -224,6 +227,7 @@ fn compile_cases_at_maxima(random: &mut Random) -> Vec<(usize, Vec<u8>)> {
     list.push((65_536, maxima::wide()));
     list.push((MOST_LENT, maxima::wide()));
     list.extend(maxima::permission_rows().into_iter().map(|(_, text, _)| (65_536, text)));
+    list.extend(maxima::most_lines().into_iter().map(|(_, text, _)| (96, text)));
     list
 }
 

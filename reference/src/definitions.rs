@@ -2,6 +2,7 @@
 //! prover's language, each to be closed by computation. Of the definitions only the names are known here.
 
 use crate::corpus::fill;
+use crate::fault::Fault;
 use crate::generator::asked::asked;
 use crate::generator::cases::cases;
 use crate::generator::damage::damage_tokens;
@@ -147,6 +148,16 @@ fn listed(bytes: &[u8]) -> String {
     list
 }
 
+/// What is compiled is made from the text.
+fn of_text(text: &[u8]) -> String {
+    format!("ofText ({})", quoted(text))
+}
+
+/// A refusal by its number, place and line.
+fn rejected(fault: Fault) -> String {
+    format!("rejected (refusalAt {} {} {})", fault.number, fault.place, fault.line)
+}
+
 const BYTES: &str = "Rattle.lexer.specs.Spell.{bytes}";
 
 /// Refusals 1 to 9, with memory enough for any table.
@@ -154,8 +165,7 @@ fn refused(random: &mut Random) -> Chapter {
     let mut items = Vec::new();
     let mut add = |rule: &str, text: &[u8]| {
         if let Err(fault) = table_of(text) {
-            let claim = format!("outcome ({}) 65536 ≡ rejected {} {}", quoted(text), fault.number, fault.place);
-            items.push(Item::one(rule, claim));
+            items.push(Item::one(rule, format!("outcome ({}) 65536 ≡ {}", of_text(text), rejected(fault))));
         }
     };
     for case in cases().iter().filter(|case| case.text.len() <= MOST_TEXT && is_plain(&case.text)) {
@@ -177,7 +187,7 @@ fn refused(random: &mut Random) -> Chapter {
     Chapter {
         name: "Refused",
         about: "Texts",
-        cites: &[BYTES, "Rattle.policy.specs.Outcome.{rejected, outcome}"],
+        cites: &[BYTES, "Rattle.policy.specs.Outcome.{ofText, refusalAt, rejected, outcome}"],
         before: "",
         items,
     }
@@ -239,14 +249,14 @@ fn accepted(random: &mut Random) -> Chapter {
 /// Refusal 10, and the memory afterwards.
 fn lent() -> Chapter {
     let mut items = Vec::new();
-    for text in ["", "(user a)", "(class c(p))(constrain(c(p))(eq u1 u2))"] {
+    for text in ["", "(user a)", "(class c(p))(constrain(c(p))(eq u1 u2))", "\n(user a)\n"] {
         let length = table_of(text.as_bytes()).expect("accepted").len();
         for lent in [0, length - 1, length, length + 1] {
             let answer = match compile(text.as_bytes(), &mut fill(lent)) {
                 Outcome::Accepted(length) => format!("accepted {length}"),
-                Outcome::Refused(fault) => format!("rejected {} {}", fault.number, fault.place),
+                Outcome::Refused(fault) => rejected(fault),
             };
-            items.push(Item::one("so much is lent", format!("outcome ({}) {lent} ≡ {answer}", quoted(text.as_bytes()))));
+            items.push(Item::one("so much is lent", format!("outcome ({}) {lent} ≡ {answer}", of_text(text.as_bytes()))));
         }
     }
     for (rule, text, lent) in [
@@ -258,13 +268,13 @@ fn lent() -> Chapter {
         let before = fill(lent);
         let mut after = before.clone();
         compile(text.as_bytes(), &mut after);
-        let claim = format!("after ({}) ({}) ≡ {}", quoted(text.as_bytes()), listed(&before), listed(&after));
+        let claim = format!("after ({}) ({}) ≡ {}", of_text(text.as_bytes()), listed(&before), listed(&after));
         items.push(Item::one(rule, claim));
     }
     Chapter {
         name: "Lent",
         about: "Texts and lent memory,",
-        cites: &[BYTES, "Rattle.policy.specs.Outcome.{accepted, rejected, outcome, after}"],
+        cites: &[BYTES, "Rattle.policy.specs.Outcome.{ofText, refusalAt, accepted, rejected, outcome, after}"],
         before: "",
         items,
     }
@@ -282,7 +292,7 @@ const ASKING: &[&str] = &[
     "Rattle.policy.specs.Answer.{answer}",
     "Rattle.policy.specs.Questions.{changed, changeOn, validOn, newRoleOn, nameOn, entryOn}",
     "Rattle.policy.specs.Sound.{imageIn}",
-    "Rattle.policy.specs.Outcome.{policyOf}",
+    "Rattle.policy.specs.Outcome.{ofText, policyOf}",
     "Rattle.policy.specs.Worked.{tableOf, context}",
 ];
 
@@ -290,7 +300,7 @@ const ASKING: &[&str] = &[
 const CHANGES: &str = "
 -- what the statements of a text answer
 abbrev fromText : List ℕ → List Question → List Answer
-fromText text qs = elim (policyOf text) [ policy p ↦ each (answer p) qs | refused n at ↦ [] ]
+fromText text qs = elim (policyOf (ofText text)) [ policy p ↦ each (answer p) qs | refused n at ↦ [] ]
 
 -- `changeOn` for each question
 abbrev changesOn : List ℕ → List Question → List Answer
@@ -465,12 +475,15 @@ fn odd(random: &mut Random) -> Chapter {
 
 /// The printed roll.
 fn printed() -> Chapter {
-    let texts: [(&str, &str); 10] = [
+    let texts: [(&str, &str); 13] = [
         ("the roll of document 01", "(user u)(role a)(role b)(type t)(userrole u a)(roletype a t)"),
         ("the empty text", ""),
         ("a refusal", "(role a)(roletype a t)"),
         ("a refusal at the end of the text", "(role a)(user "),
         ("refusal 8", "(roleattribute x)(roleattributeset x(x))"),
+        ("W-202: a refusal on a later line", "(role a)\n\n(roletype a t)"),
+        ("W-202: the line in two digits", "\n\n\n\n\n\n\n\n\n!"),
+        ("W-202: the lines before the end of the text", "(\n"),
         ("users first", "(role b)(user v)(role a)(user u)(userrole u b)"),
         ("by number, not by name", "(user z)(user a)(role r)(userrole a r)"),
         ("sets through attributes", "(user u)(role a)(role b)(roleattribute x)(userrole u x)(roleattributeset x(all))"),
@@ -483,12 +496,12 @@ fn printed() -> Chapter {
     ];
     let item = |(rule, text): (&str, &str)| {
         let shown = roll(text.as_bytes());
-        Item::one(rule, format!("printed ({}) ≡ {}", quoted(text.as_bytes()), quoted(&shown)))
+        Item::one(rule, format!("printed ({}) ≡ {}", of_text(text.as_bytes()), quoted(&shown)))
     };
     Chapter {
         name: "Printed",
         about: "Texts",
-        cites: &[BYTES, "Rattle.policy.specs.Roll.{printed}"],
+        cites: &[BYTES, "Rattle.policy.specs.Outcome.{ofText}", "Rattle.policy.specs.Roll.{printed}"],
         before: "",
         items: texts.into_iter().map(item).collect(),
     }
@@ -504,19 +517,30 @@ mod tests {
         SUBJECTS.iter().flat_map(|subject| definitions(1, *subject)).map(|file| file.text).collect()
     }
 
+    /// The lines of all claimed refusals of one number.
+    fn lines_of(text: &str, number: usize) -> Vec<usize> {
+        let start = format!("≡ rejected (refusalAt {number} ");
+        let line = |rest: &str| rest.split([' ', ')']).nth(1).and_then(|line| line.parse().ok());
+        text.split(&start).skip(1).map(|rest| line(rest).expect("a place and a line")).collect()
+    }
+
     #[test]
     fn every_kind_of_answer_is_claimed() {
         let text = all();
         let count = |what: &str| text.matches(what).count();
         for number in 2..=10 {
-            assert!(count(&format!("≡ rejected {number} ")) >= 3, "rejected {number}");
+            assert!(count(&format!("≡ rejected (refusalAt {number} ")) >= 3, "rejected {number}");
         }
+        for number in 2..=9 {
+            assert!(lines_of(&text, number).iter().any(|line| *line > 1), "rejected {number} on a later line");
+        }
+        assert!(lines_of(&text, 10).iter().all(|line| *line == 0));
         for what in [
             "verdict = granted; consulted = 0", "verdict = granted; consulted = 1", "verdict = granted; consulted = 3",
             "verdict = denied 1;", "verdict = denied 2;", "verdict = denied 3;", "verdict = fails 4 0; consulted = 1",
             "verdict = fails 4 2; consulted = 2", "verdict = fails 4 4; consulted = 3", "verdict = refuses 12 0; consulted = 0",
             "answered true", "answered false", "≡ answered 1", "≡ answered (record", "≡ refused 12 0", "≡ none",
-            "printed (",
+            "printed (ofText (",
         ] {
             assert!(count(what) >= 1, "{what}");
         }

@@ -38,8 +38,12 @@ pub enum Token {
     Name(Vec<u8>),
 }
 
-/// Faults 1 and 2, or the tokens of a clean text.
+/// Faults 1 and 2, or the tokens of a clean text. Both are placed in the text (reading 21 of document 02: 1 too).
 pub fn scan(text: &[u8]) -> Result<Vec<Token>, Fault> {
+    tokens(text).map_err(|fault| fault.in_text(text))
+}
+
+fn tokens(text: &[u8]) -> Result<Vec<Token>, Fault> {
     // Reading 1: the length is judged before any byte.
     if text.len() > limits::TEXT {
         return Err(Fault::new(1, limits::TEXT));

@@ -6,18 +6,19 @@ use crate::fault::Fault;
 use crate::generator::questions::Question;
 use crate::table::Outcome;
 
-/// A fault by its number and place; both are 0 where there is none.
+/// A fault by its number and place; both are 0 where there is none. It has no line, so the line is counted here from the place.
 #[repr(C)]
 struct Numbers {
     number: u64,
     place: u64,
 }
 
-/// Number 0 and the table's length; or a refusal's number and place.
+/// Number 0, the table's length and line 0; or a refusal's number, place and line.
 #[repr(C)]
 struct Compiled {
     number: u32,
     place: u32,
+    line: u32,
 }
 
 #[repr(C)]
@@ -60,14 +61,17 @@ extern "C" {
 
 fn scan(text: &[u8]) -> Option<Fault> {
     let found = unsafe { tegzhumbi_scan(text.as_ptr(), text.len()) };
-    (found.number > 0).then(|| Fault::new(found.number as u8, found.place as usize))
+    (found.number > 0).then(|| Fault::new(found.number as u8, found.place as usize).in_text(text))
 }
 
 fn compile(text: &[u8], lent: &mut [u8]) -> Outcome {
     let compiled = unsafe { tegzhumbi_compile(text.as_ptr(), text.len(), lent.as_mut_ptr(), lent.len()) };
-    match compiled.number {
-        0 => Outcome::Accepted(compiled.place as usize),
-        number => Outcome::Refused(Fault::new(number as u8, compiled.place as usize)),
+    match [compiled.number, compiled.place, compiled.line] {
+        [0, length, 0] => Outcome::Accepted(length as usize),
+        // An acceptance with a line becomes a refusal 0, which is no answer of this program.
+        [number, place, line] => {
+            Outcome::Refused(Fault { number: number as u8, place: place as usize, line: line as usize })
+        }
     }
 }
 

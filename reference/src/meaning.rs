@@ -3,7 +3,7 @@
 
 use crate::fault::Fault;
 use crate::parser::{Expression, Family, Name, Operator, Relation, Set, Side, Statement, FAMILIES};
-use crate::policy::Policy;
+use crate::policy::{Placed, Policy};
 use crate::questions::{Change, ChangeAnswer, Context};
 use std::collections::{BTreeMap, BTreeSet};
 
@@ -18,8 +18,8 @@ pub struct Meaning {
 
 /// Faults 8 and 9 of a policy that passed 3 to 7, or its meaning.
 pub fn meaning(policy: Policy) -> Result<Meaning, Fault> {
-    if let Some(place) = first_cycle(&policy) {
-        return Err(Fault::new(8, place));
+    if let Some(declaration) = first_cycle(&policy) {
+        return Err(declaration.fault(8));
     }
     let mut attributes = BTreeMap::new();
     for family in FAMILIES {
@@ -28,19 +28,19 @@ pub fn meaning(policy: Policy) -> Result<Meaning, Fault> {
         }
     }
     let meaning = Meaning { policy, attributes };
-    match meaning.first_clash() {
-        Some(place) => Err(Fault::new(9, place)),
+    match meaning.first_clash().map(|later| later.fault(9)) {
+        Some(fault) => Err(fault),
         None => Ok(meaning),
     }
 }
 
 /// Fault 8: "opening parenthesis of the declaration of the lowest-numbered attribute on a cycle; users, then roles,
 /// then types". Reading 25: on a cycle means that it reaches itself.
-fn first_cycle(policy: &Policy) -> Option<usize> {
+fn first_cycle(policy: &Policy) -> Option<&Placed> {
     for family in FAMILIES {
         for number in 0..policy.attributes(family).len() {
             if reached_from(policy, family, number).contains(&number) {
-                return Some(place_of_declaration(policy, family, number));
+                return Some(declaration(policy, family, number));
             }
         }
     }
@@ -88,10 +88,11 @@ fn mentioned(policy: &Policy, family: Family, set: &Set) -> Numbers {
     }
 }
 
-fn place_of_declaration(policy: &Policy, family: Family, number: usize) -> usize {
+/// Reading 24 of document 02: 8 has the place and the line of the attribute's declaration.
+fn declaration(policy: &Policy, family: Family, number: usize) -> &Placed {
     let wanted = Statement::Attribute(family, policy.attributes(family)[number].clone());
     let found = policy.statements.iter().find(|p| p.statement == wanted);
-    found.expect("every attribute has a declaration").place
+    found.expect("every attribute has a declaration")
 }
 
 /// "an attribute for the union of the S in its statements, each by its form, and without any for nothing". What was
@@ -151,15 +152,15 @@ impl Meaning {
     }
 
     /// Fault 9 by final sets (reading 26): the first statement that clashes with an earlier one.
-    fn first_clash(&self) -> Option<usize> {
+    fn first_clash(&self) -> Option<&Placed> {
         let transitions = self.policy.transitions();
-        for (later, (place, second)) in transitions.iter().enumerate() {
+        for (later, (placed, second)) in transitions.iter().enumerate() {
             for (_, first) in &transitions[..later] {
                 let roles = &self.stands_for(Family::Role, &first.role) & &self.stands_for(Family::Role, &second.role);
                 let types = &self.stands_for(Family::Type, &first.kind) & &self.stands_for(Family::Type, &second.kind);
                 let share = !roles.is_empty() && !types.is_empty() && first.class == second.class;
                 if share && first.new_role != second.new_role {
-                    return Some(*place);
+                    return Some(placed);
                 }
             }
         }

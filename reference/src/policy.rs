@@ -1,15 +1,16 @@
 //! Statements in text order, "each tried for 3, 4, 5, 6, 7".
 
-use crate::fault::Fault;
+use crate::fault::{line_of, Fault};
 use crate::lexer::{scan, tree};
 use crate::limits;
 use crate::lookup::{attribute_sort, thing_sort, try_among, try_at, Among, NameEntry, Try, CLASS, PERMISSION};
 use crate::parser::{form, Constrain, Expression, Family, Name, Set, Statement, Transition};
 
-/// A statement with the place of its opening parenthesis.
+/// A statement with the place of its opening parenthesis and its line.
 #[derive(Clone, Debug, PartialEq, Eq)]
 pub struct Placed {
     pub place: usize,
+    pub line: usize,
     pub statement: Statement,
 }
 
@@ -33,14 +34,21 @@ pub fn read(text: &[u8]) -> Result<Policy, Fault> {
     let tokens = scan(text)?;
     let mut policy = Policy::default();
     for group in tree(&tokens) {
-        let place = group.place;
-        let statement = form(&group).ok_or(Fault::new(3, place))?;
+        let (place, line) = (group.place, line_of(text, group.place));
+        let statement = form(&group).ok_or(Fault { number: 3, place, line })?;
         if let Some(number) = policy.fault_of(&statement) {
-            return Err(Fault::new(number, place));
+            return Err(Fault { number, place, line });
         }
-        policy.take(place, statement);
+        policy.take(Placed { place, line, statement });
     }
     Ok(policy)
+}
+
+impl Placed {
+    /// A fault at this statement.
+    pub fn fault(&self, number: u8) -> Fault {
+        Fault { number, place: self.place, line: self.line }
+    }
 }
 
 impl Policy {
@@ -85,11 +93,11 @@ impl Policy {
         self.number(Among::Permissions(class), PERMISSION, name).map(|number| number % limits::PERMISSIONS)
     }
 
-    pub fn transitions(&self) -> Vec<(usize, &Transition)> {
+    pub fn transitions(&self) -> Vec<(&Placed, &Transition)> {
         let placed = self.statements.iter();
         placed
             .filter_map(|p| match &p.statement {
-                Statement::Transition(transition) => Some((p.place, transition)),
+                Statement::Transition(transition) => Some((p, transition)),
                 _ => None,
             })
             .collect()
@@ -206,8 +214,8 @@ impl Policy {
     }
 
     /// Only from here on are the statement's names declared (reading 23: "earlier" means an earlier statement).
-    fn take(&mut self, place: usize, statement: Statement) {
-        match &statement {
+    fn take(&mut self, placed: Placed) {
+        match &placed.statement {
             Statement::Thing(family, name) => self.declare(thing_sort(*family), self.things(*family).len(), name),
             Statement::Attribute(family, name) => {
                 self.declare(attribute_sort(*family), self.attributes(*family).len(), name);
@@ -222,7 +230,7 @@ impl Policy {
             }
             _ => {}
         }
-        self.statements.push(Placed { place, statement });
+        self.statements.push(placed);
     }
 
     fn declare(&mut self, sort: u8, number: usize, name: &Name) {

@@ -8,10 +8,20 @@ use std::collections::BTreeMap;
 fn key(line: &str) -> String {
     let words: Vec<&str> = line.split(' ').collect();
     match words[0] {
+        "refused" if words.len() > 5 => format!("refused {:>2} on {}", words[1], which_line(words[5])),
         "refused" | "denied" => format!("{} {:>2}", words[0], words[1]),
         "not" => line.to_string(),
         "chains" | "section" => tried(&words),
         first => first.to_string(),
+    }
+}
+
+/// Whether a refusal of a text, `refused 5 at 8 line 1`, has a line (document 02, W-202) and LFs before its place.
+fn which_line(line: &str) -> &str {
+    match line {
+        "0" => "no line",
+        "1" => "line 1",
+        _ => "a later line",
     }
 }
 

@@ -73,7 +73,7 @@ pub fn compile(text: &[u8], lent: &mut [u8]) -> Outcome {
         Ok(table) => table,
         Err(fault) => return Outcome::Refused(fault),
     };
-    // Reading 27: equal is accepted.
+    // Reading 27: equal is accepted. Reading 22 of document 02: the length needed is no place in the text, so 10 has line 0.
     if lent.len() < table.len() {
         return Outcome::Refused(Fault::new(10, table.len()));
     }

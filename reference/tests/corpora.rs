@@ -1,6 +1,6 @@
 //! The corpora: the same seed gives the same bytes, and every answer occurs.
 
-use reference::corpus::{adler32, answer, compile_line, fill, write, Layer};
+use reference::corpus::{adler32, answer, compile_line, fill, scan_line, write, Layer};
 
 const LAYERS: [Layer; 5] = [Layer::Scan, Layer::Compile, Layer::Sound, Layer::Questions, Layer::Tries];
 
@@ -39,6 +39,23 @@ fn every_refusal_and_denial_occurs() {
     assert!(count(&tries, "chains missing compared 0") > 1_000 && count(&tries, "chains missing compared 1") > 500);
 }
 
+/// Document 02, W-202: the last 1,000 texts of the compile corpus are random, and LFs stand in many of their gaps.
+#[test]
+fn random_texts_are_often_refused_on_a_later_line() {
+    let compile = answer(Layer::Compile, &write(Layer::Compile, 2)).unwrap();
+    let random = &compile[compile.len() - 1_000..];
+    let of_number = |number: u8| random.iter().filter(move |line| line.starts_with(&format!("refused {number} at")));
+    let later = |number: u8| of_number(number).filter(|line| line_in(line) > 1).count();
+    assert!((2..=9).all(|number| later(number) >= 3));
+    assert!((2..=9).map(later).sum::<usize>() >= 150);
+    assert!(of_number(10).count() >= 50 && of_number(10).all(|line| line_in(line) == 0));
+}
+
+/// The line in `refused 5 at 8 line 1`.
+fn line_in(answer: &str) -> usize {
+    answer.split(' ').nth(5).expect("a refusal has a line").parse().unwrap()
+}
+
 #[test]
 fn a_cut_corpus_is_an_error() {
     for layer in LAYERS {
@@ -49,12 +66,20 @@ fn a_cut_corpus_is_an_error() {
 }
 
 #[test]
+fn the_line_of_a_scan() {
+    assert_eq!(scan_line(b"\n"), "clean");
+    assert_eq!(scan_line(b"(role a)!"), "refused 2 at 8 line 1");
+    assert_eq!(scan_line(b"(role a)\n!"), "refused 2 at 9 line 2");
+}
+
+#[test]
 fn the_checksum() {
     // The two published values of Adler-32 for these strings.
     assert_eq!(adler32(b""), 1);
     assert_eq!(adler32(b"Wikipedia"), 0x11E6_0398);
     assert_eq!(fill(300)[..4], [3, 10, 17, 24]);
     assert_eq!(fill(300)[256..258], [3, 10]);
-    assert_eq!(compile_line(0, b"()"), "refused 3 at 0 1");
-    assert_eq!(compile_line(2, b""), format!("refused 10 at 68 {}", adler32(&[3, 10])));
+    assert_eq!(compile_line(0, b"()"), "refused 3 at 0 line 1 1");
+    assert_eq!(compile_line(0, b"\n()"), "refused 3 at 1 line 2 1");
+    assert_eq!(compile_line(2, b""), format!("refused 10 at 68 line 0 {}", adler32(&[3, 10])));
 }

@@ -4,6 +4,7 @@ mod common;
 
 use common::{meant, table};
 use reference::corpus::policy_text;
+use reference::fault::Fault;
 use reference::generator::damage::damage;
 use reference::generator::layout::{lay_out, Gaps};
 use reference::generator::policies::{policy, Shape};
@@ -163,7 +164,7 @@ fn memory_is_unchanged_on_refusal_and_behind_the_table() {
                 assert_eq!(lent[length..], before[length..]);
             }
             (Outcome::Refused(fault), Ok(table)) => {
-                assert_eq!((fault.number, fault.place), (10, table.len()));
+                assert_eq!(fault, Fault::new(10, table.len()));
                 assert!(before.len() < table.len());
                 assert_eq!(lent, before);
             }
@@ -181,9 +182,9 @@ fn lent_memory_just_enough_and_one_byte_less() {
     let length = table("(role a)").len();
     assert_eq!(compile(b"(role a)", &mut vec![9; length]), Outcome::Accepted(length));
     let mut short = vec![9; length - 1];
-    assert!(matches!(compile(b"(role a)", &mut short), Outcome::Refused(fault) if (fault.number, fault.place) == (10, length)));
+    assert_eq!(compile(b"(role a)", &mut short), Outcome::Refused(Fault::new(10, length)));
     assert_eq!(short, vec![9; length - 1]);
-    assert!(matches!(compile(b"", &mut []), Outcome::Refused(fault) if (fault.number, fault.place) == (10, 68)));
+    assert_eq!(compile(b"", &mut []), Outcome::Refused(Fault::new(10, 68)));
     // Faults 1 to 9 come before 10.
     assert!(matches!(compile(b"()", &mut []), Outcome::Refused(fault) if fault.number == 3));
 }

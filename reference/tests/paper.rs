@@ -43,11 +43,11 @@ fn p2_the_roll() {
 
 #[test]
 fn p3_to_p7_refusals() {
-    assert_eq!(refused("(role a)(role a)"), (4, 8));
-    assert_eq!(refused("(role a)(roletype a t)"), (5, 8));
-    assert_eq!(refused("("), (2, 1));
-    assert_eq!(refused("()"), (3, 0));
-    assert_eq!(refused("(roleattribute x)(roleattributeset x (x))"), (8, 0));
+    assert_eq!(refused("(role a)(role a)"), (4, 8, 1));
+    assert_eq!(refused("(role a)(roletype a t)"), (5, 8, 1));
+    assert_eq!(refused("("), (2, 1, 1));
+    assert_eq!(refused("()"), (3, 0, 1));
+    assert_eq!(refused("(roleattribute x)(roleattributeset x (x))"), (8, 0, 1));
 }
 
 #[test]
@@ -82,7 +82,7 @@ fn p10_stack_need() {
     assert_eq!(need(&left(5)), 2);
     let policy = |e: String| format!("(class c (p))(constrain (c (p)) {e})");
     assert!(read(policy(right(5)).as_bytes()).is_ok());
-    assert_eq!(refused(&policy(right(6))), (7, 13));
+    assert_eq!(refused(&policy(right(6))), (7, 13, 1));
     assert!(read(policy(left(6)).as_bytes()).is_ok());
 }
 
@@ -110,8 +110,8 @@ fn the_printed_roll() {
     let printed = "accepted 264 bytes\nuser u roles 1\nrole a types 1\nrole b types 0\n";
     assert_eq!(roll(ROLL.as_bytes()), printed.as_bytes());
     assert_eq!(roll(b""), b"accepted 68 bytes\n");
-    assert_eq!(roll(b"(role a)(roletype a t)"), b"refused 5 at 8\n");
-    assert_eq!(roll(&[b' '; 70_000]), b"refused 1 at 65535\n");
+    assert_eq!(roll(b"(role a)(roletype a t)"), b"refused 5 at 8 line 1\n");
+    assert_eq!(roll(&[b' '; 70_000]), b"refused 1 at 65535 line 1\n");
     // Users first, then roles, whatever the order in the text.
     let mixed = b"(role z)(user b)(role a)(user c)(userattribute x)(userattributeset x (all))(userrole x a)(userrole c z)";
     let expected = "user b roles 1\nuser c roles 2\nrole z types 0\nrole a types 0\n";
@@ -119,7 +119,7 @@ fn the_printed_roll() {
     // A table that does not fit into the memory of the program.
     let needed = reference::table::table_of(&reference::generator::maxima::wide()).unwrap().len();
     assert!(needed > 65_536);
-    let expected = format!("refused 10 at {needed}\n");
+    let expected = format!("refused 10 at {needed} line 0\n");
     assert_eq!(roll(&reference::generator::maxima::wide()), expected.as_bytes());
 }
 
@@ -152,7 +152,7 @@ fn slip_role_64_shares_a_bit_with_role_0() {
 #[test]
 fn slip_oldest_operand_dropped() {
     let e = format!("{}(eq u1 u2){}", "(or (eq r1 r2) ".repeat(5), ")".repeat(5));
-    assert_eq!(refused(&format!("(class c (p))(constrain (c (p)) {e})")), (7, 13));
+    assert_eq!(refused(&format!("(class c (p))(constrain (c (p)) {e})")), (7, 13, 1));
 }
 
 #[test]

@@ -43,6 +43,13 @@ fn order_of_faults_at_the_maxima() {
 }
 
 #[test]
+fn the_most_lines() {
+    for (label, text, fault) in maxima::most_lines() {
+        assert_eq!(table_of(&text).err(), Some(fault), "{label}");
+    }
+}
+
+#[test]
 fn every_maximum_at_once() {
     let text = maxima::everything();
     assert!(text.len() <= 65_535);
@@ -57,13 +64,17 @@ fn every_maximum_at_once() {
     assert_eq!(contents.roles_of_user[127], (0..66).chain([127]).filter(|&n| n != 63).collect());
 }
 
+fn in_line_1(number: u8, place: usize) -> Fault {
+    Fault { number, place, line: 1 }
+}
+
 #[test]
 fn long_texts_whatever_else_is_wrong() {
     for byte in [b'!', b'(', b')', b'a', 0, 255] {
-        assert_eq!(scan(&vec![byte; 65_536]).err(), Some(Fault::new(1, 65_535)));
-        assert_eq!(scan(&vec![byte; 100_000]).err(), Some(Fault::new(1, 65_535)));
+        assert_eq!(scan(&vec![byte; 65_536]).err(), Some(in_line_1(1, 65_535)));
+        assert_eq!(scan(&vec![byte; 100_000]).err(), Some(in_line_1(1, 65_535)));
     }
-    assert_eq!(scan(&vec![b'!'; 65_535]).err(), Some(Fault::new(2, 0)));
+    assert_eq!(scan(&vec![b'!'; 65_535]).err(), Some(in_line_1(2, 0)));
 }
 
 #[test]

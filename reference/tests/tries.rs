@@ -125,18 +125,18 @@ fn reading_60_entries_so_far() {
         // Declared again, the same try has a hit: fault 4.
         assert!(tried(&text, family, name).found.is_some());
         let again = format!("{text}{statement}");
-        assert_eq!(common::refused(&again), (4, text.len()));
+        assert_eq!(common::refused(&again), (4, text.len(), 1));
     }
 }
 
 /// Reading 60 within a class: each permission is tried among those before it, also past the 32nd, since 4 comes before 6.
 #[test]
 fn reading_60_permissions_so_far() {
-    assert_eq!(common::refused("(class c(p q q))"), (4, 0));
-    assert_eq!(common::refused("(class c(p qq r qq))"), (4, 0));
+    assert_eq!(common::refused("(class c(p q q))"), (4, 0, 1));
+    assert_eq!(common::refused("(class c(p qq r qq))"), (4, 0, 1));
     let many = |count: usize| (0..count).map(|n| format!("p{n}")).collect::<Vec<_>>().join(" ");
-    assert_eq!(common::refused(&format!("(class c({} p34 q))", many(36))), (4, 0));
-    assert_eq!(common::refused(&format!("(class c({}))", many(36))), (6, 0));
+    assert_eq!(common::refused(&format!("(class c({} p34 q))", many(36))), (4, 0, 1));
+    assert_eq!(common::refused(&format!("(class c({}))", many(36))), (6, 0, 1));
     assert_eq!(tried(&format!("(class c({}))", many(32)), PERMISSIONS, "p31"), found(7, 31, 22));
 }
 

@@ -4,14 +4,14 @@ use mathlib.Core.Bool.{Bool, true, false}
 use Rattle.policy.specs.Meaning.{Context}
 use Rattle.policy.specs.Deciding as decided
 use Rattle.policy.specs.Deciding.{Question, Verdict, granted, denied, fails, refuses, Reply, answered, refused}
-use Rattle.policy.specs.Outcome.{Outcome, accepted, rejected}
+use Rattle.policy.specs.Outcome.{Refusal, Outcome, accepted, rejected}
 use Rattle.policy.specs.Questions as replies
 use Rattle.answer_numbers.specs.declared.Compiled.{Compiled}
 use Rattle.answer_numbers.specs.declared.Answer.{Answer}
 use Rattle.answer_numbers.specs.declared.Part.{Part}
 
-abbrev pub compiledOf : ℕ → ℕ → Compiled
-compiledOf n at = record { number = n; place = at }
+abbrev pub compiledOf : ℕ → ℕ → ℕ → Compiled
+compiledOf n at l = record { number = n; place = at; line = l }
 
 abbrev pub answerOf : ℕ → ℕ → ℕ → ℕ → Answer
 answerOf o n i k = record { outcome = o; number = n; constraint = i; consulted = k }
@@ -23,10 +23,10 @@ partOf n s l = record { number = n; start = s; length = l }
 abbrev pub asking : Context → Context → ℕ → ℕ → Question
 asking s t c k = record { source = s; target = t; class = c; perm = k }
 
--- "Refusal numbers", each with the "Place given"; 0 with the table's length where there is none
+-- "Refusal numbers", each with the "Place given" and, W-202, "the line"; 0 with the table's length and line 0 where there is none
 abbrev pub compiledNumbers : Outcome → Compiled
-compiledNumbers (accepted n) = compiledOf 0 n
-compiledNumbers (rejected n at) = compiledOf n at
+compiledNumbers (accepted n) = compiledOf 0 n 0
+compiledNumbers (rejected r) = compiledOf (r .number) (r .place) (r .line)
 
 -- "A table is **sound** when ..": 1, else 0
 abbrev pub soundNumber : Bool → ℕ
@@ -64,6 +64,7 @@ partNumbers (refused n at) = partOf n 0 0
 pub record CompiledFits (c : Compiled) : Type 0 where
   pub number : c .number < 4294967296
   pub place : c .place < 4294967296
+  pub line : c .line < 4294967296
 
 pub record Fits (a : Answer) : Type 0 where
   pub number : a .number < 4294967296

@@ -11,11 +11,12 @@ ghost use Prim.Native.Nat.{_<_};
 ghost use Rattle.policy.specs.Answers.{compilingOf, validityOf, newRoleOf, changeOf, placeOf};
 ghost use Rattle.answer_numbers.specs.Numbers.{answerOf, compiledNumbers, validNumbers, changeNumbers, newRoleNumbers, partNumbers, CompiledFits, Fits, PartFits};
 
-// What compiling a text answers: the number 0 and the length of its table, or a refusal's number and place.
+// What compiling a text answers: the number 0, the length of its table and the line 0; or a refusal's number, place and line.
 #[repr(C)]
 pub struct Compiled {
     pub number: u32,
     pub place: u32,
+    pub line: u32,
 }
 
 // What a question about a table answers. Outcome 0: granted, or valid; 1: denied, or not valid; 2: refused. `number` is that of the denial
@@ -54,10 +55,12 @@ pub fn compiled_numbers(answer: Compiling) -> Compiled
         Compiling::Accepted { length } => Compiled {
             number: 0,
             place: length as u32,
+            line: 0,
         },
-        Compiling::Refused { number, place } => Compiled {
-            number: number as u32,
-            place: place as u32,
+        Compiling::Refused(refusal) => Compiled {
+            number: refusal.number as u32,
+            place: refusal.place as u32,
+            line: refusal.line as u32,
         },
     }
 }

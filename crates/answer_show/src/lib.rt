@@ -21,13 +21,14 @@ fn refused(number: usize) {
     line_end();
 }
 
-// `accepted 264` or `refused 5 at 8`, without the line's end.
+// `accepted 264` or `refused 5 at 8 line 1`, without the line's end.
 fn compiled(answer: Compiling) {
     match answer {
         Compiling::Accepted { length } => numbered(b"accepted ", length),
-        Compiling::Refused { number, place } => {
-            numbered(b"refused ", number);
-            numbered(b" at ", place);
+        Compiling::Refused(refusal) => {
+            numbered(b"refused ", refusal.number);
+            numbered(b" at ", refusal.place);
+            numbered(b" line ", refusal.line);
         }
     }
 }

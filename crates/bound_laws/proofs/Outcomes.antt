@@ -1,28 +1,30 @@
 -- THE NUMBERS OF COMPILE'S ANSWER ARE SMALL: a refusal's number is at most 10, its place or the table's length at most 179,652, the length of
--- the longest table. Assumes nothing.
-use Prim.Native.Nat.{ℕ, _≤_}
+-- the longest table, its line at most 65,536. Assumes nothing.
+use Prim.Native.Nat.{ℕ, _+_, _≤_}
 use native.Mathlib.Omega.{arith}
 use mathlib.Core.Path.{_≡_, refl, ap, subst}
 use mathlib.Core.Bool.{Bool, true, false, cond}
 use mathlib.Core.List.{List, []}
 use mathlib.Core.Option.{Option, none, some}
-use lib.Dec.{leb}
+use lib.Dec.{eqb, leb}
 use lib.ListN.{length}
+use borrow.Author.Tests.{ne-eqb}
 use Rattle.policy.specs.Statements.{Policy}
 use Rattle.policy.specs.Reading.{Read, policy, refused, readPolicy}
 use Rattle.policy.specs.Faults.{cycle, clash}
 use Rattle.policy.specs.Image.{Image, imageOf}
 use Rattle.policy.specs.Encode.{encode}
-use Rattle.policy.specs.Outcome.{accept, policyOf, Compiled, compiles, refuses, compiled, fitted, Outcome, accepted, rejected, outcomeOf, outcome}
+use Rattle.policy.specs.Outcome.{Input, accept, policyOf, Compiled, compiles, refuses, compiled, fitted, lineAt, Refusal, refusalOf, Outcome, accepted, rejected, outcomeOf, outcome}
+use Rattle.policy.proofs.LineFeeds.{feeds-few}
 use Rattle.reading_laws.proofs.FaultOrder.{fault-order, refusal-number}
 use Rattle.table_laws.proofs.WellFormedLaid.{length-encode, table-short}
 use Rattle.demand_laws.proofs.Demand3.{read-well-formed}
 use Rattle.bound_laws.proofs.Places.{refusal-place}
 
 -- the longest table has 179,652 bytes
-pub encode-short : (text : List ℕ) (p : Policy) → policyOf text ≡ policy p → length (encode (imageOf p)) ≤ 179652
-encode-short text p e =
-    let w = read-well-formed text p e [] in omega (arith, length-encode (imageOf p) w, table-short (imageOf p) w)
+pub encode-short : (x : Input) (p : Policy) → policyOf x ≡ policy p → length (encode (imageOf p)) ≤ 179652
+encode-short x p e =
+    let w = read-well-formed x p e [] in omega (arith, length-encode (imageOf p) w, table-short (imageOf p) w)
 
 abbrev SmallRead : Read → Type 0
 SmallRead (policy p) = Unit {0}
@@ -38,30 +40,39 @@ accept-small p = by (cycle p) (clash p)
     by none none = tt
 
 -- the number of a refusal before 10
-refusal-small : (text : List ℕ) → SmallRead (policyOf text)
+refusal-small : (x : Input) → SmallRead (policyOf x)
 unfolding policyOf
-refusal-small text = by (readPolicy text) refl
+refusal-small x = by (readPolicy (x .text)) refl
   where
-    by : (r : Read) → readPolicy text ≡ r → SmallRead (elim r [ refused n at ↦ refused n at | policy p ↦ accept p ])
-    by (refused n at) e = omega (arith, refusal-number (fault-order text n at e) .1)
+    by : (r : Read) → readPolicy (x .text) ≡ r → SmallRead (elim r [ refused n at ↦ refused n at | policy p ↦ accept p ])
+    by (refused n at) e = omega (arith, refusal-number (fault-order (x .text) n at e) .1)
     by (policy p) e = accept-small p
 
 abbrev pub SmallOutcome : Outcome → Type 0
 SmallOutcome (accepted n) = n ≤ 179652
-SmallOutcome (rejected n at) = (n ≤ 10) × (at ≤ 179652)
+SmallOutcome (rejected r) = (r .number ≤ 10) × (r .place ≤ 179652) × (r .line ≤ 65536)
 
-fitted-small : (lent : ℕ) (i : Image) → length (encode i) ≤ 179652 → SmallOutcome (outcomeOf (fitted lent i))
-fitted-small lent i h = by (leb (length (encode i)) lent)
+-- a refusal 1 to 9 at a place of a text
+refusal-few : (x : Input) (n at : ℕ) → n ≤ 9 → at ≤ 65535 → SmallOutcome (rejected (refusalOf x n at))
+unfolding refusalOf
+refusal-few x n at l h = (omega (arith, l), omega (arith, h), line)
   where
-    by : (b : Bool) → SmallOutcome (outcomeOf (cond b (compiles i) (refuses 10 (length (encode i)))))
+    line : cond (eqb n 10) 0 (lineAt (x .text) at) ≤ 65536
+    line = rw (ne-eqb n 10 (λ e. omega (arith, e, l))) (omega (arith, h, feeds-few at (x .text)))
+
+fitted-small : (x : Input) (lent : ℕ) (i : Image) → length (encode i) ≤ 179652 → SmallOutcome (outcomeOf x (fitted lent i))
+unfolding refusalOf
+fitted-small x lent i h = by (leb (length (encode i)) lent)
+  where
+    by : (b : Bool) → SmallOutcome (outcomeOf x (cond b (compiles i) (refuses 10 (length (encode i)))))
     by true = h
-    by false = (omega arith, h)
+    by false = (omega arith, h, omega arith)
 
 -- for every text and every length of the lent memory
-pub outcome-small : (text : List ℕ) (lent : ℕ) → SmallOutcome (outcome text lent)
+pub outcome-small : (x : Input) (lent : ℕ) → SmallOutcome (outcome x lent)
 unfolding outcome compiled
-outcome-small text lent = by (policyOf text) refl (refusal-small text)
+outcome-small x lent = by (policyOf x) refl (refusal-small x)
   where
-    by : (r : Read) → policyOf text ≡ r → SmallRead r → SmallOutcome (outcomeOf (elim r [ refused n at ↦ refuses n at | policy p ↦ fitted lent (imageOf p) ]))
-    by (refused n at) e s = (omega arith, omega (arith, refusal-place text n at e))
-    by (policy p) e s = fitted-small lent (imageOf p) (encode-short text p e)
+    by : (r : Read) → policyOf x ≡ r → SmallRead r → SmallOutcome (outcomeOf x (elim r [ refused n at ↦ refuses n at | policy p ↦ fitted lent (imageOf p) ]))
+    by (refused n at) e s = refusal-few x n at s (refusal-place x n at e)
+    by (policy p) e s = fitted-small x lent (imageOf p) (encode-short x p e)

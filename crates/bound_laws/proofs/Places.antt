@@ -19,7 +19,7 @@ use Rattle.policy.specs.Basics.{any, gather, given, each, All, orElse}
 use Rattle.policy.specs.Statements.{Family, users, roles, types, attributeOf, Declaration, plain, class, sameSort, declare, attributeset, gives, roletransition, constrain, Statement, Line, Policy, Transition, transition, transitions}
 use Rattle.policy.specs.Reading.{Read, policy, refused, readFrom, readPolicy}
 use Rattle.policy.specs.Faults.{declaresA, placeOf, places, onCycle, firstCycle, familyCycle, cycle, clashes, firstClash, clash}
-use Rattle.policy.specs.Outcome.{accept, policyOf}
+use Rattle.policy.specs.Outcome.{Input, accept, policyOf}
 use Rattle.policy.proofs.Lists.{all-append}
 use Rattle.policy.proofs.Gathered.{OfValue, all-gather}
 use Rattle.policy.proofs.IfAny.{IfAny, nothing, just, or-else}
@@ -208,17 +208,17 @@ accept-at P p h k = by (cycle p) (clash p) h k
     by none none h k = tt
 
 -- EVERY REFUSAL BEFORE 10
-pub refusal-place : (text : List ℕ) (n at : ℕ) → policyOf text ≡ refused n at → at ≤ maxText
+pub refusal-place : (x : Input) (n at : ℕ) → policyOf x ≡ refused n at → at ≤ maxText
 unfolding policyOf each
-refusal-place text n at e = by (readPolicy text) refl e
+refusal-place x n at e = by (readPolicy (x .text)) refl e
   where
-    lines : (p : Policy) → readPolicy text ≡ policy p → All (LineAt (λ at. at ≤ maxText)) p
+    lines : (p : Policy) → readPolicy (x .text) ≡ policy p → All (LineAt (λ at. at ≤ maxText)) p
     lines p r =
-        let clean = read-clean text p r in
+        let clean = read-clean (x .text) p r in
         lines-at (λ at. at ≤ maxText) p
-        (subst (All (λ at. at ≤ maxText)) (sym (read-places (formsOf text) [] p (clean .1)))
-        (parts-at (λ at. at ≤ maxText) text (λ at o. clean-in text at (clean .0) o) (formsOf text) (forms-open text)))
+        (subst (All (λ at. at ≤ maxText)) (sym (read-places (formsOf (x .text)) [] p (clean .1)))
+        (parts-at (λ at. at ≤ maxText) (x .text) (λ at o. clean-in (x .text) at (clean .0) o) (formsOf (x .text)) (forms-open (x .text))))
 
-    by : (r : Read) → readPolicy text ≡ r → elim r [ refused n at ↦ refused n at | policy p ↦ accept p ] ≡ refused n at → at ≤ maxText
-    by (refused m b) h k = let same : b ≡ at = cc in subst (λ at. at ≤ maxText) same (read-place text m b h)
+    by : (r : Read) → readPolicy (x .text) ≡ r → elim r [ refused n at ↦ refused n at | policy p ↦ accept p ] ≡ refused n at → at ≤ maxText
+    by (refused m b) h k = let same : b ≡ at = cc in subst (λ at. at ≤ maxText) same (read-place (x .text) m b h)
     by (policy p) h k = subst (RefusedAt (λ at. at ≤ maxText)) k (accept-at (λ at. at ≤ maxText) p (cycle-at (λ at. at ≤ maxText) p (lines p h)) (clash-at (λ at. at ≤ maxText) p (lines p h)))

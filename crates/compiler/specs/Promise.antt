@@ -1,4 +1,4 @@
--- What compiling promises, for every text and every lent memory. Assumes nothing.
+-- What compiling promises, for everything that is compiled and every lent memory. Assumes nothing.
 use mathlib.Core.Path.{_≡_}
 use mathlib.Core.List.{List}
 use Prim.Native.Nat.{ℕ}
@@ -6,12 +6,12 @@ use lib.ListN.{length}
 use Rattle.policy.specs.declared.Compiling.{Compiling}
 use Rattle.policy.specs.Answers.{compilingOf}
 use Rattle.policy.specs.Outcome as outcomes
-use Rattle.policy.specs.Outcome.{outcome}
+use Rattle.policy.specs.Outcome.{Input, outcome}
 use Rattle.demand_laws.specs.ByText.{TableAnswers}
 
--- the answer is that of the rules, refusals with their numbers and places among them; the lent memory holds the table and behind it what was there,
+-- the answer is that of the rules, refusals with their numbers, places and lines among them; the lent memory holds the table and behind it what was there,
 -- and after a refusal what was there; and an accepted table "gives the answer that the statements give, never a refusal"
-pub record Compiles (text before after : List ℕ) (r : Compiling) : Type 0 where
-  pub answer : compilingOf r ≡ outcome text (length before)
-  pub memory : after ≡ outcomes.after text before
-  pub answers : (n : ℕ) → r ≡ Compiling.Accepted n → TableAnswers text before n
+pub record Compiles (x : Input) (before after : List ℕ) (r : Compiling) : Type 0 where
+  pub answer : compilingOf r ≡ outcome x (length before)
+  pub memory : after ≡ outcomes.after x before
+  pub answers : (n : ℕ) → r ≡ Compiling.Accepted n → TableAnswers x before n

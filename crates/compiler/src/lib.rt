@@ -1,8 +1,11 @@
 // The passes in their order: text and lent memory in, the answer out. What one pass leaves for the next stands in local arrays, and the lent memory is
 // written to only when all refusals are past.
 ghost use mathlib.Core.Path.{_≡_};
-ghost use lib.ListN.{take};
-ghost use Rattle.compiler.specs.Passes.{Measures, Fits, ResolvesAndWrites, CompilesStatements, CompilesClean};
+ghost use Prim.Native.Nat.{_≤_};
+ghost use lib.ListN.{length, take};
+ghost use Rattle.policy.specs.Outcome.{ofText, compiled, refusalOf};
+ghost use Rattle.policy.specs.Answers.{refusalIn};
+ghost use Rattle.compiler.specs.Passes.{Gives, Measures, Fits, ResolvesAndWrites, CompilesStatements, CompilesClean};
 ghost use Rattle.compiler.specs.Promise.{Compiles};
 use code_reader::FAMILY_BYTES;
 use constrain_statement::CONSTRAINT_BYTES;
@@ -12,6 +15,7 @@ use lexer::Scanned;
 use lexer::Text;
 use parser::Parsed;
 use policy::Compiling;
+use policy::Refusal;
 use resolver::Resolved;
 use statement_reader::CODE_UNITS;
 use statement_reader::Progress;
@@ -49,6 +53,12 @@ impl Fault {
     const TABLE_TOO_SHORT: usize = 10;
 }
 
+// What the passes come to: the length of the table that was written, or a fault's number and place.
+enum Passed {
+    Written { length: usize },
+    Refused { number: usize, place: usize },
+}
+
 // The sizes of the table of the statements that were read.
 fn sizes_of(progress: Progress, symbols: &[u8]) -> Sizes
     ensures { λ r. ⌜ Measures progress (now (symbols .entry)) r ⌝ }
@@ -76,11 +86,11 @@ fn units(code: &[u16], end: usize) -> &[u16]
     &code[..end]
 }
 
-// Every refusal is made here.
-fn refusal(number: usize, place: usize) -> Compiling
-    ensures { λ r. ⌜ r ≡ Compiling.Refused number place ⌝ }
+// A fault ends the passes.
+fn stop(number: usize, at: usize) -> Passed
+    ensures { λ r. ⌜ r ≡ Passed.Refused number at ⌝ }
 {
-    Compiling::Refused { number, place }
+    Passed::Refused { number, place: at }
 }
 
 // Fault 10, or the table is written.
@@ -94,13 +104,13 @@ fn write_fitting(
     role_sets: &[u8; FAMILY_BYTES],
     type_sets: &[u8; FAMILY_BYTES],
     table: &mut [u8],
-) -> Compiling
+) -> Passed
     ensures { λ r. ⌜ Fits sizes (now (symbols .entry)) (now (code .entry)) (now (constraints .entry)) (now (rows .entry))
         (now («user_sets» .entry)) (now («role_sets» .entry)) (now («type_sets» .entry)) (now (table .entry)) (now (table .exit)) r ⌝ }
 {
     let length = table_writer::needed(sizes);
     if table.len() < length {
-        return refusal(Fault::TABLE_TOO_SHORT, length);
+        return stop(Fault::TABLE_TOO_SHORT, length);
     }
     table_writer::write_table(
         sizes,
@@ -113,7 +123,7 @@ fn write_fitting(
         type_sets,
         table,
     );
-    Compiling::Accepted { length }
+    Passed::Written { length }
 }
 
 // Faults 8 and 9, then the table with the final sets.
@@ -125,7 +135,7 @@ fn resolve_and_write(
     constraints: &[u8],
     rows: &[u8],
     table: &mut [u8],
-) -> Compiling
+) -> Passed
     ensures { λ r. ⌜ ResolvesAndWrites sizes types (now (symbols .entry)) (now (code .entry)) (now (constraints .entry)) (now (rows .entry)) (now (table .entry)) (now (table .exit)) r ⌝ }
 {
     let mut user_sets = [0u8; FAMILY_BYTES];
@@ -141,8 +151,8 @@ fn resolve_and_write(
         &mut type_sets,
     );
     match resolved {
-        Resolved::Cycle(place) => refusal(Fault::CYCLE, place),
-        Resolved::Clash(place) => refusal(Fault::CLASH, place),
+        Resolved::Cycle(place) => stop(Fault::CYCLE, place),
+        Resolved::Clash(place) => stop(Fault::CLASH, place),
         Resolved::Sound => write_fitting(
             sizes,
             symbols,
@@ -165,7 +175,7 @@ fn compile_statements(
     constraints: &[u8; CONSTRAINT_BYTES],
     rows: &[u8; ROW_BYTES],
     table: &mut [u8],
-) -> Compiling
+) -> Passed
     ensures { λ r. ⌜ CompilesStatements progress (now (symbols .entry)) (now (code .entry)) (now (constraints .entry)) (now (rows .entry))
         (now (table .entry)) (now (table .exit)) r ⌝ }
 {
@@ -176,7 +186,7 @@ fn compile_statements(
 }
 
 // A text without fault 1 or 2: its statements are read, with faults 3 to 7.
-fn compile_clean(text: &[u8], table: &mut [u8]) -> Compiling
+fn compile_clean(text: &[u8], table: &mut [u8]) -> Passed
     ensures { λ r. ⌜ CompilesClean (now (text .entry)) (now (table .entry)) (now (table .exit)) r ⌝ }
 {
     let mut symbols = [0u8; SYMBOL_BYTES];
@@ -188,18 +198,48 @@ fn compile_clean(text: &[u8], table: &mut [u8]) -> Compiling
         Parsed::Accepted(progress) => {
             compile_statements(progress, &symbols, &code, &constraints, &rows, table)
         }
-        Parsed::Refused { number, place } => refusal(number, place),
+        Parsed::Refused { number, place } => stop(number, place),
+    }
+}
+
+// The passes in order: faults 1 and 2 first.
+fn pass(text: &[u8], table: &mut [u8]) -> Passed
+    ensures { λ r. ⌜ Gives (compiled (ofText (now (text .entry))) (length (now (table .entry)))) (now (table .entry)) (now (table .exit)) r ⌝ }
+{
+    let scanned = lexer::scan(text);
+    match scanned {
+        Scanned::TooLong => stop(Fault::TEXT_TOO_LONG, Text::MAX),
+        Scanned::Wrong(place) => stop(Fault::WRONG_BYTE, place),
+        Scanned::Clean => compile_clean(text, table),
+    }
+}
+
+// Every refusal is made here. All but fault 10, whose place is a length, are placed in the text and have a line.
+fn refusal(text: &[u8], number: usize, place: usize) -> Refusal
+    ensures { λ r. ⌜ (((number ≡ 10 → ⊥) → place ≤ 65535) → refusalIn r ≡ refusalOf (ofText (now (text .entry))) number place) ⌝ }
+{
+    if number == Fault::TABLE_TOO_SHORT {
+        return Refusal {
+            number,
+            place,
+            line: 0,
+        };
+    }
+    let line = lines::line_of(text, place);
+    Refusal {
+        number,
+        place,
+        line,
     }
 }
 
 // Compiles a text: its table stands at the start of the lent memory, or a refusal 1 to 10 is answered and the lent memory is as it was.
 pub fn compile(text: &[u8], table: &mut [u8]) -> Compiling
-    ensures { λ r. ⌜ Compiles (now (text .entry)) (now (table .entry)) (now (table .exit)) r ⌝ }
+    ensures { λ r. ⌜ Compiles (ofText (now (text .entry))) (now (table .entry)) (now (table .exit)) r ⌝ }
 {
-    let scanned = lexer::scan(text);
-    match scanned {
-        Scanned::TooLong => refusal(Fault::TEXT_TOO_LONG, Text::MAX),
-        Scanned::Wrong(place) => refusal(Fault::WRONG_BYTE, place),
-        Scanned::Clean => compile_clean(text, table),
+    let passed = pass(text, table);
+    match passed {
+        Passed::Written { length } => Compiling::Accepted { length },
+        Passed::Refused { number, place } => { Compiling::Refused(refusal(text, number, place)) }
     }
 }

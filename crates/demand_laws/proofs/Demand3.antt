@@ -19,7 +19,7 @@ use Rattle.policy.specs.Image.{Image, imageOf}
 use Rattle.policy.specs.Encode.{encode}
 use Rattle.policy.specs.Sound.{wellFormed, imageIn}
 use Rattle.policy.specs.Outcome as outcomes
-use Rattle.policy.specs.Outcome.{policyOf, Compiled, compiles, compiled, fitted, Outcome, accepted, rejected, outcomeOf, afterOf, outcome, after}
+use Rattle.policy.specs.Outcome.{Input, ofText, policyOf, Compiled, compiles, compiled, fitted, Outcome, accepted, rejected, outcomeOf, afterOf, outcome, after}
 use Rattle.policy.specs.Questions.{changed, changeOn, validOn, newRoleOn}
 use Rattle.policy.proofs.Lists.{each-append}
 use Rattle.policy.specs.Names.{environmentOf}
@@ -38,9 +38,9 @@ use Rattle.answer_laws.specs.Longer.{said, OneConstrainMore, ConstrainText, isD
 use Rattle.answer_laws.proofs.LongerPolicy.{denied-longer}
 use Rattle.demand_laws.specs.ByText.{isRefusal, TableAnswers}
 
-module _ (text : List ℕ) (p : Policy) (read : policyOf text ≡ policy p) (rest : List ℕ) where
+module _ (x : Input) (p : Policy) (read : policyOf x ≡ policy p) (rest : List ℕ) where
   reads : Accepted p
-  reads = policy-accepted text p read .0
+  reads = policy-accepted x p read .0
 
   -- the image of what is read and passes 8 and 9 is well-formed
   pub read-well-formed : wellFormed (imageOf p) ≡ true
@@ -94,21 +94,21 @@ declared-unrefused p q h = rw h (decided (validBy (givenBy p) (q .source)) (vali
 
 -- "Add one constrain statement at the end: if the longer policy is accepted, its table denies every question that the first table denies",
 -- and by the same denial, constraint and number consulted; wherever the statements stand in the two texts
-pub longer-table-denies : (text text′ : List ℕ) (p p′ : Policy) → OneConstrainMore p p′ → policyOf text ≡ policy p → policyOf text′ ≡ policy p′
+pub longer-table-denies : (x y : Input) (p p′ : Policy) → OneConstrainMore p p′ → policyOf x ≡ policy p → policyOf y ≡ policy p′
     → KeepsDenials (encode (imageOf p)) (encode (imageOf p′))
-longer-table-denies text text′ p p′ m read read′ =
+longer-table-denies x y p p′ m read read′ =
     record { denies = λ rest rest′ q h. ap (λ (a : Answer). isDenied (a .verdict)) (same rest rest′ q h) ∙ h; by-the-same = same }
   where
     same : (rest rest′ : List ℕ) (q : Question) → isDenied (changeOn (encode (imageOf p) ++ rest) q .verdict) ≡ true
         → changeOn (encode (imageOf p′) ++ rest′) q ≡ changeOn (encode (imageOf p) ++ rest) q
     same rest rest′ q h =
-        rw (table-answers text′ p′ read′ rest′ q, table-answers text p read rest q) (denied-longer p p′ m q (rw (table-answers text p read rest q) at h))
+        rw (table-answers y p′ read′ rest′ q, table-answers x p read rest q) (denied-longer p p′ m q (rw (table-answers x p read rest q) at h))
 
 -- a line feed and the bytes of one constrain behind a text: where both are read, the second says what the first says, then one constrain
-pub constrain-added : (text more : List ℕ) (p p′ : Policy) → ConstrainText more → policyOf text ≡ policy p → policyOf (text ++ (10 ∷ more)) ≡ policy p′ → OneConstrainMore p p′
+pub constrain-added : (text more : List ℕ) (p p′ : Policy) → ConstrainText more → policyOf (ofText text) ≡ policy p → policyOf (ofText (text ++ (10 ∷ more))) ≡ policy p′ → OneConstrainMore p p′
 unfolding said each
 constrain-added text more p p′ c read read′ =
-    let m = one-statement-more text more p p′ (c .place) (c .inner) (constrain (c .class) (c .perms) (c .body)) (policy-read text p read) (policy-read _ p′ read′) (c .alone) (c .form) in
+    let m = one-statement-more text more p p′ (c .place) (c .inner) (constrain (c .class) (c .perms) (c .body)) (policy-read (ofText text) p read) (policy-read _ p′ read′) (c .alone) (c .form) in
     let s = resolved-constrain (environmentOf (declarations p)) (c .class) (c .perms) (c .body) .has (m .statement) (m .resolves) in
     record {
       class = s .class;
@@ -126,55 +126,55 @@ front (x ∷ xs) ys = ap {B = List ℕ} (λ r. x ∷ r) (front xs ys)
 -- an acceptance is no refusal, and has one length
 abbrev isAccepted : Outcome → Bool
 isAccepted (accepted n) = true
-isAccepted (rejected n at) = false
+isAccepted (rejected r) = false
 
 abbrev lengthIn : Outcome → ℕ
 lengthIn (accepted n) = n
-lengthIn (rejected n at) = 0
+lengthIn (rejected r) = 0
 
 -- what compiling gives, by what reading gives
 compiledBy : Read → ℕ → Compiled
 compiledBy r lent = elim r [ refused n at ↦ outcomes.refuses n at | policy p ↦ fitted lent (imageOf p) ]
 
-compiled-by : (text : List ℕ) (lent : ℕ) (r : Read) → policyOf text ≡ r → compiled text lent ≡ compiledBy r lent
+compiled-by : (x : Input) (lent : ℕ) (r : Read) → policyOf x ≡ r → compiled x lent ≡ compiledBy r lent
 unfolding compiled compiledBy
-compiled-by text lent r e = ap (λ (s : Read). compiledBy s lent) e
+compiled-by x lent r e = ap (λ (s : Read). compiledBy s lent) e
 
 -- accepted, so it fits: the length is the table's, and the table stands in front
-fitting : (i : Image) (lent : List ℕ) (n : ℕ) → outcomeOf (fitted (length lent) i) ≡ accepted n
+fitting : (x : Input) (i : Image) (lent : List ℕ) (n : ℕ) → outcomeOf x (fitted (length lent) i) ≡ accepted n
     → (n ≡ length (encode i)) × (afterOf (fitted (length lent) i) lent ≡ encode i ++ drop (length (encode i)) lent)
-fitting i lent n h = by (leb (length (encode i)) (length lent)) h
+fitting x i lent n h = by (leb (length (encode i)) (length lent)) h
   where
-    by : (b : Bool) → outcomeOf (cond b (compiles i) (outcomes.refuses 10 (length (encode i)))) ≡ accepted n
+    by : (b : Bool) → outcomeOf x (cond b (compiles i) (outcomes.refuses 10 (length (encode i)))) ≡ accepted n
         → (n ≡ length (encode i)) × (afterOf (cond b (compiles i) (outcomes.refuses 10 (length (encode i)))) lent ≡ encode i ++ drop (length (encode i)) lent)
     by true g = (sym (ap lengthIn g), refl)
     by false g = absurd (false≢true (ap isAccepted g))
 
 -- an accepted text has statements, and the first n bytes of the memory are their table
-pub record Accepts (text lent : List ℕ) (n : ℕ) : Type 0 where
+pub record Accepts (x : Input) (lent : List ℕ) (n : ℕ) : Type 0 where
   pub statements : Policy
-  pub read : policyOf text ≡ policy statements
-  pub table : take n (after text lent) ≡ encode (imageOf statements)
+  pub read : policyOf x ≡ policy statements
+  pub table : take n (after x lent) ≡ encode (imageOf statements)
 
-pub accepted-table : (text lent : List ℕ) (n : ℕ) → outcome text (length lent) ≡ accepted n → Accepts text lent n
+pub accepted-table : (x : Input) (lent : List ℕ) (n : ℕ) → outcome x (length lent) ≡ accepted n → Accepts x lent n
 unfolding outcome after compiledBy
-accepted-table text lent n h = by (policyOf text) refl
+accepted-table x lent n h = by (policyOf x) refl
   where
-    by : (r : Read) → policyOf text ≡ r → Accepts text lent n
-    by (refused k at) e = absurd (false≢true (ap isAccepted (ap outcomeOf (sym (compiled-by text (length lent) (refused k at) e)) ∙ h)))
+    by : (r : Read) → policyOf x ≡ r → Accepts x lent n
+    by (refused k at) e = absurd (false≢true (ap isAccepted (ap (outcomeOf x) (sym (compiled-by x (length lent) (refused k at) e)) ∙ h)))
     by (policy p) e =
-        let fits = fitting (imageOf p) lent n (ap outcomeOf (sym (compiled-by text (length lent) (policy p) e)) ∙ h) in
-        let memory : after text lent ≡ encode (imageOf p) ++ drop (length (encode (imageOf p))) lent =
-        ap (λ (c : Compiled). afterOf c lent) (compiled-by text (length lent) (policy p) e) ∙ fits .1 in
+        let fits = fitting x (imageOf p) lent n (ap (outcomeOf x) (sym (compiled-by x (length lent) (policy p) e)) ∙ h) in
+        let memory : after x lent ≡ encode (imageOf p) ++ drop (length (encode (imageOf p))) lent =
+        ap (λ (c : Compiled). afterOf c lent) (compiled-by x (length lent) (policy p) e) ∙ fits .1 in
         record { statements = p; read = e; table = rw (memory, fits .0) (front (encode (imageOf p)) (drop (length (encode (imageOf p))) lent)) }
 
 -- DEMAND 3 in terms of the text and the lent memory alone
-pub demand-3 : (text lent : List ℕ) (n : ℕ) → outcome text (length lent) ≡ accepted n → TableAnswers text lent n
-demand-3 text lent n h =
-    let a = accepted-table text lent n h in
+pub demand-3 : (x : Input) (lent : List ℕ) (n : ℕ) → outcome x (length lent) ≡ accepted n → TableAnswers x lent n
+demand-3 x lent n h =
+    let a = accepted-table x lent n h in
     record {
       statements = a .statements;
       read = a .read;
-      answers = λ behind q. ap (λ (t : List ℕ). changeOn (t ++ behind) q) (a .table) ∙ table-answers text (a .statements) (a .read) behind q;
+      answers = λ behind q. ap (λ (t : List ℕ). changeOn (t ++ behind) q) (a .table) ∙ table-answers x (a .statements) (a .read) behind q;
       never-refused = declared-unrefused (a .statements);
     }

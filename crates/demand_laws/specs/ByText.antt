@@ -1,4 +1,4 @@
--- Demand 3 as a statement about a text and the memory that was lent for its table. Assumes nothing.
+-- Demand 3 as a statement about what is compiled and the memory that was lent for its table. Assumes nothing.
 use Prim.Native.Nat.{ℕ}
 use mathlib.Core.Path.{_≡_}
 use mathlib.Core.Bool.{Bool, true, false}
@@ -8,7 +8,7 @@ use Rattle.policy.specs.Statements.{Policy, declarations}
 use Rattle.policy.specs.Reading.{policy}
 use Rattle.policy.specs.Deciding.{Question, Verdict, granted, denied, fails, refuses, Answer, declaredQuestion}
 use Rattle.policy.specs.Answer.{answer}
-use Rattle.policy.specs.Outcome.{policyOf, accepted, outcome, after}
+use Rattle.policy.specs.Outcome.{Input, policyOf, after}
 use Rattle.policy.specs.Questions.{changeOn}
 
 -- a refusal, by any number
@@ -21,8 +21,8 @@ isRefusal (refuses n at) = true
 -- "Take any accepted policy and any change question in numbers it declares. Whatever the lent memory held before, and whatever stands
 -- behind the table later, the written table, unaltered and read without the text, gives the answer that the statements give,
 -- never a refusal": n bytes of the memory are the table, p is what the statements of the text say
-pub record TableAnswers (text lent : List ℕ) (n : ℕ) : Type 0 where
+pub record TableAnswers (x : Input) (lent : List ℕ) (n : ℕ) : Type 0 where
   pub statements : Policy
-  pub read : policyOf text ≡ policy statements
-  pub answers : (behind : List ℕ) (q : Question) → changeOn (take n (after text lent) ++ behind) q ≡ answer statements q
+  pub read : policyOf x ≡ policy statements
+  pub answers : (behind : List ℕ) (q : Question) → changeOn (take n (after x lent) ++ behind) q ≡ answer statements q
   pub never-refused : (q : Question) → declaredQuestion (declarations statements) q ≡ true → isRefusal (answer statements q .verdict) ≡ false

@@ -13,7 +13,7 @@ use Rattle.policy.specs.Answer.{answer}
 use Rattle.policy.specs.Image.{imageOf}
 use Rattle.policy.specs.Encode.{encode}
 use Rattle.policy.specs.Sound.{imageIn}
-use Rattle.policy.specs.Outcome.{policyOf}
+use Rattle.policy.specs.Outcome.{ofText, policyOf}
 use Rattle.policy.specs.Questions.{validOn, newRoleOn, changeOn}
 use Rattle.policy.specs.Opened.{computing}
 use Rattle.answer_laws.specs.Longer.{OneConstrainMore, ConstrainText, KeepsDenials}
@@ -27,10 +27,10 @@ abbrev statementsOf : Read → Policy
 statementsOf (policy p) = p
 statementsOf (refused n at) = []
 
-module _ {text before now : List ℕ} {n : ℕ} (c : Compiles text before now (Compiling.Accepted n)) where
+module _ {text before now : List ℕ} {n : ℕ} (c : Compiles (ofText text) before now (Compiling.Accepted n)) where
   -- the text's statements, and that their table is written
-  pub accepts : Accepts text before n
-  accepts = accepted-table text before n (sym (c .answer))
+  pub accepts : Accepts (ofText text) before n
+  accepts = accepted-table (ofText text) before n (sym (c .answer))
 
   -- the first n bytes of the memory are the table of the statements
   pub written : take n now ≡ encode (imageOf (accepts .statements))
@@ -41,28 +41,28 @@ module _ {text before now : List ℕ} {n : ℕ} (c : Compiles text before now (C
   moved f behind = ap (λ (t : List ℕ). f (t ++ behind)) written
 
 -- a text that says the same and then one constrain, compiled too
-keeps : {text before now text′ before′ now′ : List ℕ} {n n′ : ℕ} (c : Compiles text before now (Compiling.Accepted n)) (c′ : Compiles text′ before′ now′ (Compiling.Accepted n′))
+keeps : {text before now text′ before′ now′ : List ℕ} {n n′ : ℕ} (c : Compiles (ofText text) before now (Compiling.Accepted n)) (c′ : Compiles (ofText text′) before′ now′ (Compiling.Accepted n′))
     → OneConstrainMore (accepts c .statements) (accepts c′ .statements) → KeepsDenials (take n now) (take n′ now′)
 keeps {text} {before} {now} {text′} c c′ m =
-    rw (written c, written c′) (longer-table-denies text text′ (accepts c .statements) (accepts c′ .statements) m (accepts c .read) (accepts c′ .read))
+    rw (written c, written c′) (longer-table-denies (ofText text) (ofText text′) (accepts c .statements) (accepts c′ .statements) m (accepts c .read) (accepts c′ .read))
 
-pub demand-3 : {text before now : List ℕ} {n : ℕ} → Compiles text before now (Compiling.Accepted n) → Demand3 text (take n now)
+pub demand-3 : {text before now : List ℕ} {n : ℕ} → Compiles (ofText text) before now (Compiling.Accepted n) → Demand3 text (take n now)
 demand-3 {text} {before} {now} {n} c =
     let p = accepts c .statements in
     let r = accepts c .read in
-    let answers : (behind : List ℕ) (q : Question) → changeOn (take n now ++ behind) q ≡ _ = λ behind q. moved c (λ t. changeOn t q) behind ∙ table-answers text p r behind q in
+    let answers : (behind : List ℕ) (q : Question) → changeOn (take n now ++ behind) q ≡ _ = λ behind q. moved c (λ t. changeOn t q) behind ∙ table-answers (ofText text) p r behind q in
     record {
       statements = p;
       read = r;
       answers = answers;
       never-refused = λ behind q d. ap (λ (a : Answer). isRefusal (a .verdict)) (answers behind q) ∙ declared-unrefused p q d;
-      grants-only = λ behind q g. table-grants-only text p r behind q (sym (moved c (λ t. changeOn t q .verdict) behind) ∙ g);
-      grants-when = λ behind q d g. moved c (λ t. changeOn t q .verdict) behind ∙ table-grants-when text p r behind q d g;
+      grants-only = λ behind q g. table-grants-only (ofText text) p r behind q (sym (moved c (λ t. changeOn t q .verdict) behind) ∙ g);
+      grants-when = λ behind q d g. moved c (λ t. changeOn t q .verdict) behind ∙ table-grants-when (ofText text) p r behind q d g;
       longer-denies = λ longer before′ now′ n′ c′ said r′ m. keeps c c′ (subst (OneConstrainMore p) (ap statementsOf (sym r′ ∙ accepts c′ .read)) m);
       added-denies = λ more before′ now′ n′ c′ u. keeps c c′ (constrain-added text more p (accepts c′ .statements) u r (accepts c′ .read));
-      valid = λ behind x. moved c (λ t. validOn t x) behind ∙ table-valid text p r behind x;
-      new-role = λ behind x y z. moved c (λ t. newRoleOn t x y z) behind ∙ table-new-role text p r behind x y z;
-      holds = λ behind. moved c imageIn behind ∙ table-read text p r behind;
+      valid = λ behind x. moved c (λ t. validOn t x) behind ∙ table-valid (ofText text) p r behind x;
+      new-role = λ behind x y z. moved c (λ t. newRoleOn t x y z) behind ∙ table-new-role (ofText text) p r behind x y z;
+      holds = λ behind. moved c imageIn behind ∙ table-read (ofText text) p r behind;
     }
 
 -- bytes that one would add are such a text, blanks and comments around it or not

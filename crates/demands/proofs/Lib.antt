@@ -1,3 +1,4 @@
 pub mod Demands
 pub mod NoSlips
 pub mod ObjectRoles
+pub mod Lines

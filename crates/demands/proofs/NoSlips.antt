@@ -8,7 +8,7 @@ use Rattle.policy.specs.declared.Compiling.{Compiling}
 use Rattle.policy.specs.Reading.{Read, policy, refused}
 use Rattle.policy.specs.Deciding.{Question, Answer, refuses, unconsulted}
 use Rattle.policy.specs.Answer.{answer}
-use Rattle.policy.specs.Outcome.{policyOf, rejected, outcome}
+use Rattle.policy.specs.Outcome.{ofText, policyOf, refusalAt, rejected, outcome}
 use Rattle.policy.specs.Opened.{computing}
 use Rattle.compiler.specs.Promise.{Compiles}
 use Rattle.demands.specs.Slips.{Answers, NoSlip, sixDeep}
@@ -20,13 +20,13 @@ answerBy (policy p) q = answer p q
 answerBy (refused n at) q = unconsulted (refuses n at)
 
 -- the table answers what the statements of the text do
-by-text : (text : List ℕ) (q : Question) (a : Answer) → answerBy (policyOf text) q ≡ a → Answers text q a
+by-text : (text : List ℕ) (q : Question) (a : Answer) → answerBy (policyOf (ofText text)) q ≡ a → Answers text q a
 by-text text q a e before now behind n c =
     let d = demand-3 c in
     d .answers behind q ∙ sym (ap (λ (r : Read). answerBy r q) (d .read)) ∙ e
 
 -- a text that is refused before 10 is refused with any memory
-refused-so : (lent : ℕ) → outcome sixDeep lent ≡ rejected 7 13
+refused-so : (lent : ℕ) → outcome (ofText sixDeep) lent ≡ rejected (refusalAt 7 13 1)
 unfolding computing
 refused-so lent = refl
 

@@ -13,7 +13,7 @@ use Rattle.policy.specs.Deciding.{validReply, Question, granted, declaredQuesti
 use Rattle.policy.specs.Answer.{givenBy, answer}
 use Rattle.policy.specs.Image.{imageOf}
 use Rattle.policy.specs.Sound.{imageIn}
-use Rattle.policy.specs.Outcome.{policyOf}
+use Rattle.policy.specs.Outcome.{ofText, policyOf}
 use Rattle.policy.specs.Questions.{validOn, newRoleOn, changeOn}
 use Rattle.answer_laws.specs.ByStatements.{newRoleBy}
 use Rattle.answer_laws.specs.Granting.{Grants}
@@ -24,7 +24,7 @@ use Rattle.compiler.specs.Promise.{Compiles}
 pub record Demand3 (text table : List ℕ) : Type 0 where
   -- the statements of the text, as read
   pub statements : Policy
-  pub read : policyOf text ≡ policy statements
+  pub read : policyOf (ofText text) ≡ policy statements
   -- "whatever stands behind the table later, the written table, unaltered and read without the text, gives the answer that the statements
   -- give .. grant or denial, the denial's number, the failing constraint's number and the number consulted"
   pub answers : (behind : List ℕ) (q : Question) → changeOn (table ++ behind) q ≡ answer statements q
@@ -36,10 +36,10 @@ pub record Demand3 (text table : List ℕ) : Type 0 where
   pub grants-when : (behind : List ℕ) (q : Question) → declaredQuestion (declarations statements) q ≡ true → Grants statements q → changeOn (table ++ behind) q .verdict ≡ granted
   -- "Add one constrain statement at the end: if the longer policy is accepted, its table denies every question that the first table denies": of every text
   -- that says the same statements in order, wherever they stand in it, and then one constrain
-  pub longer-denies : (longer before now : List ℕ) (n : ℕ) → Compiles longer before now (Compiling.Accepted n) → (said : Policy) → policyOf longer ≡ policy said
+  pub longer-denies : (longer before now : List ℕ) (n : ℕ) → Compiles (ofText longer) before now (Compiling.Accepted n) → (said : Policy) → policyOf (ofText longer) ≡ policy said
       → OneConstrainMore statements said → KeepsDenials table (take n now)
   -- and of the bytes: this text, a line feed, and the bytes of one constrain
-  pub added-denies : (more before now : List ℕ) (n : ℕ) → Compiles (text ++ (10 ∷ more)) before now (Compiling.Accepted n) → ConstrainText more
+  pub added-denies : (more before now : List ℕ) (n : ℕ) → Compiles (ofText (text ++ (10 ∷ more))) before now (Compiling.Accepted n) → ConstrainText more
       → KeepsDenials table (take n now)
   -- valid context and new role give back what the statements say
   pub valid : (behind : List ℕ) (c : Context) → validOn (table ++ behind) c ≡ validReply (givenBy statements) c

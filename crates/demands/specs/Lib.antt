@@ -1,3 +1,4 @@
 pub mod Demands
 pub mod Slips
 pub mod ObjectRole
+pub mod Lines

@@ -11,13 +11,13 @@ use Rattle.policy.specs.declared.Compiling.{Compiling}
 use Rattle.policy.specs.Deciding.{Question, Answer, granted, denied, unconsulted}
 use Rattle.policy.specs.Answers.{compilingOf}
 use Rattle.policy.specs.Questions.{changeOn}
-use Rattle.policy.specs.Outcome.{accepted, rejected}
+use Rattle.policy.specs.Outcome.{ofText, refusalAt, rejected}
 use Rattle.policy.specs.Worked.{context}
 use Rattle.compiler.specs.Promise.{Compiles}
 
 -- every table that compile can write for the text answers so, whatever the memory held and whatever stands behind the table
 abbrev pub Answers : List ℕ → Question → Answer → Type 0
-Answers text q a = (before now behind : List ℕ) (n : ℕ) → Compiles text before now (Compiling.Accepted n) → changeOn (take n now ++ behind) q ≡ a
+Answers text q a = (before now behind : List ℕ) (n : ℕ) → Compiles (ofText text) before now (Compiling.Accepted n) → changeOn (take n now ++ behind) q ≡ a
 
 -- user 0 from role r to role s, with type 0, in a class and permission
 abbrev pub asking : ℕ → ℕ → ℕ → ℕ → Question
@@ -54,7 +54,7 @@ pub record NoSlip : Type 0 where
   pub role-64 : Answers role64 (asking 0 0 0 0) (unconsulted (denied 1))
   pub role-64-itself : Answers role64 (asking 64 64 0 0) (unconsulted granted)
   -- "Dropping the oldest operand on a full stack instead of refusing 7": it would accept
-  pub six-deep : (before now : List ℕ) (r : Compiling) → Compiles sixDeep before now r → compilingOf r ≡ rejected 7 13
+  pub six-deep : (before now : List ℕ) (r : Compiling) → Compiles (ofText sixDeep) before now r → compilingOf r ≡ rejected (refusalAt 7 13 1)
   -- "Asking a role allow where the role stays the same": it would deny, 3
   pub same-role : Answers office (asking 0 0 0 0) (unconsulted granted)
   -- "or on a class other than `process`": it would deny, 3

@@ -1,13 +1,17 @@
-// The line that a program writes of a scan: `clean`, or `refused` with the number and the place of the fault.
+// The line that a program writes of a scan: `clean`, or `refused` with the number, the place and the line of the fault.
 use lexer::Scanned;
 use lexer::Text;
 use libc::STDOUT_FILENO;
 
-fn refused(number: u64, place: usize) {
-    io::write_all(STDOUT_FILENO, b"refused ");
-    io::print_decimal(STDOUT_FILENO, number);
-    io::write_all(STDOUT_FILENO, b" at ");
-    io::print_decimal(STDOUT_FILENO, place as u64);
+fn numbered(word: &[u8], number: usize) {
+    io::write_all(STDOUT_FILENO, word);
+    io::print_decimal(STDOUT_FILENO, number as u64);
+}
+
+fn refused(number: usize, text: &[u8], place: usize) {
+    numbered(b"refused ", number);
+    numbered(b" at ", place);
+    numbered(b" line ", lines::line_of(text, place));
     io::write_all(STDOUT_FILENO, b"\n");
 }
 
@@ -18,7 +22,7 @@ pub fn show(text: &[u8]) {
         Scanned::Clean => {
             io::write_all(STDOUT_FILENO, b"clean\n");
         }
-        Scanned::TooLong => refused(1, Text::MAX),
-        Scanned::Wrong(place) => refused(2, place),
+        Scanned::TooLong => refused(1, text, Text::MAX),
+        Scanned::Wrong(place) => refused(2, text, place),
     }
 }

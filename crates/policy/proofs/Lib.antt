@@ -7,3 +7,4 @@ pub mod IfAny
 pub mod Counts
 pub mod Differing
 pub mod Environments
+pub mod LineFeeds

@@ -4,6 +4,7 @@ use mathlib.Core.Bool.{Bool, true, false}
 use Rattle.policy.specs.declared.Family as theFamily
 use Rattle.policy.specs.declared.Relation as theRelation
 use Rattle.policy.specs.declared.Sort as theSort
+use Rattle.policy.specs.declared.Refusal as theRefusal
 use Rattle.policy.specs.declared.Compiling.{Compiling}
 use Rattle.policy.specs.declared.Validity.{Validity}
 use Rattle.policy.specs.declared.Change.{Change}
@@ -12,7 +13,7 @@ use Rattle.policy.specs.declared.Place.{Place}
 use Rattle.policy.specs.Statements.{Family, users, roles, types, Sort, thingOf, attributeOf, Relation, userrole, roletype, roleallow}
 use Rattle.policy.specs.Maxima.{maxOf, maxClasses, maxPermissions}
 use Rattle.policy.specs.Deciding.{Answer, granted, denied, fails, refuses, unconsulted, Reply, answered, refused}
-use Rattle.policy.specs.Outcome.{Outcome, accepted, rejected}
+use Rattle.policy.specs.Outcome.{Refusal, refusalAt, Outcome, accepted, rejected}
 use Rattle.policy.specs.Questions.{Part}
 
 abbrev pub familyOf : theFamily.Family → Family
@@ -48,10 +49,14 @@ mostOf theSort.Sort.TypeAttribute = maxOf (attributeOf types)
 mostOf theSort.Sort.Class = maxClasses
 mostOf theSort.Sort.Permission = maxPermissions
 
--- accepted with the length; refused with number and place
+-- a refusal's number, place and line
+abbrev pub refusalIn : theRefusal.Refusal → Refusal
+refusalIn r = refusalAt (r .number) (r .place) (r .line)
+
+-- accepted with the length, or refused
 abbrev pub compilingOf : Compiling → Outcome
 compilingOf (Compiling.Accepted n) = accepted n
-compilingOf (Compiling.Refused n at) = rejected n at
+compilingOf (Compiling.Refused r) = rejected (refusalIn r)
 
 -- 11 and 12 have the place 0
 abbrev pub validityOf : Validity → Reply Bool

@@ -22,3 +22,4 @@ pub mod Opened
 pub mod Worked
 pub mod Slips
 pub mod Objects
+pub mod Lines

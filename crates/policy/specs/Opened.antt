@@ -20,10 +20,10 @@ use Rattle.policy.specs.Image.{maskOf as maskOf-of-Image, imageOf}
 use Rattle.policy.specs.Encode.{permissionEntries, entriesFrom, entries, headsFrom, bodies, pairs, encode}
 use Rattle.policy.specs.Sound.{goodFrom, wellFormed, bodyLengths, splitBodies, bodiesIn, pieces, entriesIn, group, sameNumbers, namesAt, assignRows, imageIn}
 use Rattle.policy.specs.Questions.{valid, change, firstTransition, newRole, nameFrom, nameOf, recordFrom, entryOf, validOn, newRoleOn, nameOn, entryOn, changeOn}
-use Rattle.policy.specs.Outcome.{accept, policyOf, compiled, outcome, after}
+use Rattle.policy.specs.Outcome.{accept, policyOf, compiled, lineFeeds, refusalOf, outcome, after}
 use Rattle.policy.specs.Roll.{digits, rollLines, rollOf, printed}
 
 -- to unfold this is to unfold all of them
 unfoldable pub computing : Unit {0}
-unfolding bit member fromBits tabulate setOf countBelow allBelow meet inserted removed unionOf intersectionOf symmetricDifferenceOf differenceOf copyOf emptied complementOf within meets equal count bitByte maskOf joined relation granted classOf allGoOn isName build framesAt formsOf trim closes balanced namesGood scanFrom scan tokensFrom tokensAt tokens tokenAt same any every each eachOf gather isIn isAmong differ indexOf lookup le unle namesOf familyNames classNames permissions count-of-Statements declarations setsFor transitions constrains size need firstFrom environmentOf refer numberIn reserved isReserved keywordOf setWord expressionWord opOf componentOf operandRow operands setIn expressions expressionIn namesIn referS referE rowCount judge readFrom readPolicy ofS countIn unionOf-of-Meaning nested final stands related holds mentionsS mentions attributesIn below wider reach onCycle places firstCycle cycle clashes firstClash clash isObject validBy firstFailing decide declaredContext declaredQuestion asksRole mayBecome ruledBy answer rowsOf run balanced-of-Rows maskOf-of-Image imageOf permissionEntries entriesFrom entries headsFrom bodies pairs encode goodFrom wellFormed bodyLengths splitBodies bodiesIn pieces entriesIn group sameNumbers namesAt assignRows imageIn valid change firstTransition newRole nameFrom nameOf recordFrom entryOf validOn newRoleOn nameOn entryOn changeOn accept policyOf compiled outcome after digits rollLines rollOf printed
+unfolding bit member fromBits tabulate setOf countBelow allBelow meet inserted removed unionOf intersectionOf symmetricDifferenceOf differenceOf copyOf emptied complementOf within meets equal count bitByte maskOf joined relation granted classOf allGoOn isName build framesAt formsOf trim closes balanced namesGood scanFrom scan tokensFrom tokensAt tokens tokenAt same any every each eachOf gather isIn isAmong differ indexOf lookup le unle namesOf familyNames classNames permissions count-of-Statements declarations setsFor transitions constrains size need firstFrom environmentOf refer numberIn reserved isReserved keywordOf setWord expressionWord opOf componentOf operandRow operands setIn expressions expressionIn namesIn referS referE rowCount judge readFrom readPolicy ofS countIn unionOf-of-Meaning nested final stands related holds mentionsS mentions attributesIn below wider reach onCycle places firstCycle cycle clashes firstClash clash isObject validBy firstFailing decide declaredContext declaredQuestion asksRole mayBecome ruledBy answer rowsOf run balanced-of-Rows maskOf-of-Image imageOf permissionEntries entriesFrom entries headsFrom bodies pairs encode goodFrom wellFormed bodyLengths splitBodies bodiesIn pieces entriesIn group sameNumbers namesAt assignRows imageIn valid change firstTransition newRole nameFrom nameOf recordFrom entryOf validOn newRoleOn nameOn entryOn changeOn accept policyOf compiled lineFeeds refusalOf outcome after digits rollLines rollOf printed
 computing = tt

@@ -12,7 +12,7 @@ use Rattle.policy.specs.Statements.{users, roles, thingOf, namesOf}
 use Rattle.bitset.specs.Sets.{count}
 use Rattle.policy.specs.Image.{Image}
 use Rattle.policy.specs.Encode.{encode}
-use Rattle.policy.specs.Outcome.{Compiled, compiles, refuses, compiled}
+use Rattle.policy.specs.Outcome.{Input, Compiled, compiles, refuses, compiled, Refusal, refusalOf}
 
 -- a number in decimal digits, at most k of them
 unfoldable pub digits : ℕ → ℕ → List ℕ
@@ -37,13 +37,18 @@ rollOf i =
     rollLines (bytes "user ") (bytes " roles ") (namesOf (thingOf users) (i .names)) (i .userRoles)
     ++ rollLines (bytes "role ") (bytes " types ") (namesOf (thingOf roles) (i .names)) (i .roleTypes)
 
--- "A refusal prints one line, as `refused 5 at 8`"; `accepted 264 bytes`, then the lines
-abbrev pub refusal : ℕ → ℕ → List ℕ
-refusal n at = joined (bytes "refused " ∷ decimal n ∷ bytes " at " ∷ decimal at ∷ (10 ∷ []) ∷ [])
+-- W-202: "The program prints `refused 5 at 8 line 1`"
+abbrev pub labelled : List ℕ → ℕ → List ℕ
+labelled w n = w ++ decimal n
+
+abbrev pub refusal : Refusal → List ℕ
+refusal r = joined (labelled (bytes "refused ") (r .number) ∷ labelled (bytes " at ") (r .place) ∷ labelled (bytes " line ") (r .line) ∷ (10 ∷ []) ∷ [])
+
+-- `accepted 264 bytes`, then the lines
 
 abbrev pub roll : Image → List ℕ
 roll i = joined (bytes "accepted " ∷ decimal (length (encode i)) ∷ bytes " bytes" ∷ (10 ∷ []) ∷ rollOf i ∷ [])
 
 -- "with a table memory of 65,536 bytes"
-unfoldable pub printed : List ℕ → List ℕ
-printed text = elim (compiled text 65536) [ refuses n at ↦ refusal n at | compiles i ↦ roll i ]
+unfoldable pub printed : Input → List ℕ
+printed x = elim (compiled x 65536) [ refuses n at ↦ refusal (refusalOf x n at) | compiles i ↦ roll i ]

@@ -17,20 +17,20 @@ use Rattle.policy.specs.Answer.{answer}
 use Rattle.policy.specs.Rows.{View, rowsOf, run}
 use Rattle.policy.specs.Encode.{encode}
 use Rattle.policy.specs.Questions.{changeOn, sideOf}
-use Rattle.policy.specs.Outcome.{compiles, refuses, compiled, policyOf}
+use Rattle.policy.specs.Outcome.{ofText, compiles, refuses, compiled, policyOf}
 use Rattle.policy.specs.Worked.{firstSet, tableOf, toRight, context}
 use Rattle.policy.specs.Opened.{computing}
 
 -- what the statements of a text answer, and what its table answers
 abbrev fromText : List ℕ → Question → Answer
-fromText text q = elim (policyOf text) [ policy p ↦ answer p q | refused n at ↦ unconsulted (refuses n at) ]
+fromText text q = elim (policyOf (ofText text)) [ policy p ↦ answer p q | refused n at ↦ unconsulted (refuses n at) ]
 
 abbrev fromTable : List ℕ → Question → Answer
 fromTable text q = changeOn (tableOf text) q
 
 -- the roles of user 0 of a text, in 16 bytes
 abbrev rolesOfFirst : List ℕ → List ℕ
-rolesOfFirst text = elim (policyOf text) [ policy p ↦ setOf 16 (related p userrole 0) | refused n at ↦ [] ]
+rolesOfFirst text = elim (policyOf (ofText text)) [ policy p ↦ setOf 16 (related p userrole 0) | refused n at ↦ [] ]
 
 -- user u may be in the roles a and b, either with type t; no role allow is said
 abbrev office : List ℕ

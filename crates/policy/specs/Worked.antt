@@ -13,7 +13,7 @@ use Rattle.policy.specs.Meaning.{Context, final}
 use Rattle.policy.specs.Deciding.{Question, denied, unconsulted}
 use Rattle.policy.specs.Answer.{answer}
 use Rattle.bitset.specs.Sets.{setOf, tabulate}
-use Rattle.policy.specs.Outcome.{compiles, refuses, accepted, rejected, outcome, compiled, policyOf}
+use Rattle.policy.specs.Outcome.{ofText, compiles, refuses, refusalAt, accepted, rejected, outcome, compiled, policyOf}
 use Rattle.policy.specs.Encode.{encode}
 use Rattle.policy.specs.Questions.{changeOn}
 use Rattle.policy.specs.Opened.{computing}
@@ -37,7 +37,7 @@ rollLines =
 
 -- the table of a text; nothing where it is refused
 abbrev pub tableOf : List ℕ → List ℕ
-tableOf text = elim (compiled text 65536) [ compiles i ↦ encode i | refuses n p ↦ [] ]
+tableOf text = elim (compiled (ofText text) 65536) [ compiles i ↦ encode i | refuses n p ↦ [] ]
 
 -- the eight offsets of a table
 abbrev pub offsets : List ℕ → List ℕ
@@ -45,7 +45,7 @@ offsets t = tabulate 8 (λ k. unle (take 4 (drop (4 + 8 * k) t)))
 
 -- the final set of roleattribute 0 of a text, in 16 bytes; nothing where it is refused
 abbrev pub firstSet : List ℕ → List ℕ
-firstSet text = elim (policyOf text) [ policy p ↦ setOf 16 (final p roles 0) | refused n at ↦ [] ]
+firstSet text = elim (policyOf (ofText text)) [ policy p ↦ setOf 16 (final p roles 0) | refused n at ↦ [] ]
 
 -- n + 1 comparisons joined by `and`, to the right and to the left
 abbrev pub comparison : Constraint Reference
@@ -67,14 +67,14 @@ abbrev asked : ℕ → Question
 asked k = record { source = context 0 0 0; target = context 0 1 0; class = 0; perm = k }
 
 pub record Worked : Type 0 where
-  pub p1 : outcome (bytes "") 68 ≡ accepted 68
-  pub p2 : (readPolicy rollText ≡ policy rollLines) × (outcome rollText 264 ≡ accepted 264)
+  pub p1 : outcome (ofText (bytes "")) 68 ≡ accepted 68
+  pub p2 : (readPolicy rollText ≡ policy rollLines) × (outcome (ofText rollText) 264 ≡ accepted 264)
       × (offsets (tableOf rollText) ≡ 68 ∷ 88 ∷ 104 ∷ 232 ∷ 264 ∷ 264 ∷ 264 ∷ 264 ∷ [])
-  pub p3 : (lent : ℕ) → outcome (bytes "(role a)(role a)") lent ≡ rejected 4 8
-  pub p4 : (lent : ℕ) → outcome (bytes "(role a)(roletype a t)") lent ≡ rejected 5 8
-  pub p5 : (lent : ℕ) → outcome (bytes "(") lent ≡ rejected 2 1
-  pub p6 : (lent : ℕ) → outcome (bytes "()") lent ≡ rejected 3 0
-  pub p7 : (lent : ℕ) → outcome (bytes "(roleattribute x)(roleattributeset x (x))") lent ≡ rejected 8 0
+  pub p3 : (lent : ℕ) → outcome (ofText (bytes "(role a)(role a)")) lent ≡ rejected (refusalAt 4 8 1)
+  pub p4 : (lent : ℕ) → outcome (ofText (bytes "(role a)(roletype a t)")) lent ≡ rejected (refusalAt 5 8 1)
+  pub p5 : (lent : ℕ) → outcome (ofText (bytes "(")) lent ≡ rejected (refusalAt 2 1 1)
+  pub p6 : (lent : ℕ) → outcome (ofText (bytes "()")) lent ≡ rejected (refusalAt 3 0 1)
+  pub p7 : (lent : ℕ) → outcome (ofText (bytes "(roleattribute x)(roleattributeset x (x))")) lent ≡ rejected (refusalAt 8 0 1)
   pub p8 : firstSet (bytes "(role a)(role b)(role c)(roleattribute x)(roleattributeset x (not (a b)))") ≡ setOf 16 (λ n. eqb n 2)
   pub p9 : firstSet (bytes "(role a)(role b)(role c)(roleattribute x)(roleattributeset x (xor (a b) (b c)))") ≡ 5 ∷ replicate 15 0
   pub p10 : (need (toRight 4) ≡ 5) × (need (toRight 5) ≡ 6) × (need (toLeft 4) ≡ 2) × (need (toLeft 5) ≡ 2)

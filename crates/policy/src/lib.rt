@@ -121,10 +121,17 @@ pub fn most(sort: Sort) -> usize
     }
 }
 
-// What compiling a text answers: the length of its table, or a refusal 1 to 10 and its place.
+// A refusal of a text: its number, 1 to 10, its place, and the line of a place in the text, else 0.
+pub struct Refusal {
+    pub number: usize,
+    pub place: usize,
+    pub line: usize,
+}
+
+// What compiling a text answers: the length of its table, or a refusal.
 pub enum Compiling {
     Accepted { length: usize },
-    Refused { number: usize, place: usize },
+    Refused(Refusal),
 }
 
 // Whether a context is valid; or a refusal, 11 or 12.

@@ -16,7 +16,7 @@ use Rattle.policy.specs.Statements.{Statement, Policy, declarations, transition
 use Rattle.policy.specs.Reading.{rowCount, Judged, reads, fault, judge, Read, policy, refused, readFrom, afterScan, readPolicy}
 use Rattle.policy.specs.Sound.{goodFrom}
 use Rattle.policy.specs.Faults.{cycle, clash}
-use Rattle.policy.specs.Outcome.{accept, policyOf}
+use Rattle.policy.specs.Outcome.{Input, accept, policyOf}
 use Rattle.policy.specs.Accepted.{Accepted}
 use Rattle.policy.proofs.Lists.{both-true}
 use Rattle.reading_laws.proofs.Judging.{judge-passes}
@@ -79,22 +79,22 @@ read-accepted text p h = go (scan text) refl .has p h
     go (Scanned.Wrong at) e = unread _ _
     go Scanned.Clean e = row-accepted (formsOf text) (clean-names text e) [] none-accepted
 
-pub policy-accepted : (text : List ℕ) (p : Policy) → policyOf text ≡ policy p → Accepted p × (cycle p ≡ none) × (clash p ≡ none)
+pub policy-accepted : (x : Input) (p : Policy) → policyOf x ≡ policy p → Accepted p × (cycle p ≡ none) × (clash p ≡ none)
 unfolding policyOf
-policy-accepted text p h = go (readPolicy text) refl h
+policy-accepted x p h = go (readPolicy (x .text)) refl h
   where
-    go : (r : Read) → readPolicy text ≡ r → elim r [ refused n at ↦ refused n at | policy q ↦ accept q ] ≡ policy p
+    go : (r : Read) → readPolicy (x .text) ≡ r → elim r [ refused n at ↦ refused n at | policy q ↦ accept q ] ≡ policy p
         → Accepted p × (cycle p ≡ none) × (clash p ≡ none)
     go (refused n at) e k = let z : _≡_ {A = ℕ} 0 1 = cc in absurd (omega arith)
     go (policy q) e k =
         let b = accept-passes q p k in
-        subst (λ (r : Policy). Accepted r × (cycle r ≡ none) × (clash r ≡ none)) (b .0) (read-accepted text q e, b .1, b .2)
+        subst (λ (r : Policy). Accepted r × (cycle r ≡ none) × (clash r ≡ none)) (b .0) (read-accepted (x .text) q e, b .1, b .2)
 
 -- and it is what is read
-pub policy-read : (text : List ℕ) (p : Policy) → policyOf text ≡ policy p → readPolicy text ≡ policy p
+pub policy-read : (x : Input) (p : Policy) → policyOf x ≡ policy p → readPolicy (x .text) ≡ policy p
 unfolding policyOf
-policy-read text p h = go (readPolicy text) refl h
+policy-read x p h = go (readPolicy (x .text)) refl h
   where
-    go : (r : Read) → readPolicy text ≡ r → elim r [ refused n at ↦ refused n at | policy q ↦ accept q ] ≡ policy p → readPolicy text ≡ policy p
+    go : (r : Read) → readPolicy (x .text) ≡ r → elim r [ refused n at ↦ refused n at | policy q ↦ accept q ] ≡ policy p → readPolicy (x .text) ≡ policy p
     go (refused n at) e k = let z : _≡_ {A = ℕ} 0 1 = cc in absurd (omega arith)
     go (policy q) e k = e ∙ ap policy (accept-passes q p k .0)

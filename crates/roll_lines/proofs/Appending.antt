@@ -33,6 +33,14 @@ three-parts {a} {b} {c} {d} {at} {p} {q} {r} {k} {l} {m} h f g i =
     let same = appends-length one f in
     appends-then one f (appends-then (omega (arith, h, same, f .ends)) g (appends-last i))
 
+pub four-parts : {a b c d e : List ℕ} {at p q r s : ℕ} {k l m n : List ℕ} → at + (length k + (length l + (length m + length n))) ≤ length a
+    → Appends a at k b p → Appends b p l c q → Appends c q m d r → Appends d r n e s → Appends a at (joined (k ∷ l ∷ m ∷ n ∷ [])) e s
+unfolding joined
+four-parts {a} {b} {c} {d} {e} {at} {p} {q} {r} {s} {k} {l} {m} {n} h one two three four =
+    let k-fits : at + length k ≤ length a = omega arith in
+    let b-long = appends-length k-fits one in
+    appends-then k-fits one (three-parts (omega (arith, h, b-long, one .ends)) two three four)
+
 pub five-parts : {a b c d e f : List ℕ} {at p q r s z : ℕ} {k l m n o : List ℕ} → at + (length k + (length l + (length m + (length n + length o)))) ≤ length a
     → Appends a at k b p → Appends b p l c q → Appends c q m d r → Appends d r n e s → Appends e s o f z → Appends a at (joined (k ∷ l ∷ m ∷ n ∷ o ∷ [])) f z
 unfolding joined

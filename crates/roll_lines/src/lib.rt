@@ -1,11 +1,13 @@
 // The lines of the printed roll, written one behind the other into lent memory: those of a sound table, or the line of a refusal.
 use policy::Place;
+use policy::Refusal;
 ghost use mathlib.Core.Path.{_≡_};
 ghost use mathlib.Core.Bool.{true};
 ghost use Prim.Native.Nat.{_+_, _*_, _≤_, _<_};
 ghost use lib.ListN.{length};
 ghost use Rattle.policy.specs.Questions.{entryOn};
-ghost use Rattle.policy.specs.Roll.{rollLine, refusal};
+ghost use Rattle.policy.specs.Answers.{refusalIn};
+ghost use Rattle.policy.specs.Roll.{rollLine, labelled, refusal};
 ghost use Rattle.soundness.specs.IsSound.{isSound};
 ghost use Rattle.table_parts.specs.ShownPart.{shownPart};
 ghost use Rattle.text_writer.specs.Writing.{Appends};
@@ -26,16 +28,24 @@ fn put_line(out: &mut [u8], at: usize, kind: &[u8], name: &[u8], of: &[u8], set:
     text_writer::put_bytes(out, end, b"\n")
 }
 
-// Writes the line of a refusal.
-pub fn put_refusal(out: &mut [u8], number: usize, place: usize) -> usize
-    requires { ⌜ 53 ≤ length (now out) ⌝ }
-    ensures { λ r. ⌜ Appends (now (out .entry)) 0 (refusal number place) (now (out .exit)) r ⌝ }
+// Writes a word and a number behind it.
+fn put_labelled(out: &mut [u8], at: usize, label: &[u8], number: usize) -> usize
+    requires { ⌜ at + (length (now label) + 20) ≤ length (now out) ⌝ }
+    ensures { λ r. ⌜ Appends (now (out .entry)) at (labelled (now (label .entry)) number) (now (out .exit)) r × (r ≤ at + (length (now (label .entry)) + 20)) ⌝ }
 {
-    let start = text_writer::put_bytes(out, 0, b"refused ");
-    let past_number = text_writer::put_decimal(out, start, number);
-    let at = text_writer::put_bytes(out, past_number, b" at ");
-    let end = text_writer::put_decimal(out, at, place);
-    text_writer::put_bytes(out, end, b"\n")
+    let start = text_writer::put_bytes(out, at, label);
+    text_writer::put_decimal(out, start, number)
+}
+
+// Writes the line of a refusal.
+pub fn put_refusal(out: &mut [u8], refused: Refusal) -> usize
+    requires { ⌜ 79 ≤ length (now out) ⌝ }
+    ensures { λ r. ⌜ Appends (now (out .entry)) 0 (refusal (refusalIn refused)) (now (out .exit)) r ⌝ }
+{
+    let past_number = put_labelled(out, 0, b"refused ", refused.number);
+    let past_place = put_labelled(out, past_number, b" at ", refused.place);
+    let past_line = put_labelled(out, past_place, b" line ", refused.line);
+    text_writer::put_bytes(out, past_line, b"\n")
 }
 
 // Writes the first line of the roll of an accepted text.

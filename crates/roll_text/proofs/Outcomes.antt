@@ -11,70 +11,70 @@ use Rattle.policy.specs.Reading.{Read, policy, refused}
 use Rattle.policy.specs.Image.{Image, imageOf}
 use Rattle.policy.specs.Encode.{encode}
 use Rattle.policy.specs.Sound.{imageIn}
-use Rattle.policy.specs.Outcome.{policyOf, Compiled, compiles, refuses, fitted, compiled, Outcome, accepted, rejected, outcomeOf, afterOf, outcome, after}
+use Rattle.policy.specs.Outcome.{Input, policyOf, Compiled, compiles, refuses, fitted, compiled, Refusal, refusalOf, Outcome, accepted, rejected, outcomeOf, afterOf, outcome, after}
 use Rattle.policy.specs.Roll.{refusal, roll, printed}
 use Rattle.demand_laws.proofs.Demand3.{table-read}
 
 -- the memory holds a table of n bytes, and what is printed is the roll of its image
-pub record Holds (text memory : List ℕ) (n : ℕ) : Type 0 where
+pub record Holds (x : Input) (memory : List ℕ) (n : ℕ) : Type 0 where
   pub image : Image
   pub read : imageIn memory ≡ some image
   pub long : n ≡ length (encode image)
-  pub prints : printed text ≡ roll image
+  pub prints : printed x ≡ roll image
 
 -- the parts of an answer
 abbrev isAccepted : Outcome → Bool
 isAccepted (accepted n) = true
-isAccepted (rejected n at) = false
+isAccepted (rejected r) = false
 
-abbrev numberOf : Outcome → ℕ
-numberOf (accepted n) = n
-numberOf (rejected n at) = n
+abbrev lengthOf : Outcome → ℕ
+lengthOf (accepted n) = n
+lengthOf (rejected r) = 0
 
-abbrev placeOf : Outcome → ℕ
-placeOf (accepted n) = 0
-placeOf (rejected n at) = at
+abbrev refusedBy : Outcome → Refusal → Refusal
+refusedBy (accepted n) d = d
+refusedBy (rejected r) d = r
 
 -- what is printed, by what compiling gives
-abbrev print : Compiled → List ℕ
-print c = elim c [ refuses n at ↦ refusal n at | compiles i ↦ roll i ]
+abbrev print : Input → Compiled → List ℕ
+print x c = elim c [ refuses n at ↦ refusal (refusalOf x n at) | compiles i ↦ roll i ]
 
 -- what compiling gives, by what reading gives
 abbrev compiledBy : Read → ℕ → Compiled
 compiledBy r lent = elim r [ refused n at ↦ refuses n at | policy p ↦ fitted lent (imageOf p) ]
 
-module _ (text : List ℕ) where
+module _ (x : Input) where
   -- A REFUSAL
 
-  printed-by : (c : Compiled) → compiled text 65536 ≡ c → printed text ≡ print c
+  printed-by : (c : Compiled) → compiled x 65536 ≡ c → printed x ≡ print x c
   unfolding printed
-  printed-by c e = ap print e
+  printed-by c e = ap (print x) e
 
-  answered-by : (c : Compiled) → compiled text 65536 ≡ c → outcome text 65536 ≡ outcomeOf c
+  answered-by : (c : Compiled) → compiled x 65536 ≡ c → outcome x 65536 ≡ outcomeOf x c
   unfolding outcome
-  answered-by c e = ap outcomeOf e
+  answered-by c e = ap (outcomeOf x) e
 
-  pub refusal-printed : (n at : ℕ) → rejected n at ≡ outcome text 65536 → printed text ≡ refusal n at
-  refusal-printed n at h = by (compiled text 65536) refl
+  pub refusal-printed : (r : Refusal) → rejected r ≡ outcome x 65536 → printed x ≡ refusal r
+  refusal-printed r h = by (compiled x 65536) refl
     where
-      by : (c : Compiled) → compiled text 65536 ≡ c → printed text ≡ refusal n at
+      by : (c : Compiled) → compiled x 65536 ≡ c → printed x ≡ refusal r
       by (compiles i) e = absurd (false≢true (ap isAccepted (h ∙ answered-by (compiles i) e)))
       by (refuses m k) e =
           let same = h ∙ answered-by (refuses m k) e in
-          printed-by (refuses m k) e ∙ sym (ap₂ refusal (ap numberOf same) (ap placeOf same))
+          printed-by (refuses m k) e ∙ sym (ap (λ (o : Outcome). refusal (refusedBy o r)) same)
 
   -- A ROLL
 
-  compiled-by : (r : Read) → policyOf text ≡ r → compiled text 65536 ≡ compiledBy r 65536
+  compiled-by : (r : Read) → policyOf x ≡ r → compiled x 65536 ≡ compiledBy r 65536
   unfolding compiled
   compiled-by r e = ap (λ (s : Read). compiledBy s 65536) e
 
-  module _ (n : ℕ) (before : List ℕ) (long : length before ≡ 65536) (h : accepted n ≡ outcome text 65536) where
-    memory-by : (c : Compiled) → compiled text 65536 ≡ c → after text before ≡ afterOf c before
+  module _ (n : ℕ) (before : List ℕ) (long : length before ≡ 65536) (h : accepted n ≡ outcome x 65536) where
+    memory-by : (c : Compiled) → compiled x 65536 ≡ c → after x before ≡ afterOf c before
     unfolding after
-    memory-by c e = ap (λ (c : Compiled). afterOf c before) (ap (compiled text) long ∙ e)
+    memory-by c e = ap (λ (c : Compiled). afterOf c before) (ap (compiled x) long ∙ e)
 
-    of-policy : (p : Policy) → policyOf text ≡ policy p → (b : Bool) → leb (length (encode (imageOf p))) 65536 ≡ b → Holds text (after text before) n
+    of-policy : (p : Policy) → policyOf x ≡ policy p → (b : Bool) → leb (length (encode (imageOf p))) 65536 ≡ b → Holds x (after x before) n
     of-policy p e false f =
         let c = compiled-by (policy p) e ∙ ap (λ (b : Bool). cond b (compiles (imageOf p)) (refuses 10 (length (encode (imageOf p))))) f in
         absurd (false≢true (sym (ap isAccepted (h ∙ answered-by (refuses 10 (length (encode (imageOf p)))) c))))
@@ -82,14 +82,14 @@ module _ (text : List ℕ) where
         let c = compiled-by (policy p) e ∙ ap (λ (b : Bool). cond b (compiles (imageOf p)) (refuses 10 (length (encode (imageOf p))))) f in
         record {
           image = imageOf p;
-          read = ap imageIn (memory-by (compiles (imageOf p)) c) ∙ table-read text p e (drop (length (encode (imageOf p))) before);
-          long = ap numberOf (h ∙ answered-by (compiles (imageOf p)) c);
+          read = ap imageIn (memory-by (compiles (imageOf p)) c) ∙ table-read x p e (drop (length (encode (imageOf p))) before);
+          long = ap lengthOf (h ∙ answered-by (compiles (imageOf p)) c);
           prints = printed-by (compiles (imageOf p)) c;
         }
 
-    pub roll-printed : Holds text (after text before) n
-    roll-printed = by (policyOf text) refl
+    pub roll-printed : Holds x (after x before) n
+    roll-printed = by (policyOf x) refl
       where
-        by : (r : Read) → policyOf text ≡ r → Holds text (after text before) n
+        by : (r : Read) → policyOf x ≡ r → Holds x (after x before) n
         by (refused m k) e = absurd (false≢true (sym (ap isAccepted (h ∙ answered-by (refuses m k) (compiled-by (refused m k) e)))))
         by (policy p) e = of-policy p e (leb (length (encode (imageOf p))) 65536) refl

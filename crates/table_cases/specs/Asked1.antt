@@ -12,13 +12,13 @@ use Rattle.policy.specs.Deciding.{Question, Answer, granted, denied, fails, ref
 use Rattle.policy.specs.Answer.{answer}
 use Rattle.policy.specs.Questions.{changed, changeOn, validOn, newRoleOn, nameOn, entryOn}
 use Rattle.policy.specs.Sound.{imageIn}
-use Rattle.policy.specs.Outcome.{policyOf}
+use Rattle.policy.specs.Outcome.{ofText, policyOf}
 use Rattle.policy.specs.Worked.{tableOf, context}
 use Rattle.policy.specs.Opened.{computing}
 
 -- what the statements of a text answer
 abbrev fromText : List ℕ → List Question → List Answer
-fromText text qs = elim (policyOf text) [ policy p ↦ each (answer p) qs | refused n at ↦ [] ]
+fromText text qs = elim (policyOf (ofText text)) [ policy p ↦ each (answer p) qs | refused n at ↦ [] ]
 
 -- `changeOn` for each question
 abbrev changesOn : List ℕ → List Question → List Answer

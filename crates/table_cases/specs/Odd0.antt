@@ -12,7 +12,7 @@ use Rattle.policy.specs.Deciding.{Question, Answer, granted, denied, fails, ref
 use Rattle.policy.specs.Answer.{answer}
 use Rattle.policy.specs.Questions.{changed, changeOn, validOn, newRoleOn, nameOn, entryOn}
 use Rattle.policy.specs.Sound.{imageIn}
-use Rattle.policy.specs.Outcome.{policyOf}
+use Rattle.policy.specs.Outcome.{ofText, policyOf}
 use Rattle.policy.specs.Worked.{tableOf, context}
 use Rattle.policy.specs.Opened.{computing}
 

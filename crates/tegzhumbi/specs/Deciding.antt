@@ -9,31 +9,31 @@ use Rattle.policy.specs.Statements.{Policy}
 use Rattle.policy.specs.Reading.{Read, policy, refused}
 use Rattle.policy.specs.Deciding.{Question, Answer}
 use Rattle.policy.specs.Answer.{answer}
-use Rattle.policy.specs.Answers.{changeOf}
+use Rattle.policy.specs.Answers.{refusalIn, changeOf}
 use Rattle.policy.specs.Image.{imageOf}
 use Rattle.policy.specs.Encode.{encode}
 use Rattle.policy.specs.Outcome as outcomes
-use Rattle.policy.specs.Outcome.{policyOf}
+use Rattle.policy.specs.Outcome.{Input, policyOf, Refusal, refusalOf}
 use Rattle.tegzhumbi.specs.declared.Decision as theDecision
 
--- a refusal of the text by its number and place, or an answer
+-- a refusal of the text, or an answer
 pub data Decided : Type 0 where
-  rejected : ℕ → ℕ → Decided
+  rejected : Refusal → Decided
   answered : Answer → Decided
 
 abbrev pub decisionOf : theDecision.Decision → Decided
-decisionOf (theDecision.Decision.Refused n at) = rejected n at
+decisionOf (theDecision.Decision.Refused r) = rejected (refusalIn r)
 decisionOf (theDecision.Decision.Answered c) = answered (changeOf c)
 
 -- what the statements of a policy answer, where its table has room: "the answer that the statements give"; 10: "the length needed"
-abbrev pub answeredBy : Policy → ℕ → Question → Decided
-answeredBy p lent q = cond (leb (length (encode (imageOf p))) lent) (answered (answer p q)) (rejected 10 (length (encode (imageOf p))))
+abbrev pub answeredBy : Input → Policy → ℕ → Question → Decided
+answeredBy x p lent q = cond (leb (length (encode (imageOf p))) lent) (answered (answer p q)) (rejected (refusalOf x 10 (length (encode (imageOf p)))))
 
--- of a text: its fault 1 to 9, or what its statements answer
-unfoldable pub decided : List ℕ → ℕ → Question → Decided
-decided text lent q = elim (policyOf text) [ refused n at ↦ rejected n at | policy p ↦ answeredBy p lent q ]
+-- of what is compiled: its fault 1 to 9, or what its statements answer
+unfoldable pub decided : Input → ℕ → Question → Decided
+decided x lent q = elim (policyOf x) [ refused n at ↦ rejected (refusalOf x n at) | policy p ↦ answeredBy x p lent q ]
 
 -- the answer, and what the lent memory holds afterwards
-pub record Decides (text before after : List ℕ) (q : Question) (r : theDecision.Decision) : Type 0 where
-  pub answer : decisionOf r ≡ decided text (length before) q
-  pub memory : after ≡ outcomes.after text before
+pub record Decides (x : Input) (before after : List ℕ) (q : Question) (r : theDecision.Decision) : Type 0 where
+  pub answer : decisionOf r ≡ decided x (length before) q
+  pub memory : after ≡ outcomes.after x before

@@ -8,11 +8,12 @@
 //
 //     let mut memory = [0u8; 65_536];
 //     let compiled = tegzhumbi::compile(text, &mut memory);
-//     // Compiling::Accepted { length }: memory[..length] is the table
+//     // Compiling::Accepted { length }: memory[..length] is the table; or Compiling::Refused(refusal), with its number, place and line
 //     let source = Context { user: User(0), role: Role(0), kind: Type(0) };
 //     let answer = tegzhumbi::change(&memory, source, source, Class(0), Permission(0));
 //     // Change::Granted { consulted }, or a denial with its number, or a refusal, 11 or 12
 ghost use mathlib.Core.Path.{_≡_};
+ghost use Rattle.policy.specs.Outcome.{ofText};
 ghost use Rattle.policy.specs.Questions.{validOn, newRoleOn, changeOn, nameOn, entryOn};
 ghost use Rattle.policy.specs.Answers.{validityOf, newRoleOf, changeOf, placeOf};
 ghost use Rattle.compiler.specs.Promise.{Compiles};
@@ -27,6 +28,7 @@ pub use policy::Compiling;
 pub use policy::NewRole;
 pub use policy::Permission;
 pub use policy::Place;
+pub use policy::Refusal;
 pub use policy::Role;
 pub use policy::Type;
 pub use policy::User;
@@ -41,10 +43,10 @@ pub struct Context {
 
 // Compiles a text into a table at the start of the lent memory. It is accepted exactly when document 01 names no fault in the text and the
 // memory is long enough; the table is byte for byte the one that is defined from the statements, and what stood behind it is kept. A refusal has the
-// number, 1 to 10, and the place that document 01 fixes, and leaves the memory as it was. And demand 3 (`answers`): asked of the
+// number, 1 to 10, and the place that document 01 fixes, and the line of its place (0 for 10, which has none), and leaves the memory as it was. And demand 3 (`answers`): asked of the
 // written table, whatever stands behind it later, every change question is answered as the statements answer it.
 pub fn compile(text: &[u8], table: &mut [u8]) -> Compiling
-    ensures { λ r. ⌜ Compiles (now (text .entry)) (now (table .entry)) (now (table .exit)) r ⌝ }
+    ensures { λ r. ⌜ Compiles (ofText (now (text .entry))) (now (table .entry)) (now (table .exit)) r ⌝ }
 {
     compiler::compile(text, table)
 }
@@ -149,7 +151,7 @@ pub fn entry_place(table: &[u8], body: usize, place: usize) -> Place
 
 // What compiling a text and asking its table comes to: the text's refusal, or the answer to the change.
 pub enum Decision {
-    Refused { number: usize, place: usize },
+    Refused(Refusal),
     Answered(Change),
 }
 
@@ -165,13 +167,13 @@ pub fn decide(
     class: Class,
     permission: Permission,
 ) -> Decision
-    ensures { λ r. ⌜ Decides (now (text .entry)) (now (table .entry)) (now (table .exit)) (question source target class permission) r ⌝ }
+    ensures { λ r. ⌜ Decides (ofText (now (text .entry))) (now (table .entry)) (now (table .exit)) (question source target class permission) r ⌝ }
 {
     let compiled = compile(text, table);
     match compiled {
         Compiling::Accepted { .. } => {
             Decision::Answered(change(table, source, target, class, permission))
         }
-        Compiling::Refused { number, place } => Decision::Refused { number, place },
+        Compiling::Refused(refusal) => Decision::Refused(refusal),
     }
 }

@@ -12,7 +12,7 @@ use Rattle.policy.specs.Reading.{Read, policy, refused, readPolicy}
 use Rattle.policy.specs.Faults.{cycle, clash}
 use Rattle.policy.specs.Image.{Image, imageOf}
 use Rattle.policy.specs.Encode.{encode}
-use Rattle.policy.specs.Outcome.{accept, policyOf, compiles, refuses, compiled, fitted, Outcome, accepted, rejected, outcomeOf, outcome}
+use Rattle.policy.specs.Outcome.{Input, accept, policyOf, compiles, refuses, compiled, fitted, refusalOf, Outcome, accepted, rejected, outcomeOf, outcome}
 use Rattle.policy.specs.Answers.{compilingOf}
 use Rattle.policy.specs.declared.Compiling.{Compiling}
 use Rattle.reading_laws.proofs.FaultOrder.{fault-order, refusal-number}
@@ -32,38 +32,39 @@ accept-numbered p = by (cycle p) (clash p)
     by none (some at) = omega arith
     by none none = tt
 
-policy-numbered : (text : List ℕ) → NumberedRead (policyOf text)
+policy-numbered : (x : Input) → NumberedRead (policyOf x)
 unfolding policyOf
-policy-numbered text = by (readPolicy text) refl
+policy-numbered x = by (readPolicy (x .text)) refl
   where
-    by : (r : Read) → readPolicy text ≡ r → NumberedRead (elim r [ refused n at ↦ refused n at | policy p ↦ accept p ])
-    by (refused n at) e = refusal-number (fault-order text n at e) .0
+    by : (r : Read) → readPolicy (x .text) ≡ r → NumberedRead (elim r [ refused n at ↦ refused n at | policy p ↦ accept p ])
+    by (refused n at) e = refusal-number (fault-order (x .text) n at e) .0
     by (policy p) e = accept-numbered p
 
 abbrev Numbered : Outcome → Type 0
 Numbered (accepted n) = Unit {0}
-Numbered (rejected n at) = 1 ≤ n
+Numbered (rejected r) = 1 ≤ r .number
 
-fitted-numbered : (lent : ℕ) (i : Image) → Numbered (outcomeOf (fitted lent i))
-fitted-numbered lent i = by (leb (length (encode i)) lent)
+fitted-numbered : (x : Input) (lent : ℕ) (i : Image) → Numbered (outcomeOf x (fitted lent i))
+unfolding refusalOf
+fitted-numbered x lent i = by (leb (length (encode i)) lent)
   where
-    by : (b : Bool) → Numbered (outcomeOf (cond b (compiles i) (refuses 10 (length (encode i)))))
+    by : (b : Bool) → Numbered (outcomeOf x (cond b (compiles i) (refuses 10 (length (encode i)))))
     by true = tt
     by false = omega arith
 
-outcome-numbered : (text : List ℕ) (lent : ℕ) → Numbered (outcome text lent)
-unfolding outcome compiled
-outcome-numbered text lent = by (policyOf text) (policy-numbered text)
+outcome-numbered : (x : Input) (lent : ℕ) → Numbered (outcome x lent)
+unfolding outcome compiled refusalOf
+outcome-numbered x lent = by (policyOf x) (policy-numbered x)
   where
-    by : (r : Read) → NumberedRead r → Numbered (outcomeOf (elim r [ refused n at ↦ refuses n at | policy p ↦ fitted lent (imageOf p) ]))
+    by : (r : Read) → NumberedRead r → Numbered (outcomeOf x (elim r [ refused n at ↦ refuses n at | policy p ↦ fitted lent (imageOf p) ]))
     by (refused n at) s = s
-    by (policy p) s = fitted-numbered lent (imageOf p)
+    by (policy p) s = fitted-numbered x lent (imageOf p)
 
-numbered-as : (a : Compiling) (n : ℕ) → Numbered (compilingOf a) → compiledNumbers (compilingOf a) ≡ compiledOf 0 n → a ≡ Compiling.Accepted n
+numbered-as : (a : Compiling) (n : ℕ) → Numbered (compilingOf a) → compiledNumbers (compilingOf a) ≡ compiledOf 0 n 0 → a ≡ Compiling.Accepted n
 numbered-as (Compiling.Accepted m) n s h = ap Compiling.Accepted (ap (λ (c : Compiled). c .place) h)
-numbered-as (Compiling.Refused k at) n s h = absurd (omega (arith, ap (λ (c : Compiled). c .number) h))
+numbered-as (Compiling.Refused r) n s h = absurd (omega (arith, ap (λ (c : Compiled). c .number) h))
 
 -- an answer whose number is 0 is an acceptance
-pub accepted-as : (text : List ℕ) (lent : ℕ) (a : Compiling) (n : ℕ) → compilingOf a ≡ outcome text lent
-    → compiledNumbers (compilingOf a) ≡ compiledOf 0 n → a ≡ Compiling.Accepted n
-accepted-as text lent a n e h = numbered-as a n (subst Numbered (sym e) (outcome-numbered text lent)) h
+pub accepted-as : (x : Input) (lent : ℕ) (a : Compiling) (n : ℕ) → compilingOf a ≡ outcome x lent
+    → compiledNumbers (compilingOf a) ≡ compiledOf 0 n 0 → a ≡ Compiling.Accepted n
+accepted-as x lent a n e h = numbered-as a n (subst Numbered (sym e) (outcome-numbered x lent)) h

@@ -10,17 +10,17 @@ use Rattle.policy.specs.Sound.{imageIn}
 use Rattle.policy.specs.Deciding.{validBy, Question, Verdict, granted, denied, fails, refuses, declaredContext, Reply, answered, refused}
 use Rattle.policy.specs.Questions as replies
 use Rattle.policy.specs.Questions.{asked, givenIn, valid, validOn, newRoleOn, changeOn, nameOn, entryOn}
-use Rattle.policy.specs.Outcome.{Outcome, accepted, rejected, outcome}
+use Rattle.policy.specs.Outcome.{Input, Outcome, accepted, rejected, outcome}
 use Rattle.bound_laws.proofs.Outcomes.{SmallOutcome, outcome-small}
 use Rattle.bound_laws.proofs.Answers.{SmallVerdict, change-small, SmallRole, new-role-small, SmallPart, name-part-small, entry-part-small}
 use Rattle.answer_numbers.specs.Numbers.{CompiledFits, Fits, PartFits, compiledNumbers, validNumbers, verdictNumbers, changeNumbers, newRoleNumbers, partNumbers}
 
 small-fits : (o : Outcome) → SmallOutcome o → CompiledFits (compiledNumbers o)
-small-fits (accepted n) s = record { number = omega arith; place = omega arith }
-small-fits (rejected n at) s = record { number = omega arith; place = omega arith }
+small-fits (accepted n) s = record { number = omega arith; place = omega arith; line = omega arith }
+small-fits (rejected r) s = record { number = omega (arith, s .0); place = omega (arith, s .1); line = omega (arith, s .2) }
 
-pub outcome-fits : (text : List ℕ) (lent : ℕ) → CompiledFits (compiledNumbers (outcome text lent))
-outcome-fits text lent = small-fits (outcome text lent) (outcome-small text lent)
+pub outcome-fits : (x : Input) (lent : ℕ) → CompiledFits (compiledNumbers (outcome x lent))
+outcome-fits x lent = small-fits (outcome x lent) (outcome-small x lent)
 
 -- a small refusal's number
 refused-fits : (n at : ℕ) → n ≤ 12 → Fits (validNumbers (refused n at))

@@ -1,5 +1,6 @@
 //! Texts listed by hand, one for each cause that document 01 or a reading names. The place of a fault is marked with `@`,
-//! which is taken out of the text; an accepted text has none and the number 0.
+//! which is taken out of the text; an accepted text has none and the number 0. The line is counted from the place, but for
+//! the texts about lines (document 02, W-202): theirs is said beside them.
 
 use crate::fault::Fault;
 
@@ -19,6 +20,12 @@ pub fn cases() -> Vec<Case> {
     for (number, marked, rule) in built() {
         list.push(case(number, &marked, rule));
     }
+    for (number, line, marked, rule) in LINES {
+        list.push(case_on_line(*number, *line, marked, rule));
+    }
+    for (number, line, marked, rule) in built_of_lines() {
+        list.push(case_on_line(number, line, &marked, rule));
+    }
     list
 }
 
@@ -26,10 +33,19 @@ fn case(number: u8, marked: &str, rule: &str) -> Case {
     let place = marked.find('@');
     let text = marked.replacen('@', "", 1).into_bytes();
     assert_eq!(number == 0, place.is_none(), "{marked}");
-    Case { text, fault: place.map(|place| Fault::new(number, place)), rule: rule.to_string() }
+    let fault = place.map(|place| Fault::new(number, place).in_text(&text));
+    Case { text, fault, rule: rule.to_string() }
+}
+
+/// A case whose line is counted by hand.
+fn case_on_line(number: u8, line: usize, marked: &str, rule: &str) -> Case {
+    let case = case(number, marked, rule);
+    Case { fault: case.fault.map(|fault| Fault { line, ..fault }), ..case }
 }
 
 type Listed = (u8, &'static str, &'static str);
+/// The line comes after the number; it is 0 for an accepted text.
+type ListedOnLine = (u8, usize, &'static str, &'static str);
 
 /// P1 to P11 of "Checked by hand", and the examples of the running text.
 const PAPER: &[Listed] = &[
@@ -451,6 +467,79 @@ const TABLES: &[Listed] = &[
     (0, "(class process (transition dyntransition))", "reading 38"),
 ];
 
+/// Document 02, W-202: readings 19, 20, 22 and 24.
+const LINES: &[ListedOnLine] = &[
+    (4, 3, "\n(role a)\n@(role a)", "W-202, reading 19"),
+    (4, 2, "(role a)\n@(role a)", "W-202, reading 19: LF directly before the place"),
+    (4, 1, "(role a)@(\nrole\na\n)", "W-202, reading 19: LFs within the statement"),
+    (4, 1, "(role a)@(role a)\n", "W-202, reading 19: LF directly behind the statement"),
+    (4, 2, "(role a)\n(role b)@(role a)(role c)\n()", "W-202, reading 19: several statements on a line"),
+    (3, 2, ";x\n@()", "W-202, reading 19: LF of a comment"),
+    (3, 3, ";(\n;)\n@()", "W-202, reading 19: LFs of comments"),
+    (3, 4, ";\n\n\n@()", "W-202, reading 19: LFs behind a comment"),
+    (3, 3, "(role;a)\na)\n@(role)", "W-202, reading 19: LF of a comment within an earlier statement"),
+    (4, 1, "(role a)@(role;\n\na)", "W-202, reading 19: LF of a comment within the statement"),
+    (2, 2, ";!\n@!;\n", "W-202, reading 19: LF of a comment before a wrong byte"),
+    (3, 3, "\r\n\r\n@()", "W-202, reading 19: CR LF"),
+    (5, 3, "(role a)\r\n(type t)\r\n@(roletype a\r\ns)\r\n", "W-202, reading 19: CR LF"),
+    (3, 1, "\r\r@()", "W-202, reading 19: CR does not count"),
+    (3, 2, "\n\r@()", "W-202, reading 19: CR does not count"),
+    (3, 2, ";\r!\r\n@()", "W-202, reading 19: CR in a comment does not count"),
+    (3, 2, ";\x0b\x0c\n@()", "W-202, reading 19: VT and FF do not count"),
+    (3, 2, ";\u{85}\u{2028}\n@()", "W-202, reading 19: no other end of a line counts"),
+    (2, 2, "\n@!", "W-202, reading 19: LF directly before a wrong byte"),
+    (2, 1, "@!\n", "W-202, reading 19: LF directly behind a wrong byte"),
+    (2, 3, "\n(role a\n@!)", "W-202, reading 19: a wrong byte within a statement"),
+    (2, 2, "(role\n@1a)", "W-202, reading 19: a bad name"),
+    (2, 1, "(role @1a\n)\n", "W-202, reading 19: LF directly behind a bad name"),
+    (2, 2, "(role a)\n@role\n(", "W-202, reading 19: a name outside parentheses"),
+    (2, 3, "(role a)\n\n@)\n", "W-202, reading 19: close without open"),
+    (2, 3, "(role a)\n(role a)\n@!", "W-202: 2 on a later line before 4"),
+    (2, 2, "(\n@", "W-202, reading 20"),
+    (2, 4, "(\n\n\n@", "W-202, reading 20: LFs at the end"),
+    (2, 3, "\n((role a)\n@", "W-202, reading 20: LF at the end"),
+    (2, 3, "(role a\n;)\n@", "W-202, reading 20: a comment at the end"),
+    (2, 2, "(role a;)\r\n@", "W-202, reading 20: CR LF at the end"),
+    (2, 1, "(role a;\r@", "W-202, reading 20: CR at the end"),
+    (2, 2, "(role\na@", "W-202, reading 20: no LF at the end"),
+    (0, 0, "\n(user a)\n", "W-202, reading 22: 10 has line 0"),
+    (0, 0, "\r\n;x\n\n", "W-202, reading 22: 10 has line 0"),
+    (0, 0, "(class\nc\n(p))\n(constrain\n(c(p))\n(eq\nu1\nu2))\n", "W-202, reading 22: 10 has line 0"),
+    (3, 3, "(role a)\n(role b)\n@(\n)", "W-202: 3 on a later line"),
+    (3, 2, "(role a)\n@(role a\nb)\n()\n(role a)", "W-202: 3 before later faults"),
+    (4, 4, "(user a)\n(role a)\n\n@(role\na)", "W-202: 4 on a later line"),
+    (4, 2, "\n@(class c\n(p\np))", "W-202: 4 on a later line"),
+    (5, 2, "\n@(roletype a t)\n(role a)\n(type t)", "W-202: 5 on a later line"),
+    (5, 3, "(role a)\n(class c(p))\n@(constrain\n(c(p))\n(eq r1\nb))\n(role b)", "W-202: 5 on a later line"),
+    (8, 3, "\n(role a)\n@(roleattribute x)\n(roleattributeset x\n(x))\n", "W-202, reading 24: 8 on a later line"),
+    (8, 1, "@(typeattribute x)\n\n(typeattributeset x(x))\n", "W-202, reading 24: the line of the declaration"),
+    (
+        8,
+        2,
+        "(roleattribute x)\n@(roleattribute y)\n(roleattributeset x(y))\n(roleattributeset y(y))",
+        "W-202, reading 24: the line of the declaration",
+    ),
+    (
+        8,
+        3,
+        "(roleattribute x)\n(roleattributeset x(x))\n@(userattribute y)\n(userattributeset y(y))",
+        "W-202, reading 24: users before roles",
+    ),
+    (
+        9,
+        6,
+        "(role a)\n(role b)\n(type t)\n(class c(p))\n(roletransition a t c a)\n@(roletransition\na t c b)\n",
+        "W-202, reading 24: the line of the later transition",
+    ),
+    (
+        9,
+        4,
+        "(role a)(role b)(type t)(class c(p))\n(roletransition a t c a)\n(roletransition a t c a)\n\
+         @(roletransition a t c b)\n(roletransition a t c b)",
+        "W-202, reading 24: the first later transition that clashes",
+    ),
+];
+
 /// Cases that need repetition.
 fn built() -> Vec<(u8, String, &'static str)> {
     let n = |count: usize| "n".repeat(count);
@@ -487,6 +576,20 @@ fn built() -> Vec<(u8, String, &'static str)> {
         list.push((3, format!("(type a)@(type {word})"), "reading 13 and 14: a reserved word in a name's place"));
     }
     list
+}
+
+/// Cases about lines that need repetition.
+fn built_of_lines() -> Vec<(u8, usize, String, &'static str)> {
+    let classes: String = (0..32).map(|n| format!("(class a{n}(p))\n")).collect();
+    let chain = marked(&right_chain("and", 6)).replace("@", "\n\n@").replace("(and", "\n(and");
+    vec![
+        (2, 2, format!("(role\n@{}\n)", "n".repeat(65)), "W-202, reading 19: a name of 65 bytes"),
+        (2, 3, format!("\n{}\n@({}", "(".repeat(32), ")".repeat(33)), "W-202, reading 19: level 33"),
+        (2, 33, format!("{}@", "(\n".repeat(32)), "W-202, reading 20: 32 open, each on a line"),
+        (6, 3, format!("\n\n@(class c({}))", letters(33).replace(' ', "\n")), "W-202: 6 on a later line"),
+        (6, 33, format!("{classes}@(class b\n(p))\n"), "W-202: 6 on a later line"),
+        (7, 3, chain, "W-202: 7 on a later line"),
+    ]
 }
 
 fn letters(count: usize) -> String {

@@ -41,7 +41,7 @@ pub fn bounds() -> Vec<Bound> {
     list.extend(names());
     list.extend(texts());
     list.extend(stacks());
-    list
+    list.into_iter().map(|bound| Bound { fault: bound.fault.in_text(&bound.past), ..bound }).collect()
 }
 
 fn permissions() -> Bound {
@@ -182,7 +182,8 @@ pub fn orders() -> Vec<(&'static str, Vec<u8>, Fault)> {
     ];
     let finish = |(label, number, bound, last): (&'static str, u8, &str, String)| {
         let (text, place) = longer(bound, &last);
-        (label, text, Fault::new(number, place))
+        let fault = Fault::new(number, place).in_text(&text);
+        (label, text, fault)
     };
     cases.into_iter().map(finish).collect()
 }
@@ -209,10 +210,22 @@ pub fn permission_rows() -> Vec<(&'static str, Vec<u8>, Option<Fault>)> {
         ("40 names that each start the next", longer(40), Some(6)),
     ];
     let finish = |(label, names, number): (&'static str, Vec<String>, Option<u8>)| {
-        let text = format!("(user u)(class c({}))", names.join(" "));
-        (label, text.into_bytes(), number.map(|number| Fault::new(number, 8)))
+        let text = format!("(user u)(class c({}))", names.join(" ")).into_bytes();
+        let fault = number.map(|number| Fault::new(number, 8).in_text(&text));
+        (label, text, fault)
     };
     cases.into_iter().map(finish).collect()
+}
+
+/// The most lines that a text can have (document 02, W-202). Reading 21: fault 1 counts the LFs of the first 65,535 bytes, and
+/// only it reaches line 65,536. It alone can also have an LF at its place, which does not count (reading 19).
+pub fn most_lines() -> Vec<(&'static str, Vec<u8>, Fault)> {
+    let lfs = vec![b'\n'; 65_536];
+    let unclosed = [b"(", &lfs[..65_534]].concat();
+    vec![
+        ("65,536 LFs", lfs, Fault { number: 1, place: 65_535, line: 65_536 }),
+        ("unclosed before 65,534 LFs", unclosed, Fault { number: 2, place: 65_535, line: 65_535 }),
+    ]
 }
 
 /// Every count at its maximum in one policy.

@@ -16,10 +16,11 @@ pub fn contents(text: &str) -> Contents {
     decode(&table(text)).expect("a written table is sound").contents
 }
 
-pub fn refused(text: &str) -> (u8, usize) {
+/// Number, place and line.
+pub fn refused(text: &str) -> (u8, usize, usize) {
     match table_of(text.as_bytes()) {
         Ok(_) => panic!("accepted: {text}"),
-        Err(Fault { number, place }) => (number, place),
+        Err(Fault { number, place, line }) => (number, place, line),
     }
 }
 

@@ -9,23 +9,26 @@ use Rattle.answer_numbers.proofs.compiled_numbers.Tie as tie
 enum-known-answer : tie.Need-enum-known-answer
 enum-known-answer c = search needs
 
-cast-t6 : tie.Need-cast-t6
-cast-t6 c = omega (arith, (compiled-as (c .before .answer .given .1) (c .before .before .before .pre)) .place)
+cast-t5 : tie.Need-cast-t5
+cast-t5 c = omega (arith, (compiled-as (c .before .answer .given .1) (c .before .before .before .pre)) .place)
 
 enum-known-answer-2 : tie.Need-enum-known-answer-2
 enum-known-answer-2 c = search needs
 
+cast-t6 : tie.Need-cast-t6
+cast-t6 c = omega (arith, (compiled-as (c .before .before .answer2 .given .1) (c .before .before .before .before .pre)) .number)
+
 cast-t7 : tie.Need-cast-t7
-cast-t7 c = omega (arith, (compiled-as (c .before .answer2 .given .1) (c .before .before .before .pre)) .number)
+cast-t7 c = omega (arith, (compiled-as (c .before .before .before .answer2 .given .1) (c .before .before .before .before .before .pre)) .place)
 
 cast-t8 : tie.Need-cast-t8
-cast-t8 c = omega (arith, (compiled-as (c .before .answer2 .given .1) (c .before .before .before .pre)) .place)
+cast-t8 c = omega (arith, (compiled-as (c .before .before .before .before .answer2 .given .1) (c .before .before .before .before .before .before .pre)) .line)
 
 returns : tie.Need-returns
 returns c = rw (c .before .answer .given .1) refl
 
 returns-2 : tie.Need-returns-2
-returns-2 c = rw (c .before .answer2 .given .1) refl
+returns-2 c = rw (c .before .before .before .before .answer2 .given .1) refl
 
 pub compiled-numbers-spec : {M : Type 1} → statement M
-compiled-numbers-spec = tie.close (tie.spec enum-known-answer cast-t6 enum-known-answer-2 cast-t7 cast-t8 returns returns-2)
+compiled-numbers-spec = tie.close (tie.spec enum-known-answer cast-t5 enum-known-answer-2 cast-t6 cast-t7 cast-t8 returns returns-2)

@@ -1,20 +1,19 @@
--- `compiler::compile` meets its contract: 1, 2, or what a clean text gives. Assumes nothing.
-use mathlib.Core.Path.{sym, _∙_}
+-- `compiler::compile` meets its contract: what the passes come to, with the line of a refusal. Assumes nothing.
+use mathlib.Core.Path.{subst}
 use borrow.Author.Needs.{needs}
-use Rattle.compiler.proofs.Giving.{read-scanned, refused-gives, promised}
+use Rattle.compiler.specs.Passes.{Gives}
+use Rattle.compiler.proofs.Giving.{written, not-written}
 use Rattle.compiler.proofs.compile.Statement.{statement}
 use Rattle.compiler.proofs.compile.Tie as tie
 
 returns : tie.Need-returns
-returns c = promised _ _ (refused-gives _ 1 65535 (read-scanned _ _ (sym (c .before .enum-told .given .1) ∙ c .before .before .before .scan .ensures)) (c .refusal .ensures))
+returns c = written _ _ (subst (Gives _ _ _) (c .before .passed .given .1) (c .before .before .before .before .before .pass .ensures))
 
 returns-2 : tie.Need-returns-2
-returns-2 c = promised _ _ (refused-gives _ 2 _ (read-scanned _ _ (sym (c .before .before .scanned .given .1) ∙ c .before .before .before .before .scan .ensures)) (c .refusal2 .ensures))
-
-returns-3 : tie.Need-returns-3
-returns-3 c = promised _ _ (c .before .before .compile-clean .ensures .says (sym (c .before .before .before .before .before .before .scan .ensures) ∙ c .before .before .before .before .enum-told2 .given .1))
+returns-2 c =
+    not-written _ _ _ (subst (Gives _ _ _) (c .before .before .passed2 .given .1) (c .before .before .before .before .before .before .pass .ensures)) (c .refusal .ensures)
 
 pub compile-spec : {M : Type 1} → statement M
 compile-spec =
     tie.close
-    (tie.spec (λ c κs. search needs) (λ c. search needs) (λ c κs. search needs) (λ c. search needs) (λ c κs. search needs) (λ c. search needs) (λ c κs. search needs) returns returns-2 (λ c. search needs) returns-3)
+    (tie.spec (λ c κs. search needs) (λ c. search needs) (λ c. search needs) (λ c κs. search needs) (λ c. search needs) returns (λ c. search needs) returns-2)

@@ -13,7 +13,7 @@ returns c = record {
 
 returns-2 : tie.Need-returns-2
 returns-2 c = record {
-  says = λ clean. refused-gives _ _ _ (refused-read (c .before .before .before .before .parse .ensures) clean _ _ (c .before .before .parsed2 .given .1)) (c .refusal .ensures);
+  says = λ clean. refused-gives _ _ _ (refused-read (c .before .before .before .before .parse .ensures) clean _ _ (c .before .before .parsed2 .given .1)) (c .stop .ensures);
 }
 
 pub compile-clean-spec : {M : Type 1} → statement M

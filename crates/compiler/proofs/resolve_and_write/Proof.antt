@@ -6,12 +6,12 @@ use Rattle.compiler.proofs.resolve_and_write.Tie as tie
 
 returns : tie.Need-returns
 returns c = record {
-  says = λ p ok code sizes ts names cs rs. refused-8 (c .before .before .before .before .resolve .ensures p ok code (sizes .users) (sizes .roles) ts) _ (c .before .before .resolved .given .1) (c .refusal .ensures);
+  says = λ p ok code sizes ts names cs rs. refused-8 (c .before .before .before .before .resolve .ensures p ok code (sizes .users) (sizes .roles) ts) _ (c .before .before .resolved .given .1) (c .stop .ensures);
 }
 
 returns-2 : tie.Need-returns-2
 returns-2 c = record {
-  says = λ p ok code sizes ts names cs rs. refused-9 (c .before .before .before .before .resolve .ensures p ok code (sizes .users) (sizes .roles) ts) _ (c .before .before .resolved2 .given .1) (c .refusal2 .ensures);
+  says = λ p ok code sizes ts names cs rs. refused-9 (c .before .before .before .before .resolve .ensures p ok code (sizes .users) (sizes .roles) ts) _ (c .before .before .resolved2 .given .1) (c .stop2 .ensures);
 }
 
 returns-3 : tie.Need-returns-3

@@ -9,7 +9,7 @@ use Rattle.compiler.proofs.write_fitting.Tie as tie
 returns : tie.Need-returns
 returns c = record {
   says = λ p from sizes names cs rs.
-      too-short (imageOf p) _ _ (c .before .before .needed .ensures .says p (from .accepted) sizes) (omega arith) (c .refusal .ensures);
+      too-short (imageOf p) _ _ (c .before .before .needed .ensures .says p (from .accepted) sizes) (omega arith) (c .stop .ensures);
 }
 
 returns-2 : tie.Need-returns-2
