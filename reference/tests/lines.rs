@@ -128,10 +128,9 @@ fn listed_cases_have_faults_2_to_9_on_later_lines() {
     }
 }
 
-/// Reading 26: the number and place of every refusal stay what they were. Three bytes before the text move the place by
-/// three, and only LFs among them move the line.
+/// Three bytes before a text move the place by three, and only LFs among them move the line; the number stays.
 #[test]
-fn reading_26_lines_move_nothing_else() {
+fn what_stands_before_a_text_moves_place_and_line() {
     for case in cases() {
         let Some(fault) = case.fault else { continue };
         for (before, lines) in [("   ", 0), ("\r\t\r", 0), ("\n\n\n", 3), ("\n;\n", 2), (";;\n", 1), (";\r\n", 1)] {

@@ -4,7 +4,7 @@ use mathlib.Core.Bool.{Bool, true, false}
 use Rattle.policy.specs.Meaning.{Context}
 use Rattle.policy.specs.Deciding as decided
 use Rattle.policy.specs.Deciding.{Question, Verdict, granted, denied, fails, refuses, Reply, answered, refused}
-use Rattle.policy.specs.Outcome.{Refusal, Outcome, accepted, rejected}
+use Rattle.policy.specs.Outcome.{Outcome, accepted, rejected}
 use Rattle.policy.specs.Questions as replies
 use Rattle.answer_numbers.specs.declared.Compiled.{Compiled}
 use Rattle.answer_numbers.specs.declared.Answer.{Answer}

@@ -1,9 +1,11 @@
 // The passes in their order: text and lent memory in, the answer out. What one pass leaves for the next stands in local arrays, and the lent memory is
 // written to only when all refusals are past.
 ghost use mathlib.Core.Path.{_≡_};
+ghost use mathlib.Core.Bool.{cond};
 ghost use Prim.Native.Nat.{_≤_};
+ghost use lib.Dec.{eqb};
 ghost use lib.ListN.{length, take};
-ghost use Rattle.policy.specs.Outcome.{ofText, compiled, refusalOf};
+ghost use Rattle.policy.specs.Outcome.{ofText, compiled, lineAt, refusalOf};
 ghost use Rattle.policy.specs.Answers.{refusalIn};
 ghost use Rattle.compiler.specs.Passes.{Gives, Measures, Fits, ResolvesAndWrites, CompilesStatements, CompilesClean};
 ghost use Rattle.compiler.specs.Promise.{Compiles};
@@ -214,18 +216,21 @@ fn pass(text: &[u8], table: &mut [u8]) -> Passed
     }
 }
 
-// Every refusal is made here. All but fault 10, whose place is a length, are placed in the text and have a line.
+// The line of a fault: all but fault 10, whose place is a length, are placed in the text.
+fn line_of(text: &[u8], number: usize, place: usize) -> usize
+    ensures { λ r. ⌜ (((number ≡ 10 → ⊥) → place ≤ 65535) → r ≡ cond (eqb number 10) 0 (lineAt (now (text .entry)) place)) ⌝ }
+{
+    if number == Fault::TABLE_TOO_SHORT {
+        return 0;
+    }
+    lines::line_of(text, place)
+}
+
+// Every refusal is made here.
 fn refusal(text: &[u8], number: usize, place: usize) -> Refusal
     ensures { λ r. ⌜ (((number ≡ 10 → ⊥) → place ≤ 65535) → refusalIn r ≡ refusalOf (ofText (now (text .entry))) number place) ⌝ }
 {
-    if number == Fault::TABLE_TOO_SHORT {
-        return Refusal {
-            number,
-            place,
-            line: 0,
-        };
-    }
-    let line = lines::line_of(text, place);
+    let line = line_of(text, number, place);
     Refusal {
         number,
         place,

@@ -8,7 +8,7 @@ fn numbered(word: &[u8], number: usize) {
     io::print_decimal(STDOUT_FILENO, number as u64);
 }
 
-fn refused(number: usize, text: &[u8], place: usize) {
+fn refused(text: &[u8], number: usize, place: usize) {
     numbered(b"refused ", number);
     numbered(b" at ", place);
     numbered(b" line ", lines::line_of(text, place));
@@ -22,7 +22,7 @@ pub fn show(text: &[u8]) {
         Scanned::Clean => {
             io::write_all(STDOUT_FILENO, b"clean\n");
         }
-        Scanned::TooLong => refused(1, text, Text::MAX),
-        Scanned::Wrong(place) => refused(2, text, place),
+        Scanned::TooLong => refused(text, 1, Text::MAX),
+        Scanned::Wrong(place) => refused(text, 2, place),
     }
 }

@@ -28,7 +28,7 @@ swapped false true f = refl
 swapped false false f = refl
 
 -- one byte more
-pub feeds-more : (t : List ℕ) (i : ℕ) → i < length t
+feeds-more : (t : List ℕ) (i : ℕ) → i < length t
     → lineFeeds (take (suc i) t) ≡ cond (eqb (getD t i 0) 10) (1 + lineFeeds (take i t)) (lineFeeds (take i t))
 unfolding lineFeeds
 feeds-more [] i h = absurd (omega (arith, h))

@@ -1,4 +1,4 @@
--- What the enums of src/ stand for: document 01's numbers and values for each of their cases. Assumes nothing.
+-- What the enums and structs of src/ stand for: the documents' numbers and values for each of their cases. Assumes nothing.
 use Prim.Native.Nat.{ℕ}
 use mathlib.Core.Bool.{Bool, true, false}
 use Rattle.policy.specs.declared.Family as theFamily

@@ -2,9 +2,8 @@
 -- others carry line 0." Each by computation. Assumes nothing.
 use Prim.Native.Nat.{ℕ}
 use mathlib.Core.Path.{_≡_, refl}
-use mathlib.Core.List.{List, [], _∷_, _++_}
 use Rattle.lexer.specs.Spell.{bytes}
-use Rattle.policy.specs.Outcome.{ofText, refusalAt, rejected, outcome}
+use Rattle.policy.specs.Outcome.{ofText, lineAt, refusalAt, rejected, outcome}
 use Rattle.policy.specs.Roll.{printed}
 use Rattle.policy.specs.Opened.{computing}
 
@@ -13,7 +12,8 @@ pub record Lines : Type 0 where
   pub third : (lent : ℕ) → outcome (ofText (bytes "\n(role a)\n(role a)")) lent ≡ rejected (refusalAt 4 10 3)
   -- an LF in a comment counts, a CR does not
   pub comment : (lent : ℕ) → outcome (ofText (bytes "; a\n; b\r\n(role a)(roletype a t)")) lent ≡ rejected (refusalAt 5 17 3)
-  -- an LF behind the place does not count
+  -- an LF at the place does not count, nor one behind it
+  pub at-the-place : lineAt (bytes "\n\n\n") 1 ≡ 2
   pub behind : (lent : ℕ) → outcome (ofText (bytes "()\n\n")) lent ≡ rejected (refusalAt 3 0 1)
   -- the place of an unclosed text is its length, so that all LFs count
   pub unclosed : (lent : ℕ) → outcome (ofText (bytes "(\n")) lent ≡ rejected (refusalAt 2 2 2)
@@ -28,6 +28,7 @@ pub lines : Lines
 unfolding computing
 lines = record {
   third = λ lent. refl;
+  at-the-place = refl;
   comment = λ lent. refl;
   behind = λ lent. refl;
   unclosed = λ lent. refl;

@@ -38,15 +38,6 @@ fitted lent i = cond (leb (length (encode i)) lent) (compiles i) (refuses 10 (le
 unfoldable pub compiled : Input → ℕ → Compiled
 compiled x lent = elim (policyOf x) [ refused n at ↦ refuses n at | policy p ↦ fitted lent (imageOf p) ]
 
--- how many bytes are LF
-unfoldable pub lineFeeds : List ℕ → ℕ
-lineFeeds [] = 0
-lineFeeds (b ∷ t) = cond (eqb b 10) (1 + lineFeeds t) (lineFeeds t)
-
--- W-202: "the line: 1 plus the number of LF bytes before the place"
-abbrev pub lineAt : List ℕ → ℕ → ℕ
-lineAt t at = 1 + lineFeeds (take at t)
-
 -- a refusal
 pub record Refusal : Type 0 where
   pub number : ℕ
@@ -55,6 +46,15 @@ pub record Refusal : Type 0 where
 
 abbrev pub refusalAt : ℕ → ℕ → ℕ → Refusal
 refusalAt n at l = record { number = n; place = at; line = l }
+
+-- how many bytes are LF
+unfoldable pub lineFeeds : List ℕ → ℕ
+lineFeeds [] = 0
+lineFeeds (b ∷ t) = cond (eqb b 10) (1 + lineFeeds t) (lineFeeds t)
+
+-- W-202: "the line: 1 plus the number of LF bytes before the place"
+abbrev pub lineAt : List ℕ → ℕ → ℕ
+lineAt t at = 1 + lineFeeds (take at t)
 
 -- "Refusals placed in a text, later ones too, also carry the line .. All others carry line 0": the place of 10 is a length
 unfoldable pub refusalOf : Input → ℕ → ℕ → Refusal

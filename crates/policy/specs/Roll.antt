@@ -1,4 +1,4 @@
--- Document 01, "The printed roll": what the program writes for a text. Assumes nothing.
+-- Document 01, "The printed roll", with the line of document 02, W-202: what the program writes for a text. Assumes nothing.
 use Prim.Native.Nat.{ℕ, zero, suc, _+_, _*_, _/_, _%_}
 use mathlib.Core.Bool.{Bool, true, false, cond}
 use mathlib.Core.List.{List, [], _∷_, _++_}
@@ -37,15 +37,15 @@ rollOf i =
     rollLines (bytes "user ") (bytes " roles ") (namesOf (thingOf users) (i .names)) (i .userRoles)
     ++ rollLines (bytes "role ") (bytes " types ") (namesOf (thingOf roles) (i .names)) (i .roleTypes)
 
--- W-202: "The program prints `refused 5 at 8 line 1`"
+-- a word and a number behind it
 abbrev pub labelled : List ℕ → ℕ → List ℕ
 labelled w n = w ++ decimal n
 
+-- "A refusal prints one line"; W-202: "The program prints `refused 5 at 8 line 1`"
 abbrev pub refusal : Refusal → List ℕ
 refusal r = joined (labelled (bytes "refused ") (r .number) ∷ labelled (bytes " at ") (r .place) ∷ labelled (bytes " line ") (r .line) ∷ (10 ∷ []) ∷ [])
 
 -- `accepted 264 bytes`, then the lines
-
 abbrev pub roll : Image → List ℕ
 roll i = joined (bytes "accepted " ∷ decimal (length (encode i)) ∷ bytes " bytes" ∷ (10 ∷ []) ∷ rollOf i ∷ [])
 

@@ -48,7 +48,7 @@ module _ (x : Input) (lent : ℕ) (q : Question) where
   unfolding decided decidedBy
   decided-by r e = ap decidedBy e
 
-  -- a policy that has no room is refused by the same number and place
+  -- a policy that has no room is refused by the same refusal
   no-room : (p : Policy) (r′ : Refusal) (b : Bool) → outcomeOf x (cond b (outcomes.compiles (imageOf p)) (outcomes.refuses 10 (length (encode (imageOf p))))) ≡ rejected r′
       → cond b (answered (answer p q)) (deciding.rejected (refusalOf x 10 (length (encode (imageOf p))))) ≡ deciding.rejected r′
   no-room p r′ true e = absurd (false≢true (sym (ap isAccepted e)))

@@ -43,8 +43,9 @@ pub struct Context {
 
 // Compiles a text into a table at the start of the lent memory. It is accepted exactly when document 01 names no fault in the text and the
 // memory is long enough; the table is byte for byte the one that is defined from the statements, and what stood behind it is kept. A refusal has the
-// number, 1 to 10, and the place that document 01 fixes, and the line of its place (0 for 10, which has none), and leaves the memory as it was. And demand 3 (`answers`): asked of the
-// written table, whatever stands behind it later, every change question is answered as the statements answer it.
+// number, 1 to 10, and the place that document 01 fixes, and the line of its place (0 for 10, whose place is a length), and leaves the memory
+// as it was. And demand 3 (`answers`): asked of the written table, whatever stands behind it later, every change question is answered as the
+// statements answer it.
 pub fn compile(text: &[u8], table: &mut [u8]) -> Compiling
     ensures { λ r. ⌜ Compiles (ofText (now (text .entry))) (now (table .entry)) (now (table .exit)) r ⌝ }
 {

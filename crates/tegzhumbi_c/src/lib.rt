@@ -5,6 +5,7 @@ use answer_numbers::Compiled;
 use answer_numbers::Part;
 use decisions::Context;
 ghost use mathlib.Core.Path.{_≡_};
+ghost use Rattle.policy.specs.Outcome.{ofText};
 ghost use Rattle.policy.specs.Questions.{validOn, newRoleOn, changeOn, nameOn, entryOn};
 ghost use Rattle.soundness.specs.IsSound.{isSound};
 ghost use Rattle.decisions.specs.Asked.{context};
@@ -14,7 +15,7 @@ ghost use Rattle.answer_numbers.specs.Numbers.{asking, soundNumber, validNumber
 // Compiles a text: its table stands at the start of the lent memory, or a refusal 1 to 10 is answered and the lent memory is as it was.
 #[no_mangle]
 pub extern "C" fn tegzhumbi_compile(text: &[u8], table: &mut [u8]) -> Compiled
-    ensures { λ r. ⌜ Compiles (now (text .entry)) (now (table .entry)) (now (table .exit)) r ⌝ }
+    ensures { λ r. ⌜ Compiles (ofText (now (text .entry))) (now (table .entry)) (now (table .exit)) r ⌝ }
 {
     answer_numbers::compiled_numbers(compiler::compile(text, table))
 }

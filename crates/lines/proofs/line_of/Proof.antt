@@ -2,10 +2,13 @@
 use Prim.Native.Nat.{ℕ, _+_, _-_, _≤_, min}
 use native.Mathlib.Numerals.{add-one}
 use native.Mathlib.Omega.{arith}
-use mathlib.Core.Path.{_≡_, ap, _∙_}
+use mathlib.Core.Path.{_≡_, refl, ap, _∙_}
+use mathlib.Core.Bool.{true}
 use mathlib.Core.List.{List}
 use mathlib.Core.Logic.{⊎-elim}
+use lib.Dec.{leb}
 use lib.ListN.{length, take}
+use borrow.Author.Tests.{le-leb, lt-leb}
 use borrow.Author.Needs.{needs}
 use Rattle.policy.specs.Outcome.{lineFeeds}
 use Rattle.policy.proofs.LineFeeds.{feed-here, no-feed-here}
@@ -20,7 +23,7 @@ abbrev μ-loop : tie.MeasureT-loop
 μ-loop text place end line₀ i₀ line i = end - i
 
 returns : tie.Need-returns Inv-loop μ-loop
-returns c h = absurd (omega (arith, h))
+returns c = rw (lt-leb (c .before .before .args .place) 65535 (c .if1 .taken)) refl
 
 loop-holds : tie.Need-loop-holds Inv-loop μ-loop
 unfolding lineFeeds
@@ -39,10 +42,12 @@ loop-again c =
     (search needs, search needs, search needs, more .0, more .1)
 
 returns-2 : tie.Need-returns-2 Inv-loop μ-loop
-returns-2 c h =
+returns-2 c =
     let args = c .before .before .before .before .before .args in
+    let within : leb (args .place) 65535 ≡ true = le-leb (args .place) 65535 (omega arith) in
     let all : c .before .loop .i ≡ min (args .place) (length (args .text .now)) = omega (arith, c .before .before .least .ensures) in
-    c .before .loop .inv .3 ∙ ap (λ (n : ℕ). 1 + lineFeeds (take n (args .text .now))) all ∙ ap (λ (s : List ℕ). 1 + lineFeeds s) (take-within (args .text .now) (args .place))
+    rw within
+    (c .before .loop .inv .3 ∙ ap (λ (n : ℕ). 1 + lineFeeds (take n (args .text .now))) all ∙ ap (λ (s : List ℕ). 1 + lineFeeds s) (take-within (args .text .now) (args .place)))
 
 pub line-of-spec : {M : Type 1} → statement M
 line-of-spec =
