@@ -4,6 +4,7 @@ use policy::Change;
 use policy::Compiling;
 use policy::NewRole;
 use policy::Place;
+use policy::Refusal;
 use policy::Validity;
 
 // A word with a blank behind it, and a number.
@@ -21,15 +22,23 @@ fn refused(number: usize) {
     line_end();
 }
 
-// `accepted 264` or `refused 5 at 8 line 1`, without the line's end.
+// `refused 5 at 8 line 1`, without the line's end.
+fn refusal_words(refusal: Refusal) {
+    numbered(b"refused ", refusal.number);
+    numbered(b" at ", refusal.place);
+    numbered(b" line ", refusal.line);
+}
+
+pub fn show_refusal(refusal: Refusal) {
+    refusal_words(refusal);
+    line_end();
+}
+
+// `accepted 264`, or the words of a refusal, without the line's end.
 fn compiled(answer: Compiling) {
     match answer {
         Compiling::Accepted { length } => numbered(b"accepted ", length),
-        Compiling::Refused(refusal) => {
-            numbered(b"refused ", refusal.number);
-            numbered(b" at ", refusal.place);
-            numbered(b" line ", refusal.line);
-        }
+        Compiling::Refused(refusal) => refusal_words(refusal),
     }
 }
 

@@ -1,18 +1,16 @@
-// The line that a program writes of a scan: `clean`, or `refused` with the number, the place and the line of the fault.
+// The line that a program writes of a scan: `clean`, or the refusal with its number, place and line.
 use lexer::Scanned;
 use lexer::Text;
 use libc::STDOUT_FILENO;
-
-fn numbered(word: &[u8], number: usize) {
-    io::write_all(STDOUT_FILENO, word);
-    io::print_decimal(STDOUT_FILENO, number as u64);
-}
+use policy::Refusal;
 
 fn refused(text: &[u8], number: usize, place: usize) {
-    numbered(b"refused ", number);
-    numbered(b" at ", place);
-    numbered(b" line ", lines::line_of(text, place));
-    io::write_all(STDOUT_FILENO, b"\n");
+    let line = lines::line_of(text, place);
+    answer_show::show_refusal(Refusal {
+        number,
+        place,
+        line,
+    });
 }
 
 // Scans a text and writes what the scan says.

@@ -161,9 +161,11 @@ fn first_cycle(code: &[u16], family: Family, rows: &[u8; FAMILY_BYTES]) -> Found
     Found::Nowhere
 }
 
-// The declaration of the first attribute of a family whose sets mention it, directly or through others. Each row has what an attribute mentions directly.
+// The declaration of the first attribute of a family whose sets mention it, directly or through others. Each row has what an attribute mentions directly, and
+// gains what it mentions through others.
 pub fn family_cycle(code: &[u16], family: Family, rows: &mut [u8; FAMILY_BYTES]) -> Found
-    ensures { λ r. ⌜ ((p : Policy) → Accepted p → now (code .entry) ≡ codeOf p → now (rows .entry) ≡ relation 64 64 (λ a b. isAmong b (faults.mentions p (familyOf family) a))
+    ensures { λ r. ⌜ (now (rows .exit) ≡ closedOf 64 (now (rows .entry)))
+        × ((p : Policy) → Accepted p → now (code .entry) ≡ codeOf p → now (rows .entry) ≡ relation 64 64 (λ a b. isAmong b (faults.mentions p (familyOf family) a))
         → foundOf r ≡ faults.familyCycle p (familyOf family)) ⌝ }
 {
     close(rows);

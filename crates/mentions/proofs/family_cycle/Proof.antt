@@ -9,15 +9,20 @@ use Rattle.mentions.proofs.family_cycle.Statement.{statement}
 use Rattle.mentions.proofs.family_cycle.Tie as tie
 
 returns : tie.Need-returns
-returns c = λ p ok q m.
+returns c =
     let f = familyOf (c .before .before .before .before .before .before .args .family) in
-    let own = own-row p f ok _ (c .before .before .before .close .ensures ∙ ap (closedOf 64) m) in
-    seeks-nothing p f (λ a. sym (own a) ∙ no-own-row _ (sym (c .before .is-acyclic .ensures) ∙ c .if1 .taken) a)
+    let closed = c .before .before .before .close .ensures in (
+      closed,
+      λ p ok q m.
+          let own = own-row p f ok _ (closed ∙ ap (closedOf 64) m) in
+          seeks-nothing p f (λ a. sym (own a) ∙ no-own-row _ (sym (c .before .is-acyclic .ensures) ∙ c .if1 .taken) a),
+    )
 
 returns-2 : tie.Need-returns-2
-returns-2 c = λ p ok q m.
+returns-2 c =
     let f = familyOf (c .before .before .before .before .before .before .before .before .args .family) in
-    c .first-cycle .ensures p ok q (own-row p f ok _ (c .before .before .before .before .before .close .ensures ∙ ap (closedOf 64) m))
+    let closed = c .before .before .before .before .before .close .ensures in
+    (closed, λ p ok q m. c .first-cycle .ensures p ok q (own-row p f ok _ (closed ∙ ap (closedOf 64) m)))
 
 pub family-cycle-spec : {M : Type 1} → statement M
 family-cycle-spec =

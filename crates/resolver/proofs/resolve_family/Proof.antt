@@ -23,7 +23,7 @@ returns c = λ p ok q n.
 returns-2 : tie.Need-returns-2
 returns-2 c = λ p ok q n.
     let rows = c .before .before .before .before .before .before .before .before .mentions .ensures p ok q in
-    (c .before .before .final-sets .ensures p ok q n, c .family-cycle .ensures p ok q rows)
+    (c .before .before .final-sets .ensures p ok q n, c .family-cycle .ensures .1 p ok q rows)
 
 pub resolve-family-spec : {M : Type 1} → statement M
 resolve-family-spec =
