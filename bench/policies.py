@@ -130,6 +130,24 @@ def longer(size):
     return lines
 
 
+def branches():
+    """The typical mix as eight branches send it: a block each, with one more inside, and what they share outside."""
+    lines = declare(4, 4, 8, 8, 12, 2) + relate(4, 4, 8)
+    for b in range(8):
+        own = declare(5, 3, 14, 0, 0, 1)
+        lines += [f"(block b{b}"] + [line for line in own if not line.startswith("(class ")] + relate(5, 3, 14)
+        lines += ["(userattributeset ua0 (u0_ u1_ .u2_))", "(roleattributeset ra0 (or (r0_ .r1_) (r2_)))"]
+        lines += ["(typeattributeset .ta1 (and (not (t0_)) (t1_ t2_ .t3_)))", "(roletransition r0_ t0_ process r1_)"]
+        lines += [f"(constrain (c{b} (p{k})) (or (eq u1 u2) (and (eq r1 ra0) (neq t2 ta1))))" for k in range(2)]
+        lines += ["(block night", "(role r9_)", "(roletype r9_ t0_)", "(userrole u0_ r9_)", ")", ")"]
+    return lines
+
+
+def blocks():
+    """As many blocks as the text holds, none of them in another: what opening costs."""
+    return fill(declare(3, 2, 3, 1, 2), lambda n: f"(block b{n})")
+
+
 BASE = """(handleunknown allow)
 (mls false)
 (sid kernel)
@@ -150,10 +168,23 @@ BASE = """(handleunknown allow)
 """
 
 
+def full_names(keyword, lines):
+    """The full names that the lines declare by a keyword: a block is opened by a line of its own and closed by another."""
+    path, names = [], []
+    for line in lines:
+        if line.startswith("(block ") and not line.endswith(")"):
+            path.append(line[7:])
+        elif line == ")":
+            path.pop()
+        elif line.startswith(keyword):
+            names.append(".".join(path + [line[len(keyword):-1]]))
+    return names
+
+
 def secilc_also(lines):
     """What secilc asks of the classes and users of a policy."""
     classes = [line.split()[1] for line in lines if line.startswith("(class ")]
-    users = [line[6:-1] for line in lines if line.startswith("(user ")]
+    users = full_names("(user ", lines)
     also = [f"(classorder (unordered {' '.join(classes)}))"]
     for user in users:
         also += [f"(userlevel {user} (s0))", f"(userrange {user} ((s0) (s0)))"]
@@ -175,6 +206,8 @@ def main():
         "lines": lines_only(),
         "one-permission": constraints(128, False),
         "spread": constraints(128, True),
+        "branches": branches(),
+        "blocks": blocks(),
     }
     for size in (8_000, 16_000, 32_000, 64_000):
         policies[f"bytes-{size}"] = longer(size)

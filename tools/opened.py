@@ -6,7 +6,7 @@ import os
 import re
 
 top = os.path.join(os.path.dirname(os.path.abspath(__file__)), "..", "crates")
-skip = {"Opened", "Worked", "Slips", "Objects", "Lines"}
+skip = {"Opened", "Worked", "Slips", "Objects", "Lines", "Blocks"}
 
 
 def modules(crate):

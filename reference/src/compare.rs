@@ -6,9 +6,9 @@ use crate::generator::damage::damage;
 use crate::generator::policies::Shape;
 use crate::generator::questions::{ask, Question};
 use crate::generator::scans;
-use crate::generator::tables::{flip, with_bytes_behind};
+use crate::generator::tables::{damaged, with_bytes_behind};
 use crate::lexer::scan;
-use crate::pieces::{join, pieces, statements, PieceKind};
+use crate::pieces::{join, pieces, spans, statements, PieceKind};
 use crate::random::Random;
 use crate::sound::{decode, is_sound};
 use crate::table::{compile, table_of, Outcome};
@@ -121,6 +121,7 @@ fn some_policy(random: &mut Random) -> Vec<u8> {
         crowded: random.chance(5),
         small: random.chance(50),
         objects: random.chance(20),
+        blocks: random.chance(40),
         steps: if random.chance(60) { steps / 6 } else { steps },
     };
     policy_text(random, shape)
@@ -178,7 +179,7 @@ fn compiled(compile: fn(&[u8], &mut [u8]) -> Outcome, text: &[u8], spare: usize)
 
 fn compare_sound(library: &Library, text: &[u8], random: &mut Random, tally: &mut Tally) -> Option<Difference> {
     let theirs = library.is_sound?;
-    let table = flip(random, &table_of(text).ok()?);
+    let table = damaged(random, &table_of(text).ok()?);
     tally.tables += 1;
     if theirs(&table) == is_sound(&table) {
         return None;
@@ -192,7 +193,7 @@ fn compare_sound(library: &Library, text: &[u8], random: &mut Random, tally: &mu
 fn compare_damaged(library: &Library, text: &[u8], random: &mut Random, tally: &mut Tally) -> Option<Difference> {
     let theirs = library.answer?;
     let whole = table_of(text).ok()?;
-    let table = flip(random, &whole);
+    let table = damaged(random, &whole);
     let question = ask(random, &decode(&whole).expect("a written table is sound"));
     tally.questions += 1;
     let here = question_line(&table, &question).expect("a known kind");
@@ -219,13 +220,14 @@ fn compare_answers(library: &Library, text: &[u8], random: &mut Random, tally: &
     None
 }
 
-/// A smaller text that still differs: statements are taken away, then groups and tokens, then bytes, until nothing more
-/// can be.
+/// A smaller text that still differs: statements are taken away, then blocks around others, then groups and tokens, then
+/// bytes, until nothing more can be.
 pub fn shrink(text: &[u8], differs: &dyn Fn(&[u8]) -> bool) -> Vec<u8> {
     let mut best = text.to_vec();
     loop {
         let before = best.len();
         best = without_parts(statements(&best), differs).concat();
+        best = without_blocks(&best, differs);
         best = without_groups(&best, differs);
         let tokens = pieces(&best).into_iter().map(|piece| piece.bytes).collect();
         best = without_parts(tokens, differs).concat();
@@ -253,6 +255,21 @@ fn without_parts(mut parts: Vec<Vec<u8>>, differs: &dyn Fn(&[u8]) -> bool) -> Ve
         run /= 2;
     }
     parts
+}
+
+/// Takes away the header of a block and its closing parenthesis; what is in it stays.
+fn without_blocks(text: &[u8], differs: &dyn Fn(&[u8]) -> bool) -> Vec<u8> {
+    let mut list = pieces(text);
+    let mut tried = 0;
+    while let Some((span, name)) = spans(&list).into_iter().filter_map(|span| Some((span, span.block?))).nth(tried) {
+        let rest = [&list[..span.open], &list[name + 1..span.close], &list[span.close + 1..]].concat();
+        if differs(&join(&rest)) {
+            list = rest;
+        } else {
+            tried += 1;
+        }
+    }
+    join(&list)
 }
 
 /// Takes away whole groups, or only the two parentheses around what they hold.
@@ -318,6 +335,15 @@ mod tests {
         let small = shrink(text, &|text| table_of(text).is_err_and(|fault| fault.number == 5));
         assert!(small.len() <= "(roleallow x y)".len() + 10, "{}", String::from_utf8_lossy(&small));
         assert_eq!(shrink(b"", &|_| true), b"");
+    }
+
+    #[test]
+    fn shrinks_out_of_blocks_that_do_not_matter() {
+        let text = b"(block b (user u)(block c (role a)(block d(roleallow a .b.c.a))))(role b)";
+        let small = shrink(text, &|text| table_of(text).is_ok_and(|table| decode(&table).unwrap().counts.roles() > 1));
+        assert!(!small.contains(&b'.') && statements(&small).len() == 2, "{}", shown(&small));
+        let small = shrink(text, &|text| table_of(text).is_ok() && text.windows(3).any(|w| w == b"(bl"));
+        assert_eq!(small, b"(block b)");
     }
 
     #[test]

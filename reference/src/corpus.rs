@@ -14,9 +14,9 @@
 //! What is expected for a refused text, at scan and compile, is worded as on the printed roll: `refused 5 at 8 line 1`
 //! (document 02, W-202). At compile the checksum of the memory follows.
 
-use crate::generator::asked::objects;
+use crate::generator::asked::{in_blocks, objects, Asked};
 use crate::generator::cases::cases;
-use crate::generator::damage::{damage, damage_bytes};
+use crate::generator::damage::{damage, damage_bytes, damage_dots};
 use crate::generator::layout::{lay_out, Gaps};
 use crate::generator::policies::{policy, Shape};
 use crate::generator::questions::{ask, undeclared, Question};
@@ -120,6 +120,7 @@ fn scan_texts(random: &mut Random) -> Vec<Vec<u8>> {
     list.extend(scans::every_byte());
     list.extend(scans::levels());
     list.extend(scans::long_names());
+    list.extend(scans::dots());
     list.extend(scans::long_texts());
     for round in 0..2_400 {
         let tokens = random.between(1, 40);
@@ -128,10 +129,14 @@ fn scan_texts(random: &mut Random) -> Vec<Vec<u8>> {
     for _ in 0..400 {
         list.push(scans::noise(random));
     }
-    for round in 0..240 {
+    for round in 0..360 {
         let steps = random.between(0, 20);
-        let text = policy_text(random, Shape::small(steps));
-        list.push(if round % 3 == 0 { text } else { damage_bytes(random, &text) });
+        let text = policy_text(random, Shape { blocks: round % 2 == 0, ..Shape::small(steps) });
+        list.push(match round % 3 {
+            0 => text,
+            1 => damage_bytes(random, &text),
+            _ => damage_dots(random, &text),
+        });
     }
     list
 }
@@ -152,7 +157,7 @@ fn lend(random: &mut Random, text: &[u8]) -> usize {
 
 /// The shapes that make some fault likely, and good ones.
 fn some_shape(random: &mut Random, round: usize) -> Shape {
-    let shape = Shape::small(random.between(3, 20));
+    let shape = Shape { blocks: random.chance(40), ..Shape::small(random.between(3, 20)) };
     match round % 10 {
         0 => Shape { cycles: true, ..shape },
         1 | 2 => Shape { clashes: true, ..shape },
@@ -208,7 +213,9 @@ fn listed_compile_cases() -> Vec<(usize, Vec<u8>)> {
 fn in_a_setting(random: &mut Random, text: &[u8]) -> Vec<u8> {
     let before: &[&str] = &["", "\n", "(type zz1)", "(user zz2)\n", "(class zz3(a b))", ";)!\n", "(typeattribute zz4) "];
     let after: &[&str] = &["", " ", "\n; end", "(type zz5)", "(class zz6 (zz7 all))", "(user zz8)(user zz8)", ")"];
-    [random.pick(before).as_bytes(), text, random.pick(after).as_bytes()].concat()
+    let around = [random.pick(before).as_bytes(), text, random.pick(after).as_bytes()].concat();
+    // Document 02, W-203: within a block all is judged as before, but for leading dots, levels and lengths.
+    if random.chance(25) { [b"(block zz9\n", around.as_slice(), b"\n)"].concat() } else { around }
 }
 
 fn compile_cases_at_maxima(random: &mut Random) -> Vec<(usize, Vec<u8>)> {
@@ -222,6 +229,10 @@ fn compile_cases_at_maxima(random: &mut Random) -> Vec<(usize, Vec<u8>)> {
     }
     for (_, text, _) in maxima::orders() {
         list.push((lend(random, &text), text));
+    }
+    list.extend(maxima::most_blocks().into_iter().map(|(_, text, _)| (96, text)));
+    for lent in [65_536, MOST_LENT] {
+        list.push((lent, maxima::longest_full_names()));
     }
     list.push((65_536, maxima::everything()));
     list.push((65_536, maxima::wide()));
@@ -251,9 +262,9 @@ fn sound_tables(random: &mut Random) -> Vec<Vec<u8>> {
     for round in 0..300 {
         list.push(tables::flip(random, &bases[round % bases.len()]));
     }
-    for _ in 0..60 {
+    for round in 0..60 {
         let steps = random.between(3, 24);
-        let text = policy_text(random, Shape::small(steps));
+        let text = policy_text(random, Shape { blocks: round % 2 == 0, ..Shape::small(steps) });
         let table = table_of(&text).expect("a good policy");
         list.push(tables::with_bytes_behind(random, &table));
         list.push(tables::flip(random, &table));
@@ -269,7 +280,7 @@ fn question_cases(random: &mut Random) -> Vec<(Vec<u8>, Vec<Question>)> {
     let mut good: Vec<(Vec<u8>, usize)> = bases.iter().map(|base| (base.clone(), 60)).collect();
     for round in 0..50 {
         let steps = random.between(20, 60);
-        let shape = Shape { small: round % 2 == 0, ..Shape::good(steps) };
+        let shape = Shape { small: round % 2 == 0, blocks: round % 3 == 0, ..Shape::good(steps) };
         let table = table_of(&policy_text(random, shape)).expect("a good policy");
         good.push((table, 50));
     }
@@ -287,19 +298,22 @@ fn question_cases(random: &mut Random) -> Vec<(Vec<u8>, Vec<Question>)> {
             list.push((table, unsound_questions(random, place)));
         }
     }
+    list.extend(in_blocks().into_iter().map(listed_questions));
     list.extend(object_cases(random));
     list
 }
 
-/// Document 02, W-201: the listed questions on `object_r`, and random ones on random policies that have it.
+fn listed_questions(asked: Asked) -> (Vec<u8>, Vec<Question>) {
+    (table_of(asked.text.as_bytes()).expect("an accepted text"), asked.questions)
+}
+
+/// Document 02, W-201: the listed questions on `object_r`, and random ones on random policies that have it, some of them as
+/// the name of a block or within one.
 fn object_cases(random: &mut Random) -> Vec<(Vec<u8>, Vec<Question>)> {
-    let mut list = Vec::new();
-    for asked in objects() {
-        list.push((table_of(asked.text.as_bytes()).expect("an accepted text"), asked.questions));
-    }
+    let mut list: Vec<(Vec<u8>, Vec<Question>)> = objects().into_iter().map(listed_questions).collect();
     for round in 0..16 {
         let steps = random.between(15, 40);
-        let shape = Shape { objects: true, small: round % 2 == 0, ..Shape::good(steps) };
+        let shape = Shape { objects: true, small: round % 2 == 0, blocks: round % 4 > 1, ..Shape::good(steps) };
         let table = table_of(&policy_text(random, shape)).expect("a good policy");
         let decoded = decode(&table).expect("sound");
         let questions = (0..40).map(|_| ask(random, &decoded)).collect();
@@ -319,7 +333,13 @@ pub fn try_cases(random: &mut Random) -> Vec<TryCase> {
     let mut list = tries::listed(random);
     for round in 0..60 {
         let steps = random.between(10, 60);
-        let shape = Shape { small: round % 3 == 0, objects: round % 5 == 0, crowded: round % 15 == 1, ..Shape::good(steps) };
+        let shape = Shape {
+            small: round % 3 == 0,
+            objects: round % 5 == 0,
+            crowded: round % 15 == 1,
+            blocks: round % 4 == 0,
+            ..Shape::good(steps)
+        };
         let text = policy_text(random, shape);
         list.extend(tries::case(random, &text, &[], Share::SOME));
     }

@@ -4,13 +4,14 @@
 use crate::corpus::fill;
 use crate::fault::Fault;
 use crate::generator::asked::asked;
-use crate::generator::cases::cases;
-use crate::generator::damage::damage_tokens;
+use crate::generator::cases::cases_for_theorems;
+use crate::generator::damage::{damage_dots, damage_tokens};
 use crate::generator::layout::{lay_out, Gaps};
 use crate::generator::maxima;
 use crate::generator::policies::{policy, Shape};
 use crate::generator::questions::{ask, Question};
 use crate::generator::tables::{apply, odd_and_sound, with_bytes_behind, ways, BASES};
+use crate::lexer::has_dot;
 use crate::meaning::meaning;
 use crate::policy::read;
 use crate::questions::{
@@ -168,21 +169,25 @@ fn refused(random: &mut Random) -> Chapter {
             items.push(Item::one(rule, format!("outcome ({}) 65536 ≡ {}", of_text(text), rejected(fault))));
         }
     };
-    for case in cases().iter().filter(|case| case.text.len() <= MOST_TEXT && is_plain(&case.text)) {
+    for case in cases_for_theorems().iter().filter(|case| case.text.len() <= MOST_TEXT && is_plain(&case.text)) {
         add(&case.rule, &case.text);
     }
     for (rule, text) in texts_at_maxima() {
         add(&rule, &text);
     }
-    for _ in 0..12 {
+    for _ in 0..8 {
         let text = small_policy(random, Shape::small(2));
         add("a random policy, damaged", &damage_tokens(random, &text));
+    }
+    for _ in 0..2 {
+        let text = small_policy_in_blocks(random);
+        add("a random policy in blocks, damaged", &damage_dots(random, &text));
+        let text = small_policy(random, Shape { clashes: true, ..Shape::small(8) });
+        add("a random policy with clashes", &text);
     }
     for _ in 0..12 {
         let text = small_policy(random, Shape { cycles: true, ..Shape::small(12) });
         add("a random policy with cycles", &text);
-        let text = small_policy(random, Shape { clashes: true, ..Shape::small(12) });
-        add("a random policy with clashes", &text);
     }
     Chapter {
         name: "Refused",
@@ -198,10 +203,24 @@ fn small_policy(random: &mut Random, shape: Shape) -> Vec<u8> {
     lay_out(random, &statements, Gaps::Least)
 }
 
+/// A random policy that declares something in a block, in few bytes.
+fn small_policy_in_blocks(random: &mut Random) -> Vec<u8> {
+    loop {
+        let text = small_policy(random, Shape { blocks: true, ..Shape::small(6) });
+        let table = decode(&table_of(&text).expect("a good policy")).expect("sound");
+        if text.len() <= MOST_TEXT && table.contents.names.iter().any(|entry| has_dot(&entry.name)) {
+            return text;
+        }
+    }
+}
+
 /// One past a maximum; and exactly at it, with a statement of no form behind, so that 3 there says that all before passed.
 fn texts_at_maxima() -> Vec<(String, Vec<u8>)> {
     let mut list = Vec::new();
-    for bound in maxima::bounds().into_iter().filter(|bound| bound.past.len() <= MOST_PAST_MAXIMUM) {
+    // Of the bounds of document 02, W-203, one for each kind is enough.
+    let left_out = |name: &str| name == "levels within a block" || name.starts_with("full name of") && !name.ends_with("role");
+    let bounds = maxima::bounds().into_iter().filter(|bound| bound.past.len() <= MOST_PAST_MAXIMUM && !left_out(bound.name));
+    for bound in bounds {
         list.push((format!("past the maximum: {}", bound.name), bound.past));
         if bound.at.len() <= MOST_AT_MAXIMUM {
             list.push((format!("at the maximum: {}", bound.name), [bound.at, b"()".to_vec()].concat()));
@@ -229,13 +248,17 @@ fn accepted(random: &mut Random) -> Chapter {
         }
         _ => false,
     };
-    for case in cases().iter().filter(|case| case.text.len() <= MOST_TEXT && is_plain(&case.text)) {
+    for case in cases_for_theorems().iter().filter(|case| case.text.len() <= MOST_TEXT && is_plain(&case.text)) {
         add(&case.rule, &case.text);
     }
     let mut found = 0;
-    while found < 6 {
+    while found < 4 {
         let text = small_policy(random, Shape::small(2));
         found += add("a random policy", &text) as usize;
+    }
+    while found < 6 {
+        let text = small_policy_in_blocks(random);
+        found += add("a random policy in blocks", &text) as usize;
     }
     Chapter {
         name: "Accepted",
@@ -475,7 +498,7 @@ fn odd(random: &mut Random) -> Chapter {
 
 /// The printed roll.
 fn printed() -> Chapter {
-    let texts: [(&str, &str); 13] = [
+    let texts: [(&str, &str); 14] = [
         ("the roll of document 01", "(user u)(role a)(role b)(type t)(userrole u a)(roletype a t)"),
         ("the empty text", ""),
         ("a refusal", "(role a)(roletype a t)"),
@@ -492,6 +515,7 @@ fn printed() -> Chapter {
             "(role a)(type a)(type b)(type c)(type d)(type e)(type f)(type g)(type h)(type i)(type j)(typeattribute x)\
              (typeattributeset x(all))(roletype a x)",
         ),
+        ("W-203: full names", "(block b(role a)(block c(user u)(userrole u a)))"),
         ("attributes and classes print nothing", "(userattribute x)(class c(p))(type t)(role long-name_1)"),
     ];
     let item = |(rule, text): (&str, &str)| {
@@ -547,6 +571,26 @@ mod tests {
         assert_eq!(count("CASE"), 0);
         assert!(count(" : fromText asked-") >= 20);
         assert!(count(" : changesOn asked-") >= 18 && count(" : changeOn asked-") >= 2);
+    }
+
+    #[test]
+    fn texts_and_tables_with_blocks_and_dots_are_claimed() {
+        let text = all();
+        let in_blocks = |what: &str| text.lines().filter(|line| line.contains(what) && line.contains("(block ")).count();
+        for number in [2, 3, 4, 5, 6, 8] {
+            let what = format!("≡ rejected (refusalAt {number} ");
+            let dotted = text.lines().filter(|line| line.contains(&what) && line.contains('.')).count();
+            assert!(in_blocks(&what) + dotted >= 1, "rejected {number}");
+        }
+        assert!(in_blocks(": tableOf (bytes") >= 4 && in_blocks(": printed (") == 1 && in_blocks("asked-") >= 1);
+    }
+
+    /// Each theorem takes long to check, so there are not many more than are needed.
+    #[test]
+    fn the_number_of_theorems_stays_about_the_same() {
+        let count = |subject| definitions(1, subject).iter().map(|file| file.text.matches("= refl\n").count()).sum::<usize>();
+        let (texts, tables) = (count(Subject::Texts), count(Subject::Tables));
+        assert!((450..=520).contains(&texts) && (250..=300).contains(&tables), "{texts} {tables}");
     }
 
     #[test]

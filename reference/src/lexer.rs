@@ -13,11 +13,12 @@ pub enum ByteClass {
     Close,
     Letter,
     DigitOrDash,
+    Dot,
     Wrong,
 }
 
 /// "blank (space, tab, CR), comment start `;`, open, close, letter or `_`, digit or `-`, LF's own class, or wrong".
-/// Letters are ASCII (reading 9).
+/// Letters are ASCII (reading 9). Reading 27 of document 02: the dot has a class of its own.
 pub fn class_of(byte: u8) -> ByteClass {
     match byte {
         b' ' | b'\t' | b'\r' => ByteClass::Blank,
@@ -27,6 +28,7 @@ pub fn class_of(byte: u8) -> ByteClass {
         b')' => ByteClass::Close,
         b'a'..=b'z' | b'A'..=b'Z' | b'_' => ByteClass::Letter,
         b'0'..=b'9' | b'-' => ByteClass::DigitOrDash,
+        b'.' => ByteClass::Dot,
         _ => ByteClass::Wrong,
     }
 }
@@ -69,15 +71,17 @@ fn tokens(text: &[u8]) -> Result<Vec<Token>, Fault> {
                 tokens.push(Token::Close);
                 at += 1;
             }
-            // Readings 4 and 5: a long name and a name outside parentheses are at their first byte.
-            ByteClass::Letter if level == 0 || end_of_run(text, at) - at > limits::NAME => return wrong_here,
-            ByteClass::Letter => {
+            // Readings 2, 4 and 5: a bad name, a long name and a name outside parentheses are at their first byte. Reading 29
+            // of document 02: a leading dot is the first byte.
+            ByteClass::Letter | ByteClass::DigitOrDash | ByteClass::Dot => {
                 let end = end_of_run(text, at);
+                if level == 0 || !is_good_run(&text[at..end]) {
+                    return wrong_here;
+                }
                 tokens.push(Token::Name(text[at..end].to_vec()));
                 at = end;
             }
-            // Reading 2: a run that starts with a digit or `-` is a bad name, at its first byte.
-            ByteClass::DigitOrDash | ByteClass::Wrong => return wrong_here,
+            ByteClass::Wrong => return wrong_here,
         }
     }
     if level > 0 { Err(Fault::new(2, text.len())) } else { Ok(tokens) }
@@ -92,10 +96,10 @@ fn end_of_comment(text: &[u8], start: usize) -> usize {
     at
 }
 
-/// Reading 2: a name is the longest run of letters, `_`, digits and `-`.
+/// Reading 2: a name is the longest run of letters, `_`, digits and `-`; reading 27 of document 02: and of dots.
 fn end_of_run(text: &[u8], start: usize) -> usize {
     let mut at = start;
-    while at < text.len() && matches!(class_of(text[at]), ByteClass::Letter | ByteClass::DigitOrDash) {
+    while at < text.len() && matches!(class_of(text[at]), ByteClass::Letter | ByteClass::DigitOrDash | ByteClass::Dot) {
         at += 1;
     }
     at
@@ -139,17 +143,41 @@ fn group(place: usize, rest: &mut std::slice::Iter<'_, Token>) -> Group {
     }
 }
 
-/// "A name starts with a letter or `_`, goes on with letters, digits, `_`, `-`, and has 1 to 64 bytes."
+/// A name as written in a text. Document 02, W-203: "A dot may stand between name parts or in front; any other dot, or more
+/// than 64 bytes not counting a leading dot, is fault 2". Reading 33 of document 02: it may have any number of parts.
+pub fn is_good_run(run: &[u8]) -> bool {
+    is_good_name(run.strip_prefix(b".").unwrap_or(run))
+}
+
+/// A name without a leading dot: 1 to 64 bytes, good parts, one dot between two of them.
 pub fn is_good_name(name: &[u8]) -> bool {
-    !name.is_empty()
-        && name.len() <= limits::NAME
-        && class_of(name[0]) == ByteClass::Letter
-        && name.iter().all(|&b| matches!(class_of(b), ByteClass::Letter | ByteClass::DigitOrDash))
+    name.len() <= limits::NAME && parts_of(name).all(is_good_part)
+}
+
+/// "A name starts with a letter or `_`, goes on with letters, digits, `_`, `-`": so does each of its parts.
+fn is_good_part(part: &[u8]) -> bool {
+    !part.is_empty()
+        && class_of(part[0]) == ByteClass::Letter
+        && part.iter().all(|&b| matches!(class_of(b), ByteClass::Letter | ByteClass::DigitOrDash))
+}
+
+/// What stands before, between and behind the dots.
+pub fn parts_of(name: &[u8]) -> impl Iterator<Item = &[u8]> {
+    name.split(|&byte| byte == b'.')
+}
+
+pub fn has_dot(name: &[u8]) -> bool {
+    name.contains(&b'.')
+}
+
+/// Document 02, W-203: "A name with a reserved part counts as reserved."
+pub fn is_reserved(name: &[u8]) -> bool {
+    parts_of(name).any(is_reserved_word)
 }
 
 /// "Reserved, never names of things"; reading 13 for the words with a digit.
-pub fn is_reserved(name: &[u8]) -> bool {
+fn is_reserved_word(word: &[u8]) -> bool {
     const WORDS: [&[u8]; 10] =
         [b"all", b"and", b"or", b"xor", b"not", b"eq", b"neq", b"dom", b"domby", b"incomp"];
-    WORDS.contains(&name) || matches!(name, [b'u' | b'r' | b't', b'1'..=b'3'] | [b'l' | b'h', b'1' | b'2'])
+    WORDS.contains(&word) || matches!(word, [b'u' | b'r' | b't', b'1'..=b'3'] | [b'l' | b'h', b'1' | b'2'])
 }

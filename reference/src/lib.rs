@@ -16,6 +16,7 @@ pub mod pieces;
 pub mod policy;
 pub mod questions;
 pub mod random;
+pub mod resolve;
 pub mod roll;
 pub mod sound;
 pub mod statistics;

@@ -1,11 +1,15 @@
-//! The maxima of document 01, "How many" and "Reading the text".
+//! The maxima of document 01, "How many" and "Reading the text", and of document 02.
 
 /// "Text 65,535 bytes."
 pub const TEXT: usize = 65_535;
-/// "has 1 to 64 bytes"
+/// "has 1 to 64 bytes"; document 02, W-203: not counting a leading dot, and "at most 64 bytes" for a full name.
 pub const NAME: usize = 64;
 /// "to 32 levels, the statement's own parentheses being level 1"
 pub const LEVELS: usize = 32;
+/// Document 02, W-203: "blocks nest to 8".
+pub const BLOCKS: usize = 8;
+/// Document 02, W-203: "at most 64 bytes and nine parts".
+pub const PARTS: usize = 9;
 pub const USERS: usize = 128;
 pub const ROLES: usize = 128;
 pub const TYPES: usize = 512;

@@ -1,6 +1,7 @@
-//! One try at a name, and how many entries it compared byte by byte. Document 02, W-204: "Compare the length first and step
-//! over entries that can't match. Each try at a full name also tells how many entries it compared byte by byte: exactly
-//! those of its family (for a permission, its class) and length, in order of declaration, up to and including the hit."
+//! The full names at which a use is tried (document 02, W-203), and one try: what it finds, and how many entries it compared
+//! byte by byte. W-204: "Compare the length first and step over entries that can't match. Each try at a full name also tells
+//! how many entries it compared byte by byte: exactly those of its family (for a permission, its class) and length, in order
+//! of declaration, up to and including the hit."
 
 use crate::limits;
 use crate::parser::{Family, Name};
@@ -15,6 +16,7 @@ pub struct NameEntry {
     pub sort: u8,
     /// "number in 2 bytes (permission: class x 32 + its place)"
     pub number: u16,
+    /// The full name; of a permission its one part.
     pub name: Name,
 }
 
@@ -57,6 +59,21 @@ impl Among {
                 entry.sort == PERMISSION && entry.number as usize / limits::PERMISSIONS == class
             }
         }
+    }
+}
+
+/// The full name of what is declared within these blocks, the outermost first: "puts the names declared inside under `b.`".
+pub fn full_name(blocks: &[Name], name: &Name) -> Name {
+    [blocks, std::slice::from_ref(name)].concat().join(&b'.')
+}
+
+/// The full names at which a use within these blocks is tried, in order: "A leading dot means the whole-text level; any
+/// other use is tried in the innermost block, then outward". Reading 42 of document 02: a dotted use is no exception,
+/// whichever blocks exist. Reading 45: a try may pass 64 bytes; it misses, since no entry is so long.
+pub fn tried_names(blocks: &[Name], written: &Name) -> Vec<Name> {
+    match written.strip_prefix(b".") {
+        Some(full) => vec![full.to_vec()],
+        None => (0..=blocks.len()).rev().map(|depth| full_name(&blocks[..depth], written)).collect(),
     }
 }
 

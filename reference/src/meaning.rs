@@ -219,7 +219,8 @@ impl Meaning {
         ChangeAnswer::Granted { consulted }
     }
 
-    /// "class `process`, permission `transition` or `dyntransition`, roles differ"; by exact name (reading 38).
+    /// "class `process`, permission `transition` or `dyntransition`, roles differ"; by exact name (reading 38), which is the
+    /// full name: document 02, W-203, "Only the full names `process` and `object_r` are treated apart."
     fn asks_role_allow(&self, question: &Change<usize>) -> bool {
         let class = &self.policy.classes[question.class];
         let permission = class.permissions[question.permission].as_slice();

@@ -1,8 +1,9 @@
 //! The forms of the statements. `form` gives a statement as read, or nothing: then it is fault 3.
 //! No name is looked up here (reading 11: 3 is tried for the whole statement before any name is looked up).
 
-use crate::lexer::{is_reserved, Group, Part};
+use crate::lexer::{has_dot, is_reserved, Group, Part};
 
+/// A name as written; in a policy that was read, and in a table, a full name.
 pub type Name = Vec<u8>;
 
 /// The three families that have attributes. Classes are the fourth and have none.
@@ -116,7 +117,45 @@ pub enum Statement {
     Constrain(Constrain),
 }
 
-/// The statement that a group is, or nothing where it is "not of a form above".
+/// A block's own name, and the groups in it.
+#[derive(Clone, Debug, PartialEq, Eq)]
+pub struct Block<'a> {
+    pub name: Name,
+    pub inside: Vec<&'a Group>,
+}
+
+/// What a group can be: a statement, or a block of statements and blocks.
+#[derive(Clone, Debug, PartialEq, Eq)]
+pub enum Item<'a> {
+    Statement(Statement),
+    Block(Block<'a>),
+}
+
+/// The item that a group is, or nothing: then it is fault 3. Reading 35 of document 02: of a block the header is tried whole,
+/// and nothing in it.
+pub fn item(group: &Group) -> Option<Item<'_>> {
+    match group.parts.split_first() {
+        Some((Part::Name(keyword), rest)) if keyword == b"block" => Some(Item::Block(block(rest)?)),
+        _ => Some(Item::Statement(form(group)?)),
+    }
+}
+
+/// Document 02, W-203: a block "is of its form if only parts in parentheses, or nothing, follow its name".
+fn block(parts: &[Part]) -> Option<Block<'_>> {
+    let (first, rest) = parts.split_first()?;
+    let inside = rest.iter().map(inner_group).collect::<Option<Vec<&Group>>>()?;
+    Some(Block { name: undotted(first)?, inside })
+}
+
+fn inner_group(part: &Part) -> Option<&Group> {
+    match part {
+        Part::Name(_) => None,
+        Part::Group(group) => Some(group),
+    }
+}
+
+/// The statement that a group is, or nothing where it is "not of a form above". Keywords, operators and sides are words
+/// without a dot, so a dotted word is never one of them (reading 39 of document 02).
 pub fn form(statement: &Group) -> Option<Statement> {
     let (first, rest) = statement.parts.split_first()?;
     match word(first)? {
@@ -148,13 +187,11 @@ fn word(part: &Part) -> Option<&[u8]> {
 }
 
 fn inside(part: &Part) -> Option<&[Part]> {
-    match part {
-        Part::Name(_) => None,
-        Part::Group(group) => Some(&group.parts),
-    }
+    inner_group(part).map(|group| group.parts.as_slice())
 }
 
 /// A place where a name is asked for: "A reserved word where a name is asked for, a permission's included, is fault 3."
+/// Reading 38 of document 02: a name with a reserved part too.
 fn name(part: &Part) -> Option<Name> {
     let bytes = word(part)?;
     if is_reserved(bytes) {
@@ -163,9 +200,15 @@ fn name(part: &Part) -> Option<Name> {
     Some(bytes.to_vec())
 }
 
+/// Document 02, W-203: "3 for a dot in a declared, block or permission name"; reading 37: a leading one too.
+fn undotted(part: &Part) -> Option<Name> {
+    name(part).filter(|name| !has_dot(name))
+}
+
+/// The one name that a statement declares.
 fn only_name(parts: &[Part]) -> Option<Name> {
     match parts {
-        [only] => name(only),
+        [only] => undotted(only),
         _ => None,
     }
 }
@@ -176,12 +219,12 @@ fn permissions(part: &Part) -> Option<Vec<Name>> {
     if parts.is_empty() {
         return None;
     }
-    parts.iter().map(name).collect()
+    parts.iter().map(undotted).collect()
 }
 
 fn class(parts: &[Part]) -> Option<Statement> {
     match parts {
-        [class, list] => Some(Statement::Class(name(class)?, permissions(list)?)),
+        [class, list] => Some(Statement::Class(undotted(class)?, permissions(list)?)),
         _ => None,
     }
 }

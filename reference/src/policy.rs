@@ -1,10 +1,13 @@
-//! Statements in text order, "each tried for 3, 4, 5, 6, 7".
+//! Statements and blocks in text order, a statement "tried for 3, 4, 5, 6, 7", a block for 3, 4, 6 "before the statements in
+//! it" (document 02, W-203).
 
 use crate::fault::{line_of, Fault};
-use crate::lexer::{scan, tree};
+use crate::lexer::{scan, tree, Group};
 use crate::limits;
-use crate::lookup::{attribute_sort, thing_sort, try_among, try_at, Among, NameEntry, Try, CLASS, PERMISSION};
-use crate::parser::{form, Constrain, Expression, Family, Name, Set, Statement, Transition};
+use crate::lookup::{attribute_sort, full_name, thing_sort, try_at, Among, NameEntry, Try, CLASS, PERMISSION};
+use crate::parser::{item, Block, Constrain, Expression, Family, Item, Name, Statement, Transition};
+use crate::resolve::Scope;
+use std::collections::BTreeSet;
 
 /// A statement with the place of its opening parenthesis and its line.
 #[derive(Clone, Debug, PartialEq, Eq)]
@@ -20,28 +23,53 @@ pub struct Class {
     pub permissions: Vec<Name>,
 }
 
-/// A text without faults 1 to 7: its statements, and what they declare.
+/// A text without faults 1 to 7: its statements in full names, those in blocks among the others, and what they declare.
 #[derive(Clone, Debug, Default)]
 pub struct Policy {
     pub statements: Vec<Placed>,
     /// "Names in text order, permissions directly after their class"
     pub names: Vec<NameEntry>,
     pub classes: Vec<Class>,
+    /// The full names of the blocks opened so far. Reading 41 of document 02: a family of their own; no table holds them.
+    blocks: BTreeSet<Name>,
 }
 
 /// Faults 1 to 7, or the policy as read.
 pub fn read(text: &[u8]) -> Result<Policy, Fault> {
     let tokens = scan(text)?;
-    let mut policy = Policy::default();
+    let mut reader = Reader { text, policy: Policy::default() };
     for group in tree(&tokens) {
-        let (place, line) = (group.place, line_of(text, group.place));
-        let statement = form(&group).ok_or(Fault { number: 3, place, line })?;
-        if let Some(number) = policy.fault_of(&statement) {
-            return Err(Fault { number, place, line });
-        }
-        policy.take(Placed { place, line, statement });
+        reader.read(&group, &[])?;
     }
-    Ok(policy)
+    Ok(reader.policy)
+}
+
+/// The text, whose lines the refusals carry, and what was read of it so far.
+struct Reader<'a> {
+    text: &'a [u8],
+    policy: Policy,
+}
+
+impl Reader<'_> {
+    /// A statement, or a block and then what is in it; `blocks` are those around it, the outermost first.
+    fn read(&mut self, group: &Group, blocks: &[Name]) -> Result<(), Fault> {
+        let (place, line) = (group.place, line_of(self.text, group.place));
+        let refused = |number| Fault { number, place, line };
+        match item(group).ok_or(refused(3))? {
+            Item::Statement(written) => {
+                let statement = self.policy.judged(&written, blocks).map_err(refused)?;
+                self.policy.take(Placed { place, line, statement });
+            }
+            Item::Block(block) => {
+                self.policy.open(&block, blocks).map_err(refused)?;
+                let inner = [blocks, &[block.name]].concat();
+                for group in block.inside {
+                    self.read(group, &inner)?;
+                }
+            }
+        }
+        Ok(())
+    }
 }
 
 impl Placed {
@@ -65,13 +93,13 @@ impl Policy {
         self.names.iter().filter(|entry| entry.sort == sort).map(|entry| &entry.name).collect()
     }
 
-    /// The one try by which every name is looked up, among what is declared so far. Only what it finds is used; its count
-    /// is not (reading 61 of document 02).
+    /// The one try by which every name is looked up, by its full name and among what is declared so far. Only what it finds is
+    /// used; its count is not (reading 61 of document 02).
     pub fn try_name(&self, among: Among, name: &Name) -> Try {
         try_at(&self.names, among, name)
     }
 
-    /// The number of what a try finds, if it is of that sort.
+    /// The number of what a try finds, if it is of that sort. Here and below names are full names.
     fn number(&self, among: Among, sort: u8, name: &Name) -> Option<usize> {
         self.try_name(among, name).found.filter(|found| found.0 == sort).map(|found| found.1 as usize)
     }
@@ -113,95 +141,46 @@ impl Policy {
             .collect()
     }
 
-    /// Reading 23: within a statement the order is 4, 5, 6, 7.
-    fn fault_of(&self, statement: &Statement) -> Option<u8> {
-        if self.declares_again(statement) {
-            Some(4)
-        } else if !self.names_are_declared(statement) {
-            Some(5)
-        } else if self.passes_a_maximum(statement) {
-            Some(6)
-        } else if needs_too_much(statement) {
-            Some(7)
+    /// The statement in full names, or its fault. Reading 23: within a statement the order is 4, 5, 6, 7.
+    fn judged(&self, written: &Statement, blocks: &[Name]) -> Result<Statement, u8> {
+        let statement = Scope { policy: self, blocks }.statement(written)?;
+        if self.passes_a_maximum(&statement) {
+            Err(6)
+        } else if needs_too_much(&statement) {
+            Err(7)
         } else {
-            None
+            Ok(statement)
         }
     }
 
-    /// Fault 4: "name declared again in its family, or permission twice in a class". A thing and an attribute of one
-    /// family clash; a class's name and its permissions do not (reading 21).
-    fn declares_again(&self, statement: &Statement) -> bool {
-        match statement {
-            Statement::Thing(family, name) | Statement::Attribute(family, name) => self.knows(*family, name),
-            Statement::Class(name, permissions) => self.class(name).is_some() || has_repeats(permissions),
-            _ => false,
+    /// Opens a block within others, or gives its fault: "4 for a block opened twice under one full name, 6 for a full name
+    /// too long or a ninth level"; reading 48 of document 02: in this order.
+    fn open(&mut self, block: &Block, blocks: &[Name]) -> Result<(), u8> {
+        let full = full_name(blocks, &block.name);
+        if self.blocks.contains(&full) {
+            return Err(4);
         }
-    }
-
-    /// A thing or an attribute of the family.
-    fn knows(&self, family: Family, name: &Name) -> bool {
-        self.try_name(Among::Family(family), name).found.is_some()
-    }
-
-    /// Fault 5 where this is false: "name not declared before, or of the wrong sort" (reading 22).
-    fn names_are_declared(&self, statement: &Statement) -> bool {
-        match statement {
-            Statement::Thing(..) | Statement::Attribute(..) | Statement::Class(..) => true,
-            Statement::AttributeSet(family, attribute, set) => {
-                self.attribute(*family, attribute).is_some() && self.set_is_declared(*family, set)
-            }
-            Statement::Relation(relation, first, second) => {
-                let (left, right) = relation.families();
-                self.knows(left, first) && self.knows(right, second)
-            }
-            // "the first two may be attributes, the new role may not"
-            Statement::Transition(t) => {
-                self.knows(Family::Role, &t.role)
-                    && self.knows(Family::Type, &t.kind)
-                    && self.class(&t.class).is_some()
-                    && self.thing(Family::Role, &t.new_role).is_some()
-            }
-            Statement::Constrain(constrain) => self.constrain_is_declared(constrain),
+        if full.len() > limits::NAME || blocks.len() + 1 > limits::BLOCKS {
+            return Err(6);
         }
+        self.blocks.insert(full);
+        Ok(())
     }
 
-    fn set_is_declared(&self, family: Family, set: &Set) -> bool {
-        match set {
-            Set::Named(name) => self.knows(family, name),
-            Set::Union(operands) => operands.iter().all(|x| self.set_is_declared(family, x)),
-            Set::All => true,
-            Set::Not(x) => self.set_is_declared(family, x),
-            Set::And(x, y) | Set::Or(x, y) | Set::Xor(x, y) => {
-                self.set_is_declared(family, x) && self.set_is_declared(family, y)
-            }
-        }
-    }
-
-    /// "each P a permission of C"
-    fn constrain_is_declared(&self, constrain: &Constrain) -> bool {
-        let Some(class) = self.class(&constrain.class) else { return false };
-        constrain.permissions.iter().all(|p| self.permission(class, p).is_some())
-            && self.expression_is_declared(&constrain.expression)
-    }
-
-    fn expression_is_declared(&self, expression: &Expression) -> bool {
-        match expression {
-            Expression::Sides(..) => true,
-            Expression::Named(_, family, _, name) => self.knows(*family, name),
-            Expression::Not(e) => self.expression_is_declared(e),
-            Expression::And(e, f) | Expression::Or(e, f) => {
-                self.expression_is_declared(e) && self.expression_is_declared(f)
-            }
-        }
-    }
-
-    /// Fault 6: "one of the other maxima passed" if this statement were taken.
+    /// Fault 6: "one of the other maxima passed" if this statement were taken; document 02, W-203: also "a full name too
+    /// long". Reading 45 of document 02: that is for declarations, never for uses.
     fn passes_a_maximum(&self, statement: &Statement) -> bool {
         match statement {
-            Statement::Thing(family, _) => self.things(*family).len() + 1 > most_things(*family),
-            Statement::Attribute(family, _) => self.attributes(*family).len() + 1 > limits::ATTRIBUTES,
-            Statement::Class(_, permissions) => {
-                self.classes.len() + 1 > limits::CLASSES || permissions.len() > limits::PERMISSIONS
+            Statement::Thing(family, name) => {
+                name.len() > limits::NAME || self.things(*family).len() + 1 > most_things(*family)
+            }
+            Statement::Attribute(family, name) => {
+                name.len() > limits::NAME || self.attributes(*family).len() + 1 > limits::ATTRIBUTES
+            }
+            Statement::Class(name, permissions) => {
+                name.len() > limits::NAME
+                    || self.classes.len() + 1 > limits::CLASSES
+                    || permissions.len() > limits::PERMISSIONS
             }
             Statement::AttributeSet(..) | Statement::Relation(..) => false,
             Statement::Transition(_) => self.transitions().len() + 1 > limits::TRANSITIONS,
@@ -244,16 +223,6 @@ pub fn most_things(family: Family) -> usize {
         Family::Role => limits::ROLES,
         Family::Type => limits::TYPES,
     }
-}
-
-/// Reading 60 of document 02 leaves free how a class's row is tested. Here each permission is tried among those before it;
-/// there may be more than 32 of them, since 4 comes before 6.
-fn has_repeats(permissions: &[Name]) -> bool {
-    let numbered = permissions.iter().enumerate();
-    let entries: Vec<NameEntry> = numbered
-        .map(|(place, name)| NameEntry { sort: PERMISSION, number: place as u16, name: name.clone() })
-        .collect();
-    permissions.iter().enumerate().any(|(place, name)| try_among(entries[..place].iter(), name).found.is_some())
 }
 
 /// "one per operator and comparison"

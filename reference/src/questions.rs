@@ -145,7 +145,8 @@ fn decide(table: &Decoded, question: &Change<usize>) -> ChangeAnswer {
     ChangeAnswer::Granted { consulted }
 }
 
-/// "class `process`, permission `transition` or `dyntransition`, roles differ"
+/// "class `process`, permission `transition` or `dyntransition`, roles differ"; document 02, W-203: "Only the full names
+/// `process` and `object_r` are treated apart." Tables hold full names.
 fn asks_role_allow(table: &Decoded, question: &Change<usize>) -> bool {
     let class = name_bytes(table, CLASS, question.class);
     let permission = name_bytes(table, PERMISSION, question.class * limits::PERMISSIONS + question.permission);

@@ -3,7 +3,7 @@
 //! Each condition of "A table is **sound** when" gives its own reason, so that the tests can see that each of them is
 //! reached. The reason is never part of an answer.
 
-use crate::lexer::{is_good_name, is_reserved};
+use crate::lexer::{has_dot, is_good_name, is_reserved, parts_of};
 use crate::limits;
 use crate::meaning::Numbers;
 use crate::table::{
@@ -15,7 +15,7 @@ use std::collections::BTreeSet;
 pub type Reason = &'static str;
 
 /// Every reason that `decode` can give.
-pub const REASONS: [Reason; 44] = [
+pub const REASONS: [Reason; 46] = [
     "shorter than the header",
     "edition",
     "count of bodies",
@@ -25,6 +25,8 @@ pub const REASONS: [Reason; 44] = [
     "name length",
     "sort",
     "name not good",
+    "too many parts",
+    "permission with a dot",
     "name reserved",
     "name twice in a family",
     "number does not rise",
@@ -196,17 +198,31 @@ fn read_names(body: &[u8]) -> Result<Vec<NameEntry>, Reason> {
             return Err("sort");
         }
         let name = rest[4..4 + length].to_vec();
-        if !is_good_name(&name) {
-            return Err("name not good");
-        }
-        // "names are good, not reserved": a permission's too.
-        if is_reserved(&name) {
-            return Err("name reserved");
-        }
+        check_name(rest[0], &name)?;
         entries.push(NameEntry { sort: rest[0], number: two(rest, 1), name });
         rest = &rest[4 + length..];
     }
     Ok(entries)
+}
+
+/// "names are good, not reserved", a permission's too. Document 02, W-203: "Tables, sound ones included, hold the full
+/// dotted name without leading dot, at most 64 bytes and nine parts, a permission's one." Reading 53 of document 02: no
+/// block need exist anywhere.
+fn check_name(sort: u8, name: &[u8]) -> Result<(), Reason> {
+    // A leading dot would leave an empty first part, which is not good.
+    if !is_good_name(name) {
+        return Err("name not good");
+    }
+    if parts_of(name).count() > limits::PARTS {
+        return Err("too many parts");
+    }
+    if sort == PERMISSION && has_dot(name) {
+        return Err("permission with a dot");
+    }
+    if is_reserved(name) {
+        return Err("name reserved");
+    }
+    Ok(())
 }
 
 /// "unique in their families, numbers in each sort (places in each class) rise from 0, each class is followed by at

@@ -20,7 +20,8 @@ fn some_policy(random: &mut Random) -> Vec<u8> {
     let steps = random.between(0, 70);
     let small = random.chance(30);
     let objects = random.chance(30);
-    policy_text(random, Shape { small, objects, ..Shape::good(steps) })
+    let blocks = random.chance(40);
+    policy_text(random, Shape { small, objects, blocks, ..Shape::good(steps) })
 }
 
 /// A context in declared numbers, mostly a valid one.
@@ -146,6 +147,43 @@ fn one_more_constrain_keeps_each_denial() {
         }
     }
     assert!(kept > 1_000);
+}
+
+/// Document 02, reading 55: the added constrain stands at whole-text level, behind the last block. The text may end inside a
+/// comment, which has to end first.
+#[test]
+fn one_more_constrain_behind_blocks() {
+    let mut random = Random::new(16);
+    let (mut kept, mut new, mut inner) = (0, 0, 0);
+    for _ in 0..200 {
+        let steps = random.between(10, 60);
+        let mut shorter = policy_text(&mut random, Shape { blocks: true, ..Shape::good(steps) });
+        if random.chance(30) {
+            shorter.extend(b";)");
+        }
+        let meaning = meant(&shorter);
+        let class = random.pick(&meaning.policy.classes).clone();
+        let role = random.pick(&meaning.policy.things(Family::Role)).to_vec();
+        inner += class.name.contains(&b'.') as usize;
+        let [class, permission, role] = [class.name, class.permissions[0].clone(), role].map(|n| String::from_utf8(n).unwrap());
+        // At whole-text level a full name finds itself, with or without a leading dot.
+        let last = format!("\n(constrain({class}({permission}))(neq r1 .{role}))").into_bytes();
+        let longer = [shorter.clone(), last].concat();
+        let (before, after) = (table_of(&shorter).unwrap(), table_of(&longer).unwrap());
+        let longer = meant(&longer);
+        for _ in 0..20 {
+            let question = some_change(&mut random, &meaning);
+            let (first, second) = (change(&before, &wide(&question)), change(&after, &wide(&question)));
+            assert_eq!(second, longer.change(&question));
+            if matches!(first, ChangeAnswer::Denied { .. }) {
+                assert_eq!(first, second);
+                kept += 1;
+            } else if matches!(second, ChangeAnswer::Denied { number: 4, .. }) {
+                new += 1;
+            }
+        }
+    }
+    assert!(kept > 500 && new > 50 && inner > 25, "{kept} {new} {inner}");
 }
 
 #[test]

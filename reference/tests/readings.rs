@@ -80,10 +80,10 @@ fn long_texts_whatever_else_is_wrong() {
 #[test]
 fn byte_classes_by_count() {
     let count = |class| (0..=255u8).filter(|&byte| class_of(byte) == class).count();
-    let single = [ByteClass::LineFeed, ByteClass::CommentStart, ByteClass::Open, ByteClass::Close];
+    let single = [ByteClass::LineFeed, ByteClass::CommentStart, ByteClass::Open, ByteClass::Close, ByteClass::Dot];
     assert!(single.into_iter().all(|class| count(class) == 1));
     assert_eq!((count(ByteClass::Blank), count(ByteClass::Letter), count(ByteClass::DigitOrDash)), (3, 53, 11));
-    assert_eq!(count(ByteClass::Wrong), 256 - 4 - 3 - 53 - 11);
+    assert_eq!(count(ByteClass::Wrong), 256 - 5 - 3 - 53 - 11);
 }
 
 #[test]

@@ -3,10 +3,11 @@
 mod common;
 
 use common::table;
+use reference::generator::maxima;
 use reference::generator::tables::{apply, bounds, odd_and_sound, ways, with_bytes_behind, BASES};
 use reference::random::Random;
 use reference::sound::{decode, is_sound, REASONS};
-use reference::table::{assemble, bodies};
+use reference::table::{assemble, bodies, table_of};
 use std::collections::BTreeSet;
 
 #[test]
@@ -37,6 +38,21 @@ fn each_way_of_damage_is_unsound_and_each_reason_is_reached() {
     }
     let all: BTreeSet<&str> = REASONS.into_iter().collect();
     assert_eq!(reached, all);
+}
+
+/// The long comparison damages any table: at the maxima too every way leaves one that is not sound, or finds nothing to damage.
+#[test]
+fn each_way_of_damage_at_the_maxima() {
+    let mut random = Random::new(12);
+    for text in [maxima::everything(), maxima::longest_full_names(), b"".to_vec()] {
+        let table = table_of(&text).expect("accepted");
+        let applied: Vec<&str> = ways().iter().filter_map(|(name, way)| {
+            let damaged = apply(*way, &table, &mut random)?;
+            assert!(!is_sound(&damaged), "{name}");
+            Some(*name)
+        }).collect();
+        assert!(applied.len() >= 10, "{applied:?}");
+    }
 }
 
 #[test]

@@ -7,7 +7,7 @@ use common::table;
 use reference::corpus::{answer, try_cases, try_lines, write, Layer};
 use reference::generator::cases::cases;
 use reference::generator::tries::section_of;
-use reference::lookup::{try_at, Among, NameEntry, Try};
+use reference::lookup::{tried_names, try_at, Among, NameEntry, Try};
 use reference::policy::read;
 use reference::random::Random;
 use reference::sound::{decode, section_names};
@@ -80,6 +80,25 @@ fn reading_58_lengths_that_no_entry_has() {
     assert_eq!(tried(&text, ROLES, &"n".repeat(65)), missing(0));
     assert_eq!(tried(&text, ROLES, &"n".repeat(70)), missing(0));
     assert_eq!(tried(&text, ROLES, ""), missing(0));
+}
+
+/// Reading 58 with document 02, W-203: each of the tries of one use has its own count.
+#[test]
+fn reading_58_each_try_of_a_use() {
+    let text = "(role a)(block b(role c)(block d(role e)))(role xyz)";
+    let blocks = [b"b".to_vec(), b"d".to_vec()];
+    let counts = |written: &str| -> Vec<Try> {
+        let full = tried_names(&blocks, &written.as_bytes().to_vec());
+        full.iter().map(|name| tried(text, ROLES, std::str::from_utf8(name).unwrap())).collect()
+    };
+    // Roles a, b.c, b.d.e, xyz.
+    assert_eq!(counts("c"), [missing(1), found(1, 1, 1), missing(1)]);
+    assert_eq!(counts("xyz"), [missing(0), missing(1), found(1, 3, 2)]);
+    assert_eq!(counts("b.c"), [missing(0), missing(1), found(1, 1, 1)]);
+    assert_eq!(counts(".a"), [found(1, 0, 1)]);
+    // Reading 62: the length is that without a leading dot.
+    assert_eq!(counts(".b.d.e"), [found(1, 2, 1)]);
+    assert_eq!(counts(&"n".repeat(64)), [missing(0), missing(0), missing(0)]);
 }
 
 #[test]
@@ -283,11 +302,22 @@ fn every_section_of_the_corpus_is_that_of_a_text() {
     assert_eq!(maxima, 2);
 }
 
+/// Blocks are opened and closed as the full names ask for.
 fn declarations(names: &[NameEntry]) -> String {
     let words = ["user", "role", "type", "userattribute", "roleattribute", "typeattribute"];
     let mut text = String::new();
+    let mut open: Vec<String> = Vec::new();
     for (place, entry) in names.iter().enumerate() {
-        let name = String::from_utf8(entry.name.clone()).unwrap();
+        let full = String::from_utf8(entry.name.clone()).unwrap();
+        let mut blocks: Vec<String> = full.split('.').map(String::from).collect();
+        let name = blocks.pop().unwrap();
+        // A permission takes no block's name.
+        if entry.sort != 7 {
+            let shared = open.iter().zip(&blocks).take_while(|(a, b)| a == b).count();
+            text.push_str(&")".repeat(open.len() - shared));
+            blocks[shared..].iter().for_each(|block| text.push_str(&format!("(block {block}")));
+            open = blocks;
+        }
         match entry.sort {
             6 => {
                 let permissions = names[place + 1..].iter().take_while(|entry| entry.sort == 7);
@@ -298,7 +328,7 @@ fn declarations(names: &[NameEntry]) -> String {
             sort => text.push_str(&format!("({} {name})", words[sort as usize])),
         }
     }
-    text
+    text + &")".repeat(open.len())
 }
 
 #[test]

@@ -1,31 +1,32 @@
 -- THE PLACE OF A REFUSAL 1 TO 9 IS AT MOST 65,535: it lies in the text, or at its end. Assumes nothing.
 use Prim.Native.Nat.{ℕ, zero, suc, _+_, _<_, _≤_}
 use native.Mathlib.Omega.{arith}
-use mathlib.Core.Path.{_≡_, refl, sym, ap, _∙_, subst}
+use mathlib.Core.Path.{_≡_, refl, sym, ap, subst}
 use mathlib.Core.Bool.{Bool, true, false, cond}
 use mathlib.Core.List.{List, [], _∷_, _++_}
-use mathlib.Core.Option.{Option, none, some, Option·some-injective}
+use mathlib.Core.Option.{Option, none, some}
 use lib.Dec.{eqb, ltb}
-use lib.ListN.{length, getD}
+use lib.ListN.{length, getD, take, drop}
 use borrow.Author.Tests.{ltb-false}
 use Rattle.lexer.specs.declared.Scanned.{Scanned}
 use Rattle.lexer.specs.declared.ByteClass.{ByteClass}
-use Rattle.lexer.specs.declared.ByteClass.the-variants.{Blank, LineFeed, Comment, Open, Close, Letter, Digit, Wrong}
-use Rattle.lexer.specs.Class.{classOf, goesOn, endsComment, maxName}
-use Rattle.lexer.specs.Scan.{Mode, between, inComment, inName, State, going, stopped, maxText, maxLevel, stepBetween, step, scanFrom, scan}
+use Rattle.lexer.specs.declared.ByteClass.the-variants.{Blank, LineFeed, Comment, Open, Close, Letter, Digit, Dot, Wrong}
+use Rattle.lexer.specs.Class.{classOf, inWord, endsComment, isName}
+use Rattle.lexer.specs.Scan.{Mode, between, inComment, inName, State, going, stopped, maxText, maxLevel, stepBetween, step, closedAt, endOf, scanFrom, scan}
 use Rattle.lexer.proofs.Clean.{clean-short}
-use Rattle.lexer.specs.Forms.{Forms, closed, ended, word, part, formsOf}
-use Rattle.policy.specs.Basics.{any, gather, given, each, All, orElse}
+use Rattle.lexer.specs.Forms.{formsOf}
+use Rattle.policy.specs.Basics.{any, given, each, All}
 use Rattle.policy.specs.Statements.{Family, users, roles, types, attributeOf, Declaration, plain, class, sameSort, declare, attributeset, gives, roletransition, constrain, Statement, Line, Policy, Transition, transition, transitions}
-use Rattle.policy.specs.Reading.{Read, policy, refused, readFrom, readPolicy}
+use Rattle.policy.specs.Grammar.{isBlock}
+use Rattle.policy.specs.Scopes.{Scoped, scopedIn}
+use Rattle.policy.specs.Reading.{Read, policy, refused, readPolicy}
 use Rattle.policy.specs.Faults.{declaresA, placeOf, places, onCycle, firstCycle, familyCycle, cycle, clashes, firstClash, clash}
 use Rattle.policy.specs.Outcome.{Input, accept, policyOf}
-use Rattle.policy.proofs.Lists.{all-append}
 use Rattle.policy.proofs.Gathered.{OfValue, all-gather}
 use Rattle.policy.proofs.IfAny.{IfAny, nothing, just, or-else}
-use Rattle.reading_laws.proofs.ReadThen.{partPlaces, linePlaces, read-places}
-use Rattle.reading_laws.proofs.FaultOrder.{RefusedFor, too-long, wrong-byte, at-statement, fault-order, refusal-number, fault-number}
-use Rattle.reading_laws.proofs.OpensAt.{OpensAt, PartsOpen, forms-open, fault-place}
+use Rattle.reading_laws.proofs.ReadThen.{statementAt, linePlaces, read-places}
+use Rattle.reading_laws.proofs.FaultOrder.{RefusedFor, too-long, wrong-byte, at-statement, fault-order, fault-number}
+use Rattle.reading_laws.proofs.OpensAt.{OpensAt, forms-open, ScopedOpens, scoped-open, fault-place}
 use Rattle.code_laws.proofs.CodeFits.{read-clean}
 
 -- FAULT 2
@@ -49,44 +50,56 @@ between-in level at Open = either (ltb level maxLevel) (going between (level + 1
 between-in level at Close = either (eqb level 0) (stopped at) (going between _) (at + 1) (omega arith) tt
 between-in level at Letter = either (eqb level 0) (stopped at) (going (inName at 1) level) (at + 1) (omega arith) (omega arith)
 between-in level at Digit = omega arith
+between-in level at Dot = either (eqb level 0) (stopped at) (going (inName at 1) level) (at + 1) (omega arith) (omega arith)
 between-in level at Wrong = omega arith
 
 comment-in : (b : Bool) (level at : ℕ) → StateIn (going (cond b between inComment) level) at
 comment-in true level at = tt
 comment-in false level at = tt
 
-step-in : (m : Mode) (level at : ℕ) (k : ByteClass) → StateIn (going m level) at → StateIn (step m level at k) (at + 1)
-step-in between level at k h = between-in level at k
-step-in inComment level at k h = comment-in (endsComment k) level (at + 1)
-step-in (inName first len) level at k h =
-    either (goesOn k) _ (stepBetween level at k) (at + 1)
-    (either (ltb len maxName) (going (inName first (len + 1)) level) (stopped first) (at + 1) (omega arith) (omega arith))
-    (between-in level at k)
+step-in : (text : List ℕ) (m : Mode) (level at : ℕ) (k : ByteClass) → StateIn (going m level) at → StateIn (step text m level at k) (at + 1)
+step-in text between level at k h = between-in level at k
+step-in text inComment level at k h = comment-in (endsComment k) level (at + 1)
+step-in text (inName first len) level at k h =
+    either (inWord k) (going (inName first (len + 1)) level) _ (at + 1) (omega arith)
+    (either (isName (take len (drop first text))) (stepBetween level at k) (stopped first) (at + 1) (between-in level at k) (omega arith))
 
 abbrev placeIn : Scanned → ℕ
 placeIn Scanned.Clean = 0
 placeIn Scanned.TooLong = 0
 placeIn (Scanned.Wrong place) = place
 
-scan-from-in : (bs : List ℕ) (s : State) (at : ℕ) → StateIn s at → placeIn (scanFrom bs s at) ≤ at + length bs
-unfolding scanFrom
-scan-from-in [] (stopped place) at h = omega arith
-scan-from-in [] (going m level) at h = by (eqb level 0)
+closed-in : (level at : ℕ) → placeIn (closedAt level at) ≤ at
+closed-in level at = by (eqb level 0)
   where
-    by : (b : Bool) → placeIn (cond b Scanned.Clean (Scanned.Wrong at)) ≤ at + 0
+    by : (b : Bool) → placeIn (cond b Scanned.Clean (Scanned.Wrong at)) ≤ at
     by true = omega arith
     by false = omega arith
-scan-from-in (b ∷ bs) (stopped place) at h = omega arith
-scan-from-in (b ∷ bs) (going m level) at h = omega (arith, scan-from-in bs (step m level at (classOf b)) (at + 1) (step-in m level at (classOf b) h))
+
+end-in : (text : List ℕ) (m : Mode) (level at : ℕ) → StateIn (going m level) at → placeIn (endOf text m level at) ≤ at
+end-in text between level at h = closed-in level at
+end-in text inComment level at h = closed-in level at
+end-in text (inName first len) level at h = by (isName (take len (drop first text)))
+  where
+    by : (b : Bool) → placeIn (cond b (closedAt level at) (Scanned.Wrong first)) ≤ at
+    by true = closed-in level at
+    by false = h
+
+scan-from-in : (text bs : List ℕ) (s : State) (at : ℕ) → StateIn s at → placeIn (scanFrom text bs s at) ≤ at + length bs
+unfolding scanFrom
+scan-from-in text [] (stopped place) at h = omega arith
+scan-from-in text [] (going m level) at h = omega (arith, end-in text m level at h)
+scan-from-in text (b ∷ bs) (stopped place) at h = omega arith
+scan-from-in text (b ∷ bs) (going m level) at h = omega (arith, scan-from-in text bs (step text m level at (classOf b)) (at + 1) (step-in text m level at (classOf b) h))
 
 -- the place of a fault 2 is in the text, or at its end
 wrong-in : (text : List ℕ) (at : ℕ) → scan text ≡ Scanned.Wrong at → at ≤ maxText
 unfolding scan
 wrong-in text at e = by (ltb maxText (length text)) refl e
   where
-    by : (b : Bool) → ltb maxText (length text) ≡ b → cond b Scanned.TooLong (scanFrom text (going between 0) 0) ≡ Scanned.Wrong at → at ≤ maxText
+    by : (b : Bool) → ltb maxText (length text) ≡ b → cond b Scanned.TooLong (scanFrom text text (going between 0) 0) ≡ Scanned.Wrong at → at ≤ maxText
     by true l k = let z : _≡_ {A = ℕ} 0 1 = cc in absurd (omega arith)
-    by false l k = omega (arith, ltb-false maxText (length text) l, scan-from-in text (going between 0) 0 tt, ap placeIn k)
+    by false l k = omega (arith, ltb-false maxText (length text) l, scan-from-in text text (going between 0) 0 tt, ap placeIn k)
 
 -- FAULTS 3 TO 7
 
@@ -113,11 +126,13 @@ module _ (P : ℕ → Type 0) where
   abbrev LineAt : Line → Type 0
   LineAt l = P (l .place)
 
-  parts-at : (text : List ℕ) → ((at : ℕ) → OpensAt text at → P at) → (f : Forms) → PartsOpen text f → All P (partPlaces f)
-  parts-at text k closed h = tt
-  parts-at text k ended h = tt
-  parts-at text k (word b w r) h = parts-at text k r h
-  parts-at text k (part b i r) h = (k b (h .0), parts-at text k r (h .2))
+  -- the places of statements are among those of statements and blocks
+  statement-at : (x : Scoped) → P (x .place) → OfValue P (statementAt x)
+  statement-at x h = by (isBlock (x .form))
+    where
+      by : (b : Bool) → OfValue P (cond b none (some (x .place)))
+      by true = tt
+      by false = h
 
   lines-at : (p : Policy) → All P (linePlaces p) → All LineAt p
   unfolding each
@@ -215,9 +230,11 @@ refusal-place x n at e = by (readPolicy (x .text)) refl e
     lines : (p : Policy) → readPolicy (x .text) ≡ policy p → All (LineAt (λ at. at ≤ maxText)) p
     lines p r =
         let clean = read-clean (x .text) p r in
+        let xs = scopedIn [] (formsOf (x .text)) in
         lines-at (λ at. at ≤ maxText) p
-        (subst (All (λ at. at ≤ maxText)) (sym (read-places (formsOf (x .text)) [] p (clean .1)))
-        (parts-at (λ at. at ≤ maxText) (x .text) (λ at o. clean-in (x .text) at (clean .0) o) (formsOf (x .text)) (forms-open (x .text))))
+        (subst (All (λ at. at ≤ maxText)) (sym (read-places [] xs [] p (clean .1)))
+        (all-gather (λ at. at ≤ maxText) (ScopedOpens (x .text)) statementAt
+        (λ y o. statement-at (λ at. at ≤ maxText) y (clean-in (x .text) (y .place) (clean .0) o)) xs (scoped-open (x .text) [] (formsOf (x .text)) (forms-open (x .text)))))
 
     by : (r : Read) → readPolicy (x .text) ≡ r → elim r [ refused n at ↦ refused n at | policy p ↦ accept p ] ≡ refused n at → at ≤ maxText
     by (refused m b) h k = let same : b ≡ at = cc in subst (λ at. at ≤ maxText) same (read-place (x .text) m b h)

@@ -5,14 +5,15 @@ use native.Mathlib.Omega.{arith}
 use mathlib.Core.Path.{_≡_, refl, sym, ap, _∙_, subst}
 use mathlib.Core.List.{List, [], _∷_, _++_, append-assoc}
 use lib.ListN.{length}
-use Rattle.lexer.specs.Forms.{Forms, closed, ended, word, part, formsOf}
+use Rattle.lexer.specs.Forms.{formsOf}
 use Rattle.bitset.specs.Relations.{joined}
 use Rattle.policy.specs.Basics.{each, gather, keep, All}
 use Rattle.policy.specs.Statements.{thingOf, attributeOf, Declaration, plain, class, Statement, declare, attributeset, gives, roletransition, constrain, Line, Policy}
-use Rattle.policy.specs.Reading.{Judged, reads, fault, judge, policy, readFrom, readPolicy}
+use Rattle.policy.specs.Scopes.{Scoped, scopedIn}
+use Rattle.policy.specs.Reading.{Judged, reads, opens, fault, judge, policy, readFrom, readPolicy}
 use Rattle.policy.proofs.Lists.{all-append}
 use Rattle.policy.proofs.Gathered.{OfValue, all-gather}
-use Rattle.reading_laws.proofs.ReadThen.{line, judgedAt, read-part}
+use Rattle.reading_laws.proofs.ReadThen.{line, judgedAt, read-one}
 use Rattle.reading_laws.proofs.ReadAccepted.{read-accepted}
 use Rattle.statement_code.specs.Code.{declarationCode, statementCode, lineCode, codeOf}
 use Rattle.code_laws.specs.Shape.{StatementRowed}
@@ -49,19 +50,20 @@ code-coded (l ∷ p) = ap (λ (r : List ℕ). lineCode l ++ r) (code-coded p) �
 abbrev pub LineRowed : Line → Type 0
 LineRowed l = StatementRowed (l .says)
 
-pub row-rowed : (f : Forms) (p q : Policy) → readFrom f p ≡ policy q → All LineRowed p → All LineRowed q
+pub row-rowed : (before xs : List Scoped) (p q : Policy) → readFrom before xs p ≡ policy q → All LineRowed p → All LineRowed q
 unfolding readFrom
-row-rowed closed p q h a = let same : p ≡ q = cc in subst (All LineRowed) same a
-row-rowed ended p q h a = let same : p ≡ q = cc in subst (All LineRowed) same a
-row-rowed (word at w r) p q h a = row-rowed r p q h a
-row-rowed (part at i r) p q h a = go (judge p i) refl (sym (read-part at i r p) ∙ h) λ o. row-rowed r o q
+row-rowed before [] p q h a = let same : p ≡ q = cc in subst (All LineRowed) same a
+row-rowed before (x ∷ xs) p q h a = go (judge before p x) refl (sym (read-one before x xs p) ∙ h) λ o. row-rowed (before ++ (x ∷ [])) xs o q
   where
-    go : (j : Judged) → judge p i ≡ j → judgedAt at p j (readFrom r) ≡ policy q → ((o : Policy) → readFrom r o ≡ policy q → All LineRowed o → All LineRowed q) → All LineRowed q
-    go (reads s) e k rest = rest (p ++ (line at s ∷ [])) k (all-append LineRowed p (line at s ∷ []) a (judge-shaped p i s e .rowed, tt))
+    go : (j : Judged) → judge before p x ≡ j → judgedAt (x .place) p j (readFrom (before ++ (x ∷ [])) xs) ≡ policy q
+        → ((o : Policy) → readFrom (before ++ (x ∷ [])) xs o ≡ policy q → All LineRowed o → All LineRowed q) → All LineRowed q
+    go (reads s) e k rest =
+        rest (p ++ (line (x .place) s ∷ [])) k (all-append LineRowed p (line (x .place) s ∷ []) a (judge-shaped before p x s e .rowed, tt))
+    go opens e k rest = rest p k a
     go (fault n) e k rest = let z : _≡_ {A = ℕ} 0 1 = cc in absurd (omega arith)
 
 pub read-rowed : (text : List ℕ) (p : Policy) → readPolicy text ≡ policy p → All LineRowed p
-read-rowed text p h = row-rowed (formsOf text) [] p (read-clean text p h .1) tt
+read-rowed text p h = row-rowed [] (scopedIn [] (formsOf text)) [] p (read-clean text p h .1) tt
 
 -- a line whose numbers are small and whose S is rowed
 abbrev pub LineReadable : Line → Type 0

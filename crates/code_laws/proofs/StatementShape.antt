@@ -2,19 +2,20 @@
 -- speaks of. Assumes nothing.
 use Prim.Native.Nat.{ℕ, suc, _+_, _≤_, _<_}
 use native.Mathlib.Omega.{arith}
-use mathlib.Core.Path.{_≡_, refl, ap}
-use mathlib.Core.Bool.{Bool, true, false, cond}
+use mathlib.Core.Path.{_≡_, refl}
 use mathlib.Core.List.{List, [], _∷_}
 use mathlib.Core.Option.{Option, none, some}
 use lib.ListN.{length}
 use Rattle.lexer.specs.Forms.{Forms, closed, ended, word, part}
 use Rattle.policy.specs.Basics.{Name, more, ofOne, ofTwo, eachOf}
-use Rattle.policy.specs.Words.{asName, Keyword, declareK, classK, setK, relationK, transitionK, constrainK, keywordOf}
+use Rattle.policy.specs.Words.{asName, asPart, Keyword, declareK, classK, setK, relationK, transitionK, constrainK, keywordOf}
 use Rattle.policy.specs.Statements.{roles, types, thingOf, attributeOf, Declaration, plain, class, Relation, StatementOf, declare, attributeset, gives, roletransition, constrain, fromOf, toOf, Written, Statement, Policy, declarations}
-use Rattle.policy.specs.Grammar.{atClose, wordThen, partThen, wordAndPart, expressionIn, namesIn, oneOrMore, classIn, ofFour, formed, written}
+use Rattle.policy.specs.Grammar.{atClose, wordThen, partThen, wordAndPart, expressionIn, rowOf, oneOrMore, classIn, ofFour, formed, written}
 use Rattle.policy.specs.Names.{refer, Environment, environmentOf, numberIn}
-use Rattle.policy.specs.Reading.{again, referE, resolved, fits, shallow, reads, fault, sized, resolving, naming, judge}
+use Rattle.policy.specs.Scopes.{Scoped}
+use Rattle.policy.specs.Reading.{inBlocks, referE, resolved, reads, judge}
 use Rattle.policy.proofs.IfAny.{IfAny, nothing, just, and-then, whatever}
+use Rattle.reading_laws.proofs.Judging.{judge-written}
 use Rattle.statement_code.specs.Code.{declarationCode, statementCode}
 use Rattle.code_laws.specs.Weight.{weight}
 use Rattle.code_laws.specs.Shape.{declarationUnits, statementUnits, StatementRowed}
@@ -41,11 +42,11 @@ more-names none ws l h = nothing
 more-names (some w) none l h = nothing
 more-names (some w) (some ws) l h = let a = h .has ws refl in just (record { few = omega arith })
 
-names-few : (f : Forms) → IfAny (Fewer (weight f)) (namesIn f)
-unfolding namesIn weight
+names-few : (f : Forms) → IfAny (Fewer (weight f)) (rowOf asName f)
+unfolding rowOf weight
 names-few closed = just (record { few = omega arith })
 names-few ended = nothing
-names-few (word at w r) = more-names (asName w) (namesIn r) (omega arith) (names-few r)
+names-few (word at w r) = more-names (asName w) (rowOf asName r) (omega arith) (names-few r)
 names-few (part p i r) = nothing
 
 declaration-shaped : {k : ℕ} → 1 < k → (d : Declaration) → WrittenShaped k (declare d)
@@ -94,22 +95,22 @@ module _ {A : Type 0} {P : A → Type 0} where
   word-and-part : (f : Forms) (g : Name → Forms → Option A) → ((w : Name) (i : Forms) → weight f ≡ weight i + 3 → IfAny P (g w i)) → IfAny P (wordAndPart f g)
   word-and-part f g k = word-then f _ λ w r a. part-then r _ λ i q b. at-close q _ λ c. k w i (omega arith)
 
-  class-in : (f : Forms) (g : Name → List Name → Option A) → ((c : Name) (ps : List Name) → IfAny P (g c ps)) → IfAny P (classIn f g)
-  class-in f g k = word-and-part f _ λ c i _. whatever (asName c) _ λ c. whatever (namesIn i) _ λ ps. whatever (oneOrMore ps) _ λ ps. k c ps
+  class-in : (taken : Name → Option Name) (f : Forms) (g : Name → List Name → Option A) → ((c : Name) (ps : List Name) → IfAny P (g c ps)) → IfAny P (classIn taken f g)
+  class-in taken f g k = word-and-part f _ λ c i _. whatever (taken c) _ λ c. whatever (rowOf asPart i) _ λ ps. whatever (oneOrMore ps) _ λ ps. k c ps
 
 formed-shaped : (k : Keyword) (f : Forms) (n : ℕ) → weight f + 1 < n → IfAny (WrittenShaped n) (formed k f)
-formed-shaped (declareK s) f n l = whatever (namesIn f) _ λ ws. if-one ws
+formed-shaped (declareK s) f n l = whatever (rowOf asPart f) _ λ ws. if-one ws
   where
     if-one : (ws : List Name) → IfAny (WrittenShaped n) (ofOne (λ w. declare (plain s w)) ws)
     if-one [] = nothing
     if-one (w ∷ []) = just (declaration-shaped (omega arith) (plain s w))
     if-one (w ∷ x ∷ ws) = nothing
-formed-shaped classK f n l = class-in f _ λ c ps. just (declaration-shaped (omega arith) (class c ps))
+formed-shaped classK f n l = class-in asPart f _ λ c ps. just (declaration-shaped (omega arith) (class c ps))
 formed-shaped (setK a) f n l = word-and-part f _ λ w i e. whatever (asName w) _ λ w. and-then _ _ (set-within i) λ s h. just (record { rowed = h .rowed; room = omega arith })
 formed-shaped (relationK r) f n l = and-then _ _ (names-few f) (two-shaped (omega arith) r)
 formed-shaped transitionK f n l = and-then _ _ (names-few f) (four-shaped (omega arith))
 formed-shaped constrainK f n l =
-    part-then f _ λ i r _. part-then r _ λ j r _. at-close r _ λ _. class-in i _ λ c ps. whatever (expressionIn j) _ λ e. just (record { rowed = tt; room = omega arith })
+    part-then f _ λ i r _. part-then r _ λ j r _. at-close r _ λ _. class-in asName i _ λ c ps. whatever (expressionIn j) _ λ e. just (record { rowed = tt; room = omega arith })
 
 -- the statement in parentheses: one of them is not of the row in them
 written-shaped : (f : Forms) → IfAny (WrittenShaped (weight f + 1)) (written f)
@@ -118,6 +119,16 @@ written-shaped closed = nothing
 written-shaped ended = nothing
 written-shaped (part p i r) = nothing
 written-shaped (word at w r) = whatever (keywordOf w) _ λ k. formed-shaped k r (weight r + 1 + 1) (omega arith)
+
+-- full names take up no more units
+blocks-shaped : {n : ℕ} (path : List Name) (w : Written) → WrittenShaped n w → WrittenShaped n (inBlocks path w)
+blocks-shaped path (declare (plain (thingOf f) v)) h = record { rowed = tt; room = h .room }
+blocks-shaped path (declare (plain (attributeOf f) v)) h = record { rowed = tt; room = h .room }
+blocks-shaped path (declare (class v ps)) h = record { rowed = tt; room = h .room }
+blocks-shaped path (attributeset f a s) h = h
+blocks-shaped path (gives r x y) h = h
+blocks-shaped path (roletransition r t c m) h = h
+blocks-shaped path (constrain c ps e) h = h
 
 -- AS IT IS READ
 module _ (env : Environment) (n : ℕ) where
@@ -132,30 +143,12 @@ module _ (env : Environment) (n : ℕ) where
   resolved-shaped (constrain c ps e) h =
       whatever (env .class c) _ λ c. whatever (eachOf (λ p. env .permission c p) ps) _ λ ps. whatever (referE env e) _ λ e. just (record { rowed = tt; room = h .room })
 
--- what is judged good was written and resolved
-module _ (p : Policy) (t : Statement) where
-  sized-as : (s : Statement) → sized p s ≡ reads t → s ≡ t
-  sized-as s h = go (fits p s) (shallow s) h
-    where
-      go : (a b : Bool) → cond a (cond b (reads s) (fault 7)) (fault 6) ≡ reads t → s ≡ t
-      go false b e = cc
-      go true false e = cc
-      go true true e = cc
-
-  naming-as : (o : Option Written) → naming p o ≡ reads t → (w : Written) × (o ≡ some w) × (resolved (environmentOf (declarations p)) w ≡ some t)
-  naming-as none h = let z : _≡_ {A = ℕ} 0 1 = cc in absurd (omega arith)
-  naming-as (some w) h = (w, refl, go (again (declarations p) w) (resolved (environmentOf (declarations p)) w) h)
-    where
-      go : (b : Bool) (o : Option Statement) → elim b [ true ↦ fault 4 | false ↦ resolving p o ] ≡ reads t → o ≡ some t
-      go true o e = cc
-      go false none e = cc
-      go false (some s) e = ap {B = Option Statement} some (sized-as s e)
-
-pub judge-shaped : (p : Policy) (f : Forms) (s : Statement) → judge p f ≡ reads s → StatementShaped (weight f + 1) s
-unfolding judge
-judge-shaped p f s h =
-    let w = naming-as p s (written f) h in
-    resolved-shaped (environmentOf (declarations p)) (weight f + 1) (w .0) (written-shaped f .has (w .0) (w .1)) .has s (w .2)
+-- what is judged good was written and resolved, in whatever blocks
+pub judge-shaped : (before : List Scoped) (p : Policy) (x : Scoped) (s : Statement) → judge before p x ≡ reads s → StatementShaped (weight (x .form) + 1) s
+judge-shaped before p x s h =
+    let w = judge-written before p x s h in
+    resolved-shaped (environmentOf (declarations p) (x .path)) (weight (x .form) + 1) (inBlocks (x .path) (w .0))
+    (blocks-shaped (x .path) (w .0) (written-shaped (x .form) .has (w .0) (w .1))) .has s (w .2)
 
 -- as many units as its code has
 declaration-length : (at : ℕ) (d : Declaration) → length (declarationCode at d) ≡ declarationUnits d
@@ -170,6 +163,7 @@ statement-length at (gives k x y) h = refl
 statement-length at (roletransition r t c n) h = refl
 statement-length at (constrain c ps e) h = refl
 
--- the statement whose parentheses hold f has no more units than tokens
-pub statement-fits : (p : Policy) (f : Forms) (at : ℕ) (s : Statement) → judge p f ≡ reads s → length (statementCode at s) ≤ weight f + 1
-statement-fits p f at s h = let k = judge-shaped p f s h in omega (arith, statement-length at s (k .rowed))
+-- a statement has no more units than its parentheses and what they hold have tokens, in whatever blocks
+pub statement-fits : (before : List Scoped) (p : Policy) (x : Scoped) (s : Statement) → judge before p x ≡ reads s
+    → length (statementCode (x .place) s) ≤ weight (x .form) + 1
+statement-fits before p x s h = let k = judge-shaped before p x s h in omega (arith, statement-length (x .place) s (k .rowed))

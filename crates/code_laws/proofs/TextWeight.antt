@@ -6,9 +6,9 @@ use mathlib.Core.Bool.{Bool, true, false, cond}
 use mathlib.Core.List.{List, [], _∷_}
 use lib.ListN.{length, drop, length-append}
 use Rattle.lexer.specs.declared.ByteClass.{ByteClass}
-use Rattle.lexer.specs.declared.ByteClass.the-variants.{Blank, LineFeed, Comment, Open, Close, Letter, Digit, Wrong}
+use Rattle.lexer.specs.declared.ByteClass.the-variants.{Blank, LineFeed, Comment, Open, Close, Letter, Digit, Dot, Wrong}
 use Rattle.lexer.specs.declared.Token.{Token}
-use Rattle.lexer.specs.Class.{classOf, goesOn, endsComment}
+use Rattle.lexer.specs.Class.{classOf, inWord, endsComment}
 use Rattle.lexer.specs.Scan.{Mode, between, inComment, inName}
 use Rattle.lexer.specs.Token.{betweenThen, ownToken, modeThen, ending, tokensFrom, tokensAt}
 use Rattle.lexer.specs.Forms.{Forms, Frames, head, tail, step, build, framesAt, formsOf}
@@ -29,6 +29,7 @@ own-token at Open = omega arith
 own-token at Close = omega arith
 own-token at Letter = omega arith
 own-token at Digit = omega arith
+own-token at Dot = omega arith
 own-token at Wrong = omega arith
 
 by-byte : (m : Mode) (at : ℕ) (k : ByteClass) → length (ending m at k) + pending (modeThen m at k) ≤ pending m + 1
@@ -38,7 +39,7 @@ by-byte inComment at k = go (endsComment k)
     go : (b : Bool) → 0 + pending (cond b between inComment) ≤ 0 + 1
     go true = omega arith
     go false = omega arith
-by-byte (inName s n) at k = go (goesOn k)
+by-byte (inName s n) at k = go (inWord k)
   where
     go : (b : Bool) → length (cond b [] (Token.Word s n ∷ ownToken at k)) + pending (cond b (inName s (n + 1)) (betweenThen at k)) ≤ 1 + 1
     go true = omega arith

@@ -2,23 +2,26 @@
 use Prim.Native.Nat.{ℕ, _<_}
 use native.Mathlib.Omega.{arith}
 use mathlib.Core.Path.{_≡_, refl, sym, subst}
-use mathlib.Core.Bool.{Bool, true, false}
+use mathlib.Core.Bool.{Bool, true, false, cond}
 use mathlib.Core.List.{List, [], _∷_, _++_}
+use mathlib.Core.Option.{none, some}
 use lib.Dec.{leb}
 use lib.ListN.{length, List·getD-eq-default}
 use borrow.Author.Tests.{leb-true, leb-false}
-use Rattle.lexer.specs.Forms.{Forms, closed, ended, word, part, namesGood, formsOf}
+use Rattle.lexer.specs.Forms.{namesGood, formsOf}
 use Rattle.lexer.proofs.Clean.{clean-short}
 use Rattle.bitset.specs.Relations.{joined}
 use Rattle.policy.specs.Basics.{each, All}
 use Rattle.policy.specs.Statements.{Family, users, roles, types, thingOf, attributeOf, Declaration, plain, class, Reference, thing, attribute, SetExpr, nameS, allS, notS, andS, orS, xorS, unionS, emptyS, Relation, userrole, roletype, roleallow, Statement, declare, attributeset, gives, roletransition, constrain, Policy, declarations}
+use Rattle.policy.specs.Grammar.{isBlock}
+use Rattle.policy.specs.Scopes.{Scoped, scopedIn}
 use Rattle.policy.specs.Reading.{reads, judge, policy, readPolicy}
-use Rattle.policy.specs.Accepted.{Accepted}
+use Rattle.policy.specs.Accepted.{Accepted, GoodPath}
 use Rattle.policy.proofs.Lists.{all-append}
-use Rattle.policy.proofs.Gathered.{all-map}
+use Rattle.policy.proofs.Gathered.{OfValue, all-gather, all-map}
 use Rattle.reading_laws.proofs.Judging.{judge-passes}
-use Rattle.reading_laws.proofs.OpensAt.{OpensAt, PartsOpen, forms-open}
-use Rattle.reading_laws.proofs.ReadThen.{partPlaces, linePlaces, read-places}
+use Rattle.reading_laws.proofs.OpensAt.{OpensAt, forms-open, ScopedOpens, scoped-open}
+use Rattle.reading_laws.proofs.ReadThen.{statementAt, linePlaces, read-places}
 use Rattle.reading_laws.proofs.ReadAccepted.{read-accepted}
 use Rattle.statement_code.specs.Code.{referenceUnit, endUnit, setCode, rowCode, familyNumber, relationNumber, declarationCode, statementCode, lineCode, codeOf}
 use Rattle.statement_code.specs.Numbered.{NumberedR, Numbered, StatementNumbered}
@@ -94,10 +97,11 @@ statement-units at (roletransition r t c n) l h =
     (omega arith, (l, (omega (arith, reference-below r (h .0)), (omega (arith, reference-below t (h .1)), (omega arith, (omega arith, tt))))))
 statement-units at (constrain c ps e) l h = tt
 
--- one statement that is judged good, after those of p
-pub judged-units : (p : Policy) (f : Forms) (at : ℕ) (s : Statement) → Accepted p → namesGood f ≡ true → judge p f ≡ reads s → IsUnit at → All IsUnit (statementCode at s)
-judged-units p f at s a g h l =
-    statement-units at s l (statement-numbered (declarations p) (a .names) s (judge-passes p f g .has s h .inside))
+-- one statement that is judged good in good blocks, after those of p
+pub judged-units : (before : List Scoped) (p : Policy) (x : Scoped) (s : Statement) → Accepted p → GoodPath (x .path) → namesGood (x .form) ≡ true
+    → judge before p x ≡ reads s → IsUnit (x .place) → All IsUnit (statementCode (x .place) s)
+judged-units before p x s a good g h l =
+    statement-units (x .place) s l (statement-numbered (declarations p) (a .names) s (judge-passes before p x good g .has s h .inside))
 
 -- THE UNITS OF THE CODE
 pub lines-units : (p : Policy) → All LineNumbered p → All IsUnit (linePlaces p) → All IsUnit (codeOf p)
@@ -113,16 +117,21 @@ opens-within text at h = go (leb (length text) at) refl
     go false e = leb-false (length text) at e
     go true e = absurd (omega (arith, h, List·getD-eq-default text 0 (leb-true (length text) at e)))
 
-places-within : (text : List ℕ) (f : Forms) → PartsOpen text f → All (λ at. at < length text) (partPlaces f)
-places-within text closed h = tt
-places-within text ended h = tt
-places-within text (word at w r) h = places-within text r h
-places-within text (part at i r) h = (opens-within text at (h .0), places-within text r (h .2))
+-- the places of statements are among those of statements and blocks
+place-within : (text : List ℕ) (x : Scoped) → ScopedOpens text x → OfValue (λ at. at < length text) (statementAt x)
+place-within text x h = go (isBlock (x .form))
+  where
+    go : (b : Bool) → OfValue (λ at. at < length text) (cond b none (some (x .place)))
+    go true = tt
+    go false = opens-within text (x .place) h
 
 -- a statement's place is that of a byte of the text
 pub read-within : (text : List ℕ) (p : Policy) → readPolicy text ≡ policy p → All (λ at. at < length text) (linePlaces p)
 unfolding each
-read-within text p h = subst (All (λ at. at < length text)) (sym (read-places (formsOf text) [] p (read-clean text p h .1))) (places-within text (formsOf text) (forms-open text))
+read-within text p h =
+    let xs = scopedIn [] (formsOf text) in
+    subst (All (λ at. at < length text)) (sym (read-places [] xs [] p (read-clean text p h .1)))
+    (all-gather (λ at. at < length text) (ScopedOpens text) statementAt (place-within text) xs (scoped-open text [] (formsOf text) (forms-open text)))
 
 -- "Text 65,535 bytes": a place, and every other unit, fits 16 bits
 pub code-units : (text : List ℕ) (p : Policy) → readPolicy text ≡ policy p → All IsUnit (codeOf p)

@@ -14,7 +14,8 @@ use Rattle.policy.specs.declared.Refusal as theRefusal
 use Rattle.policy.specs.declared.Compiling.{Compiling}
 use Rattle.policy.specs.Answers.{refusalIn, compilingOf}
 use Rattle.policy.specs.Statements.{Policy}
-use Rattle.policy.specs.Reading.{Read, policy, refused, afterScan, readFrom, readPolicy}
+use Rattle.policy.specs.Reading.{Read, policy, refused, afterScan, readAll, readPolicy}
+use Rattle.policy.specs.Scopes.{scopedIn}
 use Rattle.policy.specs.Image.{Image, imageOf}
 use Rattle.policy.specs.Encode.{encode}
 use Rattle.policy.specs.Outcome.{Input, ofText, accept, policyOf, Compiled, compiles, refuses, fitted, compiled, refusalOf, accepted, rejected, outcomeOf, outcome, after}
@@ -85,23 +86,23 @@ module _ (text : List ℕ) {before : List ℕ} where
       subst (λ (x : Compiled). Gives x before after a) (sym (compiled-reads text (length before) (policy p) e)) g
 
 -- what the scan finds
-pub read-scanned : (text : List ℕ) (s : Scanned) → s ≡ scan text → readPolicy text ≡ afterScan s (readFrom (formsOf text) [])
+pub read-scanned : (text : List ℕ) (s : Scanned) → s ≡ scan text → readPolicy text ≡ afterScan s (readAll (scopedIn [] (formsOf text)))
 unfolding readPolicy
-read-scanned text s e = ap (λ (x : Scanned). afterScan x (readFrom (formsOf text) [])) (sym e)
+read-scanned text s e = ap (λ (x : Scanned). afterScan x (readAll (scopedIn [] (formsOf text)))) (sym e)
 
 -- what the parser finds
 module _ {text : List ℕ} {lent now : Memory} {r : Parsed} (parses : Parses text lent now r) (clean : scan text ≡ Scanned.Clean) where
   pub refused-read : (n at : ℕ) → r ≡ Parsed.Refused n at → readPolicy text ≡ refused n at
-  refused-read n at e = read-scanned text Scanned.Clean (sym clean) ∙ by (readFrom (formsOf text) []) (subst (λ (x : Parsed). Reads (readFrom (formsOf text) []) lent now x) e (parses .reads clean))
+  refused-read n at e = read-scanned text Scanned.Clean (sym clean) ∙ by (readAll (scopedIn [] (formsOf text))) (subst (λ (x : Parsed). Reads (readAll (scopedIn [] (formsOf text))) lent now x) e (parses .reads clean))
     where
       by : (x : Read) → Reads x lent now (Parsed.Refused n at) → x ≡ refused n at
       by (policy p) h = absurd h
       by (refused m q) h = ap₂ {C = Read} (λ (i j : ℕ). refused i j) (sym (h .0)) (sym (h .1))
 
-  pub accepted-read : (s : Progress) → r ≡ Parsed.Accepted s → (p : Policy) × (readPolicy text ≡ policy p) × Holds p lent now s
-  accepted-read s e = by (readFrom (formsOf text) []) refl (subst (λ (x : Parsed). Reads (readFrom (formsOf text) []) lent now x) e (parses .reads clean))
+  pub accepted-read : (s : Progress) → r ≡ Parsed.Accepted s → (p : Policy) × (readPolicy text ≡ policy p) × Holds p [] lent now s
+  accepted-read s e = by (readAll (scopedIn [] (formsOf text))) refl (subst (λ (x : Parsed). Reads (readAll (scopedIn [] (formsOf text))) lent now x) e (parses .reads clean))
     where
-      by : (x : Read) → readFrom (formsOf text) [] ≡ x → Reads x lent now (Parsed.Accepted s) → (p : Policy) × (readPolicy text ≡ policy p) × Holds p lent now s
+      by : (x : Read) → readAll (scopedIn [] (formsOf text)) ≡ x → Reads x lent now (Parsed.Accepted s) → (p : Policy) × (readPolicy text ≡ policy p) × Holds p [] lent now s
       by (policy p) i h = (p, read-scanned text Scanned.Clean (sym clean) ∙ i, h)
       by (refused m q) i h = absurd h
 

@@ -2,7 +2,7 @@
 use Prim.Native.Nat.{ℕ, _*_}
 use native.Mathlib.Omega.{arith}
 use mathlib.Core.Path.{_≡_, sym, ap, subst, _∙_}
-use mathlib.Core.List.{List}
+use mathlib.Core.List.{List, []}
 use lib.ListN.{length, take, drop}
 use lib.Seq.{take-at, take-take}
 use Rattle.policy.specs.Statements.{Family, thingOf, attributeOf, Policy, declarations}
@@ -31,7 +31,7 @@ module _ (p : Policy) {table : List ℕ} {end sort r : ℕ} (f : Family) (s : de
   pub attributes-counted : sort ≡ sortCode (attributeOf f) → r ≡ attributesIn p f
   attributes-counted e = counts .things end (declarations p) (attributeOf f) s e
 
-module _ {p : Policy} {lent now : Memory} {s : Progress} (h : Holds p lent now s) where
+module _ {p : Policy} {lent now : Memory} {s : Progress} (h : Holds p [] lent now s) where
   -- the symbols end before their chains
   symbols-front : take (s .symbols) (now .symbols) ≡ symbolsOf p
   symbols-front = sym (take-take (s .symbols) 137088 (now .symbols) (h .chained .below)) ∙ starts-take (h .symbols)

@@ -1,6 +1,6 @@
 -- What each pass leaves for the next. Assumes nothing.
 use mathlib.Core.Path.{_≡_}
-use mathlib.Core.List.{List}
+use mathlib.Core.List.{List, []}
 use Prim.Native.Nat.{ℕ, _*_}
 use lib.ListN.{length, take}
 use Rattle.lexer.specs.declared.Scanned.{Scanned}
@@ -36,7 +36,7 @@ compiledBy r lent = elim r [ refused n at ↦ refuses n at | policy p ↦ fitted
 
 -- the sizes are those of the table of what was read
 pub record Measures (progress : Progress) (symbols : List ℕ) (r : Sizes) : Type 0 where
-  pub says : (p : Policy) (lent now : Memory) → now .symbols ≡ symbols → Holds p lent now progress → SizesOf p r
+  pub says : (p : Policy) (lent now : Memory) → now .symbols ≡ symbols → Holds p [] lent now progress → SizesOf p r
 
 -- "lent table memory shorter than the table", or the table
 pub record Fits (s : Sizes) (symbols code constraints rows userSets roleSets typeSets before after : List ℕ) (r : Passed) : Type 0 where
@@ -52,7 +52,7 @@ pub record ResolvesAndWrites (s : Sizes) (total : ℕ) (symbols code constraints
 
 -- the same of what the parser left
 pub record CompilesStatements (progress : Progress) (symbols code constraints rows before after : List ℕ) (r : Passed) : Type 0 where
-  pub says : (p : Policy) (lent : Memory) → Holds p lent (memory symbols code constraints rows) progress → Gives (compiledBy (accept p) (length before)) before after r
+  pub says : (p : Policy) (lent : Memory) → Holds p [] lent (memory symbols code constraints rows) progress → Gives (compiledBy (accept p) (length before)) before after r
 
 -- "then statements in text order, each tried for 3, 4, 5, 6, 7; then 8; 9; 10"
 pub record CompilesClean (text before after : List ℕ) (r : Passed) : Type 0 where

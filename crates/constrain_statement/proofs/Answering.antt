@@ -24,7 +24,7 @@ use Rattle.policy.specs.Encode.{headBytes, rowBytes}
 use Rattle.policy.specs.Rows.{rowsOf}
 use Rattle.policy.proofs.Lists.{both-true}
 use Rattle.table_laws.proofs.ListLaws.{bound-then}
-use Rattle.name_chains.specs.Symbols.{Symbols}
+use Rattle.scopes.specs.Symbols.{Symbols}
 use Rattle.items.specs.Looks.{itemAt, rowEnd}
 use Rattle.items.specs.declared.Item.{Item}
 use Rattle.items.proofs.Items.{Looked, by-part}

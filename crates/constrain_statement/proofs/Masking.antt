@@ -1,6 +1,6 @@
 -- A row of permissions of a class as a mask: what is left of the row adds to the mask so far what the whole row adds to none. Assumes nothing.
 use mathlib.Core.Path.{_≡_, refl, sym, ap, subst, _∙_}
-use mathlib.Core.Bool.{not, _||_}
+use mathlib.Core.Bool.{not, _&&_, _||_}
 use mathlib.Core.List.{List, [], _∷_}
 use mathlib.Core.Option.{Option, none, some, Option·some-injective}
 use Prim.Native.Nat.{ℕ, _+_, _*_, _%_, _^_, _<_}
@@ -14,16 +14,16 @@ use Rattle.bitset.specs.Parts as parts
 use Rattle.bitset.proofs.BitLaws.{fromBits-lt}
 use Rattle.lexer.specs.Forms.{Forms, word, part, framesAt}
 use Rattle.policy.specs.Basics.{Name, _>>=_, more, eachOf}
-use Rattle.policy.specs.Words.{isReserved, asName}
+use Rattle.policy.specs.Words.{isReserved, dotless, asPart}
 use Rattle.policy.specs.Statements.{permissions}
-use Rattle.policy.specs.Grammar.{namesIn}
+use Rattle.policy.specs.Grammar.{rowOf}
 use Rattle.policy.specs.Image.{maskOf}
 use Rattle.table_laws.proofs.ListLaws.{given-some, more-some}
 use Rattle.policy.specs.Names.{Environment}
 use Rattle.symbols.specs.Resolving.{foundPermission}
-use Rattle.name_chains.specs.Symbols.{Symbols, Looks}
+use Rattle.scopes.specs.Symbols.{Symbols, LooksPermission}
 use Rattle.symbols.specs.declared.Found.{Found}
-use Rattle.name_chains.proofs.Bounds.{bounded}
+use Rattle.scopes.proofs.Bounds.{bounded}
 use Rattle.items.specs.Looks.{itemAt, rowEnd}
 use Rattle.items.specs.declared.Item.{Item}
 use Rattle.items.proofs.Items.{Looked, alike-here}
@@ -48,14 +48,14 @@ one-first m k (some ns) = ap some (gained-one m k ns)
 -- what is left of the permissions ps in the row f, where the mask so far is m
 pub record Left (env : Environment) (c : ℕ) (ps : List Name) (f : Forms) (m : ℕ) : Type 0 where
   pub rest : List Name
-  pub names : namesIn f ≡ some rest
+  pub names : rowOf asPart f ≡ some rest
   pub total : added m (numbersOf env c rest) ≡ added 0 (numbersOf env c ps)
 
 -- the row at the place at is read up to the place i
 pub record Going (t : List ℕ) (at : ℕ) (table : List ℕ) (family i m : ℕ) : Type 0 where
   pub same-row : rowEnd t i ≡ rowEnd t at
   pub small : m < 2 ^ 32
-  pub left : (env : Environment) (c : ℕ) (ps : List Name) → Symbols table env → family ≡ 4 + c → namesIn (framesAt t at .here) ≡ some ps
+  pub left : (env : Environment) (c : ℕ) (ps : List Name) → Symbols table env → family ≡ 4 + c → rowOf asPart (framesAt t at .here) ≡ some ps
       → Left env c ps (framesAt t i .here) m
 
 pub begun : {t : List ℕ} {at : ℕ} {table : List ℕ} {family : ℕ} → Going t at table family at 0
@@ -66,13 +66,13 @@ begun = record { same-row = refl; small = omega arith; left = λ env c ps y e h.
 pub record FirstName (w : Name) (f : Forms) (rest : List Name) : Type 0 where
   pub others : List Name
   pub row : rest ≡ w ∷ others
-  pub names : namesIn f ≡ some others
+  pub names : rowOf asPart f ≡ some others
 
-first-name : (s : ℕ) (w : Name) (f : Forms) (rest : List Name) → namesIn (word s w f) ≡ some rest → FirstName w f rest
-unfolding namesIn
+first-name : (s : ℕ) (w : Name) (f : Forms) (rest : List Name) → rowOf asPart (word s w f) ≡ some rest → FirstName w f rest
+unfolding rowOf
 first-name s w f rest h =
-    let p = more-some (asName w) (namesIn f) rest h in
-    let same = given-some (not (isReserved w)) w (p .0) (p .2) .1 in
+    let p = more-some (asPart w) (rowOf asPart f) rest h in
+    let same = given-some (dotless w && not (isReserved w)) w (p .0) (p .2) .1 in
     record { others = p .1; row = p .4 ∙ ap (λ (v : Name). v ∷ p .1) (sym same); names = p .3 }
 
 -- what a permission's name is found as is its place in the class
@@ -82,7 +82,7 @@ pub record Numbered (env : Environment) (c : ℕ) (w : Name) (number : ℕ) : Ty
   pub low : number % 32 ≡ place
 
 module _ {table : List ℕ} {env : Environment} (y : Symbols table env) (c : ℕ) (w : Name) where
-  found-as : (family : ℕ) → family ≡ 4 + c → (r : Found) → Looks table family w r → r ≡ foundPermission c (env .permission c w)
+  found-as : (family : ℕ) → family ≡ 4 + c → (r : Found) → LooksPermission table family w r → r ≡ foundPermission c (env .permission c w)
   found-as family e r h = h .permissions env c y (sym e)
 
   numbered : (sort number : ℕ) → Found.At sort number ≡ foundPermission c (env .permission c w) → Numbered env c w number
@@ -112,9 +112,9 @@ abbrev pub tag : Item → ℕ
 tag k = tagOf the-type k
 
 module _ {t : List ℕ} {at : ℕ} {table : List ℕ} {family i m : ℕ} (g : Going t at table family i m) where
-  module _ {s n k q : ℕ} (l : Looked t i (Item.Word s n k q)) {r : Found} (h : Looks table family (parts.part t s n) r) where
+  module _ {s n k q : ℕ} (l : Looked t i (Item.Word s n k q)) {r : Found} (h : LooksPermission table family (parts.part t s n) r) where
     name-first : {env : Environment} {c : ℕ} {ps : List Name} (x : Left env c ps (framesAt t i .here) m) → FirstName (take n (drop s t)) (framesAt t q .here) (x .rest)
-    name-first x = first-name s (take n (drop s t)) (framesAt t q .here) (x .rest) (sym (ap namesIn (l .here)) ∙ x .names)
+    name-first x = first-name s (take n (drop s t)) (framesAt t q .here) (x .rest) (sym (ap (rowOf asPart) (l .here)) ∙ x .names)
 
     pub one-more : {sort number v : ℕ} → r ≡ Found.At sort number → v ≡ fromBits 32 (λ j. bit m j || eqb j (number % 32)) → Going t at table family q v
     unfolding parts.part eachOf
@@ -154,12 +154,12 @@ module _ {t : List ℕ} {at : ℕ} {table : List ℕ} {family i m : ℕ} (g : Go
     }
 
   pub finished : {q : ℕ} → Looked t i (Item.Close q) → Masks t at table family (Masked.Mask m q)
-  unfolding namesIn eachOf
+  unfolding rowOf eachOf
   finished l = record {
     place = sym (g .same-row) ∙ l .end;
     says = λ env c ps y f b.
         let x = g .left env c ps y f b in
-        let none-left : [] ≡ x .rest = Option·some-injective [] (x .rest) (sym (ap namesIn (l .here)) ∙ x .names) in
+        let none-left : [] ≡ x .rest = Option·some-injective [] (x .rest) (sym (ap (rowOf asPart) (l .here)) ∙ x .names) in
         sym (ap some (gained-nothing m (g .small)))
         ∙ ap (λ (z : List Name). added m (numbersOf env c z)) none-left
         ∙ x .total
@@ -167,9 +167,9 @@ module _ {t : List ℕ} {at : ℕ} {table : List ℕ} {family i m : ℕ} (g : Go
   }
 
   pub no-names : {k : Item} → k ≡ itemAt t i → OneOf (1 ∷ 3 ∷ []) (tag k) → Masks t at table family Masked.Undeclared
-  unfolding namesIn
+  unfolding rowOf
   no-names {k} e o = record {
     place = tt;
     says = λ env c ps y f b.
-        never (sym (alike-here namesIn (λ f. none) t i k (1 ∷ 3 ∷ []) (tt, λ x u v. refl, tt, refl) e o) ∙ g .left env c ps y f b .names);
+        never (sym (alike-here (rowOf asPart) (λ f. none) t i k (1 ∷ 3 ∷ []) (tt, λ x u v. refl, tt, refl) e o) ∙ g .left env c ps y f b .names);
   }

@@ -12,14 +12,15 @@ use Rattle.bitset.specs.Parts as parts
 use Rattle.lexer.specs.Scan.{maxLevel}
 use Rattle.lexer.specs.Forms.{Forms, closed, ended, word, part, framesAt, trim}
 use Rattle.policy.specs.Basics.{Name, _>>=_}
-use Rattle.policy.specs.Grammar.{namesIn}
+use Rattle.policy.specs.Words.{asPart}
+use Rattle.policy.specs.Grammar.{rowOf}
 use Rattle.policy.specs.Image.{maskOf}
 use Rattle.table_laws.proofs.ListLaws.{bound-then}
 use Rattle.policy.specs.Names.{Environment}
 use Rattle.symbols.specs.Resolving.{foundClass}
-use Rattle.name_chains.specs.Symbols.{Symbols, Looks}
+use Rattle.scopes.specs.Symbols.{Symbols, LooksClass}
 use Rattle.symbols.specs.declared.Found.{Found}
-use Rattle.name_chains.proofs.Bounds.{bounded}
+use Rattle.scopes.proofs.Bounds.{bounded}
 use Rattle.items.specs.Looks.{itemAt, rowEnd}
 use Rattle.items.specs.Reads.{isClosed}
 use Rattle.items.specs.declared.Item.{Item}
@@ -81,17 +82,17 @@ module _ {t : List ℕ} {at s n k q : ℕ} (l : Looked t at (Item.Word s n k q))
     behind-open : (trim (framesAt t j .here) (levels - 1) ≡ h .inner) × (trim (framesAt t (rowEnd t j) .here) levels ≡ closed)
     behind-open = same-parts (sym (by-part (λ f. f) levels (rowEnd t j) l2 refl (λ z. omega arith)) ∙ behind-word .1)
 
-    names-there : namesIn (framesAt t j .here) ≡ some ps
-    names-there = sym (trim-names (framesAt t j .here) (levels - 1)) ∙ ap namesIn (behind-open .0) ∙ h .names
+    names-there : rowOf asPart (framesAt t j .here) ≡ some ps
+    names-there = sym (trim-names asPart (framesAt t j .here) (levels - 1)) ∙ ap (rowOf asPart) (behind-open .0) ∙ h .names
 
     close-there : (o : ℕ) → rowEnd t j ≡ o → trim (framesAt t o .here) levels ≡ closed
     close-there o e = subst (λ (x : ℕ). trim (framesAt t x .here) levels ≡ closed) e (behind-open .1)
 
 -- ---- the class
 
-module _ {table : List ℕ} {env : Environment} (y : Symbols table env) (w : Name) {r : Found} (h : Looks table 3 w r) where
+module _ {table : List ℕ} {env : Environment} (y : Symbols table env) (w : Name) {r : Found} (h : LooksClass table w r) where
   class-as : r ≡ foundClass (env .class w)
-  class-as = h .classes env y refl
+  class-as = h .classes env y
 
   class-missing : r ≡ Found.Missing → env .class w ≡ none
   class-missing d = go (env .class w) refl (sym d ∙ class-as)
@@ -123,7 +124,7 @@ module _ {t : List ℕ} {at : ℕ} {table : List ℕ} where
     says = λ env c ps y h. not-there startsWord t at levels _ (h .row) refl (1 ∷ 2 ∷ 3 ∷ []) no-word e o;
   }
 
-  module _ {s n k q : ℕ} (l : Looked t at (Item.Word s n k q)) {r : Found} (f : Looks table 3 (parts.part t s n) r) where
+  module _ {s n k q : ℕ} (l : Looked t at (Item.Word s n k q)) {r : Found} (f : LooksClass table (parts.part t s n) r) where
     pub class-undeclared : r ≡ Found.Missing → Scopes t at table Scope.Undeclared
     unfolding parts.part
     class-undeclared d = record {

@@ -6,9 +6,9 @@ use mathlib.Core.Option.{Option, some, Option·some-injective}
 use Prim.Native.Nat.{ℕ}
 use Rattle.lexer.specs.Forms.{Forms, closed, ended, word, part}
 use Rattle.policy.specs.Basics.{Name, _>>=_}
-use Rattle.policy.specs.Words.{isReserved, asName, constrainK}
+use Rattle.policy.specs.Words.{isReserved, asName, asPart, constrainK}
 use Rattle.policy.specs.Statements.{Constraint, Written, constrain}
-use Rattle.policy.specs.Grammar.{namesIn, oneOrMore, classIn, expressionIn, formed}
+use Rattle.policy.specs.Grammar.{rowOf, oneOrMore, classIn, expressionIn, formed}
 use Rattle.table_laws.proofs.ListLaws.{bound-then, given-some}
 use Rattle.constraint_writer.proofs.Resolving.{never}
 use Rattle.constrain_statement.specs.Scopes.{ScopeForm}
@@ -26,10 +26,10 @@ one-or-more [] qs h = never h
 one-or-more (p ∷ ps) qs h = Option·some-injective (p ∷ ps) qs h
 
 module _ {A : Type 0} (g : Name → List Name → Option A) (a : A) where
-  named : (s r : ℕ) (v : Name) (k : Forms) → (asName v >>= λ c. namesIn k >>= λ ps. oneOrMore ps >>= λ ps. g c ps) ≡ some a → Classed (word s v (part r k closed)) g a
+  named : (s r : ℕ) (v : Name) (k : Forms) → (asName v >>= λ c. rowOf asPart k >>= λ ps. oneOrMore ps >>= λ ps. g c ps) ≡ some a → Classed (word s v (part r k closed)) g a
   named s r v k e =
-      bound-then (asName v) (λ c. namesIn k >>= λ ps. oneOrMore ps >>= λ ps. g c ps) a e λ c d e.
-      bound-then (namesIn k) (λ ps. oneOrMore ps >>= λ ps. g c ps) a e λ ps n e.
+      bound-then (asName v) (λ c. rowOf asPart k >>= λ ps. oneOrMore ps >>= λ ps. g c ps) a e λ c d e.
+      bound-then (rowOf asPart k) (λ ps. oneOrMore ps >>= λ ps. g c ps) a e λ ps n e.
       bound-then (oneOrMore ps) (λ ps. g c ps) a e λ qs m e.
       record {
         class = c;
@@ -44,7 +44,7 @@ module _ {A : Type 0} (g : Name → List Name → Option A) (a : A) where
         then = e;
       }
 
-  classed : (f : Forms) → classIn f g ≡ some a → Classed f g a
+  classed : (f : Forms) → classIn asName f g ≡ some a → Classed f g a
   classed closed e = never e
   classed ended e = never e
   classed (part p i f) e = never e

@@ -20,7 +20,7 @@ use Rattle.policy.specs.Image.{maskOf}
 use Rattle.policy.specs.Rows.{rowsOf}
 use Rattle.policy.specs.Encode.{ConstraintHead, headBytes, rowBytes}
 use Rattle.policy.specs.Names.{Environment}
-use Rattle.name_chains.specs.Symbols.{Symbols}
+use Rattle.scopes.specs.Symbols.{Symbols}
 use Rattle.constrain_statement.specs.declared.Constrained.{Constrained}
 
 -- "class 2, permission mask 4, first row 2, row count 2"

@@ -6,10 +6,11 @@ use mathlib.Core.Option.{Option, none, some}
 use Rattle.lexer.specs.Scan.{maxLevel}
 use Rattle.lexer.specs.Forms.{Forms, closed, word, part, framesAt, trim}
 use Rattle.policy.specs.Basics.{Name, _>>=_, eachOf}
-use Rattle.policy.specs.Grammar.{namesIn}
+use Rattle.policy.specs.Words.{asPart}
+use Rattle.policy.specs.Grammar.{rowOf}
 use Rattle.policy.specs.Image.{maskOf}
 use Rattle.policy.specs.Names.{Environment}
-use Rattle.name_chains.specs.Symbols.{Symbols}
+use Rattle.scopes.specs.Symbols.{Symbols}
 use Rattle.items.specs.Looks.{rowEnd}
 use Rattle.constrain_statement.specs.declared.Masked.{Masked}
 use Rattle.constrain_statement.specs.declared.Scope.{Scope}
@@ -31,7 +32,7 @@ MaskPlace t at Masked.Undeclared = Unit {0}
 -- "repeats of P are harmless": the mask of a row of permissions of class c, whose names are the family 4 + c
 pub record Masks (t : List ℕ) (at : ℕ) (table : List ℕ) (family : ℕ) (r : Masked) : Type 0 where
   pub place : MaskPlace t at r
-  pub says : (env : Environment) (c : ℕ) (ps : List Name) → Symbols table env → family ≡ 4 + c → namesIn (framesAt t at .here) ≡ some ps
+  pub says : (env : Environment) (c : ℕ) (ps : List Name) → Symbols table env → family ≡ 4 + c → rowOf asPart (framesAt t at .here) ≡ some ps
       → maskIn r ≡ (numbersOf env c ps >>= λ ns. some (maskOf ns))
 
 -- "C (P ...)", and the close
@@ -40,7 +41,7 @@ pub record ScopeForm (f : Forms) (c : Name) (ps : List Name) : Type 0 where
   pub place : ℕ
   pub inner : Forms
   pub row : f ≡ word start c (part place inner closed)
-  pub names : namesIn inner ≡ some ps
+  pub names : rowOf asPart inner ≡ some ps
 
 -- the names are declared: the class is of this number, and the mask has a bit for each of the permissions and no other
 pub record Scoped (env : Environment) (c : Name) (ps : List Name) (class mask : ℕ) : Type 0 where

@@ -48,9 +48,7 @@ enum Scope {
     Undeclared,
 }
 
-// The families of names: that of the classes, and that of the permissions of class 0.
-const CLASSES: usize = 3;
-
+// The family of the permissions of class 0.
 const PERMISSIONS: usize = 4;
 
 // The levels that may lie inside a constraint expression: it is itself in a part of its statement.
@@ -78,7 +76,7 @@ fn permission_mask(text: &[u8], at: usize, symbols: &[u8], family: usize) -> Mas
                 next,
                 ..
             } => {
-                let found = name_chains::lookup(symbols, family, text, start, len);
+                let found = scopes::lookup_permission(symbols, family, text, start, len);
                 let Found::At { number, .. } = found else {
                     return Masked::Undeclared;
                 };
@@ -105,7 +103,7 @@ fn scope_of(text: &[u8], at: usize, symbols: &[u8]) -> Scope
     else {
         return Scope::Undeclared;
     };
-    let found = name_chains::lookup(symbols, CLASSES, text, start, len);
+    let found = scopes::lookup_class(symbols, text, start, len);
     let Found::At { number, .. } = found else {
         return Scope::Undeclared;
     };

@@ -1,20 +1,21 @@
--- Which three words a comparison may have, by their numbers. Assumes nothing.
+-- Which three words a comparison may have, by their numbers and whether the last is a name. Assumes nothing.
 use mathlib.Core.Path.{_≡_, refl, sym, ap, _∙_}
 use mathlib.Core.Bool.{Bool, true, false, not, _&&_, _||_, and-false}
-use mathlib.Core.List.{[], _∷_}
+use mathlib.Core.List.{[]}
 use mathlib.Core.Option.{Option, none, some}
 use Prim.Native.Nat.{ℕ, _<_, _≤_}
 use native.Mathlib.Omega.{arith}
 use borrow.Author.Tests.{ne-eqb, lt-leb, not-true, not-false, le-leb}
 use lib.Dec.{eqb, leb}
+use Rattle.lexer.specs.Class.{classOf, parts}
 use Rattle.lexer.specs.Forms.{Forms, closed, ended, word, part, trim}
 use Rattle.lexer.proofs.Trim.{cut-or-whole}
-use Rattle.policy.specs.Basics.{Name, same, any, isIn, lookup, _>>=_, given}
+use Rattle.policy.specs.Basics.{Name, same, any, every, isIn, lookup, _>>=_, given}
 use Rattle.policy.specs.Words.{reserved, isReserved, isPlain, opOf, Component, component, componentOf}
 use Rattle.policy.specs.Statements.{Family, roles, Side, source, target, Op, eq, neq, dom, domby, incomp, Constraint, sidesE, nameE}
 use Rattle.policy.specs.Grammar.{areSides, isRoles, compared, comparison}
 use Rattle.words.specs.Numbers.{keywords, words, numberOf, wordOf}
-use Rattle.words.proofs.Meaning.{agreeing, agree, reserved-number, op-number, component-number}
+use Rattle.words.proofs.Meaning.{numbered, agreeing, agree, missing, op-number, component-number}
 use Rattle.items.specs.Reads.{isSome}
 use Rattle.items.proofs.Rows.{trim-closed}
 use Rattle.constraint_grammar.specs.Comparisons.{plainOp, sidesOf, comparisonOf, comparing, secondSide, bothSides}
@@ -32,11 +33,16 @@ given-some false a = refl
 
 -- ---- the last word is a name, or a reserved word
 
-by-name : (o : Option Op) (v : Option Component) (w : Name) → isReserved w ≡ false → componentOf w ≡ none → isSome (comparisonOf o v w) ≡ isSome v && plainOp o
-by-name none none w e f = refl
-by-name none (some x) w e f = refl
-by-name (some o) none w e f = refl
-by-name (some o) (some x) w e f = rw (f, e) (given-some (isPlain o) (nameE (x .family) (x .side) o w))
+-- a name is no component
+named : (w : Name) → isReserved w ≡ false → componentOf w ≡ none
+unfolding same any every isIn classOf parts reserved isReserved componentOf
+named w e = missing isReserved w _ refl e
+
+by-name : (o : Option Op) (v : Option Component) (w : Name) → isReserved w ≡ false → isSome (comparisonOf o v w) ≡ isSome v && plainOp o
+by-name none none w e = refl
+by-name none (some x) w e = refl
+by-name (some o) none w e = refl
+by-name (some o) (some x) w e = rw (named w e, e) (given-some (isPlain o) (nameE (x .family) (x .side) o w))
 
 -- "op: `eq neq`; rop: also `dom domby incomp`"
 abbrev anyOp : Option Op → Option Component → Bool
@@ -55,16 +61,8 @@ by-sides (some o) (some x) w e = go (componentOf w) refl
 
 -- ---- what numbers say
 
--- a name is no component
-named : (n : ℕ) → isReserved (wordOf n) ≡ false → componentOf (wordOf n) ≡ none
-unfolding same any isIn lookup reserved isReserved keywords words componentOf agreeing
-named n e =
-    none-of (componentOf (wordOf n))
-    (not-true (isSome (componentOf (wordOf n)))
-    (sym (rw e at (agree (λ w. isReserved w || not (isSome (componentOf w))) (λ n. true) refl (λ n h. refl) n))))
-
 -- a stretch of the words' numbers, by the two tests that the code makes
-module _ (test : Name → Bool) (lo hi : ℕ) (e : agreeing test (λ n. leb n hi && leb lo n) ([] ∷ words) 0 ≡ true) (f : test [] ≡ false) (h : hi < 39) where
+module _ (test : Name → Bool) (lo hi : ℕ) (e : agreeing test (λ n. leb n hi && leb lo n) numbered 0 ≡ true) (f : test [] ≡ false) (h : hi < 40) where
   numbers : (n : ℕ) → leb n hi && leb lo n ≡ test (wordOf n)
   numbers n = agree test (λ n. leb n hi && leb lo n) e (λ n g. rw (lt-leb n hi (omega arith), f)) n
 
@@ -104,7 +102,7 @@ component-numbers n =
     (λ n h. rw (ne-eqb n 13 (λ z. omega arith), ne-eqb n 16 (λ z. omega arith), lt-leb n 18 (omega arith))) n
 
 -- the second side of a family
-pub second-numbers : (f : Family) (k : ℕ) → agreeing (λ w. sidesOf (some (component f source)) (componentOf w)) (λ n. eqb n k) ([] ∷ words) 0 ≡ true → k < 39
+pub second-numbers : (f : Family) (k : ℕ) → agreeing (λ w. sidesOf (some (component f source)) (componentOf w)) (λ n. eqb n k) numbered 0 ≡ true → k < 40
     → (n : ℕ) → eqb n k ≡ sidesOf (some (component f source)) (componentOf (wordOf n))
 unfolding same lookup componentOf
 second-numbers f k e h n = agree (λ w. sidesOf (some (component f source)) (componentOf w)) (λ n. eqb n k) e (λ n g. ne-eqb n k (λ z. omega arith)) n
@@ -170,27 +168,34 @@ other-op (some o) (some x) c e f = go (x .side) refl (isRoles (x .family)) refl
 
 -- ---- comparisons by the numbers of their words
 
-module _ (op x y : ℕ) where
-  name-last : not (isReserved (wordOf y)) ≡ true → comparing op x y ≡ isSome (componentOf (wordOf x)) && plainOp (opOf (wordOf op))
+module _ (op x : ℕ) (w : Name) where
+  name-last : true ≡ not (isReserved w) → comparing op x w ≡ isSome (componentOf (wordOf x)) && plainOp (opOf (wordOf op))
   unfolding comparing
-  name-last e = by-name (opOf (wordOf op)) (componentOf (wordOf x)) (wordOf y) (not-true _ e) (named y (not-true _ e))
+  name-last e = by-name (opOf (wordOf op)) (componentOf (wordOf x)) w (not-true _ (sym e))
 
-  pub compares-name : not (isReserved (wordOf y)) ≡ true → isSome (componentOf (wordOf x)) ≡ true → comparing op x y ≡ plainOp (opOf (wordOf op))
+  pub compares-name : true ≡ not (isReserved w) → isSome (componentOf (wordOf x)) ≡ true → comparing op x w ≡ plainOp (opOf (wordOf op))
   compares-name e f = name-last e ∙ rw f
 
-  pub compares-nothing : not (isReserved (wordOf y)) ≡ true → isSome (componentOf (wordOf x)) ≡ false → comparing op x y ≡ false
+  pub compares-nothing : true ≡ not (isReserved w) → isSome (componentOf (wordOf x)) ≡ false → comparing op x w ≡ false
   compares-nothing e f = name-last e ∙ rw f
 
-  sides-first : not (isReserved (wordOf y)) ≡ false
-      → comparing op x y ≡ sidesOf (componentOf (wordOf x)) (componentOf (wordOf y)) && anyOp (opOf (wordOf op)) (componentOf (wordOf x))
-  unfolding comparing
-  sides-first e = by-sides (opOf (wordOf op)) (componentOf (wordOf x)) (wordOf y) (not-false _ e)
+-- a word may be the second side of a family by its number
+sides-by : (v : Option Component) (w : Name) (y : ℕ) → numberOf w ≡ y → sidesOf v (componentOf w) ≡ sidesOf v (componentOf (wordOf y))
+sides-by v w y e = ap (sidesOf v) (component-number w ∙ ap (λ (n : ℕ). componentOf (wordOf n)) e)
 
-  pub compares-not : not (isReserved (wordOf y)) ≡ false → sidesOf (componentOf (wordOf x)) (componentOf (wordOf y)) ≡ false → comparing op x y ≡ false
+module _ (op x y : ℕ) (w : Name) (k : numberOf w ≡ y) where
+  sides-first : false ≡ not (isReserved w)
+      → comparing op x w ≡ sidesOf (componentOf (wordOf x)) (componentOf (wordOf y)) && anyOp (opOf (wordOf op)) (componentOf (wordOf x))
+  unfolding comparing
+  sides-first e =
+      by-sides (opOf (wordOf op)) (componentOf (wordOf x)) w (not-false _ (sym e))
+      ∙ ap (λ (b : Bool). b && anyOp (opOf (wordOf op)) (componentOf (wordOf x))) (sides-by (componentOf (wordOf x)) w y k)
+
+  pub compares-not : false ≡ not (isReserved w) → sidesOf (componentOf (wordOf x)) (componentOf (wordOf y)) ≡ false → comparing op x w ≡ false
   compares-not e f = sides-first e ∙ rw f
 
-  pub compares-roles : not (isReserved (wordOf y)) ≡ false → sidesOf (componentOf (wordOf x)) (componentOf (wordOf y)) ≡ true → x ≡ 14
-      → comparing op x y ≡ isSome (opOf (wordOf op))
+  pub compares-roles : false ≡ not (isReserved w) → sidesOf (componentOf (wordOf x)) (componentOf (wordOf y)) ≡ true → x ≡ 14
+      → comparing op x w ≡ isSome (opOf (wordOf op))
   unfolding same lookup reserved keywords words wordOf componentOf
   compares-roles e f g =
       sides-first e
@@ -198,32 +203,18 @@ module _ (op x y : ℕ) where
       ∙ ap (λ (n : ℕ). anyOp (opOf (wordOf op)) (componentOf (wordOf n))) g
       ∙ role-op (opOf (wordOf op))
 
-  pub compares-others : not (isReserved (wordOf y)) ≡ false → sidesOf (componentOf (wordOf x)) (componentOf (wordOf y)) ≡ true → (x ≡ 14 → ⊥)
-      → comparing op x y ≡ plainOp (opOf (wordOf op))
+  pub compares-others : false ≡ not (isReserved w) → sidesOf (componentOf (wordOf x)) (componentOf (wordOf y)) ≡ true → (x ≡ 14 → ⊥)
+      → comparing op x w ≡ plainOp (opOf (wordOf op))
   compares-others e f g =
       sides-first e
       ∙ ap (λ (b : Bool). b && anyOp (opOf (wordOf op)) (componentOf (wordOf x))) f
       ∙ other-op (opOf (wordOf op)) (componentOf (wordOf x)) (componentOf (wordOf y)) f (sym (role-numbers x) ∙ ne-eqb x 14 g)
 
--- the last word by its number
-by-last : (o : Option Op) (v : Option Component) (w : Name) → isSome (comparisonOf o v w) ≡ isSome (comparisonOf o v (wordOf (numberOf w)))
-by-last o v w = go (isReserved w) refl
-  where
-    go : (b : Bool) → isReserved w ≡ b → isSome (comparisonOf o v w) ≡ isSome (comparisonOf o v (wordOf (numberOf w)))
-    go true e =
-        by-sides o v w e
-        ∙ ap (λ (c : Option Component). sidesOf v c && anyOp o v) (component-number w)
-        ∙ sym (by-sides o v (wordOf (numberOf w)) (sym (reserved-number w) ∙ e))
-    go false e =
-        let n = named (numberOf w) (sym (reserved-number w) ∙ e) in
-        by-name o v w e (component-number w ∙ n) ∙ sym (by-name o v (wordOf (numberOf w)) (sym (reserved-number w) ∙ e) n)
-
-by-numbers : (o v w : Name) → isSome (comparisonOf (opOf o) (componentOf v) w) ≡ comparing (numberOf o) (numberOf v) (numberOf w)
+by-numbers : (o v w : Name) → isSome (comparisonOf (opOf o) (componentOf v) w) ≡ comparing (numberOf o) (numberOf v) w
 unfolding comparing
 by-numbers o v w =
-    by-last (opOf o) (componentOf v) w
-    ∙ ap (λ (x : Option Op). isSome (comparisonOf x (componentOf v) (wordOf (numberOf w)))) (op-number o)
-    ∙ ap (λ (x : Option Component). isSome (comparisonOf (opOf (wordOf (numberOf o))) x (wordOf (numberOf w)))) (component-number v)
+    ap (λ (x : Option Op). isSome (comparisonOf x (componentOf v) w)) (op-number o)
+    ∙ ap (λ (x : Option Component). isSome (comparisonOf (opOf (wordOf (numberOf o))) x w)) (component-number v)
 
 -- ---- the row of a comparison
 
@@ -243,10 +234,10 @@ compare-is w (part p f g) = wrong (opOf w)
 compare-is w (word s v closed) = wrong (opOf w)
 compare-is w (word s v ended) = wrong (opOf w)
 compare-is w (word s v (part p f g)) = wrong (opOf w)
-compare-is w (word s v (word r u closed)) = by-numbers w v u ∙ sym (and-true (comparing (numberOf w) (numberOf v) (numberOf u)))
-compare-is w (word s v (word r u ended)) = wrong (opOf w) ∙ sym (and-false (comparing (numberOf w) (numberOf v) (numberOf u)))
-compare-is w (word s v (word r u (word q x f))) = wrong (opOf w) ∙ sym (and-false (comparing (numberOf w) (numberOf v) (numberOf u)))
-compare-is w (word s v (word r u (part p f g))) = wrong (opOf w) ∙ sym (and-false (comparing (numberOf w) (numberOf v) (numberOf u)))
+compare-is w (word s v (word r u closed)) = by-numbers w v u ∙ sym (and-true (comparing (numberOf w) (numberOf v) u))
+compare-is w (word s v (word r u ended)) = wrong (opOf w) ∙ sym (and-false (comparing (numberOf w) (numberOf v) u))
+compare-is w (word s v (word r u (word q x f))) = wrong (opOf w) ∙ sym (and-false (comparing (numberOf w) (numberOf v) u))
+compare-is w (word s v (word r u (part p f g))) = wrong (opOf w) ∙ sym (and-false (comparing (numberOf w) (numberOf v) u))
 
 -- ---- a cut changes nothing in a comparison
 
@@ -254,7 +245,7 @@ trim-second : (f : Forms) (n op x : ℕ) → secondSide op x (trim f n) ≡ seco
 unfolding trim
 trim-second closed n op x = refl
 trim-second ended n op x = refl
-trim-second (word s b f) n op x = ap (λ (c : Bool). comparing op x (numberOf b) && c) (trim-closed f n)
+trim-second (word s b f) n op x = ap (λ (c : Bool). comparing op x b && c) (trim-closed f n)
 trim-second (part p f g) n op x = cut-or-whole p f g n (secondSide op x) refl (λ a b. refl)
 
 pub trim-sides : (f : Forms) (n op : ℕ) → bothSides op (trim f n) ≡ bothSides op f

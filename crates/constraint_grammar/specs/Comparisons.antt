@@ -1,4 +1,4 @@
--- Comparisons, by the numbers of their words. `proofs/Comparing.antt` has the law that they are policy's. Assumes nothing.
+-- Comparisons, by the numbers of their words and, as names have none, by their last word. `proofs/Comparing.antt` has the law that they are policy's. Assumes nothing.
 use Prim.Native.Nat.{ℕ}
 use mathlib.Core.Bool.{Bool, false, _&&_}
 use mathlib.Core.Option.{Option, none, some}
@@ -25,14 +25,15 @@ sidesOf (some x) (some y) = areSides x y
 abbrev pub comparisonOf : Option Op → Option Component → Name → Option (Constraint Name)
 comparisonOf o v w = o >>= λ o. v >>= λ x. compared o x w (componentOf w)
 
-unfoldable pub comparing : ℕ → ℕ → ℕ → Bool
-comparing op x y = isSome (comparisonOf (opOf (wordOf op)) (componentOf (wordOf x)) (wordOf y))
+-- the first two by their numbers
+unfoldable pub comparing : ℕ → ℕ → Name → Bool
+comparing op x w = isSome (comparisonOf (opOf (wordOf op)) (componentOf (wordOf x)) w)
 
 -- the last word of a comparison, and the close; both words behind its operator
 abbrev pub secondSide : ℕ → ℕ → Forms → Bool
 secondSide op x closed = false
 secondSide op x ended = false
-secondSide op x (word s b f) = comparing op x (numberOf b) && isClosed f
+secondSide op x (word s b f) = comparing op x b && isClosed f
 secondSide op x (part p f g) = false
 
 abbrev pub bothSides : ℕ → Forms → Bool

@@ -1,9 +1,11 @@
 // The form of a constraint expression.
 ghost use mathlib.Core.Path.{_≡_};
+ghost use mathlib.Core.Bool.{not};
 ghost use Rattle.lexer.specs.Forms.{framesAt, trim};
-ghost use Rattle.policy.specs.Words.{expressionWord, opOf, componentOf};
+ghost use Rattle.policy.specs.Basics.{Name};
+ghost use Rattle.policy.specs.Words.{isReserved, expressionWord, opOf, componentOf};
 ghost use Rattle.policy.specs.Grammar.{expressionIn};
-ghost use Rattle.words.specs.Numbers.{wordOf};
+ghost use Rattle.words.specs.Numbers.{numberOf, wordOf};
 ghost use Rattle.items.specs.Looks.{itemAt};
 ghost use Rattle.items.specs.Reads.{isSome, Reads};
 ghost use Rattle.constraint_grammar.specs.Comparisons.{plainOp, sidesOf, comparing, secondSide, bothSides};
@@ -11,6 +13,7 @@ ghost use Rattle.constraint_grammar.specs.Heads.{joinsOf, headOf};
 use items::Item;
 use items::Parsed;
 use items::Wanted;
+use words::NameKind;
 use words::Word;
 
 // How a constraint expression begins: how many operands its operator joins, 0 for a comparison; the number of its first word; and where it
@@ -89,11 +92,11 @@ fn are_sides(x: usize, y: usize) -> bool
     false
 }
 
-// Whether a comparison may have these three words: (op x name), (op u1 u2), (op t1 t2), (rop r1 r2).
-fn compares(op: usize, x: usize, y: usize) -> bool
-    ensures { λ r. ⌜ r ≡ comparing op x y ⌝ }
+// Whether a comparison may have these three words: (op x name), (op u1 u2), (op t1 t2), (rop r1 r2). Of the last one, `named` says whether it is a name.
+fn compares(op: usize, x: usize, y: usize, named: bool) -> bool
+    ensures { λ r. ⌜ ((w : Name) → numberOf w ≡ y → named ≡ not (isReserved w) → r ≡ comparing op x w) ⌝ }
 {
-    if words::is_name(y) {
+    if named {
         if is_component(x) {
             return is_plain(op);
         }
@@ -114,8 +117,14 @@ fn second_side(text: &[u8], at: usize, op: usize, x: usize) -> Parsed
 {
     let item = items::look(text, at);
     match item {
-        Item::Word { number, next, .. } => {
-            if compares(op, x, number) {
+        Item::Word {
+            start,
+            len,
+            number,
+            next,
+        } => {
+            let named = words::is_name(NameKind::Name, text, start, len);
+            if compares(op, x, number, named) {
                 return items::close_form(text, next);
             }
             Parsed::Bad

@@ -13,7 +13,7 @@ use Rattle.policy.specs.Reading.{referE}
 use Rattle.policy.specs.Rows.{rowsOf}
 use Rattle.policy.specs.Encode.{rowBytes}
 use Rattle.policy.specs.Names.{Environment}
-use Rattle.name_chains.specs.Symbols.{Symbols}
+use Rattle.scopes.specs.Symbols.{Symbols}
 use Rattle.constraint_writer.specs.Writing.{Writes}
 use Rattle.constraint_writer.specs.declared.RowsWritten.{RowsWritten}
 use Rattle.constraint_writer.proofs.Resolving.{rows-count, resolved, unresolved}

@@ -25,7 +25,7 @@ use Rattle.items.specs.declared.Item.{Item}
 use Rattle.items.proofs.Frames.{here-of, around-of, closes}
 use Rattle.items.proofs.Items.{Alike, alike-here}
 use Rattle.items.proofs.Item.{the-type}
-use Rattle.name_chains.specs.Symbols.{Symbols}
+use Rattle.scopes.specs.Symbols.{Symbols}
 use Rattle.constraint_writer.specs.Writing.{Wrote, Writes}
 use Rattle.constraint_writer.specs.Comparing.{codeOf, operatorOf, operandOf, Compares}
 use Rattle.constraint_writer.specs.declared.Operand.{Operand}

@@ -20,7 +20,7 @@ use Rattle.items.proofs.Frames.{Looked}
 use Rattle.items.specs.declared.Item.{Item}
 use Rattle.items.proofs.Frames.{around-of, closes, by-word, by-part, by-close}
 use Rattle.items.proofs.Items.{Alike}
-use Rattle.name_chains.specs.Symbols.{Symbols}
+use Rattle.scopes.specs.Symbols.{Symbols}
 use Rattle.constraint_writer.specs.Writing.{Kept, Wrote, Writes}
 use Rattle.constraint_writer.specs.Comparing.{kindOf}
 use Rattle.constraint_writer.specs.declared.RowsWritten.{RowsWritten}

@@ -13,7 +13,7 @@ use Rattle.policy.specs.Rows.{compCode}
 use Rattle.policy.specs.Encode.{sortCode}
 use Rattle.policy.specs.Basics.{_>>=_}
 use Rattle.words.specs.Numbers.{wordOf}
-use Rattle.name_chains.specs.Symbols.{Looks}
+use Rattle.scopes.specs.Symbols.{Looks}
 use Rattle.symbols.specs.Resolving.{familyCode, foundNamed}
 use Rattle.symbols.specs.declared.Found.{Found}
 use Rattle.constraint_writer.specs.Comparing.{codeOf, operandOf, Compares}

@@ -9,8 +9,8 @@ use borrow.Author.Tests.{ne-eqb, leb-true}
 use lib.Dec.{leb}
 use Rattle.policy.specs.Basics.{Name, any, every, isAmong}
 use Rattle.policy.proofs.Lists.{both-true}
-use Rattle.words.specs.Numbers.{words, wordOf}
-use Rattle.words.proofs.Meaning.{agreeing, agree}
+use Rattle.words.specs.Numbers.{wordOf}
+use Rattle.words.proofs.Meaning.{numbered, agreeing, agree}
 
 abbrev pub isSome : {A : Type 0} → Option A → Bool
 isSome none = false
@@ -20,17 +20,17 @@ none-of : {A : Type 0} (o : Option A) → isSome o ≡ false → o ≡ none
 none-of none e = refl
 none-of (some a) e = absurd (let z : _≡_ {A = ℕ} 0 1 = cc in omega arith)
 
-beyond : (ks : List ℕ) (n : ℕ) → every (λ k. leb k 38) ks ≡ true → 38 < n → isAmong n ks ≡ false
+beyond : (ks : List ℕ) (n : ℕ) → every (λ k. leb k 39) ks ≡ true → 39 < n → isAmong n ks ≡ false
 unfolding every isAmong any
 beyond [] n e h = refl
 beyond (k ∷ ks) n e h =
-    let b = both-true (leb k 38) (every (λ k. leb k 38) ks) e in
-    let g = leb-true k 38 (b .0) in
+    let b = both-true (leb k 39) (every (λ k. leb k 39) ks) e in
+    let g = leb-true k 39 (b .0) in
     rw (ne-eqb n k (λ z. omega arith)) (beyond ks n (b .1) h)
 
 pub other-words : {A : Type 0} (meaning : Name → Option A) (ks : List ℕ)
-    → agreeing (λ w. isSome (meaning w)) (λ n. isAmong n ks) ([] ∷ words) 0 ≡ true
-    → every (λ k. leb k 38) ks ≡ true
+    → agreeing (λ w. isSome (meaning w)) (λ n. isAmong n ks) numbered 0 ≡ true
+    → every (λ k. leb k 39) ks ≡ true
     → isSome (meaning []) ≡ false
     → (n : ℕ) → isAmong n ks ≡ false → meaning (wordOf n) ≡ none
 other-words meaning ks e s m n h =

@@ -9,7 +9,7 @@ use Rattle.policy.specs.Words.{Connective, allC, notC, andC, orC, xorC, Compone
 use Rattle.policy.specs.Names.{refer, Environment}
 use Rattle.policy.specs.Rows.{compCode, opCode}
 use Rattle.words.specs.Numbers.{wordOf}
-use Rattle.name_chains.specs.Symbols.{Symbols}
+use Rattle.scopes.specs.Symbols.{Symbols}
 use Rattle.constraint_writer.specs.declared.Operand.{Operand}
 
 -- "0 not, 1 and, 2 or"; 3 for no operator of E

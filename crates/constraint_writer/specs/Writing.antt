@@ -14,7 +14,7 @@ use Rattle.policy.specs.Reading.{referE}
 use Rattle.policy.specs.Rows.{Row, rowsOf}
 use Rattle.policy.specs.Encode.{rowBytes}
 use Rattle.policy.specs.Names.{Environment}
-use Rattle.name_chains.specs.Symbols.{Symbols}
+use Rattle.scopes.specs.Symbols.{Symbols}
 use Rattle.constraint_writer.specs.declared.RowsWritten.{RowsWritten}
 
 -- each row of an expression has a byte of the text of its own, so that with so many bytes behind the place at the numbers of the rows from a row on

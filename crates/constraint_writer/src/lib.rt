@@ -183,7 +183,7 @@ fn operand_of(
         };
     }
     let family = (side / 2) as usize;
-    let found = name_chains::lookup(symbols, family, text, start, len);
+    let found = scopes::lookup(symbols, family, text, start, len);
     match found {
         Found::At { sort, number } => {
             if sort < FIRST_ATTRIBUTE {

@@ -8,14 +8,16 @@ use lib.ListN.{length, take, set, length-append}
 use lib.Seq.{sets, length-take-le}
 use Rattle.bitset.specs.Parts.{part, put}
 use Rattle.bitset.specs.Relations.{joined}
-use Rattle.bitset.proofs.PartLaws.{length-part, put-none}
+use Rattle.bitset.proofs.PartLaws.{put-none}
 use Rattle.policy.specs.Basics.{Name, each, All}
 use Rattle.policy.specs.Encode.{NameEntry, nameEntry, entryBytes, permissionEntries}
 use Rattle.policy.proofs.Lists.{each-append, joined-append, all-right}
 use Rattle.name_chains.specs.Entered as symbol
 use Rattle.name_chains.specs.Chains.{Chained}
 use Rattle.symbols.proofs.AppendLaws.{entry-length, put-sets, length-put}
+use Rattle.symbols.proofs.PartLaws.{part-whole}
 use Rattle.symbols.proofs.Declaring.{permission-more}
+use Rattle.scopes.proofs.Keeping.{scope-kept}
 use Rattle.declarations.specs.Entering.{Indexable, Entered, Fitting, Enters}
 use Rattle.declarations.specs.declared.Added.{Added}
 
@@ -73,6 +75,7 @@ entered-then {a} {b} {c} {end} {past} {next} {es} {fs} h g =
       chained = λ xs i n.
           let m = indexable-then xs es fs n in
           subst (Chained c next) (append-assoc xs es fs) (g .chained (xs ++ es) (h .chained xs i (m .0)) (m .1));
+      scope = λ path sc. g .scope path (h .scope path sc);
     }
 
 pub entered-none : (a : List ℕ) (end : ℕ) → end ≤ 137088 → 188648 ≤ length a → Entered a a end [] end
@@ -84,30 +87,30 @@ entered-none a end h room = record {
   moved = omega arith;
   fits = h;
   chained = λ xs i n. subst (Chained a end) (sym (append-nil xs)) i;
+  scope = λ path sc. sc;
 }
 
 -- ---- one entry: the answers of `add`
 
-module _ (t x : List ℕ) (end s n from len : ℕ) (present : from + len ≤ length x) where
+module _ (t : List ℕ) (end s n : ℕ) (w : Name) where
   abbrev one : List NameEntry
-  one = nameEntry s n (part x from len) ∷ []
+  one = nameEntry s n w ∷ []
 
-  long : length (bytesOf one) ≡ 4 + len
-  long = long-one (nameEntry s n (part x from len)) ∙ ap (λ (k : ℕ). 4 + k) (length-part x from len present)
-
-  pub too-long : 64 < len → Enters t t end one Added.NoRoom
-  too-long h = record { is = λ f. omega (arith, f .short .0, length-part x from len present) }
+  pub too-long : 64 < length w → Enters t t end one Added.NoRoom
+  too-long h = record { is = λ f. omega (arith, f .short .0) }
 
   pub past-end : 137088 < end → Enters t t end one Added.NoRoom
   past-end h = record { is = λ f. omega (arith, f .room) }
 
-  pub no-room : end ≤ 137088 → 137088 - end < 4 + len → Enters t t end one Added.NoRoom
-  no-room g h = record { is = λ f. omega (arith, f .room, long) }
+  pub no-room : end ≤ 137088 → 137088 - end < 4 + length w → Enters t t end one Added.NoRoom
+  no-room g h = record { is = λ f. omega (arith, f .room, long-one (nameEntry s n w)) }
 
-  pub appended : (u : List ℕ) (r : ℕ) → 188648 ≤ length t → symbol.Entered t u end (nameEntry s n (part x from len)) r → Enters t u end one (Added.Past r)
+  pub appended : (u : List ℕ) (r : ℕ) → 188648 ≤ length t → s < 8 → length w ≤ 64 → symbol.Entered t u end (nameEntry s n (part w 0 (length w))) r
+      → Enters t u end one (Added.Past r)
   unfolding Indexable
-  appended u r room a =
-      let e = bytes-one (nameEntry s n (part x from len)) in
+  appended u r room known short whole =
+      let a = subst (λ (v : Name). symbol.Entered t u end (nameEntry s n v) r) (part-whole w) whole in
+      let e = bytes-one (nameEntry s n w) in
       record {
         is = record {
           room = room;
@@ -116,12 +119,17 @@ module _ (t x : List ℕ) (end s n from len : ℕ) (present : from + len ≤ len
           moved = a .past ∙ ap (λ (l : List ℕ). end + length l) (sym e);
           fits = a .inside;
           chained = λ xs i n. a .chained xs i (n .0) (n .1) (n .2);
+          scope = λ path sc. scope-kept known short a sc;
         };
       }
 
 -- what a caller of `add` knows of the answer k
 pub enters-told : {a b : List ℕ} {end : ℕ} {es : List NameEntry} {r k : Added} → Enters a b end es r → r ≡ k → Enters a b end es k
 enters-told {a} {b} {end} {es} h e = subst (Enters a b end es) e h
+
+-- by another name for the name
+pub enters-named : {a b : List ℕ} {end s n : ℕ} {v w : Name} {r : Added} → v ≡ w → Enters a b end (nameEntry s n v ∷ []) r → Enters a b end (nameEntry s n w ∷ []) r
+enters-named {a} {b} {end} {s} {n} {v} {w} {r} e h = subst (λ (x : Name). Enters a b end (nameEntry s n x ∷ []) r) e h
 
 -- ---- the permissions of a class
 

@@ -3,27 +3,38 @@
 use mathlib.Core.Path.{_≡_, refl, sym, ap, subst, _∙_}
 use mathlib.Core.Bool.{true}
 use mathlib.Core.List.{List, [], _∷_, _++_, append-assoc, append-nil}
-use Prim.Native.Nat.{ℕ, _+_, _-_, _≤_}
+use Prim.Native.Nat.{ℕ, _+_, _-_, _<_, _≤_}
 use native.Mathlib.Omega.{arith}
 use lib.ListN.{length, take, drop, length-append}
 use lib.Seq.{length-take-le, take-at, take-take}
 use Rattle.bitset.specs.Parts.{put}
 use Rattle.bitset.specs.Relations.{joined}
-use Rattle.policy.specs.Basics.{each}
+use Rattle.policy.specs.Basics.{Name, each}
 use Rattle.policy.specs.Statements.{Declaration}
-use Rattle.policy.specs.Reading.{isNew, hasRoom}
+use Rattle.policy.specs.Reading.{isNew, hasRoom, isShort}
 use Rattle.policy.specs.Encode.{NameEntry, entryBytes, entriesOf, entries}
 use Rattle.policy.specs.Sound.{goodNames, goodFrom}
+use Rattle.policy.proofs.Lists.{both-true}
 use Rattle.policy.proofs.Good.{GoodFirst, good-first, good-rest}
 use Rattle.policy.specs.Names.{environmentOf}
-use Rattle.name_chains.specs.Symbols.{Symbols}
+use Rattle.scopes.specs.Scope.{InScope}
+use Rattle.scopes.specs.Symbols.{Symbols}
+use Rattle.scopes.proofs.Trying.{too-long-tries}
+use Rattle.symbols.specs.Lookup.{firstNamed}
+use Rattle.symbols.specs.declared.Found.{Found}
 use Rattle.symbols.proofs.Declaring.{entries-more}
 use Rattle.table_laws.proofs.NamesRoom.{names-length, names-room}
 use Rattle.declarations.specs.Declaring.{sectionOf, Holds, Adds}
 use Rattle.declarations.proofs.EnteringLaws.{bytes-append}
 
-pub holds-symbols : {table : List ℕ} {end : ℕ} {ds : List Declaration} → Holds table end ds → Symbols table (environmentOf ds)
-holds-symbols {end = end} {ds} h = record { declared = ds; end = end; is = refl; good = h .good; chained = h .chained }
+pub holds-symbols : {table : List ℕ} {end : ℕ} {ds : List Declaration} {path : List Name} → Holds table end ds → InScope table path
+    → Symbols table (environmentOf ds path)
+holds-symbols {end = end} {ds} {path} h sc = record { declared = ds; path = path; end = end; is = refl; good = h .good; chained = h .chained; scope = sc }
+
+-- no name of theirs is longer than 64 bytes, so a longer one is not found
+pub long-missing : {table : List ℕ} {end : ℕ} {ds : List Declaration} (f : ℕ) (w : Name) → Holds table end ds → 64 < length w
+    → firstNamed f w (entries ds) ≡ Found.Missing
+long-missing {table} {end} {ds} f w h l = sym (too-long-tries {t = table} {f = f} {w = w} l .tries end (entries ds) (h .chained) .finds)
 
 -- ---- one more declaration
 
@@ -77,5 +88,5 @@ adds-holds {before} {after} {end} {past} {ds} {d} h g a =
           ∙ ap (λ (l : List ℕ). l ++ new) (names-end ∙ h .front) ∙ sym (section-more ds d);
       inside = omega (arith, a .fits, a .long, h .chained .room);
       chained = a .chained;
-      good = good-more ds d (h .good) (record { names = g; new = a .new; room = a .room });
+      good = good-more ds d (h .good) (record { names = g; new = a .new; room = both-true (hasRoom ds d) (isShort d) (a .room) .0 });
     }

@@ -3,6 +3,7 @@ pub mod EnteringLaws
 pub mod Holding
 pub mod Maxima
 pub mod Formed
+pub mod FullNames
 pub mod NewPermissions
 pub mod NameAnswers
 pub mod ClassAnswers

@@ -5,23 +5,19 @@ use Prim.Native.Nat.{ℕ, _+_, _-_, _<_}
 use native.Mathlib.Omega.{arith}
 use lib.ListN.{length}
 use Rattle.policy.specs.Basics.{Name}
-use Rattle.policy.specs.Statements.{Declaration, classNames, Sort, familyOf}
+use Rattle.policy.specs.Statements.{Declaration, classNames}
 use Rattle.policy.specs.Statements as statements
-use Rattle.policy.specs.Encode.{entries, sortCode}
-use Rattle.policy.specs.Names.{environmentOf}
+use Rattle.policy.specs.Encode.{entries}
 use Rattle.symbols.specs.Lookup.{familyNumber, firstNamed, countSort}
-use Rattle.symbols.specs.Resolving.{familyCode}
 use Rattle.name_index.specs.Index.{wordIn}
-use Rattle.name_chains.specs.Symbols.{Looks}
+use Rattle.name_chains.specs.Chains.{Tries}
+use Rattle.name_chains.specs.declared.Tried.{Tried}
 use Rattle.symbols.specs.declared.Found.{Found}
 use Rattle.symbols.proofs.CountLaws.{count-things, count-classes}
-use Rattle.symbols.proofs.ReferencesFound.{find-named, code-of}
-use Rattle.symbols.proofs.ClassesFound.{find-class}
 use Rattle.table_laws.proofs.NamesFit.{code-below}
 use Rattle.declarations.specs.Counting.{standing, Counts, Stands}
 use Rattle.declarations.specs.declared.Standing.{Standing}
 use Rattle.declarations.specs.Declaring.{Holds}
-use Rattle.declarations.proofs.Holding.{holds-symbols}
 
 -- ---- counts
 
@@ -44,28 +40,20 @@ module _ {t : List ℕ} {sort r : ℕ} where
 
 -- ---- names
 
-module _ {t : List ℕ} (sort : ℕ) {family : ℕ} {w : Name} {found : Found} (f : family ≡ familyNumber sort 0) (h : Looks t family w found) where
-  looked-name : (end : ℕ) (ds : List Declaration) (k : Sort) → Holds t end ds → sort ≡ sortCode k → found ≡ firstNamed (familyNumber sort 0) w (entries ds)
-  looked-name end ds k y q =
-      let code : familyNumber sort 0 ≡ familyCode (familyOf k) = ap (λ (n : ℕ). familyNumber n 0) q ∙ code-of k 0 in
-      h .names (environmentOf ds) (familyOf k) (holds-symbols y) (sym (f ∙ code)) ∙ sym (find-named ds (familyOf k) w)
-      ∙ ap (λ (n : ℕ). firstNamed n w (entries ds)) (sym code)
+module _ {t : List ℕ} (sort : ℕ) {family : ℕ} {w : Name} {tried : Tried} (f : family ≡ familyNumber sort 0) (h : Tries t family w tried) where
+  looked : (end : ℕ) (ds : List Declaration) → Holds t end ds → tried .found ≡ firstNamed (familyNumber sort 0) w (entries ds)
+  looked end ds y = h .tries end (entries ds) (y .chained) .finds ∙ ap (λ (n : ℕ). firstNamed n w (entries ds)) f
 
-  looked-class : (end : ℕ) (ds : List Declaration) → Holds t end ds → sort ≡ 6 → found ≡ firstNamed (familyNumber sort 0) w (entries ds)
-  looked-class end ds y q =
-      let code : familyNumber sort 0 ≡ 3 = ap (λ (n : ℕ). familyNumber n 0) q in
-      h .classes (environmentOf ds) (holds-symbols y) (sym (f ∙ code)) ∙ sym (find-class ds w) ∙ ap (λ (n : ℕ). firstNamed n w (entries ds)) (sym code)
-
-  pub is-taken : (s n : ℕ) → found ≡ Found.At s n → Stands t sort w Standing.Taken
+  pub is-taken : (s n : ℕ) → tried .found ≡ Found.At s n → Stands t sort w Standing.Taken
   is-taken s n e = record {
-    names = λ end ds k y q. ap (λ (x : Found). standing x (statements.count k ds)) (sym e ∙ looked-name end ds k y q);
-    classes = λ end ds y q. ap (λ (x : Found). standing x (length (classNames ds))) (sym e ∙ looked-class end ds y q);
+    names = λ end ds k y q. ap (λ (x : Found). standing x (statements.count k ds)) (sym e ∙ looked end ds y);
+    classes = λ end ds y q. ap (λ (x : Found). standing x (length (classNames ds))) (sym e ∙ looked end ds y);
   }
 
-  pub is-free : {r : ℕ} → found ≡ Found.Missing → Counts t sort r → Stands t sort w (Standing.Free r)
+  pub is-free : {r : ℕ} → tried .found ≡ Found.Missing → Counts t sort r → Stands t sort w (Standing.Free r)
   is-free e c = record {
-    names = λ end ds k y q. ap Standing.Free (c .things end ds k y q) ∙ ap (λ (x : Found). standing x (statements.count k ds)) (sym e ∙ looked-name end ds k y q);
-    classes = λ end ds y q. ap Standing.Free (c .classes end ds y q) ∙ ap (λ (x : Found). standing x (length (classNames ds))) (sym e ∙ looked-class end ds y q);
+    names = λ end ds k y q. ap Standing.Free (c .things end ds k y q) ∙ ap (λ (x : Found). standing x (statements.count k ds)) (sym e ∙ looked end ds y);
+    classes = λ end ds y q. ap Standing.Free (c .classes end ds y q) ∙ ap (λ (x : Found). standing x (length (classNames ds))) (sym e ∙ looked end ds y);
   }
 
 -- what a caller of `stands` knows of the answer k

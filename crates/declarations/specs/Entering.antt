@@ -5,10 +5,11 @@ use mathlib.Core.List.{List, [], _∷_, _++_}
 use lib.ListN.{length, take}
 use Rattle.bitset.specs.Parts.{put}
 use Rattle.bitset.specs.Relations.{joined}
-use Rattle.policy.specs.Basics.{each, All}
+use Rattle.policy.specs.Basics.{Name, each, All}
 use Rattle.policy.specs.Encode.{NameEntry, entryBytes}
 use Rattle.symbols.specs.Lookup.{familyNumber}
 use Rattle.name_chains.specs.Chains.{Chained}
+use Rattle.scopes.specs.Scope.{InScope}
 use Rattle.declarations.specs.declared.Declared.{Declared}
 use Rattle.declarations.specs.declared.Added.{Added}
 
@@ -19,7 +20,7 @@ Indexable xs [] = Unit {0}
 Indexable xs (e ∷ es) = (length xs < 2048) × (e .number < 65536) × (familyNumber (e .sort) (e .number) < 36) × Indexable (xs ++ (e ∷ [])) es
 
 -- the bytes of some entries stand at the end, nothing else is changed before the index, and past is the place behind them. The chains have them, if they
--- had the entries before them and there is room
+-- had the entries before them and there is room; and the scope is kept
 pub record Entered (before after : List ℕ) (end : ℕ) (es : List NameEntry) (past : ℕ) : Type 0 where
   pub room : 188648 ≤ length before
   pub written : take 137088 after ≡ put (take 137088 before) end (joined (each entryBytes es))
@@ -27,6 +28,7 @@ pub record Entered (before after : List ℕ) (end : ℕ) (es : List NameEntry) (
   pub moved : past ≡ end + length (joined (each entryBytes es))
   pub fits : past ≤ 137088
   pub chained : (xs : List NameEntry) → Chained before end xs → Indexable xs es → Chained after past (xs ++ es)
+  pub scope : (path : List Name) → InScope before path → InScope after path
 
 -- there is room for them, and each name is short enough: "1 to 64 bytes"
 pub record Fitting (end : ℕ) (es : List NameEntry) : Type 0 where

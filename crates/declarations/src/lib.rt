@@ -1,23 +1,23 @@
-// Declarations of names and classes, put into the symbol table: faults 4 and 6. The form of a statement is known to be good where it is
+// Declarations of names and classes, put into the symbol table under their full names: faults 4 and 6. The form of a statement is known to be good where it is
 // declared here, so that a row that should be of names is one.
 use name_rows::NextWord;
+use scopes::FullName;
 use symbols::Found;
 ghost use mathlib.Core.Path.{_≡_};
 ghost use mathlib.Core.List.{[], _∷_};
-ghost use Prim.Native.Nat.{_+_, _≤_, _<_};
+ghost use Prim.Native.Nat.{_≤_, _<_};
 ghost use lib.ListN.{length};
-ghost use Rattle.bitset.specs.Parts.{part};
 ghost use Rattle.lexer.specs.Forms.{framesAt};
 ghost use Rattle.policy.specs.Encode.{nameEntry, permissionEntries};
 ghost use Rattle.policy.specs.Words.{classK};
 ghost use Rattle.declarations.specs.Counting.{Counts, MostIs, Stands};
 ghost use Rattle.name_rows.specs.WordRows.{wordsIn};
 ghost use Rattle.declarations.specs.Entering.{Enters, answerOf};
-ghost use Rattle.declarations.specs.Declaring.{DeclaresAt, DeclaresName};
+ghost use Rattle.declarations.specs.Declaring.{DeclaresAt, DeclaresName, DeclaresPlain, DeclaresClass};
 
-// The memory of the symbols: their entries, and behind the room for them their chains. With no names the chains are empty
-// (`name_chains::clear`).
-pub const SYMBOL_BYTES: usize = name_index::SYMBOL_BYTES;
+// The memory of the symbols: their entries, behind the room for them their chains, and behind these the scope. With no names the chains are empty
+// (`name_chains::clear`), and with no block open so is the scope (`scopes::start`).
+pub const SYMBOL_BYTES: usize = scopes::SYMBOL_BYTES;
 
 // What declaring a name comes to: the new end of the symbols, fault 4, or fault 6.
 pub enum Declared {
@@ -53,7 +53,7 @@ const PERMISSION: usize = 7;
 pub fn count(symbols: &[u8], sort: usize) -> usize
     ensures { λ r. ⌜ Counts (now (symbols .entry)) sort r ⌝ }
 {
-    if symbols.len() < SYMBOL_BYTES {
+    if symbols.len() < name_index::SYMBOL_BYTES {
         return 0;
     }
     if PERMISSION < sort {
@@ -78,12 +78,13 @@ fn most(sort: usize) -> usize
     policy::Attribute::MAX
 }
 
-// What the symbols say of the name of len bytes of the text from a place on: its family has it, or how many its sort has.
-fn stands(symbols: &[u8], sort: usize, text: &[u8], from: usize, len: usize) -> Standing
-    ensures { λ r. ⌜ Stands (now (symbols .entry)) sort (part (now (text .entry)) from len) r ⌝ }
+// What the symbols say of a full name: its family has it, or how many its sort has.
+fn stands(symbols: &[u8], sort: usize, name: &[u8]) -> Standing
+    ensures { λ r. ⌜ Stands (now (symbols .entry)) sort (now (name .entry)) r ⌝ }
 {
     let family = symbols::family_of(sort, 0);
-    let found = name_chains::lookup(symbols, family, text, from, len);
+    let tried = name_chains::find(symbols, family, name);
+    let found = tried.found;
     match found {
         Found::At { .. } => Standing::Taken,
         Found::Missing => Standing::Free(count(symbols, sort)),
@@ -91,18 +92,11 @@ fn stands(symbols: &[u8], sort: usize, text: &[u8], from: usize, len: usize) -> 
 }
 
 // Writes an entry at the end of the symbols, if there is room for it.
-fn add(
-    symbols: &mut [u8],
-    end: usize,
-    sort: usize,
-    number: usize,
-    text: &[u8],
-    from: usize,
-    len: usize,
-) -> Added
-    requires { ⌜ (sort < 8) × (from + len ≤ length (now text)) × (188648 ≤ length (now symbols)) ⌝ }
-    ensures { λ r. ⌜ Enters (now (symbols .entry)) (now (symbols .exit)) end (nameEntry sort number (part (now (text .entry)) from len) ∷ []) r ⌝ }
+fn add(symbols: &mut [u8], end: usize, sort: usize, number: usize, name: &[u8]) -> Added
+    requires { ⌜ (sort < 8) × (188648 ≤ length (now symbols)) ⌝ }
+    ensures { λ r. ⌜ Enters (now (symbols .entry)) (now (symbols .exit)) end (nameEntry sort number (now (name .entry)) ∷ []) r ⌝ }
 {
+    let len = name.len();
     if lexer::Name::MAX < len {
         return Added::NoRoom;
     }
@@ -112,7 +106,7 @@ fn add(
     if symbols::NAME_BYTES - end < 4 + len {
         return Added::NoRoom;
     }
-    Added::Past(name_chains::enter(symbols, end, sort, number, text, from, len))
+    Added::Past(name_chains::enter(symbols, end, sort, number, name, 0, len))
 }
 
 // What the writing of a declaration's last entries comes to.
@@ -123,6 +117,21 @@ fn answer(added: Added) -> Declared
         Added::Past(past) => Declared::Next(past),
         Added::NoRoom => Declared::Full,
     }
+}
+
+// A thing or an attribute by its full name.
+fn add_name(symbols: &mut [u8], end: usize, sort: usize, name: &[u8]) -> Declared
+    requires { ⌜ (sort < 6) × (188648 ≤ length (now symbols)) ⌝ }
+    ensures { λ r. ⌜ DeclaresPlain sort (now (name .entry)) (now (symbols .entry)) (now (symbols .exit)) end r ⌝ }
+{
+    let known = stands(symbols, sort, name);
+    let Standing::Free(number) = known else {
+        return Declared::Again;
+    };
+    if most(sort) <= number {
+        return Declared::Full;
+    }
+    answer(add(symbols, end, sort, number, name))
 }
 
 // `(user U)` and the like, behind the keyword, by the number of the sort.
@@ -142,18 +151,20 @@ pub fn declare(
     let NextWord::At { start, len } = name else {
         return Declared::Full;
     };
-    let known = stands(symbols, sort, text, start, len);
-    let Standing::Free(number) = known else {
-        return Declared::Again;
-    };
-    if most(sort) <= number {
-        return Declared::Full;
+    // Outside of blocks the name is its own full name, and nothing is copied.
+    if !scopes::in_block(symbols) {
+        return add_name(symbols, end, sort, bitset::part(text, start, len));
     }
-    answer(add(symbols, end, sort, number, text, start, len))
+    let mut whole = [0u8; lexer::Name::MAX];
+    let named = scopes::full_name(symbols, text, start, len, &mut whole);
+    let FullName::Long(long) = named else {
+        return Declared::Full;
+    };
+    add_name(symbols, end, sort, bitset::part(&whole, 0, long))
 }
 
 // Writes the entries of a class's permissions, the names in the row at a place, numbered from a first number on. The caller
-// counts them before: a class with too many is refused with nothing written.
+// counts them before: a class with too many is refused with nothing written. Permissions take no block's name.
 fn add_permissions(symbols: &mut [u8], end: usize, first: usize, text: &[u8], at: usize) -> Added
     requires { ⌜ (first ≤ 1024) × (end ≤ 137088) × (188648 ≤ length (now symbols)) × (length (wordsIn (framesAt (now text) at .here)) ≤ 32) ⌝ }
     ensures { λ r. ⌜ Enters (now (symbols .entry)) (now (symbols .exit)) end (permissionEntries first (wordsIn (framesAt (now (text .entry)) at .here))) r ⌝ }
@@ -166,7 +177,8 @@ fn add_permissions(symbols: &mut [u8], end: usize, first: usize, text: &[u8], at
         let NextWord::At { start, len } = name else {
             return Added::Past(past);
         };
-        let added = add(symbols, past, PERMISSION, first + place, text, start, len);
+        let permission = bitset::part(text, start, len);
+        let added = add(symbols, past, PERMISSION, first + place, permission);
         let Added::Past(next) = added else {
             return Added::NoRoom;
         };
@@ -176,8 +188,30 @@ fn add_permissions(symbols: &mut [u8], end: usize, first: usize, text: &[u8], at
     }
 }
 
-// `(class C (P ...))`, behind the keyword. What may refuse it is tested before the first entry is written, so that a refused class leaves the symbols
-// as they were; a class that passes has room for all of its entries.
+// A class by its full name and the row of its permissions, none of which stands twice. What may refuse it is tested before the first entry is written, so that
+// a refused class leaves the symbols as they were; a class that passes has room for all of its entries.
+fn add_class(symbols: &mut [u8], end: usize, name: &[u8], text: &[u8], row: usize) -> Declared
+    requires { ⌜ 188648 ≤ length (now symbols) ⌝ }
+    ensures { λ r. ⌜ DeclaresClass (now (name .entry)) (wordsIn (framesAt (now (text .entry)) row .here)) (now (symbols .entry)) (now (symbols .exit)) end r ⌝ }
+{
+    let known = stands(symbols, CLASS, name);
+    let Standing::Free(number) = known else {
+        return Declared::Again;
+    };
+    if policy::Class::MAX <= number {
+        return Declared::Full;
+    }
+    if policy::Permission::MAX < name_rows::count_names(text, row) {
+        return Declared::Full;
+    }
+    let added = add(symbols, end, CLASS, number, name);
+    let Added::Past(past) = added else {
+        return Declared::Full;
+    };
+    answer(add_permissions(symbols, past, number * policy::Permission::MAX, text, row))
+}
+
+// `(class C (P ...))`, behind the keyword. A permission that stands twice is fault 4 also where the full name is too long.
 pub fn declare_class(
     text: &[u8],
     at: usize,
@@ -190,23 +224,18 @@ pub fn declare_class(
     let NextWord::At { start, len } = name else {
         return Declared::Full;
     };
-    let known = stands(symbols, CLASS, text, start, len);
-    let Standing::Free(number) = known else {
-        return Declared::Again;
-    };
     let row = name_rows::inside(text, start + len);
     if name_rows::repeats(text, row) {
         return Declared::Again;
     }
-    if policy::Class::MAX <= number {
-        return Declared::Full;
+    // Outside of blocks the name is its own full name, and nothing is copied.
+    if !scopes::in_block(symbols) {
+        return add_class(symbols, end, bitset::part(text, start, len), text, row);
     }
-    if policy::Permission::MAX < name_rows::count_names(text, row) {
-        return Declared::Full;
-    }
-    let added = add(symbols, end, CLASS, number, text, start, len);
-    let Added::Past(past) = added else {
+    let mut whole = [0u8; lexer::Name::MAX];
+    let named = scopes::full_name(symbols, text, start, len, &mut whole);
+    let FullName::Long(long) = named else {
         return Declared::Full;
     };
-    answer(add_permissions(symbols, past, number * policy::Permission::MAX, text, row))
+    add_class(symbols, end, bitset::part(&whole, 0, long), text, row)
 }

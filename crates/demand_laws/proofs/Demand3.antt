@@ -109,7 +109,7 @@ pub constrain-added : (text more : List ℕ) (p p′ : Policy) → ConstrainText
 unfolding said each
 constrain-added text more p p′ c read read′ =
     let m = one-statement-more text more p p′ (c .place) (c .inner) (constrain (c .class) (c .perms) (c .body)) (policy-read (ofText text) p read) (policy-read _ p′ read′) (c .alone) (c .form) in
-    let s = resolved-constrain (environmentOf (declarations p)) (c .class) (c .perms) (c .body) .has (m .statement) (m .resolves) in
+    let s = resolved-constrain (environmentOf (declarations p) []) (c .class) (c .perms) (c .body) .has (m .statement) (m .resolves) in
     record {
       class = s .class;
       perms = s .perms;

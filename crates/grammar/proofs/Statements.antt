@@ -12,10 +12,11 @@ use Rattle.lexer.specs.Forms.{Forms, closed, ended, word, part, framesAt, trim}
 use Rattle.lexer.specs.Scan.{maxLevel}
 use Rattle.lexer.proofs.Trim.{whole}
 use Rattle.policy.specs.Basics.{Name, _>>=_}
-use Rattle.policy.specs.Words.{isReserved, asName, Keyword, declareK, classK, setK, relationK, transitionK, constrainK, keywordOf}
+use Rattle.policy.specs.Words.{isReserved, asName, asPart, Keyword, declareK, classK, setK, relationK, transitionK, constrainK, keywordOf}
 use Rattle.policy.specs.Statements.{SetExpr, plain, class, declare, attributeset, gives, constrain}
-use Rattle.policy.specs.Grammar.{wordAndPart, setIn, expressionIn, namesIn, oneOrMore, classIn, ofFour, formed, written}
-use Rattle.words.specs.Numbers.{wordOf}
+use Rattle.policy.specs.Grammar.{wordAndPart, setIn, expressionIn, rowOf, oneOrMore, classIn, ofFour, formed, written}
+use Rattle.words.specs.Numbers.{wordOf, mayBe, takenAs}
+use Rattle.words.specs.declared.NameKind.{NameKind}
 use Rattle.words.proofs.Meaning.{keyword-number}
 use Rattle.items.specs.Reads.{isSome, counted}
 use Rattle.items.specs.declared.Item.{Item}
@@ -32,40 +33,41 @@ and-true : (b : Bool) → b && true ≡ b
 and-true true = refl
 and-true false = refl
 
--- a word, a part and a close, of which g asks what is asked of a name and a part, and b besides
-module _ {A : Type 0} (g : Name → Forms → Option A) (k : Content) (b : Bool)
-    (asks : (w : Name) (i : Forms) → isSome (g w i) ≡ (not (isReserved w) && contentOf k i) && b) where
-  word-and-part : (f : Forms) → isSome (wordAndPart f g) ≡ nameAndPart k f && b
+-- a word, a part and a close, of which g asks what is asked of a name of a kind and a part, and b besides
+module _ {A : Type 0} (g : Name → Forms → Option A) (n : NameKind) (k : Content) (b : Bool)
+    (asks : (w : Name) (i : Forms) → isSome (g w i) ≡ (mayBe n w && contentOf k i) && b) where
+  word-and-part : (f : Forms) → isSome (wordAndPart f g) ≡ nameAndPart n k f && b
   word-and-part closed = refl
   word-and-part ended = refl
   word-and-part (part p f h) = refl
-  word-and-part (word s w closed) = rw (and-false (not (isReserved w)))
-  word-and-part (word s w ended) = rw (and-false (not (isReserved w)))
-  word-and-part (word s w (word r v f)) = rw (and-false (not (isReserved w)))
+  word-and-part (word s w closed) = rw (and-false (mayBe n w))
+  word-and-part (word s w ended) = rw (and-false (mayBe n w))
+  word-and-part (word s w (word r v f)) = rw (and-false (mayBe n w))
   word-and-part (word s w (part p i closed)) = rw (and-true (contentOf k i)) (asks w i)
-  word-and-part (word s w (part p i ended)) = rw (and-false (contentOf k i), and-false (not (isReserved w)))
-  word-and-part (word s w (part p i (word r v f))) = rw (and-false (contentOf k i), and-false (not (isReserved w)))
-  word-and-part (word s w (part p i (part r v f))) = rw (and-false (contentOf k i), and-false (not (isReserved w)))
+  word-and-part (word s w (part p i ended)) = rw (and-false (contentOf k i), and-false (mayBe n w))
+  word-and-part (word s w (part p i (word r v f))) = rw (and-false (contentOf k i), and-false (mayBe n w))
+  word-and-part (word s w (part p i (part r v f))) = rw (and-false (contentOf k i), and-false (mayBe n w))
 
 -- a class and its permissions
-module _ {A : Type 0} (h : Name → List Name → Option A) (b : Bool) (then : (c : Name) (ps : List Name) → isSome (h c ps) ≡ b) where
+module _ {A : Type 0} (n : NameKind) (h : Name → List Name → Option A) (b : Bool) (then : (c : Name) (ps : List Name) → isSome (h c ps) ≡ b) where
   some-permissions : (c : Name) (ps : Option (List Name)) → isSome (ps >>= λ ps. oneOrMore ps >>= λ ps. h c ps) ≡ counted Wanted.OneOrMore 0 ps && b
   unfolding counted
   some-permissions c none = refl
   some-permissions c (some []) = refl
   some-permissions c (some (p ∷ ps)) = rw (lt-ltb 0 (0 + suc (length ps)) (omega arith)) (then c (p ∷ ps))
 
-  class-asks : (w : Name) (i : Forms) → isSome (asName w >>= λ c. namesIn i >>= λ ps. oneOrMore ps >>= λ ps. h c ps)
-      ≡ (not (isReserved w) && contentOf Content.Permissions i) && b
-  class-asks w i = go (not (isReserved w)) refl
+  abbrev class-then : Name → Forms → Option A
+  class-then w i = takenAs n w >>= λ c. rowOf asPart i >>= λ ps. oneOrMore ps >>= λ ps. h c ps
+
+  class-asks : (w : Name) (i : Forms) → isSome (class-then w i) ≡ (mayBe n w && contentOf Content.Permissions i) && b
+  class-asks w i = go (mayBe n w) refl
     where
-      go : (q : Bool) → not (isReserved w) ≡ q → isSome (asName w >>= λ c. namesIn i >>= λ ps. oneOrMore ps >>= λ ps. h c ps)
-          ≡ (not (isReserved w) && contentOf Content.Permissions i) && b
-      go true e = rw e (some-permissions w (namesIn i))
+      go : (q : Bool) → mayBe n w ≡ q → isSome (class-then w i) ≡ (mayBe n w && contentOf Content.Permissions i) && b
+      go true e = rw e (some-permissions w (rowOf asPart i))
       go false e = rw e
 
-  class-is : (f : Forms) → isSome (classIn f h) ≡ nameAndPart Content.Permissions f && b
-  class-is f = word-and-part (λ w i. asName w >>= λ c. namesIn i >>= λ ps. oneOrMore ps >>= λ ps. h c ps) Content.Permissions b class-asks f
+  class-is : (f : Forms) → isSome (classIn (takenAs n) f h) ≡ nameAndPart n Content.Permissions f && b
+  class-is f = word-and-part class-then n Content.Permissions b class-asks f
 
 -- a name and an S
 set-then : {A : Type 0} (s : Option (SetExpr Name)) (h : SetExpr Name → A) → isSome (s >>= λ s. some (h s)) ≡ isSome s && true
@@ -73,7 +75,7 @@ set-then none h = refl
 set-then (some s) h = refl
 
 set-asks : {A : Type 0} (h : Name → SetExpr Name → A) (w : Name) (i : Forms) → isSome (asName w >>= λ w. setIn i >>= λ s. some (h w s))
-    ≡ (not (isReserved w) && contentOf Content.Set i) && true
+    ≡ (mayBe NameKind.Name w && contentOf Content.Set i) && true
 set-asks h w i = go (not (isReserved w)) refl
   where
     go : (q : Bool) → not (isReserved w) ≡ q → isSome (asName w >>= λ w. setIn i >>= λ s. some (h w s)) ≡ (not (isReserved w) && contentOf Content.Set i) && true
@@ -89,15 +91,15 @@ constrain-is : (f : Forms) → isSome (formed constrainK f) ≡ classAndConstrai
 constrain-is closed = refl
 constrain-is ended = refl
 constrain-is (word s w f) = refl
-constrain-is (part p i closed) = sym (and-false (nameAndPart Content.Permissions i))
-constrain-is (part p i ended) = sym (and-false (nameAndPart Content.Permissions i))
-constrain-is (part p i (word s w f)) = sym (and-false (nameAndPart Content.Permissions i))
+constrain-is (part p i closed) = sym (and-false (nameAndPart NameKind.Name Content.Permissions i))
+constrain-is (part p i ended) = sym (and-false (nameAndPart NameKind.Name Content.Permissions i))
+constrain-is (part p i (word s w f)) = sym (and-false (nameAndPart NameKind.Name Content.Permissions i))
 constrain-is (part p i (part q j closed)) =
-    class-is (λ c ps. expressionIn j >>= λ e. some (constrain c ps e)) (isSome (expressionIn j)) (λ c ps. then-expression (constrain c ps) (expressionIn j)) i
-    ∙ ap (λ (b : Bool). nameAndPart Content.Permissions i && b) (sym (and-true (isSome (expressionIn j))))
-constrain-is (part p i (part q j ended)) = rw (and-false (isSome (expressionIn j)), and-false (nameAndPart Content.Permissions i))
-constrain-is (part p i (part q j (word s w f))) = rw (and-false (isSome (expressionIn j)), and-false (nameAndPart Content.Permissions i))
-constrain-is (part p i (part q j (part r f g))) = rw (and-false (isSome (expressionIn j)), and-false (nameAndPart Content.Permissions i))
+    class-is NameKind.Name (λ c ps. expressionIn j >>= λ e. some (constrain c ps e)) (isSome (expressionIn j)) (λ c ps. then-expression (constrain c ps) (expressionIn j)) i
+    ∙ ap (λ (b : Bool). nameAndPart NameKind.Name Content.Permissions i && b) (sym (and-true (isSome (expressionIn j))))
+constrain-is (part p i (part q j ended)) = rw (and-false (isSome (expressionIn j)), and-false (nameAndPart NameKind.Name Content.Permissions i))
+constrain-is (part p i (part q j (word s w f))) = rw (and-false (isSome (expressionIn j)), and-false (nameAndPart NameKind.Name Content.Permissions i))
+constrain-is (part p i (part q j (part r f g))) = rw (and-false (isSome (expressionIn j)), and-false (nameAndPart NameKind.Name Content.Permissions i))
 
 four : (xs : Option (List Name)) → counted (Wanted.Exactly 4) 0 xs ≡ isSome (xs >>= ofFour)
 unfolding counted
@@ -111,13 +113,13 @@ four (some (r ∷ t ∷ c ∷ n ∷ x ∷ xs)) = ne-eqb (0 + suc (suc (suc (suc 
 
 -- what follows a keyword
 formed-is : (k : Keyword) (f : Forms) → isSome (formed k f) ≡ byShape (shapeOf (some k)) f
-formed-is (declareK s) f = sym (of-one (λ w. declare (plain s w)) (namesIn f))
-formed-is classK f = class-is (λ c ps. some (declare (class c ps))) true (λ c ps. refl) f ∙ and-true (nameAndPart Content.Permissions f)
+formed-is (declareK s) f = sym (of-one (λ w. declare (plain s w)) (rowOf asPart f))
+formed-is classK f = class-is NameKind.Part (λ c ps. some (declare (class c ps))) true (λ c ps. refl) f ∙ and-true (nameAndPart NameKind.Part Content.Permissions f)
 formed-is (setK a) f =
-    word-and-part (λ w i. asName w >>= λ w. setIn i >>= λ s. some (attributeset a w s)) Content.Set true (set-asks (attributeset a)) f
-    ∙ and-true (nameAndPart Content.Set f)
-formed-is (relationK r) f = sym (of-two (gives r) (namesIn f))
-formed-is transitionK f = sym (four (namesIn f))
+    word-and-part (λ w i. asName w >>= λ w. setIn i >>= λ s. some (attributeset a w s)) NameKind.Name Content.Set true (set-asks (attributeset a)) f
+    ∙ and-true (nameAndPart NameKind.Name Content.Set f)
+formed-is (relationK r) f = sym (of-two (gives r) (rowOf asName f))
+formed-is transitionK f = sym (four (rowOf asName f))
 formed-is constrainK f = constrain-is f
 
 by-keyword : (k : Option Keyword) (f : Forms) → isSome (k >>= λ k. formed k f) ≡ byShape (shapeOf k) f

@@ -1,18 +1,27 @@
 -- The forms of the statements as the reader goes through them, by the shape that a keyword asks for. They are policy's forms: `statement-is` of
 -- proofs/Statements.antt. Assumes nothing.
-use mathlib.Core.Bool.{Bool, false, not, _&&_}
+use Prim.Native.Nat.{ℕ, _+_, _<_, _≤_}
+use mathlib.Core.Path.{_≡_}
+use mathlib.Core.Bool.{Bool, false, _&&_}
+use mathlib.Core.List.{List}
 use mathlib.Core.Option.{Option, none, some}
-use Rattle.lexer.specs.Forms.{Forms, closed, ended, word, part}
+use lib.Dec.{eqb}
+use lib.ListN.{length, take, drop}
+use Rattle.lexer.specs.Forms.{Forms, closed, ended, word, part, framesAt}
 use Rattle.policy.specs.Words as words
-use Rattle.policy.specs.Words.{isReserved, keywordOf, declareK, classK, setK, relationK, transitionK, constrainK}
+use Rattle.policy.specs.Words.{keywordOf, declareK, classK, setK, relationK, transitionK, constrainK}
 use Rattle.policy.specs.Statements.{thingOf, attributeOf}
 use Rattle.policy.specs.Answers.{familyOf, relationOf}
-use Rattle.policy.specs.Grammar.{setIn, expressionIn, namesIn}
+use Rattle.policy.specs.Grammar.{setIn, expressionIn, rowOf, headerIn}
+use Rattle.words.specs.Numbers.{mayBe, takenAs}
+use Rattle.words.specs.declared.NameKind.{NameKind}
 use Rattle.items.specs.Reads.{isSome, counted, isClosed}
 use Rattle.items.specs.declared.Wanted.{Wanted}
+use Rattle.items.specs.declared.Item.{Item}
 use Rattle.grammar.specs.declared.Keyword.{Keyword}
 use Rattle.grammar.specs.declared.Content.{Content}
 use Rattle.grammar.specs.declared.Shape.{Shape}
+use Rattle.grammar.specs.declared.Header.{Header}
 
 -- the keyword that an enum of src/ stands for
 abbrev pub keywordIn : Keyword → Option words.Keyword
@@ -27,7 +36,7 @@ keywordIn Keyword.Unknown = none
 
 -- what a part holds
 abbrev pub contentOf : Content → Forms → Bool
-contentOf Content.Permissions f = counted Wanted.OneOrMore 0 (namesIn f)
+contentOf Content.Permissions f = counted Wanted.OneOrMore 0 (rowOf (takenAs NameKind.Part) f)
 contentOf Content.Set f = isSome (setIn f)
 contentOf Content.Constraint f = isSome (expressionIn f)
 
@@ -39,33 +48,33 @@ onlyPart k (word s b f) = false
 onlyPart k (part p f g) = contentOf k f && isClosed g
 
 -- a name, a part, and the close: "C (P ...)", "A S"
-abbrev pub nameAndPart : Content → Forms → Bool
-nameAndPart k closed = false
-nameAndPart k ended = false
-nameAndPart k (word s b f) = not (isReserved b) && onlyPart k f
-nameAndPart k (part p f g) = false
+abbrev pub nameAndPart : NameKind → Content → Forms → Bool
+nameAndPart n k closed = false
+nameAndPart n k ended = false
+nameAndPart n k (word s b f) = mayBe n b && onlyPart k f
+nameAndPart n k (part p f g) = false
 
 -- "(C (P ...)) E"
 abbrev pub classAndConstraint : Forms → Bool
 classAndConstraint closed = false
 classAndConstraint ended = false
 classAndConstraint (word s b f) = false
-classAndConstraint (part p f g) = nameAndPart Content.Permissions f && onlyPart Content.Constraint g
+classAndConstraint (part p f g) = nameAndPart NameKind.Name Content.Permissions f && onlyPart Content.Constraint g
 
 -- the shape of what follows a keyword
 abbrev pub shapeOf : Option words.Keyword → Shape
 shapeOf none = Shape.Unknown
-shapeOf (some (declareK s)) = Shape.Names 1
+shapeOf (some (declareK s)) = Shape.Names NameKind.Part 1
 shapeOf (some classK) = Shape.Class
 shapeOf (some (setK f)) = Shape.Set
-shapeOf (some (relationK r)) = Shape.Names 2
-shapeOf (some transitionK) = Shape.Names 4
+shapeOf (some (relationK r)) = Shape.Names NameKind.Name 2
+shapeOf (some transitionK) = Shape.Names NameKind.Name 4
 shapeOf (some constrainK) = Shape.Constrain
 
 abbrev pub byShape : Shape → Forms → Bool
-byShape (Shape.Names n) f = counted (Wanted.Exactly n) 0 (namesIn f)
-byShape Shape.Class f = nameAndPart Content.Permissions f
-byShape Shape.Set f = nameAndPart Content.Set f
+byShape (Shape.Names k n) f = counted (Wanted.Exactly n) 0 (rowOf (takenAs k) f)
+byShape Shape.Class f = nameAndPart NameKind.Part Content.Permissions f
+byShape Shape.Set f = nameAndPart NameKind.Name Content.Set f
 byShape Shape.Constrain f = classAndConstraint f
 byShape Shape.Unknown f = false
 
@@ -75,3 +84,22 @@ isStatement closed = false
 isStatement ended = false
 isStatement (word s w f) = byShape (shapeOf (keywordOf w)) f
 isStatement (part p f g) = false
+
+-- ---- W-203: blocks
+
+-- by an item, whether a block is next
+abbrev pub startsBlock : Item → Bool
+startsBlock (Item.Word s n k q) = eqb k 39
+startsBlock (Item.Open p q) = false
+startsBlock (Item.Close q) = false
+startsBlock Item.End = false
+
+-- what follows the word `block` at a place of the text: the name, at its place, and parts alone behind it; or that the block is of no form
+abbrev pub HeaderBy : List ℕ → ℕ → Header → Type 0
+HeaderBy t at (Header.Name s n) =
+    (headerIn (framesAt t at .here) ≡ some (take n (drop s t))) × (framesAt t at .here ≡ word s (take n (drop s t)) (framesAt t (s + n) .here))
+    × (framesAt t at .around ≡ framesAt t (s + n) .around) × (at < s + n) × (s + n ≤ length t)
+HeaderBy t at Header.Bad = headerIn (framesAt t at .here) ≡ none
+
+pub record HeaderIs (t : List ℕ) (at : ℕ) (r : Header) : Type 0 where
+  pub is : HeaderBy t at r

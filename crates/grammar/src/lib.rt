@@ -1,4 +1,4 @@
-// The forms of the statements: fault 3.
+// The forms of the statements and blocks: fault 3.
 ghost use mathlib.Core.Path.{_≡_};
 ghost use Prim.Native.Nat.{ℕ, _-_};
 ghost use Rattle.lexer.specs.Forms.{framesAt, trim};
@@ -8,13 +8,14 @@ ghost use Rattle.policy.specs.Grammar.{written};
 ghost use Rattle.words.specs.Numbers.{wordOf};
 ghost use Rattle.items.specs.Looks.{itemAt};
 ghost use Rattle.items.specs.Reads.{isSome, Reads};
-ghost use Rattle.grammar.specs.Shapes.{keywordIn, contentOf, onlyPart, nameAndPart, classAndConstraint, shapeOf, byShape};
+ghost use Rattle.grammar.specs.Shapes.{startsBlock, HeaderIs, keywordIn, contentOf, onlyPart, nameAndPart, classAndConstraint, shapeOf, byShape};
 use items::Item;
 use items::Parsed;
 use items::Wanted;
 use lexer::Level;
 use policy::Family;
 use policy::Relation;
+use words::NameKind;
 use words::Word;
 
 // What a statement is by its first word: it declares a thing, an attribute or a class, fills an attribute, relates two names, is a role transition or a
@@ -37,14 +38,20 @@ enum Content {
     Constraint,
 }
 
-// What follows a keyword: so many names; a name and permissions; a name and a set expression; a class with permissions and a constraint
+// What follows a keyword: so many names of a kind; a name and permissions; a name and a set expression; a class with permissions and a constraint
 // expression. Or the word is no keyword.
 enum Shape {
-    Names(usize),
+    Names(NameKind, usize),
     Class,
     Set,
     Constrain,
     Unknown,
+}
+
+// The name of a block, by the place of its first byte and its length, or that the block is of no form.
+pub enum Header {
+    Name { start: usize, len: usize },
+    Bad,
 }
 
 // The keyword of a number.
@@ -79,12 +86,12 @@ fn shape_of(keyword: Keyword) -> Shape
     ensures { λ r. ⌜ r ≡ shapeOf (keywordIn keyword) ⌝ }
 {
     match keyword {
-        Keyword::Thing(_) => Shape::Names(1),
-        Keyword::Attribute(_) => Shape::Names(1),
+        Keyword::Thing(_) => Shape::Names(NameKind::Part, 1),
+        Keyword::Attribute(_) => Shape::Names(NameKind::Part, 1),
         Keyword::Class => Shape::Class,
         Keyword::Set(_) => Shape::Set,
-        Keyword::Relation(_) => Shape::Names(2),
-        Keyword::Transition => Shape::Names(4),
+        Keyword::Relation(_) => Shape::Names(NameKind::Name, 2),
+        Keyword::Transition => Shape::Names(NameKind::Name, 4),
         Keyword::Constrain => Shape::Constrain,
         Keyword::Unknown => Shape::Unknown,
     }
@@ -95,7 +102,7 @@ fn content_form(text: &[u8], at: usize, content: Content, levels: usize) -> Pars
     ensures { λ r. ⌜ Reads (now (text .entry)) at (contentOf content (trim (framesAt (now (text .entry)) at .here) levels)) r ⌝ }
 {
     match content {
-        Content::Permissions => items::names_form(text, at, Wanted::OneOrMore),
+        Content::Permissions => items::names_form(text, at, NameKind::Part, Wanted::OneOrMore),
         Content::Set => set_grammar::set_form(text, at, levels),
         Content::Constraint => constraint_grammar::constraint_form(text, at, levels),
     }
@@ -121,14 +128,19 @@ fn only_part(text: &[u8], at: usize, content: Content, levels: usize) -> Parsed
     }
 }
 
-// A name, one part, and the close.
-fn name_and_part(text: &[u8], at: usize, content: Content, levels: usize) -> Parsed
-    ensures { λ r. ⌜ Reads (now (text .entry)) at (nameAndPart content (trim (framesAt (now (text .entry)) at .here) levels)) r ⌝ }
+// A name of a kind, one part, and the close.
+fn name_and_part(text: &[u8], at: usize, kind: NameKind, content: Content, levels: usize) -> Parsed
+    ensures { λ r. ⌜ Reads (now (text .entry)) at (nameAndPart kind content (trim (framesAt (now (text .entry)) at .here) levels)) r ⌝ }
 {
     let item = items::look(text, at);
     match item {
-        Item::Word { number, next, .. } => {
-            if words::is_name(number) {
+        Item::Word {
+            start,
+            len,
+            next,
+            ..
+        } => {
+            if words::is_name(kind, text, start, len) {
                 return only_part(text, next, content, levels);
             }
             Parsed::Bad
@@ -147,7 +159,7 @@ fn constrain_form(text: &[u8], at: usize, levels: usize) -> Parsed
             if levels == 0 {
                 return Parsed::Bad;
             }
-            let class = name_and_part(text, next, Content::Permissions, levels - 1);
+            let class = name_and_part(text, next, NameKind::Name, Content::Permissions, levels - 1);
             match class {
                 Parsed::Next(past) => only_part(text, past, Content::Constraint, levels),
                 Parsed::Bad => Parsed::Bad,
@@ -162,9 +174,9 @@ fn shape_form(text: &[u8], at: usize, shape: Shape, levels: usize) -> Parsed
     ensures { λ r. ⌜ Reads (now (text .entry)) at (byShape shape (trim (framesAt (now (text .entry)) at .here) levels)) r ⌝ }
 {
     match shape {
-        Shape::Names(n) => items::names_form(text, at, Wanted::Exactly(n)),
-        Shape::Class => name_and_part(text, at, Content::Permissions, levels),
-        Shape::Set => name_and_part(text, at, Content::Set, levels),
+        Shape::Names(kind, n) => items::names_form(text, at, kind, Wanted::Exactly(n)),
+        Shape::Class => name_and_part(text, at, NameKind::Part, Content::Permissions, levels),
+        Shape::Set => name_and_part(text, at, NameKind::Name, Content::Set, levels),
         Shape::Constrain => constrain_form(text, at, levels),
         Shape::Unknown => Parsed::Bad,
     }
@@ -181,5 +193,39 @@ pub fn statement_form(text: &[u8], first: Item) -> Parsed
             shape_form(text, next, shape, Level::MAX - 1)
         }
         Item::Open { .. } | Item::Close { .. } | Item::End => Parsed::Bad,
+    }
+}
+
+// Whether the first item behind an open parenthesis says that it opens a block.
+pub fn starts_block(first: Item) -> bool
+    ensures { λ r. ⌜ r ≡ startsBlock first ⌝ }
+{
+    match first {
+        Item::Word { number, .. } => number == Word::BLOCK,
+        Item::Open { .. } | Item::Close { .. } | Item::End => false,
+    }
+}
+
+// What follows the word `block`: a name of one part, then parts alone, whatever they hold, and the close.
+pub fn block_form(text: &[u8], at: usize) -> Header
+    ensures { λ r. ⌜ HeaderIs (now (text .entry)) at r ⌝ }
+{
+    let item = items::look(text, at);
+    let Item::Word {
+        start,
+        len,
+        next,
+        ..
+    } = item
+    else {
+        return Header::Bad;
+    };
+    if !words::is_name(NameKind::Part, text, start, len) {
+        return Header::Bad;
+    }
+    let rest = items::parts_form(text, next);
+    match rest {
+        Parsed::Next(_) => Header::Name { start, len },
+        Parsed::Bad => Header::Bad,
     }
 }

@@ -1,6 +1,6 @@
 -- How operands and names are counted, and how a row of names goes on by an item. Assumes nothing.
-use mathlib.Core.Path.{_≡_, refl, sym, ap, _∙_}
-use mathlib.Core.Bool.{Bool, true, false, not, _&&_}
+use mathlib.Core.Path.{_≡_, refl, sym, ap}
+use mathlib.Core.Bool.{Bool, true, false, _&&_}
 use mathlib.Core.List.{List, [], _∷_}
 use mathlib.Core.Option.{Option, none, some}
 use Prim.Native.Nat.{ℕ, suc, _+_, _-_}
@@ -11,10 +11,9 @@ use lib.Dec.{eqb}
 use lib.ListN.{length}
 use Rattle.lexer.specs.Forms.{Forms, closed, ended, word, part, trim}
 use Rattle.policy.specs.Basics.{Name, _>>=_, more, ofNone, ofOne, ofTwo}
-use Rattle.policy.specs.Words.{isReserved, asName}
-use Rattle.policy.specs.Grammar.{namesIn}
-use Rattle.words.specs.Numbers.{numberOf, wordOf}
-use Rattle.words.proofs.Meaning.{reserved-number}
+use Rattle.policy.specs.Grammar.{rowOf}
+use Rattle.words.specs.Numbers.{mayBe, takenAs}
+use Rattle.words.specs.declared.NameKind.{NameKind}
 use Rattle.items.specs.Reads.{isSome, enough, counted}
 use Rattle.items.specs.declared.Wanted.{Wanted}
 
@@ -60,38 +59,34 @@ module _ {A B : Type 0} where
 
 -- ---- names
 
--- a word whose number is that of a name
-pub is-name : (w : Name) (k : ℕ) (b : Bool) → numberOf w ≡ k → b ≡ not (isReserved (wordOf k)) → not (isReserved w) ≡ b
-is-name w k b e f = ap not (reserved-number w ∙ ap (λ (n : ℕ). isReserved (wordOf n)) e) ∙ sym f
+-- a row of names of a kind by the first of them, after n
+module _ (k : NameKind) (v : Wanted) (n : ℕ) where
+  pub word-name : (w : Name) (s : ℕ) (f : Forms) (b : Bool) → b ≡ mayBe k w
+      → counted v n (rowOf (takenAs k) (word s w f)) ≡ b && counted v (n + 1) (rowOf (takenAs k) f)
+  unfolding rowOf
+  word-name w s f true h = one-more v n (takenAs k w) (rowOf (takenAs k) f) (rw (sym h))
+  word-name w s f false h = one-less v n (takenAs k w) (rowOf (takenAs k) f) (rw (sym h))
 
--- a row of names by the first of them, after n
-module _ (v : Wanted) (n : ℕ) where
-  pub word-name : (w : Name) (s k : ℕ) (f : Forms) (b : Bool) → numberOf w ≡ k → b ≡ not (isReserved (wordOf k))
-      → counted v n (namesIn (word s w f)) ≡ b && counted v (n + 1) (namesIn f)
-  unfolding namesIn
-  word-name w s k f true e h = one-more v n (asName w) (namesIn f) (rw (is-name w k true e h))
-  word-name w s k f false e h = one-less v n (asName w) (namesIn f) (rw (is-name w k false e h))
-
-  pub close-name : counted v n (namesIn closed) ≡ enough v n
-  unfolding namesIn
+  pub close-name : counted v n (rowOf (takenAs k) closed) ≡ enough v n
+  unfolding rowOf
   close-name = no-more Name v n
 
-  pub end-name : counted v n (namesIn ended) ≡ false
-  unfolding namesIn counted
+  pub end-name : counted v n (rowOf (takenAs k) ended) ≡ false
+  unfolding rowOf counted
   end-name = refl
 
-  pub part-name : (p : ℕ) (f g : Forms) → counted v n (namesIn (part p f g)) ≡ false
-  unfolding namesIn counted
+  pub part-name : (p : ℕ) (f g : Forms) → counted v n (rowOf (takenAs k) (part p f g)) ≡ false
+  unfolding rowOf counted
   part-name p f g = refl
 
 -- a cut does not change whether a row is one of names
-pub trim-names : (f : Forms) (n : ℕ) → namesIn (trim f n) ≡ namesIn f
-unfolding trim namesIn
-trim-names closed n = refl
-trim-names ended n = refl
-trim-names (word s b f) n = ap (more (asName b)) (trim-names f n)
-trim-names (part p f g) n = go (eqb n 0)
+pub trim-names : (taken : Name → Option Name) (f : Forms) (n : ℕ) → rowOf taken (trim f n) ≡ rowOf taken f
+unfolding trim rowOf
+trim-names taken closed n = refl
+trim-names taken ended n = refl
+trim-names taken (word s b f) n = ap (more (taken b)) (trim-names taken f n)
+trim-names taken (part p f g) n = go (eqb n 0)
   where
-    go : (b : Bool) → namesIn (elim b [ true ↦ ended | false ↦ part p (trim f (n - 1)) (trim g n) ]) ≡ none
+    go : (b : Bool) → rowOf taken (elim b [ true ↦ ended | false ↦ part p (trim f (n - 1)) (trim g n) ]) ≡ none
     go true = refl
     go false = refl

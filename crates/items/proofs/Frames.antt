@@ -2,10 +2,9 @@
 -- around along a loop; what it says of the row at hand is the law of Items. Assumes nothing.
 use mathlib.Core.Path.{_≡_, refl, sym, ap, subst, _∙_}
 use mathlib.Core.List.{List, [], _∷_}
-use Prim.Native.Nat.{ℕ, _+_, _-_, _<_, _≤_}
-use lib.ListN.{length, take, drop}
-use types.Run.{OneOf}
-use denote.Enum.Declared.{tagOf}
+use Prim.Native.Nat.{ℕ, _+_, _-_}
+use native.Mathlib.Omega.{arith}
+use lib.ListN.{take, drop}
 use Rattle.lexer.specs.Forms.{Forms, closed, ended, word, part, Frames, head, tail, out, framesAt, trim}
 use Rattle.lexer.specs.Token.{tokenAt}
 use Rattle.lexer.specs.declared.Token.{Token}
@@ -15,7 +14,6 @@ use Rattle.items.specs.Looks.{itemOf, itemAt}
 use Rattle.items.specs.declared.Item.{Item}
 use Rattle.items.proofs.Items as items
 use Rattle.items.proofs.Items.{Ahead}
-use Rattle.items.proofs.Item.{the-type}
 
 -- the frames at a place by the item there and the frames behind it
 abbrev pub seen : List ℕ → Item → Frames
@@ -45,6 +43,21 @@ sees {t} {i} e f =
       item = l;
       ahead = l .ahead;
     }
+
+-- a word ends where what follows it begins
+pub word-next : (t : List ℕ) (i : ℕ) {s n k q : ℕ} {r : Item} → r ≡ itemAt t i → r ≡ Item.Word s n k q → q ≡ s + n
+unfolding itemAt
+word-next t i {s} {n} {k} {q} e f = go (tokenAt t i) (sym f ∙ e)
+  where
+    go : (k′ : Token) → Item.Word s n k q ≡ itemOf t k′ → q ≡ s + n
+    go (Token.Open p) h = absurd (let z : _≡_ {A = ℕ} 0 1 = cc in omega arith)
+    go (Token.Close p) h = absurd (let z : _≡_ {A = ℕ} 0 1 = cc in omega arith)
+    go (Token.Word a b) h =
+        let x : q ≡ a + b = cc in
+        let y : s ≡ a = cc in
+        let z : n ≡ b = cc in
+        omega arith
+    go Token.End h = absurd (let z : _≡_ {A = ℕ} 0 1 = cc in omega arith)
 
 module _ {t : List ℕ} {i : ℕ} {k : Item} (l : Looked t i k) where
   pub here-of : framesAt t i .here ≡ seen t k .here

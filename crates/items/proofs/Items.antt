@@ -35,9 +35,9 @@ endBy t (Item.Open p q) = rowEnd t (rowEnd t q)
 endBy t (Item.Close q) = q
 endBy t Item.End = length t
 
--- an item lies ahead and in the text, and a word has its number
+-- an item lies ahead and in the text, and a word has its number and its bytes there
 abbrev pub Ahead : List ℕ → ℕ → Item → Type 0
-Ahead t at (Item.Word s n k q) = (at < q) × (q ≤ length t) × (numberOf (take n (drop s t)) ≡ k)
+Ahead t at (Item.Word s n k q) = (at < q) × (q ≤ length t) × (numberOf (take n (drop s t)) ≡ k) × (s + n ≤ length t)
 Ahead t at (Item.Open p q) = (at < q) × (q ≤ length t)
 Ahead t at (Item.Close q) = (at < q) × (q ≤ length t)
 Ahead t at Item.End = Unit {0}
@@ -61,13 +61,17 @@ by-token t at (Token.Close p) s = record {
 by-token t at (Token.Word p n) s = record {
   here = ap (λ (f : Frames). f .here) (s .frames);
   end = ends-by t at (Token.Word p n) (s .tokens);
-  ahead = (omega (arith, s .ahead), omega (arith, s .ahead), refl);
+  ahead = (omega (arith, s .ahead), omega (arith, s .ahead), refl, s .ahead .2);
 }
 by-token t at Token.End s = record {
   here = ap (λ (f : Frames). f .here) (s .frames);
   end = ends-by t at Token.End (s .tokens);
   ahead = tt;
 }
+
+-- what a caller of the lexer's `next` knows of the token k that it answered
+pub reads : {t : List ℕ} {i : ℕ} {r k : Token} → r ≡ tokenAt t i → r ≡ k → Looked t i (itemOf t k)
+reads {t} {i} {r} {k} e f = by-token t i k (token.seen t i r k e f)
 
 -- what a caller of `look` knows of the item k that it answered
 pub sees : {t : List ℕ} {i : ℕ} {r k : Item} → r ≡ itemAt t i → r ≡ k → Looked t i k

@@ -1,11 +1,13 @@
 // The items of a text, one after the other, and the rows that are of names alone.
 ghost use mathlib.Core.Path.{_≡_};
 ghost use Rattle.lexer.specs.Forms.{framesAt};
-ghost use Rattle.policy.specs.Grammar.{namesIn};
-ghost use Rattle.items.specs.Looks.{itemAt};
+ghost use Rattle.policy.specs.Grammar.{rowOf, partsAlone};
+ghost use Rattle.words.specs.Numbers.{takenAs};
+ghost use Rattle.items.specs.Looks.{itemAt, rowEnd};
 ghost use Rattle.items.specs.Reads.{Reads, parsed, isClosed, counted};
 ghost use Rattle.items.specs.Reads as spec;
 use lexer::Token;
+use words::NameKind;
 
 // What stands at a place: a word with its number, a parenthesis, or the end of the text; and the place behind it.
 pub enum Item {
@@ -89,24 +91,65 @@ pub fn close_form(text: &[u8], at: usize) -> Parsed
     }
 }
 
-// Names, and the close.
-pub fn names_form(text: &[u8], at: usize, wanted: Wanted) -> Parsed
-    ensures { λ r. ⌜ Reads (now (text .entry)) at (counted wanted 0 (namesIn (framesAt (now (text .entry)) at .here))) r ⌝ }
+// Names of a kind, and the close.
+pub fn names_form(text: &[u8], at: usize, kind: NameKind, wanted: Wanted) -> Parsed
+    ensures { λ r. ⌜ Reads (now (text .entry)) at (counted wanted 0 (rowOf (takenAs kind) (framesAt (now (text .entry)) at .here))) r ⌝ }
 {
     let mut i = at;
     let mut count: usize = 0;
     loop {
-        let item = look(text, i);
-        match item {
-            Item::Word { number, next, .. } => {
-                if !words::is_name(number) {
+        let token = lexer::next(text, i);
+        match token {
+            Token::Word { start, len } => {
+                if !words::is_name(kind, text, start, len) {
                     return Parsed::Bad;
                 }
-                i = next;
+                i = start + len;
                 count += 1;
             }
-            Item::Close { next } => return ended(wanted, count, next),
-            Item::Open { .. } | Item::End => return Parsed::Bad,
+            Token::Close(place) => return ended(wanted, count, place + 1),
+            Token::Open(_) | Token::End => return Parsed::Bad,
+        }
+    }
+}
+
+// The place behind the close of the row that a place of the text lies in, whatever the row holds; the end of the text where nothing closes it.
+pub fn row_end(text: &[u8], at: usize) -> usize
+    ensures { λ r. ⌜ r ≡ rowEnd (now (text .entry)) at ⌝ }
+{
+    let mut i = at;
+    let mut inside: usize = 0;
+    loop {
+        let token = lexer::next(text, i);
+        match token {
+            Token::Open(place) => {
+                i = place + 1;
+                inside += 1;
+            }
+            Token::Close(place) => {
+                i = place + 1;
+                if inside == 0 {
+                    return i;
+                }
+                inside -= 1;
+            }
+            Token::Word { start, len } => i = start + len,
+            Token::End => return text.len(),
+        }
+    }
+}
+
+// Parts, whatever they hold, or nothing, and the close.
+pub fn parts_form(text: &[u8], at: usize) -> Parsed
+    ensures { λ r. ⌜ Reads (now (text .entry)) at (partsAlone (framesAt (now (text .entry)) at .here)) r ⌝ }
+{
+    let mut i = at;
+    loop {
+        let item = look(text, i);
+        match item {
+            Item::Open { next, .. } => i = row_end(text, next),
+            Item::Close { next } => return Parsed::Next(next),
+            Item::Word { .. } | Item::End => return Parsed::Bad,
         }
     }
 }

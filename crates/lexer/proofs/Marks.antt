@@ -8,10 +8,10 @@ use native.Mathlib.Nat.{add-zero, zero-add, add-suc, suc-add, le-of-suc-le-suc, 
 use native.Mathlib.Omega.{arith}
 use lib.Dec.{eqb, ltb}
 use lib.ListN.{getD}
-use Rattle.lexer.specs.Class.{is, starts, goesOn}
+use Rattle.lexer.specs.Class.{is, starts, goesOn, isDot, inWord}
 use Rattle.lexer.specs.Answers.{markOf}
 use Rattle.lexer.specs.declared.ByteClass.{ByteClass}
-use Rattle.lexer.specs.declared.ByteClass.the-variants.{Blank, LineFeed, Comment, Open, Close, Letter, Digit, Wrong}
+use Rattle.lexer.specs.declared.ByteClass.the-variants.{Blank, LineFeed, Comment, Open, Close, Letter, Digit, Dot, Wrong}
 
 -- ---- a table that holds f at each place
 
@@ -44,7 +44,7 @@ classAt m =
     cond (is "b" m) Blank
     (cond (is "n" m) LineFeed
     (cond (is "s" m) Comment
-    (cond (is "o" m) Open (cond (is "c" m) Close (cond (is "L" m) Letter (cond (is "D" m) Digit Wrong))))))
+    (cond (is "o" m) Open (cond (is "c" m) Close (cond (is "L" m) Letter (cond (is "D" m) Digit (cond (is "P" m) Dot Wrong)))))))
 
 class-of-mark : (x : ByteClass) → classAt (markOf x) ≡ x
 class-of-mark Blank = refl
@@ -54,6 +54,7 @@ class-of-mark Open = refl
 class-of-mark Close = refl
 class-of-mark Letter = refl
 class-of-mark Digit = refl
+class-of-mark Dot = refl
 class-of-mark Wrong = refl
 
 -- a class whose mark is m
@@ -62,21 +63,22 @@ marked x k m e f = ap classAt (sym f ∙ e) ∙ class-of-mark x
 
 -- a class that has none of the other marks
 pub unmarked : (x : ByteClass) (k : ℕ) → k ≡ markOf x → (k ≡ markOf Blank → ⊥) → (k ≡ markOf LineFeed → ⊥) → (k ≡ markOf Comment → ⊥)
-    → (k ≡ markOf Open → ⊥) → (k ≡ markOf Close → ⊥) → (k ≡ markOf Letter → ⊥) → (k ≡ markOf Digit → ⊥) → Wrong ≡ x
-unmarked Blank k e a b c d f g h = absurd (a e)
-unmarked LineFeed k e a b c d f g h = absurd (b e)
-unmarked Comment k e a b c d f g h = absurd (c e)
-unmarked Open k e a b c d f g h = absurd (d e)
-unmarked Close k e a b c d f g h = absurd (f e)
-unmarked Letter k e a b c d f g h = absurd (g e)
-unmarked Digit k e a b c d f g h = absurd (h e)
-unmarked Wrong k e a b c d f g h = refl
+    → (k ≡ markOf Open → ⊥) → (k ≡ markOf Close → ⊥) → (k ≡ markOf Letter → ⊥) → (k ≡ markOf Digit → ⊥) → (k ≡ markOf Dot → ⊥) → Wrong ≡ x
+unmarked Blank k e a b c d f g h i = absurd (a e)
+unmarked LineFeed k e a b c d f g h i = absurd (b e)
+unmarked Comment k e a b c d f g h i = absurd (c e)
+unmarked Open k e a b c d f g h i = absurd (d e)
+unmarked Close k e a b c d f g h i = absurd (f e)
+unmarked Letter k e a b c d f g h i = absurd (g e)
+unmarked Digit k e a b c d f g h i = absurd (h e)
+unmarked Dot k e a b c d f g h i = absurd (i e)
+unmarked Wrong k e a b c d f g h i = refl
 
--- the marks below `a` are those of the classes with which a name goes on
-pub capital : (x : ByteClass) (k : ℕ) → k ≡ markOf x → ltb k 97 ≡ goesOn x
+-- the marks below `a` are those of the classes of which names are made
+pub capital : (x : ByteClass) (k : ℕ) → k ≡ markOf x → ltb k 97 ≡ inWord x
 capital x k e = ap (λ (m : ℕ). ltb m 97) e ∙ go x
   where
-    go : (x : ByteClass) → ltb (markOf x) 97 ≡ goesOn x
+    go : (x : ByteClass) → ltb (markOf x) 97 ≡ inWord x
     go Blank = refl
     go LineFeed = refl
     go Comment = refl
@@ -84,9 +86,40 @@ capital x k e = ap (λ (m : ℕ). ltb m 97) e ∙ go x
     go Close = refl
     go Letter = refl
     go Digit = refl
+    go Dot = refl
     go Wrong = refl
 
--- the mark `L` is that of the class with which a name starts
+-- the marks below `P` are those of the classes with which a part goes on
+pub part-mark : (x : ByteClass) (k : ℕ) → k ≡ markOf x → ltb k 80 ≡ goesOn x
+part-mark x k e = ap (λ (m : ℕ). ltb m 80) e ∙ go x
+  where
+    go : (x : ByteClass) → ltb (markOf x) 80 ≡ goesOn x
+    go Blank = refl
+    go LineFeed = refl
+    go Comment = refl
+    go Open = refl
+    go Close = refl
+    go Letter = refl
+    go Digit = refl
+    go Dot = refl
+    go Wrong = refl
+
+-- the mark `P` is that of the dot
+pub dot-mark : (x : ByteClass) (k : ℕ) → k ≡ markOf x → eqb k 80 ≡ isDot x
+dot-mark x k e = ap (λ (m : ℕ). eqb m 80) e ∙ go x
+  where
+    go : (x : ByteClass) → eqb (markOf x) 80 ≡ isDot x
+    go Blank = refl
+    go LineFeed = refl
+    go Comment = refl
+    go Open = refl
+    go Close = refl
+    go Letter = refl
+    go Digit = refl
+    go Dot = refl
+    go Wrong = refl
+
+-- the mark `L` is that of the class with which a part starts
 pub letter : (x : ByteClass) (k : ℕ) → k ≡ markOf x → eqb k 76 ≡ starts x
 letter x k e = ap (λ (m : ℕ). eqb m 76) e ∙ go x
   where
@@ -98,4 +131,5 @@ letter x k e = ap (λ (m : ℕ). eqb m 76) e ∙ go x
     go Close = refl
     go Letter = refl
     go Digit = refl
+    go Dot = refl
     go Wrong = refl

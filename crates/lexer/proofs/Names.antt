@@ -1,13 +1,16 @@
--- Names: how long they are, and how one grows by a byte. Assumes nothing.
-use mathlib.Core.Path.{_≡_}
-use mathlib.Core.Bool.{Bool, true, _&&_, and-eq-true-iff}
-use mathlib.Core.List.{List, [], _∷_, _++_}
-use Prim.Native.Nat.{ℕ, _≤_, _<_}
+-- Names: their parts read byte by byte, what a name that is under way asks of the bytes to come, and how long names are. Assumes nothing.
+use mathlib.Core.Path.{_≡_, refl, sym, ap, _∙_}
+use mathlib.Core.Bool.{Bool, true, false, not, _&&_, and-eq-true-iff, and-assoc, and-false}
+use mathlib.Core.List.{List, [], _∷_, _++_, append-assoc, append-nil}
+use Prim.Native.Nat.{ℕ, suc, _+_, _≤_, _<_}
 use native.Mathlib.Omega.{arith}
-use borrow.Author.Tests.{leb-true, le-leb}
+use borrow.Author.Tests.{leb-true, le-leb, lt-leb}
 use lib.Dec.{leb}
-use lib.ListN.{length, length-append}
-use Rattle.lexer.specs.Class.{classOf, starts, goesOn, maxName, allGoOn, isName}
+use lib.ListN.{length}
+use Rattle.lexer.specs.Class.{classOf, starts, goesOn, isDot, inWord, maxName, allGoOn, isPart, allParts, onFirst, parts, isDotted, undotted, isName}
+use Rattle.lexer.specs.Answers.{partStarts}
+use Rattle.lexer.specs.declared.ByteClass.{ByteClass}
+use Rattle.lexer.specs.declared.ByteClass.the-variants.{Blank, LineFeed, Comment, Open, Close, Letter, Digit, Dot, Wrong}
 
 -- a test of two parts: both pass, and each of them does
 pub both : (a b : Bool) → a ≡ true → b ≡ true → a && b ≡ true
@@ -16,46 +19,243 @@ both a b e f = and-eq-true-iff a b .1 (e, f)
 pub each : (a b : Bool) → a && b ≡ true → (a ≡ true) × (b ≡ true)
 each a b e = and-eq-true-iff a b .0 e
 
--- what makes a name, part by part
-pub record Named (b : ℕ) (bs : List ℕ) : Type 0 where
-  pub first : starts (classOf b) ≡ true
-  pub others : allGoOn bs ≡ true
-  pub short : length (b ∷ bs) ≤ maxName
+-- ---- classes
 
-pub named : (b : ℕ) (bs : List ℕ) → isName (b ∷ bs) ≡ true → Named b bs
-unfolding isName
-named b bs e =
-    let l = each (starts (classOf b) && allGoOn bs) (leb (length (b ∷ bs)) maxName) e in
-    let s = each (starts (classOf b)) (allGoOn bs) (l .0) in
-    record { first = s .0; others = s .1; short = leb-true (length (b ∷ bs)) maxName (l .1) }
+pub clash : false ≡ true → ⊥
+clash e =
+    let z : _≡_ {A = ℕ} 0 1 = cc in
+    omega arith
 
-pub is-name : (b : ℕ) (bs : List ℕ) → Named b bs → isName (b ∷ bs) ≡ true
-unfolding isName
-is-name b bs n =
-    both (starts (classOf b) && allGoOn bs) (leb (length (b ∷ bs)) maxName)
-    (both (starts (classOf b)) (allGoOn bs) (n .first) (n .others))
-    (le-leb (length (b ∷ bs)) maxName (n .short))
+-- a dot starts no part; what starts a part is no dot; but for the dot, names are made of what goes on a part
+pub dot-starts-none : (k : ByteClass) → isDot k ≡ true → starts k ≡ false
+dot-starts-none Blank e = refl
+dot-starts-none LineFeed e = refl
+dot-starts-none Comment e = refl
+dot-starts-none Open e = refl
+dot-starts-none Close e = refl
+dot-starts-none Letter e = absurd (clash e)
+dot-starts-none Digit e = refl
+dot-starts-none Dot e = refl
+dot-starts-none Wrong e = refl
 
--- "1 to 64 bytes"
-pub name-length : (w : List ℕ) → isName w ≡ true → (0 < length w) × (length w ≤ maxName)
+pub start-no-dot : (k : ByteClass) → starts k ≡ true → isDot k ≡ false
+start-no-dot Blank e = refl
+start-no-dot LineFeed e = refl
+start-no-dot Comment e = refl
+start-no-dot Open e = refl
+start-no-dot Close e = refl
+start-no-dot Letter e = refl
+start-no-dot Digit e = refl
+start-no-dot Dot e = absurd (clash e)
+start-no-dot Wrong e = refl
+
+pub dot-in-word : (k : ByteClass) → isDot k ≡ true → inWord k ≡ true
+dot-in-word Blank e = absurd (clash e)
+dot-in-word LineFeed e = absurd (clash e)
+dot-in-word Comment e = absurd (clash e)
+dot-in-word Open e = absurd (clash e)
+dot-in-word Close e = absurd (clash e)
+dot-in-word Letter e = refl
+dot-in-word Digit e = refl
+dot-in-word Dot e = refl
+dot-in-word Wrong e = absurd (clash e)
+
+pub part-in-word : (k : ByteClass) → isDot k ≡ false → inWord k ≡ goesOn k
+part-in-word Blank e = refl
+part-in-word LineFeed e = refl
+part-in-word Comment e = refl
+part-in-word Open e = refl
+part-in-word Close e = refl
+part-in-word Letter e = refl
+part-in-word Digit e = refl
+part-in-word Dot e = absurd (clash (sym e))
+part-in-word Wrong e = refl
+
+pub part-byte : (k : ByteClass) → goesOn k ≡ true → inWord k ≡ true
+part-byte Blank e = e
+part-byte LineFeed e = e
+part-byte Comment e = e
+part-byte Open e = e
+part-byte Close e = e
+part-byte Letter e = e
+part-byte Digit e = e
+part-byte Dot e = refl
+part-byte Wrong e = e
+
+-- ---- parts, byte by byte
+
+-- what may stand next in a name: where a part must start only what starts one
+abbrev pub fits : Bool → ByteClass → Bool
+fits true k = starts k
+fits false k = inWord k
+
+-- bytes that are parts with one dot between, from the start of a part on or from within one
+unfoldable pub partsFrom : List ℕ → Bool → Bool
+partsFrom [] fresh = not fresh
+partsFrom (b ∷ bs) fresh = fits fresh (classOf b) && partsFrom bs (isDot (classOf b))
+
+-- the first goes on a part that is under way, and the others are parts
+abbrev goOn : List (List ℕ) → Bool
+goOn [] = true
+goOn (p ∷ ps) = allGoOn p && allParts ps
+
+on-first : (b : ℕ) (l : List (List ℕ))
+    → (allParts (onFirst b l) ≡ starts (classOf b) && goOn l) × (goOn (onFirst b l) ≡ goesOn (classOf b) && goOn l)
+unfolding allParts isPart allGoOn
+on-first b [] = (and-assoc (starts (classOf b)) true true, and-assoc (goesOn (classOf b)) true true)
+on-first b (p ∷ ps) = (and-assoc (starts (classOf b)) (allGoOn p) (allParts ps), and-assoc (goesOn (classOf b)) (allGoOn p) (allParts ps))
+
+by-bytes : (w : List ℕ) → (allParts (parts w) ≡ partsFrom w true) × (goOn (parts w) ≡ partsFrom w false)
+unfolding parts allParts isPart allGoOn partsFrom
+by-bytes [] = (refl, refl)
+by-bytes (b ∷ bs) = go (isDot (classOf b)) refl (by-bytes bs)
+  where
+    go : (q : Bool) → isDot (classOf b) ≡ q → (allParts (parts bs) ≡ partsFrom bs true) × (goOn (parts bs) ≡ partsFrom bs false)
+        → (allParts (elim (isDot (classOf b)) [ true ↦ [] ∷ parts bs | false ↦ onFirst b (parts bs) ]) ≡ starts (classOf b) && partsFrom bs (isDot (classOf b)))
+        × (goOn (elim (isDot (classOf b)) [ true ↦ [] ∷ parts bs | false ↦ onFirst b (parts bs) ]) ≡ inWord (classOf b) && partsFrom bs (isDot (classOf b)))
+    go true e i = (rw (e, dot-starts-none (classOf b) e), rw (e, dot-in-word (classOf b) e) (i .0))
+    go false e i =
+        let f = on-first b (parts bs) in (
+          rw e (f .0 ∙ ap (λ (q : Bool). starts (classOf b) && q) (i .1)),
+          rw (e, part-in-word (classOf b) e) (f .1 ∙ ap (λ (q : Bool). goesOn (classOf b) && q) (i .1)),
+        )
+
+pub dotted-from : (w : List ℕ) → isDotted w ≡ partsFrom w true
+unfolding isDotted
+dotted-from w = by-bytes w .0
+
+-- where a part must start and none does there is no name
+pub no-part : (bs : List ℕ) → partStarts bs ≡ false → partsFrom bs true ≡ false
+unfolding partsFrom
+no-part [] e = refl
+no-part (b ∷ bs) e = rw e
+
+-- ---- a name that is under way
+
+-- the bytes w, c of them counted, are a name together with those to come exactly if those fit
+pub record SoFar (w : List ℕ) (c : ℕ) (fresh : Bool) : Type 0 where
+  pub with-rest : (rest : List ℕ) → isName (w ++ rest) ≡ partsFrom rest fresh && leb (c + length rest) maxName
+
+pub letter-first : (b : ℕ) → starts (classOf b) ≡ true → SoFar (b ∷ []) 1 false
+unfolding isName partsFrom
+letter-first b e = record {
+  with-rest = λ rest.
+      let n = start-no-dot (classOf b) e in
+      let l : suc (length rest) ≡ 1 + length rest = omega arith in
+      rw (n, dotted-from (b ∷ rest), e, n, l);
+}
+
+pub dot-first : (b : ℕ) → isDot (classOf b) ≡ true → SoFar (b ∷ []) 0 true
 unfolding isName
+dot-first b e = record {
+  with-rest = λ rest.
+      let l : length rest ≡ 0 + length rest = omega arith in
+      rw (e, dotted-from rest) (ap (λ (n : ℕ). partsFrom rest true && leb n maxName) l);
+}
+
+module _ (w : List ℕ) (c : ℕ) (fresh : Bool) (x : SoFar w c fresh) (b : ℕ) where
+  -- a byte more
+  pub grown : fits fresh (classOf b) ≡ true → SoFar (w ++ b ∷ []) (c + 1) (isDot (classOf b))
+  unfolding partsFrom
+  grown e = record {
+    with-rest = λ rest.
+        let l : c + suc (length rest) ≡ c + 1 + length rest = omega arith in
+        ap isName (append-assoc w (b ∷ []) rest) ∙ x .with-rest (b ∷ rest) ∙ rw (e, l);
+  }
+
+  -- a byte that makes it no name, whatever comes: the 65th, and a dot with no part behind it
+  pub one-too-many : maxName ≤ c → (rest : List ℕ) → isName (w ++ b ∷ rest) ≡ false
+  one-too-many h rest = x .with-rest (b ∷ rest) ∙ rw (lt-leb (c + suc (length rest)) maxName (omega arith), and-false)
+
+  pub spoiled : isDot (classOf b) ≡ true → (rest : List ℕ) → partStarts rest ≡ false → isName (w ++ b ∷ rest) ≡ false
+  unfolding partsFrom
+  spoiled d rest e = x .with-rest (b ∷ rest) ∙ rw (d, no-part rest e, and-false)
+
+-- no byte more
+pub finished : (w : List ℕ) (c : ℕ) (fresh : Bool) → SoFar w c fresh → c ≤ maxName → isName w ≡ not fresh
+unfolding partsFrom
+finished w c fresh x h =
+    ap isName (sym (append-nil w)) ∙ x .with-rest [] ∙ rw (le-leb (c + 0) maxName (omega arith)) (go fresh)
+  where
+    go : (q : Bool) → not q && true ≡ not q
+    go true = refl
+    go false = refl
+
+-- ---- how long a name is
+
+-- "more than 64 bytes not counting a leading dot" is no name
+pub name-counted : (w : List ℕ) → isName w ≡ true → length (undotted w) ≤ maxName
+unfolding isName
+name-counted w e = leb-true (length (undotted w)) maxName (each (isDotted (undotted w)) (leb (length (undotted w)) maxName) e .1)
+
+-- at least a byte, and with a leading dot at most 65
+pub name-length : (w : List ℕ) → isName w ≡ true → (0 < length w) × (length w ≤ maxName + 1)
+unfolding isName isDotted parts allParts isPart
 name-length [] e =
     let z : _≡_ {A = ℕ} 0 1 = cc in
     absurd (omega arith)
-name-length (b ∷ bs) e = (omega arith, named b bs e .short)
+name-length (b ∷ bs) e = (omega arith, go (isDot (classOf b)) refl)
+  where
+    go : (q : Bool) → isDot (classOf b) ≡ q → suc (length bs) ≤ maxName + 1
+    go true f =
+        let h : length bs ≤ maxName = rw f at (name-counted (b ∷ bs) e) in
+        omega arith
+    go false f =
+        let h : suc (length bs) ≤ maxName = rw f at (name-counted (b ∷ bs) e) in
+        omega arith
 
-all-more : (xs : List ℕ) (b : ℕ) → allGoOn xs ≡ true → goesOn (classOf b) ≡ true → allGoOn (xs ++ b ∷ []) ≡ true
-unfolding allGoOn
-all-more [] b e f = rw f
-all-more (x ∷ xs) b e f =
-    let s = each (goesOn (classOf x)) (allGoOn xs) e in
-    both (goesOn (classOf x)) (allGoOn (xs ++ b ∷ [])) (s .0) (all-more xs b (s .1) f)
+-- ---- a name of one part, for those that take no dot
 
--- a name with one byte more
-pub name-more : (xs : List ℕ) (b : ℕ) → isName xs ≡ true → goesOn (classOf b) ≡ true → length xs < maxName → isName (xs ++ b ∷ []) ≡ true
-unfolding isName
-name-more [] b e f h = cc
-name-more (x ∷ xs) b e f h =
-    let n = named x xs e in
-    is-name x (xs ++ b ∷ [])
-    (record { first = n .first; others = all-more xs b (n .others) f; short = omega (arith, length-append xs (b ∷ [])) })
+part-no-dot : (k : ByteClass) → goesOn k ≡ true → isDot k ≡ false
+part-no-dot Blank e = refl
+part-no-dot LineFeed e = refl
+part-no-dot Comment e = refl
+part-no-dot Open e = refl
+part-no-dot Close e = refl
+part-no-dot Letter e = refl
+part-no-dot Digit e = refl
+part-no-dot Dot e = absurd (clash e)
+part-no-dot Wrong e = refl
+
+dot-parts : (b : ℕ) (bs : List ℕ) (q : Bool) → isDot (classOf b) ≡ q → parts (b ∷ bs) ≡ elim q [ true ↦ [] ∷ parts bs | false ↦ onFirst b (parts bs) ]
+unfolding parts
+dot-parts b bs q e = ap (λ (x : Bool). elim x [ true ↦ [] ∷ parts bs | false ↦ onFirst b (parts bs) ]) e
+
+-- what goes on a part has no dot in it
+pub one-part : (w : List ℕ) → allGoOn w ≡ true → parts w ≡ w ∷ []
+unfolding allGoOn parts
+one-part [] e = refl
+one-part (b ∷ bs) e =
+    let p = each (goesOn (classOf b)) (allGoOn bs) e in
+    dot-parts b bs false (part-no-dot (classOf b) (p .0)) ∙ ap (onFirst b) (one-part bs (p .1))
+
+-- a part is a name where it is not too long
+pub part-name : (w : List ℕ) → isPart w ≡ true → length w ≤ maxName → isName w ≡ true
+unfolding isName isDotted isPart allParts
+part-name [] e h = absurd (clash e)
+part-name (b ∷ bs) e h =
+    let p = each (starts (classOf b)) (allGoOn bs) e in
+    let n = start-no-dot (classOf b) (p .0) in
+    let w : parts (b ∷ bs) ≡ (b ∷ bs) ∷ [] = dot-parts b bs false n ∙ ap (onFirst b) (one-part bs (p .1)) in
+    rw (n, w, e, le-leb (suc (length bs)) maxName h)
+
+-- how long the first is
+abbrev firstLength : List (List ℕ) → ℕ
+firstLength [] = 0
+firstLength (p ∷ ps) = length p
+
+-- and a name with no dot is a part
+pub name-part : (w : List ℕ) → isName w ≡ true → parts w ≡ w ∷ [] → (isPart w ≡ true) × (length w ≤ maxName)
+unfolding isName isDotted isPart allParts
+name-part [] e f = absurd (omega (arith, name-length [] e .0))
+name-part (b ∷ bs) e f = go (isDot (classOf b)) refl
+  where
+    go : (q : Bool) → isDot (classOf b) ≡ q → (starts (classOf b) && allGoOn bs ≡ true) × (suc (length bs) ≤ maxName)
+    go true g =
+        let z : 0 ≡ suc (length bs) = ap firstLength (sym (dot-parts b bs true g) ∙ f) in
+        absurd (omega arith)
+    go false g =
+        let h : allParts (parts (b ∷ bs)) && leb (suc (length bs)) maxName ≡ true = rw g at e in
+        let i = each (allParts (parts (b ∷ bs))) (leb (suc (length bs)) maxName) h in
+        let j : (starts (classOf b) && allGoOn bs) && true ≡ true = sym (ap allParts f) ∙ i .0 in
+        (each (starts (classOf b) && allGoOn bs) true j .0, leb-true (suc (length bs)) maxName (i .1))

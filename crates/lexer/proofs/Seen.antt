@@ -7,12 +7,12 @@ use Prim.Native.Nat.{ℕ, _+_, _≤_, _<_}
 use native.Mathlib.Nat.{le-refl}
 use native.Mathlib.Omega.{arith}
 use lib.ListN.{length, drop}
-use Rattle.lexer.specs.Class.{classOf, goesOn, endsComment}
+use Rattle.lexer.specs.Class.{classOf, inWord, endsComment}
 use Rattle.lexer.specs.Scan.{Mode, between, inComment, inName, commentThen}
 use Rattle.lexer.specs.Token.{betweenThen, ownToken, modeThen, ending, tokensFrom, tokensAt, firstOf, tokenAt}
 use Rattle.lexer.specs.Forms.{Frames, ended, step, build, framesAt}
 use Rattle.lexer.specs.declared.ByteClass.{ByteClass}
-use Rattle.lexer.specs.declared.ByteClass.the-variants.{Blank, LineFeed, Comment, Open, Close, Letter, Digit, Wrong}
+use Rattle.lexer.specs.declared.ByteClass.the-variants.{Blank, LineFeed, Comment, Open, Close, Letter, Digit, Dot, Wrong}
 use Rattle.lexer.specs.declared.Token.{Token}
 use Rattle.lexer.proofs.Ends.{rest, below}
 
@@ -63,14 +63,15 @@ module _ (t bs : List ℕ) (lo at : ℕ) (l : at < length t) (r : tokensAt t (at
   between-byte Close h = record { tokens = ap (λ (x : List Token). Token.Close at ∷ x) (sym r); ahead = (h, l) }
   between-byte Letter h = ih (inName at 1) (omega arith)
   between-byte Digit h = ih (inName at 1) (omega arith)
+  between-byte Dot h = ih (inName at 1) (omega arith)
   between-byte Wrong h = ih between (omega arith)
 
   word-byte : (s n : ℕ) (k : ByteClass) → Reach t lo (inName s n) at
       → tokensAt t (s + n) ≡ ownToken at k ++ tokensFrom bs (betweenThen at k) (at + 1)
       → Next t lo (ending (inName s n) at k ++ tokensFrom bs (modeThen (inName s n) at k) (at + 1))
-  word-byte s n k h f = go (goesOn k) refl
+  word-byte s n k h f = go (inWord k) refl
     where
-      go : (q : Bool) → goesOn k ≡ q → Next t lo (ending (inName s n) at k ++ tokensFrom bs (modeThen (inName s n) at k) (at + 1))
+      go : (q : Bool) → inWord k ≡ q → Next t lo (ending (inName s n) at k ++ tokensFrom bs (modeThen (inName s n) at k) (at + 1))
       go true e = rw e (ih (inName s (n + 1)) (omega arith))
       go false e = rw e (record { tokens = ap (λ (x : List Token). Token.Word s n ∷ x) (sym f); ahead = omega arith })
 

@@ -9,40 +9,36 @@ use native.Mathlib.Omega.{arith}
 use lib.ListN.{length, getD, drop, drop-of-length-le}
 use lib.Seq.{drop-cons}
 use types.Run.{OneOf}
-use Rattle.lexer.specs.Class.{classOf, goesOn, endsComment}
+use Rattle.lexer.specs.Class.{classOf, inWord, endsComment}
 use Rattle.lexer.specs.Scan.{Mode, between, inComment, inName}
 use Rattle.lexer.specs.Token.{betweenThen, ownToken, modeThen, ending, tokensFrom, tokensAt, firstOf, tokenAt}
 use Rattle.lexer.specs.Answers.{firstFrom, endsWord, commentEnd, wordEnd}
 use Rattle.lexer.specs.declared.ByteClass.{ByteClass}
-use Rattle.lexer.specs.declared.ByteClass.the-variants.{Blank, LineFeed, Comment, Open, Close, Letter, Digit, Wrong}
+use Rattle.lexer.specs.declared.ByteClass.the-variants.{Blank, LineFeed, Comment, Open, Close, Letter, Digit, Dot, Wrong}
 use Rattle.lexer.specs.declared.Token.{Token}
 use Rattle.lexer.proofs.Ends.{over-comment}
+use Rattle.lexer.proofs.Names.{clash}
 use Rattle.lexer.proofs.Variants.{tag, among}
 
 -- ---- a turn of the loop of `next`
-
-clash : false ≡ true → ⊥
-clash e =
-    let z : _≡_ {A = ℕ} 0 1 = cc in
-    omega arith
 
 -- a byte between tokens that only leads to a mode
 pub record Leads (at : ℕ) (k : ByteClass) (mode : Mode) : Type 0 where
   pub no-token : ownToken at k ≡ []
   pub to : betweenThen at k ≡ mode
 
-pub blank-like : (at : ℕ) (k : ByteClass) → OneOf (0 ∷ 1 ∷ 7 ∷ []) (tag k) → Leads at k between
+pub blank-like : (at : ℕ) (k : ByteClass) → OneOf (0 ∷ 1 ∷ 8 ∷ []) (tag k) → Leads at k between
 blank-like at =
-    among (0 ∷ 1 ∷ 7 ∷ []) (λ k. Leads at k between)
-    (record { no-token = refl; to = refl }, record { no-token = refl; to = refl }, tt, tt, tt, tt, tt, record { no-token = refl; to = refl })
+    among (0 ∷ 1 ∷ 8 ∷ []) (λ k. Leads at k between)
+    (record { no-token = refl; to = refl }, record { no-token = refl; to = refl }, tt, tt, tt, tt, tt, tt, record { no-token = refl; to = refl })
 
-pub name-like : (at : ℕ) (k : ByteClass) → OneOf (5 ∷ 6 ∷ []) (tag k) → Leads at k (inName at 1)
+pub name-like : (at : ℕ) (k : ByteClass) → OneOf (5 ∷ 6 ∷ 7 ∷ []) (tag k) → Leads at k (inName at 1)
 name-like at =
-    among (5 ∷ 6 ∷ []) (λ k. Leads at k (inName at 1))
-    (tt, tt, tt, tt, tt, record { no-token = refl; to = refl }, record { no-token = refl; to = refl }, tt)
+    among (5 ∷ 6 ∷ 7 ∷ []) (λ k. Leads at k (inName at 1))
+    (tt, tt, tt, tt, tt, record { no-token = refl; to = refl }, record { no-token = refl; to = refl }, record { no-token = refl; to = refl }, tt)
 
--- a class that goes on a name leads into one
-goes-like : (at : ℕ) (k : ByteClass) → goesOn k ≡ true → Leads at k (inName at 1)
+-- a class of which names are made leads into one
+goes-like : (at : ℕ) (k : ByteClass) → inWord k ≡ true → Leads at k (inName at 1)
 goes-like at Blank e = absurd (clash e)
 goes-like at LineFeed e = absurd (clash e)
 goes-like at Comment e = absurd (clash e)
@@ -50,6 +46,7 @@ goes-like at Open e = absurd (clash e)
 goes-like at Close e = absurd (clash e)
 goes-like at Letter e = record { no-token = refl; to = refl }
 goes-like at Digit e = record { no-token = refl; to = refl }
+goes-like at Dot e = record { no-token = refl; to = refl }
 goes-like at Wrong e = absurd (clash e)
 
 pub comment-like : (at : ℕ) (k : ByteClass) → k ≡ Comment → Leads at k inComment
@@ -65,6 +62,7 @@ blank-too bs at Open e = cc
 blank-too bs at Close e = cc
 blank-too bs at Letter e = cc
 blank-too bs at Digit e = cc
+blank-too bs at Dot e = cc
 blank-too bs at Wrong e = cc
 
 module _ (t : List ℕ) (at : ℕ) where
@@ -97,9 +95,9 @@ word-first : (bs : List ℕ) (first len at : ℕ) → first + len ≡ at
     → firstOf (tokensFrom bs (inName first len) at) ≡ Token.Word first (firstFrom bs endsWord at - first)
 unfolding tokensFrom firstFrom
 word-first [] first len at e = ap (Token.Word first) (omega arith)
-word-first (b ∷ bs) first len at e = go (goesOn (classOf b)) refl (word-first bs first (len + 1) (at + 1) (omega arith))
+word-first (b ∷ bs) first len at e = go (inWord (classOf b)) refl (word-first bs first (len + 1) (at + 1) (omega arith))
   where
-    go : (q : Bool) → goesOn (classOf b) ≡ q
+    go : (q : Bool) → inWord (classOf b) ≡ q
         → firstOf (tokensFrom bs (inName first (len + 1)) (at + 1)) ≡ Token.Word first (firstFrom bs endsWord (at + 1) - first)
         → firstOf (ending (inName first len) at (classOf b) ++ tokensFrom bs (modeThen (inName first len) at (classOf b)) (at + 1))
         ≡ Token.Word first (elim (endsWord (classOf b)) [ true ↦ at | false ↦ firstFrom bs endsWord (at + 1) ] - first)
@@ -116,7 +114,7 @@ module _ (t : List ℕ) (at : ℕ) where
   unfolding tokenAt tokensAt
   over-space b h e l = sym (ap firstOf (turn t at (classOf b) between h (ap classOf (sym e)) l))
 
-  pub word-by-byte : at < length t → goesOn (classOf (getD t at 0)) ≡ true → Token.Word at (wordEnd t (at + 1) - at) ≡ tokenAt t at
+  pub word-by-byte : at < length t → inWord (classOf (getD t at 0)) ≡ true → Token.Word at (wordEnd t (at + 1) - at) ≡ tokenAt t at
   unfolding tokenAt tokensAt
   word-by-byte h e = sym (word-here t at) ∙ ap firstOf (sym (turn t at (classOf (getD t at 0)) (inName at 1) h refl (goes-like at (classOf (getD t at 0)) e)))
 

@@ -1,11 +1,11 @@
 -- What a cut of forms at some level leaves. Assumes nothing.
-use mathlib.Core.Path.{_≡_, ap, ap₂, _∙_}
+use mathlib.Core.Path.{_≡_, refl, sym, ap, ap₂, _∙_}
 use mathlib.Core.Bool.{Bool, true, false}
-use Prim.Native.Nat.{ℕ, suc, _-_}
+use Prim.Native.Nat.{ℕ, zero, suc, _-_, _≤_}
 use native.Mathlib.Omega.{arith}
 use borrow.Author.Tests.{ne-eqb, eq-eqb}
 use lib.Dec.{eqb}
-use Rattle.lexer.specs.Forms.{Forms, ended, part, trim}
+use Rattle.lexer.specs.Forms.{Forms, closed, ended, word, part, trim}
 
 module _ (p : ℕ) (f g : Forms) (n : ℕ) where
   -- a part of which a level is left
@@ -32,3 +32,37 @@ pub uncut : (p : ℕ) (f g : Forms) (n : ℕ) → trim f n ≡ f → trim g (suc
 uncut p f g n d e =
     whole p f g (suc n) (λ z. omega arith)
     ∙ ap₂ (part p) (ap (trim f) (omega arith) ∙ d) e
+
+-- ---- a row that is left whole by a cut is left whole by a cut further down
+
+abbrev inner : Forms → Forms
+inner closed = closed
+inner ended = ended
+inner (word s b f) = ended
+inner (part p f g) = f
+
+abbrev after : Forms → Forms
+after closed = closed
+after ended = ended
+after (word s b f) = f
+after (part p f g) = g
+
+abbrev parted : Forms → ℕ
+parted closed = 0
+parted ended = 0
+parted (word s b f) = 0
+parted (part p f g) = 1
+
+pub further-down : (f : Forms) (n m : ℕ) → trim f n ≡ f → n ≤ m → trim f m ≡ f
+unfolding trim
+further-down closed n m e h = refl
+further-down ended n m e h = refl
+further-down (word s b f) n m e h = ap (word s b) (further-down f n m (ap after e) h)
+further-down (part p f g) zero m e h =
+    let z : _≡_ {A = ℕ} 0 1 = ap parted e in
+    absurd (omega arith)
+further-down (part p f g) (suc n) zero e h = absurd (omega arith)
+further-down (part p f g) (suc n) (suc m) e h =
+    let w : part p (trim f (suc n - 1)) (trim g (suc n)) ≡ part p f g = sym (whole p f g (suc n) (λ z. omega arith)) ∙ e in
+    let k : suc n - 1 ≡ n = omega arith in
+    uncut p f g m (further-down f n m (rw k at (ap inner w)) (omega arith)) (further-down g (suc n) (suc m) (ap after w) h)

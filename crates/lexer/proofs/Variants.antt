@@ -8,7 +8,7 @@ use types.Run.{OneOf, miss}
 use mir.Val.{hasKey}
 use denote.Enum.Declared.{tagOf}
 use Rattle.lexer.specs.declared.ByteClass.{ByteClass}
-use Rattle.lexer.specs.declared.ByteClass.the-variants.{Blank, LineFeed, Comment, Open, Close, Letter, Digit, Wrong}
+use Rattle.lexer.specs.declared.ByteClass.the-variants.{Blank, LineFeed, Comment, Open, Close, Letter, Digit, Dot, Wrong}
 use Rattle.lexer.proofs.ByteClass.{the-type}
 
 -- the place of a class among the variants, as the check has it
@@ -37,7 +37,8 @@ Each ks P =
     × When (hasKey ks 4) (P Close)
     × When (hasKey ks 5) (P Letter)
     × When (hasKey ks 6) (P Digit)
-    × When (hasKey ks 7) (P Wrong)
+    × When (hasKey ks 7) (P Dot)
+    × When (hasKey ks 8) (P Wrong)
 
 -- so P at a class that is one of them
 pub among : (ks : List ℕ) (P : ByteClass → Type 0) → Each ks P → (k : ByteClass) → OneOf ks (tag k) → P k
@@ -48,4 +49,5 @@ among ks P a Open h = here ks 3 (P Open) (a .3) h
 among ks P a Close h = here ks 4 (P Close) (a .4) h
 among ks P a Letter h = here ks 5 (P Letter) (a .5) h
 among ks P a Digit h = here ks 6 (P Digit) (a .6) h
-among ks P a Wrong h = here ks 7 (P Wrong) (a .7) h
+among ks P a Dot h = here ks 7 (P Dot) (a .7) h
+among ks P a Wrong h = here ks 8 (P Wrong) (a .8) h

@@ -1,15 +1,15 @@
--- Document 01, "Reading the text": the tokens of a text, parentheses by their places and words by the place of their first
+-- Document 01, "Reading the text", and W-203: the tokens of a text, parentheses by their places and words by the place of their first
 -- byte and their length. Blanks and comments part tokens and are none. A text with a fault 2 has tokens too, though nobody
--- reads them: there a wrong byte is passed over as a blank is, and a word may start with any byte that goes on a name.
+-- reads them: there a wrong byte is passed over as a blank is, and a word is any run of bytes that names are made of, dots among them.
 -- Assumes nothing.
 use Prim.Native.Nat.{ℕ, _+_}
 use mathlib.Core.Bool.{cond}
 use mathlib.Core.List.{List, [], _∷_, _++_}
 use lib.ListN.{drop}
-use Rattle.lexer.specs.Class.{classOf, goesOn}
+use Rattle.lexer.specs.Class.{classOf, inWord}
 use Rattle.lexer.specs.Scan.{Mode, between, inComment, inName, commentThen}
 use Rattle.lexer.specs.declared.ByteClass.{ByteClass}
-use Rattle.lexer.specs.declared.ByteClass.the-variants.{Blank, LineFeed, Comment, Open, Close, Letter, Digit, Wrong}
+use Rattle.lexer.specs.declared.ByteClass.the-variants.{Blank, LineFeed, Comment, Open, Close, Letter, Digit, Dot, Wrong}
 use Rattle.lexer.specs.declared.Token.{Token}
 
 -- between tokens: what a byte at a place begins
@@ -21,6 +21,7 @@ betweenThen at Open = between
 betweenThen at Close = between
 betweenThen at Letter = inName at 1
 betweenThen at Digit = inName at 1
+betweenThen at Dot = inName at 1
 betweenThen at Wrong = between
 
 -- between tokens: the token that a byte at a place is by itself, if any
@@ -32,19 +33,20 @@ ownToken at Open = Token.Open at ∷ []
 ownToken at Close = Token.Close at ∷ []
 ownToken at Letter = []
 ownToken at Digit = []
+ownToken at Dot = []
 ownToken at Wrong = []
 
 -- the mode after a byte
 abbrev pub modeThen : Mode → ℕ → ByteClass → Mode
 modeThen between at k = betweenThen at k
 modeThen inComment at k = commentThen k
-modeThen (inName first len) at k = cond (goesOn k) (inName first (len + 1)) (betweenThen at k)
+modeThen (inName first len) at k = cond (inWord k) (inName first (len + 1)) (betweenThen at k)
 
 -- the tokens that end with a byte: the word before it, and its own
 abbrev pub ending : Mode → ℕ → ByteClass → List Token
 ending between at k = ownToken at k
 ending inComment at k = []
-ending (inName first len) at k = cond (goesOn k) [] (Token.Word first len ∷ ownToken at k)
+ending (inName first len) at k = cond (inWord k) [] (Token.Word first len ∷ ownToken at k)
 
 -- the word that ends with the text
 abbrev pub endingLast : Mode → List Token

@@ -1,4 +1,4 @@
--- Texts written in quotes, and what the definitions say of them: document 01's own examples, and both sides of each limit.
+-- Texts written in quotes, and what the definitions say of them: the documents' own examples, and both sides of each limit.
 -- Assumes nothing.
 use mathlib.Core.Path.{_≡_, refl}
 use mathlib.Core.Bool.{true, false}
@@ -6,7 +6,7 @@ use mathlib.Core.List.{List, [], _∷_, _++_}
 use Prim.Native.Nat.{ℕ, zero, suc}
 use Prim.Native.String.{String}
 use Rattle.lexer.specs.Spell.{bytes}
-use Rattle.lexer.specs.Class.{classOf, allGoOn, isName}
+use Rattle.lexer.specs.Class.{classOf, allGoOn, isPart, allParts, parts, isDotted, isName}
 use Rattle.lexer.specs.Scan.{scanFrom, scan, Verdict, clean, refused, verdictOf}
 use Rattle.lexer.specs.Token.{tokensFrom, tokensAt, tokens, tokenAt}
 use Rattle.lexer.specs.Forms.{closed, ended, word, part, build, framesAt, formsOf, trim, closes, balanced, namesGood}
@@ -40,7 +40,7 @@ pub record Scans : Type 0 where
   pub vertical-tab : verdict (bytes "(\u{b})") ≡ refused 2 1
   pub form-feed : verdict (bytes "(\u{c})") ≡ refused 2 1
   pub nul : verdict (bytes "(\0)") ≡ refused 2 1
-  pub dot : verdict (bytes "(a.b)") ≡ refused 2 2
+  pub slash : verdict (bytes "(a/b)") ≡ refused 2 2
   pub quote : verdict (bytes "(\"a\")") ≡ refused 2 1
   pub byte-128 : verdict (40 ∷ 128 ∷ 41 ∷ []) ≡ refused 2 1
   pub byte-255 : verdict (40 ∷ 97 ∷ 255 ∷ 41 ∷ []) ≡ refused 2 2
@@ -75,6 +75,52 @@ pub record Scans : Type 0 where
   pub comment-over-cr : verdict (bytes "(role a ;\r)") ≡ refused 2 11
   pub comment-ends : verdict (bytes ";\n!") ≡ refused 2 2
 
+-- W-203: dots
+pub record Dots : Type 0 where
+  -- "A dot may stand between name parts or in front"
+  pub between : verdict (bytes "(role a.b)") ≡ clean
+  pub in-front : verdict (bytes "(role .a.b-1._c)") ≡ clean
+  -- "any other dot .. is fault 2 at the name's first byte"
+  pub two : verdict (bytes "(role a..b)") ≡ refused 2 6
+  pub behind : verdict (bytes "(role a.)") ≡ refused 2 6
+  pub alone : verdict (bytes "(role .)") ≡ refused 2 6
+  pub two-in-front : verdict (bytes "(role ..a)") ≡ refused 2 6
+  pub digit-behind : verdict (bytes "(role .1)") ≡ refused 2 6
+  pub part-of-digit : verdict (bytes "(role a.1b)") ≡ refused 2 6
+  pub part-of-dash : verdict (bytes "(role a.-b)") ≡ refused 2 6
+  pub digit-before : verdict (bytes "(role 1.a)") ≡ refused 2 6
+  -- the first byte of a name with a dot in front is the dot
+  pub first-is-dot : verdict (bytes "(roleallow .a. b)") ≡ refused 2 11
+  -- "more than 64 bytes not counting a leading dot": dots between parts count, and a part has no limit of its own
+  pub dot-and-64 : verdict (bytes "( ." ++ times 64 "a" ++ bytes ")") ≡ clean
+  pub dot-and-65 : verdict (bytes "( ." ++ times 65 "a" ++ bytes ")") ≡ refused 2 2
+  pub parts-of-64 : verdict (bytes "( a." ++ times 62 "b" ++ bytes ")") ≡ clean
+  pub parts-of-65 : verdict (bytes "( a." ++ times 63 "b" ++ bytes ")") ≡ refused 2 2
+  pub dot-and-parts-of-64 : verdict (bytes "( .a." ++ times 62 "b" ++ bytes ")") ≡ clean
+  pub long-then-dots : verdict (bytes "( " ++ times 65 "a" ++ bytes "..)") ≡ refused 2 2
+  -- the lowest place, be there a wrong byte behind or the end of the text
+  pub dot-then-wrong : verdict (bytes "(role a.!)") ≡ refused 2 6
+  pub wrong-then-dot : verdict (bytes "(role a!.b)") ≡ refused 2 7
+  pub dot-to-the-end : verdict (bytes "(role a.") ≡ refused 2 6
+  pub part-to-the-end : verdict (bytes "(role a.b") ≡ refused 2 9
+  -- a blank and a comment part names
+  pub two-names : tokens (bytes "(a .b)") ≡ Token.Open 0 ∷ Token.Word 1 1 ∷ Token.Word 3 2 ∷ Token.Close 5 ∷ []
+  pub two-names-good : verdict (bytes "(a .b)") ≡ clean
+  pub dot-then-blank : verdict (bytes "(a. b)") ≡ refused 2 1
+  pub dot-then-comment : verdict (bytes "(a.;\n)") ≡ refused 2 1
+  pub dot-in-comment : verdict (bytes "(a;..\n)") ≡ clean
+  -- however many parts
+  pub ten-parts : verdict (bytes "(a.b.c.d.e.f.g.h.i.j)") ≡ clean
+  -- a "name outside parentheses"
+  pub outside : verdict (bytes "() a.b") ≡ refused 2 3
+  pub outside-dot : verdict (bytes "() .") ≡ refused 2 3
+  -- the names that words are, and their parts
+  pub whole-word : tokens (bytes "(.a.b)") ≡ Token.Open 0 ∷ Token.Word 1 4 ∷ Token.Close 5 ∷ []
+  pub name : isName (bytes ".a.b") ≡ true
+  pub dotted : isDotted (bytes "a.b") ≡ true
+  pub dotted-in-front : isDotted (bytes ".a") ≡ false
+  pub parts-of : parts (bytes "a.bc..") ≡ bytes "a" ∷ bytes "bc" ∷ [] ∷ [] ∷ []
+
 -- tokens, names and forms
 pub record Reads : Type 0 where
   pub tokens-of : tokens (bytes "(ab;x\n(c))") ≡ Token.Open 0 ∷ Token.Word 1 2 ∷ Token.Open 6 ∷ Token.Word 7 1 ∷ Token.Close 8 ∷ Token.Close 9 ∷ []
@@ -101,7 +147,7 @@ pub record Reads : Type 0 where
   pub names-bad : namesGood (formsOf (bytes "(role (1a) b)")) ≡ false
 
 pub scans : Scans
-unfolding classOf scanFrom scan
+unfolding classOf allGoOn isPart allParts parts isDotted isName scanFrom scan
 scans = record {
   empty = refl;
   blanks = refl;
@@ -116,7 +162,7 @@ scans = record {
   vertical-tab = refl;
   form-feed = refl;
   nul = refl;
-  dot = refl;
+  slash = refl;
   quote = refl;
   byte-128 = refl;
   byte-255 = refl;
@@ -147,8 +193,47 @@ scans = record {
   comment-ends = refl;
 }
 
+pub dots : Dots
+unfolding classOf allGoOn isPart allParts parts isDotted isName scanFrom scan tokensFrom tokensAt tokens
+dots = record {
+  between = refl;
+  in-front = refl;
+  two = refl;
+  behind = refl;
+  alone = refl;
+  two-in-front = refl;
+  digit-behind = refl;
+  part-of-digit = refl;
+  part-of-dash = refl;
+  digit-before = refl;
+  first-is-dot = refl;
+  dot-and-64 = refl;
+  dot-and-65 = refl;
+  parts-of-64 = refl;
+  parts-of-65 = refl;
+  dot-and-parts-of-64 = refl;
+  long-then-dots = refl;
+  dot-then-wrong = refl;
+  wrong-then-dot = refl;
+  dot-to-the-end = refl;
+  part-to-the-end = refl;
+  two-names = refl;
+  two-names-good = refl;
+  dot-then-blank = refl;
+  dot-then-comment = refl;
+  dot-in-comment = refl;
+  ten-parts = refl;
+  outside = refl;
+  outside-dot = refl;
+  whole-word = refl;
+  name = refl;
+  dotted = refl;
+  dotted-in-front = refl;
+  parts-of = refl;
+}
+
 pub reads : Reads
-unfolding classOf allGoOn isName tokensFrom tokensAt tokens tokenAt build framesAt formsOf trim closes balanced namesGood
+unfolding classOf allGoOn isPart allParts parts isDotted isName tokensFrom tokensAt tokens tokenAt build framesAt formsOf trim closes balanced namesGood
 reads = record {
   tokens-of = refl;
   comment-parts = refl;

@@ -1,12 +1,12 @@
 // The lexer: what each byte of a text is, the scan for faults 1 and 2, and the tokens.
 ghost use mathlib.Core.Path.{_≡_};
-ghost use Prim.Native.Nat.{ℕ};
-ghost use lib.ListN.{drop};
-ghost use Rattle.lexer.specs.Class.{classOf, starts, goesOn, endsComment};
+ghost use Prim.Native.Nat.{ℕ, _≤_};
+ghost use lib.ListN.{length, drop};
+ghost use Rattle.lexer.specs.Class.{classOf, starts, goesOn, isDot, endsComment};
 ghost use Rattle.lexer.specs.Scan as spec;
-ghost use Rattle.lexer.specs.Scan.{stepBetween};
+ghost use Rattle.lexer.specs.Scan.{maxText, stepBetween, closedAt};
 ghost use Rattle.lexer.specs.Token.{tokenAt};
-ghost use Rattle.lexer.specs.Answers.{markOf, Classes, goesOnWith, commentEnd, wordEnd, stateOf};
+ghost use Rattle.lexer.specs.Answers.{markOf, Classes, wordGoesOn, partStarts, bareDot, nameGoesOn, countedFrom, commentEnd, wordEnd, stateOf};
 
 // A text: how many bytes it may have.
 pub struct Text;
@@ -15,7 +15,7 @@ impl Text {
     pub const MAX: usize = 65_535;
 }
 
-// A name: how many bytes it may have.
+// A name: how many bytes it may have, a dot in front not counted.
 pub struct Name;
 
 impl Name {
@@ -29,7 +29,7 @@ impl Level {
     pub const MAX: usize = 32;
 }
 
-// What a byte is. A line feed is a blank that also ends a comment.
+// What a byte is. A line feed is a blank that also ends a comment. A dot stands between the parts of a name or in front of it.
 pub enum ByteClass {
     Blank,
     LineFeed,
@@ -38,6 +38,7 @@ pub enum ByteClass {
     Close,
     Letter,
     Digit,
+    Dot,
     Wrong,
 }
 
@@ -64,11 +65,11 @@ enum Step {
     Fault,
 }
 
-// The class of each byte, 32 bytes to a line: b blank, n line feed, s start of a comment, o open, c close, w wrong, and as capitals those with which a
-// name goes on: L letter, D digit.
+// The class of each byte, 32 bytes to a line: b blank, n line feed, s start of a comment, o open, c close, w wrong, and as capitals those that names are
+// made of: L letter, D digit, P dot.
 const CLASSES: [u8; 256] = *b"\
     wwwwwwwwwbnwwbwwwwwwwwwwwwwwwwww\
-    bwwwwwwwocwwwDwwDDDDDDDDDDwswwww\
+    bwwwwwwwocwwwDPwDDDDDDDDDDwswwww\
     wLLLLLLLLLLLLLLLLLLLLLLLLLLwwwwL\
     wLLLLLLLLLLLLLLLLLLLLLLLLLLwwwww\
     wwwwwwwwwwwwwwwwwwwwwwwwwwwwwwww\
@@ -105,6 +106,7 @@ fn class_in(classes: &[u8; 256], b: u8) -> ByteClass
         b'c' => ByteClass::Close,
         b'L' => ByteClass::Letter,
         b'D' => ByteClass::Digit,
+        b'P' => ByteClass::Dot,
         _ => ByteClass::Wrong,
     }
 }
@@ -134,7 +136,7 @@ fn comment_end(classes: &[u8; 256], text: &[u8], at: usize) -> usize
     i
 }
 
-// Whether a name starts with the byte, by the table that is lent.
+// Whether a part of a name starts with the byte, by the table that is lent.
 pub fn starts_name(classes: &[u8; 256], b: u8) -> bool
     requires { ⌜ Classes (now classes) ⌝ }
     ensures { λ r. ⌜ r ≡ starts (classOf b) ⌝ }
@@ -142,35 +144,99 @@ pub fn starts_name(classes: &[u8; 256], b: u8) -> bool
     mark_in(classes, b) == b'L'
 }
 
-// Whether a name goes on with the byte, by the table that is lent: its mark is a capital.
+// Whether a part of a name goes on with the byte, by the table that is lent: its mark is a capital before that of the dot.
 pub fn is_in_name(classes: &[u8; 256], b: u8) -> bool
     requires { ⌜ Classes (now classes) ⌝ }
     ensures { λ r. ⌜ r ≡ goesOn (classOf b) ⌝ }
 {
-    mark_in(classes, b) < b'a'
+    mark_in(classes, b) < b'P'
 }
 
-// Whether there is a byte at a place with which a name goes on.
-fn name_goes_on(classes: &[u8; 256], text: &[u8], at: usize) -> bool
+// Whether the byte is a dot, by the table that is lent.
+pub fn is_dot(classes: &[u8; 256], b: u8) -> bool
     requires { ⌜ Classes (now classes) ⌝ }
-    ensures { λ r. ⌜ r ≡ goesOnWith (drop at (now (text .entry))) ⌝ }
+    ensures { λ r. ⌜ r ≡ isDot (classOf b) ⌝ }
+{
+    mark_in(classes, b) == b'P'
+}
+
+// Whether there is a byte at a place with which a word goes on, a dot too: its mark is a capital.
+fn word_goes_on(classes: &[u8; 256], text: &[u8], at: usize) -> bool
+    requires { ⌜ Classes (now classes) ⌝ }
+    ensures { λ r. ⌜ r ≡ wordGoesOn (drop at (now (text .entry))) ⌝ }
 {
     if text.len() <= at {
         return false;
     }
-    is_in_name(classes, text[at])
+    mark_in(classes, text[at]) < b'a'
 }
 
-// Where the word ends that is under way at a place: at the first byte that does not go on a name, or with the text.
+// Where the word ends that is under way at a place: at the first byte that does not go on a word, or with the text.
 fn word_end(classes: &[u8; 256], text: &[u8], at: usize) -> usize
     requires { ⌜ Classes (now classes) ⌝ }
     ensures { λ r. ⌜ r ≡ wordEnd (now (text .entry)) at ⌝ }
 {
     let mut i = at;
-    while name_goes_on(classes, text, i) {
+    while word_goes_on(classes, text, i) {
         i += 1;
     }
     i
+}
+
+// Whether a part of a name starts at a place.
+fn part_starts(classes: &[u8; 256], text: &[u8], at: usize) -> bool
+    requires { ⌜ Classes (now classes) ⌝ }
+    ensures { λ r. ⌜ r ≡ partStarts (drop at (now (text .entry))) ⌝ }
+{
+    if text.len() <= at {
+        return false;
+    }
+    starts_name(classes, text[at])
+}
+
+// Whether there is a dot at a place with no part behind it.
+fn bare_dot(classes: &[u8; 256], text: &[u8], at: usize) -> bool
+    requires { ⌜ Classes (now classes) ⌝ }
+    ensures { λ r. ⌜ r ≡ bareDot (drop at (now (text .entry))) ⌝ }
+{
+    if text.len() <= at {
+        return false;
+    }
+    if is_dot(classes, text[at]) {
+        return !part_starts(classes, text, at + 1);
+    }
+    false
+}
+
+// Whether a name goes on at a place: with a byte of the part that is under way, or with a dot and a part behind it.
+fn name_goes_on(classes: &[u8; 256], text: &[u8], at: usize) -> bool
+    requires { ⌜ Classes (now classes) ⌝ }
+    ensures { λ r. ⌜ r ≡ nameGoesOn (drop at (now (text .entry))) ⌝ }
+{
+    if text.len() <= at {
+        return false;
+    }
+    if is_in_name(classes, text[at]) {
+        return true;
+    }
+    if is_dot(classes, text[at]) {
+        return part_starts(classes, text, at + 1);
+    }
+    false
+}
+
+// The place from which the bytes of the name at a place are counted: behind a dot in front.
+fn counted_from(classes: &[u8; 256], text: &[u8], at: usize) -> usize
+    requires { ⌜ Classes (now classes) ⌝ }
+    ensures { λ r. ⌜ r ≡ countedFrom (drop at (now (text .entry))) at ⌝ }
+{
+    if text.len() <= at {
+        return at;
+    }
+    if is_dot(classes, text[at]) {
+        return at + 1;
+    }
+    at
 }
 
 // What a byte between names does where so many parentheses are open.
@@ -199,27 +265,37 @@ fn step_between(level: usize, class: ByteClass) -> Step
             }
             Step::Name
         }
+        ByteClass::Dot => {
+            if level == 0 {
+                return Step::Fault;
+            }
+            Step::Name
+        }
         ByteClass::Digit => Step::Fault,
         ByteClass::Wrong => Step::Fault,
     }
 }
 
-// Faults 1 and 2 of a text, by the table that is lent.
+// What the scan says where the text ends with so many parentheses open.
+fn closed_at(level: usize, at: usize) -> Scanned
+    ensures { λ r. ⌜ r ≡ closedAt level at ⌝ }
+{
+    if level == 0 {
+        return Scanned::Clean;
+    }
+    Scanned::Wrong(at)
+}
+
+// Fault 2 of a text that is not too long, by the table that is lent.
 fn scan_in(classes: &[u8; 256], text: &[u8]) -> Scanned
-    requires { ⌜ Classes (now classes) ⌝ }
+    requires { ⌜ Classes (now classes) × (length (now text) ≤ maxText) ⌝ }
     ensures { λ r. ⌜ r ≡ spec.scan (now (text .entry)) ⌝ }
 {
-    if Text::MAX < text.len() {
-        return Scanned::TooLong;
-    }
     let mut at: usize = 0;
     let mut level: usize = 0;
     let place = 'text: loop {
         if text.len() <= at {
-            if level == 0 {
-                return Scanned::Clean;
-            }
-            break 'text at;
+            return closed_at(level, at);
         }
         let step = step_between(level, class_in(classes, text[at]));
         match step {
@@ -230,12 +306,19 @@ fn scan_in(classes: &[u8; 256], text: &[u8]) -> Scanned
             Step::Comment => at = comment_end(classes, text, at + 1),
             Step::Name => {
                 let start = at;
+                let from = counted_from(classes, text, start);
+                if bare_dot(classes, text, start) {
+                    break 'text start; // a dot in front that no part follows
+                }
                 at += 1;
                 while name_goes_on(classes, text, at) {
-                    if Name::MAX <= at - start {
-                        break 'text start;
+                    if Name::MAX <= at - from {
+                        break 'text start; // the 65th byte
                     }
                     at += 1;
+                }
+                if bare_dot(classes, text, at) {
+                    break 'text start; // any other dot that no part follows
                 }
             }
             Step::Fault => break 'text at,
@@ -248,6 +331,9 @@ fn scan_in(classes: &[u8; 256], text: &[u8]) -> Scanned
 pub fn scan(text: &[u8]) -> Scanned
     ensures { λ r. ⌜ r ≡ spec.scan (now (text .entry)) ⌝ }
 {
+    if Text::MAX < text.len() {
+        return Scanned::TooLong;
+    }
     let classes = class_table();
     scan_in(&classes, text)
 }
@@ -265,7 +351,7 @@ fn next_in(classes: &[u8; 256], text: &[u8], at: usize) -> Token
             ByteClass::Comment => i = comment_end(classes, text, i + 1),
             ByteClass::Open => return Token::Open(i),
             ByteClass::Close => return Token::Close(i),
-            ByteClass::Letter | ByteClass::Digit => {
+            ByteClass::Letter | ByteClass::Digit | ByteClass::Dot => {
                 let end = word_end(classes, text, i + 1);
                 return Token::Word {
                     start: i,

@@ -1,5 +1,5 @@
 // Scans texts that are written here, and every byte by itself and in two places, and writes what each scan says. The lines
-// are held to those that document 01 gives.
+// are held to those that the documents give.
 use lexer::Text;
 use lexer_show::show;
 
@@ -21,7 +21,7 @@ fn wrong_bytes() {
     show(b"(\x0b)");
     show(b"(a\x0cb)");
     show(b"(\x00)");
-    show(b"(a.b)");
+    show(b"(a/b)");
     show(b"(\"a\")");
     show(b"(a\xff)");
 }
@@ -34,6 +34,46 @@ fn bad_names() {
     show(b"(1a!)");
     show(b"(a 1!)");
     show(b"1a!");
+}
+
+// Dots between the parts of a name and in front of it, and however many parts.
+fn dots() {
+    show(b"(role a.b)");
+    show(b"(role .a.b-1._c)");
+    show(b"(a .b)");
+    show(b"(a;..\n)");
+    show(b"(a.b.c.d.e.f.g.h.i.j)");
+}
+
+// Any other dot: at the first byte of the name, which is the dot where one stands in front.
+fn other_dots() {
+    show(b"(role a..b)");
+    show(b"(role a.)");
+    show(b"(role .)");
+    show(b"(role ..a)");
+    show(b"(role .1)");
+    show(b"(role a.1b)");
+    show(b"(role 1.a)");
+    show(b"(roleallow .a. b)");
+}
+
+// The lowest place, be there a wrong byte, a blank or a comment behind the dot, or the end of the text; and dots outside parentheses.
+fn dots_then() {
+    show(b"(role a.!)");
+    show(b"(role a!.b)");
+    show(b"(role a.");
+    show(b"(role a.b");
+    show(b"(a. b)");
+    show(b"(a.;\n)");
+    show(b"() .");
+}
+
+// 64 bytes and 65, without a dot in front: dots between parts count.
+fn long_dotted_names() {
+    show(b"( .aaaaaaaaaaaaaaaaaaaaaaaaaaaaaaaaaaaaaaaaaaaaaaaaaaaaaaaaaaaaaaaa)");
+    show(b"( .aaaaaaaaaaaaaaaaaaaaaaaaaaaaaaaaaaaaaaaaaaaaaaaaaaaaaaaaaaaaaaaaa)");
+    show(b"( a.bbbbbbbbbbbbbbbbbbbbbbbbbbbbbbbbbbbbbbbbbbbbbbbbbbbbbbbbbbbbbb)");
+    show(b"( a.bbbbbbbbbbbbbbbbbbbbbbbbbbbbbbbbbbbbbbbbbbbbbbbbbbbbbbbbbbbbbbb)");
 }
 
 // 64 bytes and 65: at the first byte of the name, unless a wrong byte comes first.
@@ -102,6 +142,10 @@ fn main() {
     statements();
     wrong_bytes();
     bad_names();
+    dots();
+    other_dots();
+    dots_then();
+    long_dotted_names();
     long_names();
     outside();
     levels();

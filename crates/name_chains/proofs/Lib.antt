@@ -3,4 +3,3 @@ pub mod TryLaws
 pub mod FindLaws
 pub mod Entering
 pub mod Starting
-pub mod Bounds

@@ -2,4 +2,3 @@ pub mod Compared
 pub mod Chains
 pub mod Entered
 pub mod Worked
-pub mod Symbols

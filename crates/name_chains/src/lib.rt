@@ -23,7 +23,6 @@ ghost use Rattle.symbols.specs.Section.{entriesAt};
 ghost use Rattle.name_chains.specs.Compared.{TriedIn};
 ghost use Rattle.name_chains.specs.Chains.{HasChain, Tries, Compares};
 ghost use Rattle.name_index.specs.Index.{frontOf, wordIn};
-ghost use Rattle.name_chains.specs.Symbols.{Looks};
 ghost use Rattle.name_chains.specs.Entered.{EntryRoom, Entered, Cleared};
 
 // What a try found, and how many entries it compared byte by byte.
@@ -95,14 +94,6 @@ pub fn find(symbols: &[u8], family: usize, name: &[u8]) -> Tried
         found: Found::Missing,
         compared: others,
     }
-}
-
-// What the len bytes of the text from a place on stand for, where the count is not asked.
-pub fn lookup(symbols: &[u8], family: usize, text: &[u8], from: usize, len: usize) -> Found
-    ensures { λ r. ⌜ Looks (now (symbols .entry)) family (part (now (text .entry)) from len) r ⌝ }
-{
-    let tried = find(symbols, family, bitset::part(text, from, len));
-    tried.found
 }
 
 // The first entry of a family with a name, among the entries of a section, which has no index: the length is compared first, then the family, and only then

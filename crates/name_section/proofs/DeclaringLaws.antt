@@ -13,13 +13,14 @@ use Rattle.policy.specs.Basics.{Name, every, isIn, differ, _>>=_, given}
 use Rattle.policy.specs.Statements.{users, roles, types, Sort, thingOf, attributeOf, Declaration, plain, class, count, classNames}
 use Rattle.policy.specs.Maxima.{maxOf, maxClasses, maxPermissions}
 use Rattle.policy.specs.Encode.{NameEntry, nameEntry, sortCode, permissionEntries, entriesOf, entriesFrom, entries}
-use Rattle.policy.specs.Sound.{isGood, goodFrom}
+use Rattle.policy.specs.Sound.{isGood, isGoodPart, goodFrom}
 use Rattle.policy.proofs.Lists.{both-true, true-both, every-append}
 use Rattle.policy.proofs.Good.{GoodFirst, good-first, good-rest}
 use Rattle.table_laws.proofs.ListLaws.{if-some}
 use Rattle.symbols.proofs.Declaring.{entries-more, permission-more}
 use Rattle.policy.proofs.Differing.{differ-more, differ-new}
-use Rattle.name_section.specs.Declaring.{Kind, ofThing, ofClass, ofPermission, ofNothing, kindOf, Declaring, complete, opened, declared, closes, isPlaced, isUnused, extended, mayFollow, declaring, finished, declares}
+use Rattle.name_section.specs.Declaring.{Kind, ofThing, ofClass, ofPermission, ofNothing, kindOf, isPlaced, isGoodFor, isUnused, mayFollow}
+use Rattle.name_section.specs.Declaring.{Declaring, complete, opened, declared, closes, extended, declaring, finished, declares}
 
 -- ---- kinds
 
@@ -55,7 +56,7 @@ pub record GoodClass (ds : List Declaration) (v : Name) (ps : List Name) : Type 
   pub good : isGood v ≡ true
   pub new : not (isIn v (classNames ds)) ≡ true
   pub room : ltb (length (classNames ds)) maxClasses ≡ true
-  pub all-good : every isGood ps ≡ true
+  pub all-good : every isGoodPart ps ≡ true
   pub apart : differ ps ≡ true
   pub few : length ps ≤ 32
 
@@ -82,7 +83,7 @@ closed-good (opened ds v []) g h = absurd (false≢true h)
 closed-good (opened ds v (p ∷ ps)) g h =
     good-more ds (class v (p ∷ ps)) (g .0)
     (record {
-      names = true-both (isGood v) (every isGood (p ∷ ps)) (g .1 .good) (g .1 .all-good);
+      names = true-both (isGood v) (every isGoodPart (p ∷ ps)) (g .1 .good) (g .1 .all-good);
       new = true-both (not (isIn v (classNames ds))) (differ (p ∷ ps)) (g .1 .new) (g .1 .apart);
       room = true-both (ltb (length (classNames ds)) maxClasses) (leb (length (p ∷ ps)) maxPermissions) (g .1 .room) (le-leb (length (p ∷ ps)) 32 (g .1 .few));
     })
@@ -97,13 +98,13 @@ pub record SoFar (es : List NameEntry) (d : Declaring) : Type 0 where
 -- the parts of the test
 pub record Follows (k : Kind) (d : Declaring) (n : ℕ) (w : Name) : Type 0 where
   pub placed : isPlaced k d n ≡ true
-  pub good : isGood w ≡ true
+  pub good : isGoodFor k w ≡ true
   pub unused : isUnused k d w ≡ true
 
-follows : (k : Kind) (d : Declaring) (n : ℕ) (w : Name) → (isPlaced k d n && (isGood w && isUnused k d w)) ≡ true → Follows k d n w
+follows : (k : Kind) (d : Declaring) (n : ℕ) (w : Name) → (isPlaced k d n && (isGoodFor k w && isUnused k d w)) ≡ true → Follows k d n w
 follows k d n w h =
-    let p = both-true (isPlaced k d n) (isGood w && isUnused k d w) h in
-    let q = both-true (isGood w) (isUnused k d w) (p .1) in
+    let p = both-true (isPlaced k d n) (isGoodFor k w && isUnused k d w) h in
+    let q = both-true (isGoodFor k w) (isUnused k d w) (p .1) in
     record { placed = p .0; good = q .0; unused = q .1 }
 
 -- a thing's or a class's number is the next one
@@ -152,7 +153,7 @@ module _ (es : List NameEntry) (n : ℕ) (w : Name) where
             good = g .good;
             new = g .new;
             room = g .room;
-            all-good = rw (every-append isGood ps (w ∷ []), g .all-good, p .good);
+            all-good = rw (every-append isGoodPart ps (w ∷ []), g .all-good, p .good);
             apart = differ-more ps w (g .apart) (not-true (isIn w ps) (p .unused));
             few = omega (arith, length-append ps (w ∷ []), ltb-true (length ps) 32 (r .0));
           },
@@ -165,7 +166,7 @@ unfolding mayFollow
 follow-good es d e f h = by (kindOf (e .sort)) (kind-is (e .sort)) d f h
   where
     by : (k : Kind) → KindIs (e .sort) k → (d : Declaring) → SoFar es d
-        → (isPlaced k d (e .number) && (isGood (e .name) && isUnused k d (e .name))) ≡ true → SoFar (es ++ (e ∷ [])) (extended k d (e .name))
+        → (isPlaced k d (e .number) && (isGoodFor k (e .name) && isUnused k d (e .name))) ≡ true → SoFar (es ++ (e ∷ [])) (extended k d (e .name))
     by (ofThing s) c d f h =
         subst (λ (x : ℕ). SoFar (es ++ (nameEntry x (e .number) (e .name) ∷ [])) (complete (declared d ++ (plain s (e .name) ∷ [])))) (sym c)
         (thing-follows es (e .number) (e .name) s d f (follows (ofThing s) d (e .number) (e .name) h))
@@ -190,12 +191,12 @@ next-number c n max h l = rw (h, eq-eqb n n refl, l)
 
 -- the permissions ps of a class, after qs
 permissions-follow : (ds : List Declaration) (v : Name) (qs ps : List Name) (n : ℕ) (es : List NameEntry) → n ≡ length (classNames ds) * 32 + length qs
-    → every isGood ps ≡ true → differ (qs ++ ps) ≡ true → length qs + length ps ≤ 32
+    → every isGoodPart ps ≡ true → differ (qs ++ ps) ≡ true → length qs + length ps ≤ 32
     → declaring (opened ds v qs) (permissionEntries n ps ++ es) ≡ declaring (opened ds v (qs ++ ps)) es
 unfolding permissionEntries every
 permissions-follow ds v qs [] n es h g d l = rw (append-nil qs)
 permissions-follow ds v qs (p ∷ ps) n es h g d l =
-    let k = both-true (isGood p) (every isGood ps) g in
+    let k = both-true (isGoodPart p) (every isGoodPart ps) g in
     let a : (qs ++ (p ∷ [])) ++ ps ≡ qs ++ (p ∷ ps) = append-assoc qs (p ∷ []) ps in
     follow-on (opened ds v qs) ofPermission 7 n p (permissionEntries (n + 1) ps ++ es) refl
     (record {
@@ -220,7 +221,7 @@ entries-follow (plain s w ∷ ds) d c g =
 entries-follow (class w [] ∷ ds) d c g = absurd (false≢true (both-true (isGood w) false (good-first (declared d) (class w []) ds g .names) .1))
 entries-follow (class w (p ∷ ps) ∷ ds) d c g =
     let f = good-first (declared d) (class w (p ∷ ps)) ds g in
-    let names = both-true (isGood w) (every isGood (p ∷ ps)) (f .names) in
+    let names = both-true (isGood w) (every isGoodPart (p ∷ ps)) (f .names) in
     let new = both-true (not (isIn w (classNames (declared d)))) (differ (p ∷ ps)) (f .new) in
     let room = both-true (ltb (length (classNames (declared d))) maxClasses) (leb (length (p ∷ ps)) maxPermissions) (f .room) in
     let n = length (classNames (declared d)) in

@@ -7,14 +7,14 @@ use mathlib.Core.List.{List, [], _∷_, _++_}
 use mathlib.Core.Option.{Option, none, some}
 use Prim.Native.Nat.{ℕ, _+_, _-_, _*_, _/_, _%_, _≤_, _<_}
 use native.Mathlib.Omega.{arith}
-use borrow.Author.Tests.{eqb-true, ltb-true, leb-true, leb-false}
+use borrow.Author.Tests.{eqb-true, ne-eqb, ltb-true, leb-true, leb-false}
 use lib.Dec.{eqb, ltb, leb}
 use lib.ListN.{length, getD, drop, set, replicate, length-set, length-replicate}
 use Rattle.bitset.specs.Parts.{part}
 use Rattle.policy.specs.Basics.{Name, isIn, _>>=_, given, All}
 use Rattle.policy.specs.Statements.{users, roles, types, Sort, thingOf, attributeOf, Declaration, class, familyOf, classNames}
+use Rattle.policy.specs.Maxima.{maxParts}
 use Rattle.policy.specs.Encode.{NameEntry, nameEntry, sortCode, entries}
-use Rattle.policy.specs.Sound.{isGood}
 use Rattle.policy.proofs.Lists.{both-true, all-append}
 use Rattle.symbols.specs.Section.{entry, sectionAt, sectionIn, entriesRead, isExact, exactEntries, entriesAt, exactEntriesAt, between, EntryIs}
 use Rattle.symbols.specs.Lookup.{familyNumber, firstNamed}
@@ -30,10 +30,13 @@ use Rattle.table_laws.proofs.ListLaws.{all-take, all-drop}
 use Rattle.table_laws.proofs.NamesFit.{code-below}
 use Rattle.name_section.specs.declared.Counted.{Counted}
 use Rattle.name_section.specs.SoundNames.{soundNames, countsOf, countedOf, permissionCounts, permissionsAfter}
-use Rattle.name_section.specs.Declaring.{Kind, ofThing, ofClass, ofPermission, ofNothing, kindOf, Declaring, complete, opened, declared, closes, isPlaced, isUnused, extended, mayFollow, declaring, finished, declares}
+use Rattle.name_section.specs.Declaring.{Kind, ofThing, ofClass, ofPermission, ofNothing, kindOf, isPlaced, isGoodFor, isUnused, mayFollow}
+use Rattle.name_section.specs.Declaring.{Declaring, complete, opened, declared, closes, extended, declaring, finished, declares}
 use Rattle.name_filter.specs.Filter.{hashOf, marked}
+use Rattle.name_spelling.specs.Spelling.{isSpelt}
+use Rattle.name_spelling.proofs.SpellingLaws.{spelt-part}
 use Rattle.name_section.specs.Filter.{Knows}
-use Rattle.name_section.specs.Tally.{allows, isFree, counted, permitted, Zeros, Tallied, Room, sound, unsound, judged, countsIn, judgedOf}
+use Rattle.name_section.specs.Tally.{mostParts, allows, isFree, counted, permitted, Zeros, Tallied, Room, sound, unsound, judged, countsIn, judgedOf}
 use Rattle.name_section.proofs.DeclaringLaws.{KindIs, kind-is, GoodSoFar, SoFar, start as start-good, declared-good, declaring-more}
 use Rattle.name_section.proofs.TallyLaws.{closes-open, allows-placed, FewClasses, tallied-after, tallied-start, tallied-counts, tallied-permissions}
 use Rattle.name_section.proofs.BodyLaws.{sound-declares}
@@ -70,21 +73,39 @@ unused-found ofPermission sort n w (opened ds v ps) e g h =
     (ap not (permission-found (ds ++ (class v ps ∷ [])) (length (classNames ds)) w (few-so-far ds v ps g) ∙ ap (isIn w) (permissions-last ds v ps)))
 unused-found ofNothing sort n w d e g h = absurd (false≢true h)
 
+-- a name is good for its sort where it is spelt so, with as many parts as the sort may have
+spelt-for : (sort : ℕ) (w : Name) → isSpelt (mostParts sort) w ≡ isGoodFor (kindOf sort) w
+spelt-for sort w = by (kindOf sort) (kind-is sort)
+  where
+    by : (k : Kind) → KindIs sort k → isSpelt (mostParts sort) w ≡ isGoodFor k w
+    by (ofThing s) e = rw (ne-eqb sort 7 (λ z. omega (arith, code-below s)))
+    by ofClass e = rw e
+    by ofPermission e = rw e (spelt-part w)
+    by ofNothing e = rw (ne-eqb sort 7 (λ z. omega arith))
+
 follows-free : (c p : List ℕ) (es : List NameEntry) (d : Declaring) → Tallied c p d → SoFar es d → (sort n : ℕ) (w : Name)
     → mayFollow d (nameEntry sort n w) ≡ isFree c es sort n w
 unfolding mayFollow
 follows-free c p es d t f sort n w = by (isPlaced (kindOf sort) d n) refl
   where
-    by : (q : Bool) → isPlaced (kindOf sort) d n ≡ q → (isPlaced (kindOf sort) d n && (isGood w && isUnused (kindOf sort) d w)) ≡ isFree c es sort n w
+    by : (q : Bool) → isPlaced (kindOf sort) d n ≡ q → (isPlaced (kindOf sort) d n && (isGoodFor (kindOf sort) w && isUnused (kindOf sort) d w)) ≡ isFree c es sort n w
     by false h = rw (allows-placed c p d t sort n, h)
-    by true h = rw (allows-placed c p d t sort n, h, f .are, unused-found (kindOf sort) sort n w d (kind-is sort) (f .good) h)
+    by true h = rw (allows-placed c p d t sort n, h, spelt-for sort w, f .are, unused-found (kindOf sort) sort n w d (kind-is sort) (f .good) h)
+
+-- every name may have a part
+pub some-parts : (sort : ℕ) → 0 < mostParts sort
+some-parts sort = by (eqb sort 7)
+  where
+    by : (q : Bool) → 0 < cond q 1 maxParts
+    by true = omega arith
+    by false = omega arith
 
 -- an entry whose name is not good may not follow
-pub not-free : (c : List ℕ) (es : List NameEntry) (sort n : ℕ) (w : Name) → isGood w ≡ false → isFree c es sort n w ≡ false
+pub not-free : (c : List ℕ) (es : List NameEntry) (sort n : ℕ) (w : Name) → isSpelt (mostParts sort) w ≡ false → isFree c es sort n w ≡ false
 not-free c es sort n w h = ap (λ (q : Bool). allows c sort n && (q && not (isFound (firstNamed (familyNumber sort n) w es)))) h ∙ and-false (allows c sort n)
 
 -- whether it may, by the three tests
-pub free-by : (c : List ℕ) (es : List NameEntry) (sort n : ℕ) (w : Name) {a b d : Bool} → allows c sort n ≡ a → isGood w ≡ b
+pub free-by : (c : List ℕ) (es : List NameEntry) (sort n : ℕ) (w : Name) {a b d : Bool} → allows c sort n ≡ a → isSpelt (mostParts sort) w ≡ b
     → not (isFound (firstNamed (familyNumber sort n) w es)) ≡ d → isFree c es sort n w ≡ (a && (b && d))
 free-by c es sort n w e f g = rw (e, f, g)
 
@@ -193,7 +214,7 @@ module _ (t : List ℕ) (start end : ℕ) where
       is-placed : mayFollow (w .so-far) here ≡ true → isPlaced (kindOf s) (w .so-far) n ≡ true
       unfolding mayFollow
       is-placed h =
-          both-true (isPlaced (kindOf s) (w .so-far) n) (isGood (between t (at + 4) past) && isUnused (kindOf s) (w .so-far) (between t (at + 4) past)) h .0
+          both-true (isPlaced (kindOf s) (w .so-far) n) (isGoodFor (kindOf s) (between t (at + 4) past) && isUnused (kindOf s) (w .so-far) (between t (at + 4) past)) h .0
 
       pub walk-room : allows c s n ≡ true → Room (length c) (length p) s n
       walk-room h = room c p (w .so-far) (w .tallied) (good-so-far .good) s n (e .within .number-two-bytes) (sym (allows-placed c p (w .so-far) (w .tallied) s n) ∙ h)
@@ -232,7 +253,8 @@ module _ (t : List ℕ) (start end : ℕ) where
       pub walk-refused : Bytes t → isFree c (entriesAt t start at) s n (between t (at + 4) past) ≡ false → unsound ≡ judged (soundNames (between t start end))
       unfolding isExact entriesRead
       walk-refused bytes h =
-          by (isExact (sectionAt t past end)) (ap exactEntries read-all ∙ rw (exact-over (w .passed) (entry here (sectionAt t past end)), entries-over (w .passed) (entry here (sectionAt t past end))))
+          by (isExact (sectionAt t past end))
+          (ap exactEntries read-all ∙ rw (exact-over (w .passed) (entry here (sectionAt t past end)), entries-over (w .passed) (entry here (sectionAt t past end))))
         where
           by : (q : Bool) → exactEntriesAt t start end ≡ given q (w .passed ++ (here ∷ entriesRead (sectionAt t past end))) → unsound ≡ judged (soundNames (between t start end))
           by false x = ap judged (sym (named-by t start end bytes none x))

@@ -9,7 +9,7 @@ use Rattle.policy.specs.Basics.{Name, isIn, _>>=_, given}
 use Rattle.policy.specs.Statements.{users, roles, types, Sort, thingOf, attributeOf, Declaration, plain, class, familyOf, count, classNames, familyNames}
 use Rattle.policy.specs.Maxima.{maxOf, maxClasses, maxPermissions}
 use Rattle.policy.specs.Encode.{NameEntry}
-use Rattle.policy.specs.Sound.{isGood}
+use Rattle.policy.specs.Sound.{isGood, isGoodPart}
 
 -- "sort in 1 byte (0 user, 1 role, 2 type, 3 to 5 their attributes, 6 class, 7 permission)"
 pub data Kind : Type 0 where
@@ -51,6 +51,13 @@ isPlaced ofPermission (complete ds) n = false
 isPlaced ofPermission (opened ds v ps) n = ltb (length ps) maxPermissions && eqb n (length (classNames ds) * 32 + length ps)
 isPlaced ofNothing d n = false
 
+-- "names are good, not reserved"; W-203: "at most .. nine parts, a permission's one"
+abbrev pub isGoodFor : Kind → Name → Bool
+isGoodFor (ofThing s) w = isGood w
+isGoodFor ofClass w = isGood w
+isGoodFor ofPermission w = isGoodPart w
+isGoodFor ofNothing w = isGood w
+
 -- "unique in their families", "its permissions differ"
 abbrev pub isUnused : Kind → Declaring → Name → Bool
 isUnused (ofThing s) d w = not (isIn w (familyNames (familyOf s) (declared d)))
@@ -68,7 +75,7 @@ extended ofNothing d w = d
 
 -- an entry may follow; what is declared with it
 unfoldable pub mayFollow : Declaring → NameEntry → Bool
-mayFollow d e = isPlaced (kindOf (e .sort)) d (e .number) && (isGood (e .name) && isUnused (kindOf (e .sort)) d (e .name))
+mayFollow d e = isPlaced (kindOf (e .sort)) d (e .number) && (isGoodFor (kindOf (e .sort)) (e .name) && isUnused (kindOf (e .sort)) d (e .name))
 
 abbrev pub afterEntry : Declaring → NameEntry → Option Declaring
 afterEntry d e = given (mayFollow d e) (extended (kindOf (e .sort)) d (e .name))

@@ -8,11 +8,11 @@ use lib.Dec.{eqb, ltb}
 use lib.ListN.{length, getD, set, replicate}
 use Rattle.policy.specs.Basics.{Name}
 use Rattle.policy.specs.Statements.{users, roles, types, Sort, thingOf, attributeOf, Declaration, count, classNames, permissions}
-use Rattle.policy.specs.Maxima.{maxOf, maxClasses}
+use Rattle.policy.specs.Maxima.{maxOf, maxClasses, maxParts}
 use Rattle.policy.specs.Encode.{NameEntry, sortCode}
-use Rattle.policy.specs.Sound.{isGood}
 use Rattle.symbols.specs.Lookup.{familyNumber, firstNamed}
 use Rattle.symbols.specs.Resolving.{isFound}
+use Rattle.name_spelling.specs.Spelling.{isSpelt}
 use Rattle.name_section.specs.declared.Counted.{Counted}
 use Rattle.name_section.specs.SoundNames.{countsOf, permissionCounts}
 use Rattle.name_section.specs.Declaring.{Declaring, complete, opened, declared}
@@ -25,6 +25,10 @@ mostOf sort =
     (cond (eqb sort 2) (maxOf (thingOf types))
     (cond (ltb sort 6) (maxOf (attributeOf users)) maxClasses)))
 
+-- W-203: "at most .. nine parts, a permission's one", by the sort's number
+abbrev pub mostParts : ℕ → ℕ
+mostParts sort = cond (eqb sort 7) 1 maxParts
+
 -- counts: at 0 to 6 those of the sorts; at 7 stands 0, or right after a class and its permissions 1 more than these are.
 -- "numbers in each sort (places in each class) rise from 0"; a permission's number is "class x 32 + its place"
 unfoldable pub allows : List ℕ → ℕ → ℕ → Bool
@@ -34,7 +38,7 @@ allows c sort number =
 
 -- an entry may follow others with these counts: it is allowed, its name is good, and none of them has its family and its name
 abbrev pub isFree : List ℕ → List NameEntry → ℕ → ℕ → Name → Bool
-isFree c es sort number w = allows c sort number && (isGood w && not (isFound (firstNamed (familyNumber sort number) w es)))
+isFree c es sort number w = allows c sort number && (isSpelt (mostParts sort) w && not (isFound (firstNamed (familyNumber sort number) w es)))
 
 -- the counts after an entry
 unfoldable pub counted : List ℕ → ℕ → ℕ → List ℕ

@@ -45,6 +45,14 @@ pub record Worked : Type 0 where
   pub again : soundNames (named 1 0 "a" ++ named 4 0 "a") ≡ none
   pub reserved : soundNames (named 1 0 "h2") ≡ none
   pub bad : soundNames (named 1 0 "1a") ≡ none
+  -- W-203: "the full dotted name without leading dot, at most 64 bytes and nine parts, a permission's one"; "A name with a reserved part counts as reserved"
+  pub dotted : countedOf (soundNames (named 1 0 "b.a" ++ named 1 1 "a")) ≡ Counted.Sound 0 2 0 0 0 0 0
+  pub leading-dot : soundNames (named 1 0 ".a") ≡ none
+  pub nine-parts : countedOf (soundNames (named 1 0 "b.b.b.b.b.b.b.b.a")) ≡ Counted.Sound 0 1 0 0 0 0 0
+  pub ten-parts : soundNames (named 1 0 "b.b.b.b.b.b.b.b.b.a") ≡ none
+  pub reserved-part : soundNames (named 1 0 "b.all") ≡ none
+  pub dotted-class : countedOf (soundNames (named 6 0 "b.c" ++ named 7 0 "p")) ≡ Counted.Sound 0 0 0 0 0 0 1
+  pub dotted-permission : soundNames (named 6 0 "b.c" ++ named 7 0 "b.p") ≡ none
   -- "each class is followed by at least one permission and its permissions differ", "permissions directly after their class"
   pub alone : soundNames (named 6 0 "c") ≡ none
   pub alone-before : soundNames (named 6 0 "c" ++ named 0 0 "u") ≡ none
@@ -68,6 +76,13 @@ worked = record {
   again = refl;
   reserved = refl;
   bad = refl;
+  dotted = refl;
+  leading-dot = refl;
+  nine-parts = refl;
+  ten-parts = refl;
+  reserved-part = refl;
+  dotted-class = refl;
+  dotted-permission = refl;
   alone = refl;
   alone-before = refl;
   twice = refl;

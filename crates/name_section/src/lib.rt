@@ -1,6 +1,7 @@
 // Whether body 1 of a table, its names, is sound, and how many things of each sort it names. The walk keeps counts of what is declared so
 // far, and a filter of the names so far: a name without its marks is new, and only of the few others are the entries before it asked.
 use name_spelling::NO_NAME;
+use policy::FullName;
 use symbols::Entry;
 use symbols::Found;
 ghost use mathlib.Core.Path.{_≡_};
@@ -11,7 +12,7 @@ ghost use Rattle.symbols.specs.Section.{between, entriesAt};
 ghost use Rattle.symbols.specs.Lookup.{firstNamed};
 ghost use Rattle.symbols.specs.Resolving.{isFound};
 ghost use Rattle.name_section.specs.SoundNames.{soundNames, countedOf, permissionsAfter};
-ghost use Rattle.name_section.specs.Tally.{mostOf, allows, counted, permitted, Room, Zeros, judgedOf, judged};
+ghost use Rattle.name_section.specs.Tally.{mostOf, mostParts, allows, counted, permitted, Room, Zeros, judgedOf, judged};
 
 // How many things of each sort a sound body 1 names.
 pub enum Counted {
@@ -84,6 +85,16 @@ fn most(sort: usize) -> usize
     policy::Class::MAX
 }
 
+// How many parts the name of an entry of a sort may have: a permission takes no block's name.
+fn most_parts(sort: usize) -> usize
+    ensures { λ r. ⌜ r ≡ mostParts sort ⌝ }
+{
+    if sort == PERMISSION {
+        return 1;
+    }
+    FullName::MAX_PARTS
+}
+
 // Whether the counts so far allow an entry of this sort and number.
 fn is_allowed(counts: &[usize], sort: usize, number: usize) -> bool
     requires { ⌜ length (now counts) ≡ 8 ⌝ }
@@ -146,7 +157,7 @@ fn walk(
         let k = symbols::look(table, at, end);
         match k {
             Entry::Named { sort, number, past } => {
-                let name = name_spelling::spell(&classes, table, at + 4, past);
+                let name = name_spelling::spell(&classes, table, at + 4, past, most_parts(sort));
                 if name == NO_NAME {
                     return false;
                 }
@@ -175,7 +186,8 @@ pub fn check_names(
     end: usize,
     permissions: &mut [usize; policy::Class::MAX],
 ) -> Counted
-    ensures { λ r. ⌜ (r ≡ countedOf (soundNames (between (now (table .entry)) start end))) × (now (permissions .exit) ≡ permissionsAfter (soundNames (between (now (table .entry)) start end)) (now (permissions .entry))) ⌝ }
+    ensures { λ r. ⌜ (r ≡ countedOf (soundNames (between (now (table .entry)) start end)))
+        × (now (permissions .exit) ≡ permissionsAfter (soundNames (between (now (table .entry)) start end)) (now (permissions .entry))) ⌝ }
 {
     let mut counts = [0usize; 8];
     let mut found = [0usize; policy::Class::MAX];

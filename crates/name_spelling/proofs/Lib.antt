@@ -1,2 +1,2 @@
+pub mod DottedLaws
 pub mod SpellingLaws
-pub mod NameLaws

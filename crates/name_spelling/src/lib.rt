@@ -1,15 +1,24 @@
-// How a name of a table is spelt: which bytes it has, and whether it is a reserved word.
+// How a name of a table is spelt: which bytes and how many parts it has, and whether a part is a reserved word. One pass tests and hashes its bytes.
 ghost use mathlib.Core.Path.{_≡_};
+ghost use mathlib.Core.Bool.{true, not, _&&_};
 ghost use Prim.Native.Nat.{_≤_, _<_};
-ghost use lib.ListN.{length};
+ghost use lib.Dec.{ltb};
+ghost use lib.ListN.{length, getD};
 ghost use Rattle.lexer.specs.Answers.{Classes};
+ghost use Rattle.lexer.specs.Class.{classOf, starts, goesOn, isPart};
 ghost use Rattle.policy.specs.Words.{isReserved};
 ghost use Rattle.symbols.specs.Section.{between};
 ghost use Rattle.name_spelling.specs.Spelling as spec;
-ghost use Rattle.name_spelling.specs.Spelling.{mayBeReserved, goingOn, scanned, spelled};
+ghost use Rattle.name_spelling.specs.Spelling.{mayBeReserved, hashIf, PartRead, moreSpelled, spelled};
 
 // What stands for the hash of bytes that are no name: one more than the greatest hash.
 pub const NO_NAME: usize = 4_294_967_296;
+
+// A part that was read: the hash of the name up to its end, and the place behind it.
+struct Part {
+    hash: usize,
+    end: usize,
+}
 
 fn wide(x: u8) -> usize
     ensures { λ r. ⌜ (r ≡ x) × (r < 256) ⌝ }
@@ -17,90 +26,67 @@ fn wide(x: u8) -> usize
     x as usize
 }
 
-// The lengths of the reserved words that end in a byte, as bits.
-fn endings(b: u8) -> u32
-    ensures { λ r. ⌜ r ≡ spec.endings b ⌝ }
+// ---- reserved words
+
+// A byte as a bit among 64: the bit of half its number, which few others share.
+struct Ending;
+
+impl Ending {
+    const ONE: u64 = 1 << 24;
+
+    const TWO_OR_THREE: u64 = 1 << 25;
+
+    const D: u64 = 1 << 50;
+
+    const L_OR_M: u64 = 1 << 54;
+
+    const P_OR_Q: u64 = 1 << 56;
+
+    const R: u64 = 1 << 57;
+
+    const T: u64 = 1 << 58;
+
+    const Y: u64 = 1 << 60;
+
+    // The last bytes of the reserved words of two bytes, and of three.
+    const OF_TWO: u64 = Ending::ONE + Ending::TWO_OR_THREE + Ending::P_OR_Q + Ending::R;
+
+    const OF_THREE: u64 = Ending::D + Ending::L_OR_M + Ending::P_OR_Q + Ending::R + Ending::T;
+}
+
+// The last bytes of the reserved words of a length.
+fn endings(len: usize) -> u64
+    ensures { λ r. ⌜ r ≡ spec.endings len ⌝ }
 {
-    match b {
-        b'1' => 4,
-        b'2' => 4,
-        b'3' => 4,
-        b'd' => 8,
-        b'l' => 8,
-        b'm' => 8,
-        b'p' => 64,
-        b'q' => 12,
-        b'r' => 12,
-        b't' => 8,
-        b'y' => 32,
+    match len {
+        2 => Ending::OF_TWO,
+        3 => Ending::OF_THREE,
+        5 => Ending::Y,
+        6 => Ending::P_OR_Q,
         _ => 0,
     }
 }
 
-// Whether a word of so many bytes that ends in a byte may be a reserved one.
+// Whether a part of so many bytes that ends in a byte may be a reserved word.
 fn may_be_reserved(len: usize, last: u8) -> bool
     ensures { λ r. ⌜ r ≡ mayBeReserved len last ⌝ }
 {
-    (endings(last) >> (len % 32)) % 2 == 1
+    (endings(len) >> (last / 2 % 64)) % 2 == 1
 }
 
-// The hash of the bytes from a place to before another if a name goes on with all of them, from a hash on.
-fn scan_rest(classes: &[u8; 256], table: &[u8], from: usize, past: usize, first: usize) -> usize
-    requires { ⌜ Classes (now classes) × (past ≤ length (now table)) × (first < 4294967296) ⌝ }
-    ensures { λ r. ⌜ r ≡ goingOn (between (now (table .entry)) from past) first ⌝ }
-{
-    let mut hash = first;
-    let mut i = from;
-    while i < past {
-        if !lexer::is_in_name(classes, table[i]) {
-            return NO_NAME;
-        }
-        hash = name_filter::step(hash, wide(table[i]));
-        i += 1;
-    }
-    hash
-}
-
-// The hash of the bytes from a place to before another if they are a name. One pass tests and hashes them.
-fn scan(classes: &[u8; 256], table: &[u8], from: usize, past: usize) -> usize
-    requires { ⌜ Classes (now classes) × (from ≤ past) × (past ≤ length (now table)) ⌝ }
-    ensures { λ r. ⌜ r ≡ scanned (between (now (table .entry)) from past) ⌝ }
-{
-    if past == from {
-        return NO_NAME;
-    }
-    if lexer::Name::MAX < past - from {
-        return NO_NAME;
-    }
-    if !lexer::starts_name(classes, table[from]) {
-        return NO_NAME;
-    }
-    scan_rest(
-        classes,
-        table,
-        from + 1,
-        past,
-        name_filter::step(0, wide(table[from])),
-    )
-}
-
-// Whether the bytes from a place to before another are a reserved word.
+// Whether the bytes from a place to before another have a reserved part.
 fn is_reserved(table: &[u8], from: usize, past: usize) -> bool
-    requires { ⌜ (from ≤ past) × (past ≤ length (now table)) ⌝ }
+    requires { ⌜ from ≤ past ⌝ }
     ensures { λ r. ⌜ r ≡ isReserved (between (now (table .entry)) from past) ⌝ }
 {
-    !words::is_name(words::number_at(table, from, past - from))
+    words::has_reserved_part(bitset::part(table, from, past - from))
 }
 
-// The hash of such bytes if they are a good name, one that is not reserved. Few names end like a reserved word of their length, so that few are compared.
-pub fn spell(classes: &[u8; 256], table: &[u8], from: usize, past: usize) -> usize
-    requires { ⌜ Classes (now classes) × (from ≤ past) × (past ≤ length (now table)) ⌝ }
-    ensures { λ r. ⌜ r ≡ spelled (between (now (table .entry)) from past) ⌝ }
+// The hash, unless the part from a place to before another is reserved. Few parts end like a reserved word of their length, so that few are compared.
+fn unless_reserved(table: &[u8], from: usize, past: usize, hash: usize) -> usize
+    requires { ⌜ (from < past) × (past ≤ length (now table)) × (isPart (between (now table) from past) ≡ true) ⌝ }
+    ensures { λ r. ⌜ r ≡ hashIf (not (isReserved (between (now (table .entry)) from past))) hash ⌝ }
 {
-    let hash = scan(classes, table, from, past);
-    if hash == NO_NAME {
-        return NO_NAME;
-    }
     if !may_be_reserved(past - from, table[past - 1]) {
         return hash;
     }
@@ -108,4 +94,107 @@ pub fn spell(classes: &[u8; 256], table: &[u8], from: usize, past: usize) -> usi
         return NO_NAME;
     }
     hash
+}
+
+// ---- parts
+
+// Whether a part goes on at a place before another.
+fn goes_on(classes: &[u8; 256], table: &[u8], at: usize, past: usize) -> bool
+    requires { ⌜ Classes (now classes) × (past ≤ length (now table)) ⌝ }
+    ensures { λ r. ⌜ r ≡ (ltb at past && goesOn (classOf (getD (now (table .entry)) at 0))) ⌝ }
+{
+    if past <= at {
+        return false;
+    }
+    lexer::is_in_name(classes, table[at])
+}
+
+// Whether a part starts at a place before another.
+fn starts_part(classes: &[u8; 256], table: &[u8], at: usize, past: usize) -> bool
+    requires { ⌜ Classes (now classes) × (past ≤ length (now table)) ⌝ }
+    ensures { λ r. ⌜ r ≡ (ltb at past && starts (classOf (getD (now (table .entry)) at 0))) ⌝ }
+{
+    if past <= at {
+        return false;
+    }
+    lexer::starts_name(classes, table[at])
+}
+
+// The part that starts at a place, with the hash of the name up to there.
+fn read_part(classes: &[u8; 256], table: &[u8], from: usize, past: usize, before: usize) -> Part
+    requires { ⌜ Classes (now classes) × (from < past) × (past ≤ length (now table)) × (before < 4294967296) ⌝ }
+    ensures { λ r. ⌜ PartRead (now (table .entry)) from past before r ⌝ }
+{
+    let mut hash = name_filter::step(before, wide(table[from]));
+    let mut i = from + 1;
+    while goes_on(classes, table, i, past) {
+        hash = name_filter::step(hash, wide(table[i]));
+        i += 1;
+    }
+    Part { hash: hash, end: i }
+}
+
+// The hash of a name whose part from a place to before another does not end it: a dot stands there, and behind it so many parts at most. Few names have a dot.
+// Since this function calls itself, the compiler keeps it apart from `spell`, which then is as quick as if there were no dots.
+fn spell_more(
+    classes: &[u8; 256],
+    table: &[u8],
+    from: usize,
+    dot: usize,
+    past: usize,
+    before: usize,
+    left: usize,
+) -> usize
+    requires { ⌜ Classes (now classes) × (from < dot) × (dot < past) × (past ≤ length (now table)) × (before < 4294967296) × (isPart (between (now table) from dot) ≡ true) ⌝ }
+    ensures { λ r. ⌜ r ≡ moreSpelled (now (table .entry)) from dot past before left ⌝ }
+{
+    if left == 0 {
+        return NO_NAME;
+    }
+    if !lexer::is_dot(classes, table[dot]) {
+        return NO_NAME;
+    }
+    let start = dot + 1;
+    if !starts_part(classes, table, start, past) {
+        return NO_NAME;
+    }
+    let part = read_part(
+        classes,
+        table,
+        start,
+        past,
+        name_filter::step(before, wide(table[dot])),
+    );
+    let end = part.end;
+    let hash = if end < past {
+        spell_more(classes, table, start, end, past, part.hash, left - 1)
+    } else {
+        unless_reserved(table, start, past, part.hash)
+    };
+    unless_reserved(table, from, dot, hash)
+}
+
+// The hash of the bytes from a place to before another if they are a good name of so many parts at most.
+pub fn spell(
+    classes: &[u8; 256],
+    table: &[u8],
+    from: usize,
+    past: usize,
+    most_parts: usize,
+) -> usize
+    requires { ⌜ Classes (now classes) × (from ≤ past) × (past ≤ length (now table)) × (0 < «most_parts») ⌝ }
+    ensures { λ r. ⌜ r ≡ spelled «most_parts» (between (now (table .entry)) from past) ⌝ }
+{
+    if lexer::Name::MAX < past - from {
+        return NO_NAME;
+    }
+    if !starts_part(classes, table, from, past) {
+        return NO_NAME;
+    }
+    let part = read_part(classes, table, from, past, 0);
+    let end = part.end;
+    if end < past {
+        return spell_more(classes, table, from, end, past, part.hash, most_parts - 1);
+    }
+    unless_reserved(table, from, past, part.hash)
 }

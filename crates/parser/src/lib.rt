@@ -1,7 +1,13 @@
-// From a clean text to its statements: symbols, statement code, constraints and rows in lent memory, or the first fault 3 to 7 with its place.
+// From a clean text to its statements: symbols, statement code, constraints and rows in lent memory, or the first fault 3 to 7 with its place. Blocks leave
+// nothing in that memory but the full names of what is declared in them.
+use block_reader::BLOCKS;
+use block_reader::FILTER;
+use block_reader::Open;
+use block_reader::Opened;
 use constrain_statement::CONSTRAINT_BYTES;
 use constrain_statement::ROW_BYTES;
 use declarations::SYMBOL_BYTES;
+use grammar::Header;
 use items::Item;
 use lexer::Text;
 use statement_reader::CODE_UNITS;
@@ -11,15 +17,29 @@ ghost use mathlib.Core.Path.{_≡_};
 ghost use mathlib.Core.Bool.{_&&_};
 ghost use lib.Dec.{leb};
 ghost use lib.ListN.{length};
-ghost use Prim.Native.Nat.{_<_};
+ghost use Prim.Native.Nat.{ℕ, _<_};
+ghost use Rattle.items.specs.Looks.{itemAt};
 ghost use Rattle.statement_reader.specs.Memory.{memory};
 ghost use Rattle.parser.specs.Parsing.{Parses, ParsesCleared};
+ghost use Rattle.parser.specs.Parts.{States, Enters, behindOf};
 ghost use Rattle.statement_reader.specs.Steps.{nothingRead};
 
 // The statements are read, or the number of the first fault and its place.
 pub enum Parsed {
     Accepted(Progress),
     Refused { number: usize, place: usize },
+}
+
+// A statement is read, and the place behind it; or the number of its fault.
+enum Stated {
+    Next(usize, Progress),
+    Fault(usize),
+}
+
+// A block is opened, and the place behind its name; or the number of its fault.
+enum Entered {
+    Inside(usize, Open),
+    Fault(usize),
 }
 
 // The unit of a place: no place of a clean text is too great for one.
@@ -33,7 +53,7 @@ fn place_unit(place: usize) -> u16
 }
 
 // Whether the lent memory is as long as the text's maximum and the maxima of constraints and rows ask. It always is, by its types; the proof of
-// `parse` learns the lengths where the arrays are lent as slices here.
+// `read` learns the lengths where the arrays are lent as slices here.
 fn has_room(code: &[u16], constraints: &[u8], rows: &[u8]) -> bool
     ensures { λ r. ⌜ r ≡ (leb 65536 (length (now (code .entry))) && leb 1280 (length (now (constraints .entry))) && leb 12288 (length (now (rows .entry)))) ⌝ }
 {
@@ -59,7 +79,81 @@ fn nothing_read() -> Progress
     }
 }
 
-// The statements of a text that the scan leaves clean, with chains that are empty. In such a text only a statement or the end can come next.
+// A statement at a place, by the first item that its parentheses hold: its form is judged first, then its names.
+fn read(
+    text: &[u8],
+    first: Item,
+    place: usize,
+    symbols: &mut [u8; SYMBOL_BYTES],
+    code: &mut [u16; CODE_UNITS],
+    constraints: &mut [u8; CONSTRAINT_BYTES],
+    rows: &mut [u8; ROW_BYTES],
+    progress: Progress,
+) -> Stated
+    ensures { λ r. ⌜ ((at : ℕ) → first ≡ itemAt (now (text .entry)) at → States (now (text .entry)) at place
+        (memory (now (symbols .entry)) (now (code .entry)) (now (constraints .entry)) (now (rows .entry)))
+        (memory (now (symbols .exit)) (now (code .exit)) (now (constraints .exit)) (now (rows .exit))) progress r) ⌝ }
+{
+    if !has_room(code, constraints, rows) {
+        return Stated::Fault(6);
+    }
+    let form = grammar::statement_form(text, first);
+    let items::Parsed::Next(past) = form else {
+        return Stated::Fault(3);
+    };
+    let unit = place_unit(place);
+    let step = statement_reader::statement(
+        text,
+        first,
+        unit,
+        symbols,
+        code,
+        constraints,
+        rows,
+        progress,
+    );
+    match step {
+        Step::Read(further) => Stated::Next(past, further),
+        Step::Fault(number) => Stated::Fault(number),
+    }
+}
+
+// The header of a block, behind the word `block`: its form is judged first, with all that the block holds, then its name.
+fn enter(
+    text: &[u8],
+    at: usize,
+    symbols: &mut [u8; SYMBOL_BYTES],
+    keys: &mut [u64; BLOCKS],
+    filter: &mut [u64; FILTER],
+    stand: Open,
+) -> Entered
+    ensures { λ r. ⌜ Enters (now (text .entry)) at (now (keys .entry)) (now (keys .exit)) (now (filter .entry)) (now (filter .exit)) (now (symbols .entry)) (now (symbols .exit)) stand r ⌝ }
+{
+    let header = grammar::block_form(text, at);
+    let Header::Name { start, len } = header else {
+        return Entered::Fault(3);
+    };
+    let opened = block_reader::open_block(text, start, len, symbols, keys, filter, stand);
+    match opened {
+        Opened::Read(further) => Entered::Inside(start + len, further),
+        Opened::Fault(number) => Entered::Fault(number),
+    }
+}
+
+// The place behind the first item of a block, which is the word `block`.
+fn behind(first: Item) -> usize
+    ensures { λ r. ⌜ r ≡ behindOf first ⌝ }
+{
+    match first {
+        Item::Word { next, .. } => next,
+        Item::Open { next, .. } => next,
+        Item::Close { next } => next,
+        Item::End => 0,
+    }
+}
+
+// The statements of a text that the scan leaves clean, with chains that are empty and no block open. In such a text only a part, the close of a block or the
+// end can come next.
 fn parse_cleared(
     text: &[u8],
     symbols: &mut [u8; SYMBOL_BYTES],
@@ -71,41 +165,57 @@ fn parse_cleared(
         (memory (now (symbols .entry)) (now (code .entry)) (now (constraints .entry)) (now (rows .entry)))
         (memory (now (symbols .exit)) (now (code .exit)) (now (constraints .exit)) (now (rows .exit))) r ⌝ }
 {
-    if !has_room(code, constraints, rows) {
-        return Parsed::Refused {
-            number: 6,
-            place: 0,
-        };
-    }
+    let mut keys = [0u64; BLOCKS];
+    let mut filter = [0u64; FILTER];
+    let mut stand = block_reader::none_open();
     let mut progress = nothing_read();
     let mut at: usize = 0;
     loop {
         let item = items::look(text, at);
-        let Item::Open { place, next } = item else {
-            return Parsed::Accepted(progress);
-        };
-        let first = items::look(text, next);
-        let form = grammar::statement_form(text, first);
-        let items::Parsed::Next(past) = form else {
-            return Parsed::Refused { number: 3, place };
-        };
-        let unit = place_unit(place);
-        let step = statement_reader::statement(
-            text,
-            first,
-            unit,
-            symbols,
-            code,
-            constraints,
-            rows,
-            progress,
-        );
-        match step {
-            Step::Read(further) => {
-                progress = further;
-                at = past;
+        match item {
+            Item::Open { place, next } => {
+                let first = items::look(text, next);
+                if grammar::starts_block(first) {
+                    let entered = enter(
+                        text,
+                        behind(first),
+                        symbols,
+                        &mut keys,
+                        &mut filter,
+                        stand,
+                    );
+                    match entered {
+                        Entered::Inside(inside, further) => {
+                            at = inside;
+                            stand = further;
+                        }
+                        Entered::Fault(number) => return Parsed::Refused { number, place },
+                    }
+                } else {
+                    let stated = read(
+                        text,
+                        first,
+                        place,
+                        symbols,
+                        code,
+                        constraints,
+                        rows,
+                        progress,
+                    );
+                    match stated {
+                        Stated::Next(past, further) => {
+                            at = past;
+                            progress = further;
+                        }
+                        Stated::Fault(number) => return Parsed::Refused { number, place },
+                    }
+                }
             }
-            Step::Fault(number) => return Parsed::Refused { number, place },
+            Item::Close { next } => {
+                stand = block_reader::close_block(symbols, &keys, stand);
+                at = next;
+            }
+            Item::Word { .. } | Item::End => return Parsed::Accepted(progress),
         }
     }
 }
@@ -123,5 +233,6 @@ pub fn parse(
         (memory (now (symbols .exit)) (now (code .exit)) (now (constraints .exit)) (now (rows .exit))) r ⌝ }
 {
     name_chains::clear(symbols);
+    scopes::start(symbols);
     parse_cleared(text, symbols, code, constraints, rows)
 }

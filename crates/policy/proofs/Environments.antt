@@ -6,9 +6,9 @@ use mathlib.Core.Bool.{Bool, true, false, _&&_, cond}
 use mathlib.Core.List.{List, [], _∷_, _++_, append-assoc}
 use mathlib.Core.Option.{Option, none, some}
 use lib.ListN.{length, length-append}
-use Rattle.policy.specs.Basics.{Name, same, next, indexOf, gather}
+use Rattle.policy.specs.Basics.{Name, same, orElse, next, indexOf, gather}
 use Rattle.policy.specs.Statements.{Family, Sort, Declaration, plain, class, sameFamily, sameSort, familyOf, ofSort, namesOf, classNames, permissions, count}
-use Rattle.policy.specs.Names.{Named, environmentOf, firstFrom, numberIn}
+use Rattle.policy.specs.Names.{Named, tries, firstHit, environmentOf, firstFrom, numberIn}
 use Rattle.policy.proofs.IfAny.{IfAny, nothing, just, and-then, if-given}
 use Rattle.policy.proofs.Lists.{gather-append}
 use Rattle.policy.proofs.Sameness.{family-same, sort-same, sort-self}
@@ -51,20 +51,30 @@ first-in f w e (plain s v ∷ ds) =
     by true false h later = later
     by true true h later = just (record { family = sym (family-same f (familyOf s) h); number = count-below s v e ds })
 
-module _ (ds : List Declaration) where
-  pub named-in : (f : Family) (w : Name) → IfAny (NamedIn ds f) (environmentOf ds .find f w)
-  unfolding environmentOf
-  named-in f w = first-in f w [] ds
+-- what is found at the first of some names that has something is what one of them has
+or-any : {A : Type 0} (P : A → Type 0) (x y : Option A) → IfAny P x → IfAny P y → IfAny P (orElse x y)
+or-any P none y h g = g
+or-any P (some a) y h g = h
 
-  pub number-below : (s : Sort) (w : Name) → IfAny (λ n. n < count s ds) (numberIn (environmentOf ds) s w)
+pub hit-any : {A : Type 0} (P : A → Type 0) (find : Name → Option A) → ((w : Name) → IfAny P (find w)) → (ws : List Name) → IfAny P (firstHit find ws)
+unfolding firstHit
+hit-any P find h [] = nothing
+hit-any P find h (w ∷ ws) = or-any P (find w) (firstHit find ws) (h w) (hit-any P find h ws)
+
+module _ (ds : List Declaration) (path : List Name) where
+  pub named-in : (f : Family) (w : Name) → IfAny (NamedIn ds f) (environmentOf ds path .find f w)
+  unfolding environmentOf
+  named-in f w = hit-any (NamedIn ds f) (firstFrom [] ds f) (λ v. first-in f v [] ds) (tries path w)
+
+  pub number-below : (s : Sort) (w : Name) → IfAny (λ n. n < count s ds) (numberIn (environmentOf ds path) s w)
   unfolding numberIn
   number-below s w = and-then _ _ (named-in (familyOf s) w) λ d h.
       if-given (sameSort s (d .sort)) (d .number) λ e. subst (λ (t : Sort). d .number < count t ds) (sym (sort-same s (d .sort) e)) (h .number)
 
-  pub class-below : (w : Name) → IfAny (λ c. c < length (classNames ds)) (environmentOf ds .class w)
+  pub class-below : (w : Name) → IfAny (λ c. c < length (classNames ds)) (environmentOf ds path .class w)
   unfolding environmentOf
-  class-below w = index-below w (classNames ds)
+  class-below w = hit-any _ (λ v. indexOf v (classNames ds)) (λ v. index-below v (classNames ds)) (tries path w)
 
-  pub permission-below : (c : ℕ) (w : Name) → IfAny (λ k. k < length (permissions ds c)) (environmentOf ds .permission c w)
+  pub permission-below : (c : ℕ) (w : Name) → IfAny (λ k. k < length (permissions ds c)) (environmentOf ds path .permission c w)
   unfolding environmentOf
   permission-below c w = index-below w (permissions ds c)

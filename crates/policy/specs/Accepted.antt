@@ -7,13 +7,13 @@ use mathlib.Core.Path.{_≡_}
 use mathlib.Core.Bool.{true, _||_}
 use mathlib.Core.List.{List, [], _∷_}
 use lib.ListN.{length}
-use Rattle.policy.specs.Basics.{All}
+use Rattle.policy.specs.Basics.{Name, All, every}
 use Rattle.policy.specs.Statements.{Family, roles, types, Reference, thing, attribute, SetExpr, nameS, allS, notS, andS, orS, xorS, unionS, emptyS, Constraint, sidesE, nameE, notE, andE, orE, thingOf, attributeOf, Declaration, Statement, declare, attributeset, gives, roletransition, constrain, fromOf, toOf, Line, Policy, count, classNames, permissions, declarations, transitions, constrains, need}
-use Rattle.policy.specs.Maxima.{maxTransitions, maxConstraints, maxRows, maxStack}
+use Rattle.policy.specs.Maxima.{maxTransitions, maxConstraints, maxRows, maxStack, maxDepth}
 use Rattle.policy.specs.Words.{isPlain}
 use Rattle.policy.specs.Grammar.{isRoles}
 use Rattle.policy.specs.Reading.{rowCount}
-use Rattle.policy.specs.Sound.{goodFrom}
+use Rattle.policy.specs.Sound.{isGoodPart, goodFrom}
 
 module _ (ds : List Declaration) where
   -- a thing or an attribute that ds declares
@@ -57,3 +57,8 @@ pub record Accepted (p : Policy) : Type 0 where
   pub few-transitions : length (transitions p) ≤ maxTransitions
   pub few-constrains : length (constrains p) ≤ maxConstraints
   pub few-rows : rowCount (constrains p) ≤ maxRows
+
+-- the blocks around a statement are as reading leaves them: each has a good name, and they are not too many
+pub record GoodPath (path : List Name) : Type 0 where
+  pub names : every isGoodPart path ≡ true
+  pub few : length path ≤ maxDepth

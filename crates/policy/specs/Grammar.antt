@@ -1,13 +1,14 @@
--- Document 01, "Statements": the forms of the statements, as they are written, with their names; none where a statement is of no form, fault 3.
+-- Document 01, "Statements", and document 02, W-203: the forms of the statements, as they are written, with their names, and of blocks; none where a statement
+-- or a block is of no form, fault 3.
 -- A row that the end of the text cuts short (`ended`) is of no form; a text that the scan finds clean has no such row inside a statement.
 -- Assumes nothing.
 use Prim.Native.Nat.{ℕ}
-use mathlib.Core.Bool.{Bool, true, false, _&&_, _||_}
+use mathlib.Core.Bool.{Bool, true, false, _&&_, _||_, cond}
 use mathlib.Core.List.{List, [], _∷_}
 use mathlib.Core.Option.{Option, none, some}
 use Rattle.lexer.specs.Forms.{Forms, closed, ended, word, part}
-use Rattle.policy.specs.Basics.{Name, _>>=_, given, more, ofNone, ofOne, ofTwo}
-use Rattle.policy.specs.Words.{asName, Keyword, declareK, classK, setK, relationK, transitionK, constrainK, keywordOf, Connective, allC, notC, andC, orC, xorC, setWord, expressionWord, opOf, isPlain, Component, componentOf}
+use Rattle.policy.specs.Basics.{Name, same, _>>=_, given, more, ofNone, ofOne, ofTwo}
+use Rattle.policy.specs.Words.{asName, asPart, blockWord, Keyword, declareK, classK, setK, relationK, transitionK, constrainK, keywordOf, Connective, allC, notC, andC, orC, xorC, setWord, expressionWord, opOf, isPlain, Component, componentOf}
 use Rattle.policy.specs.Statements.{Family, roles, Sort, plain, class, SetExpr, nameS, allS, notS, andS, orS, xorS, unionS, emptyS, source, target, Op, Constraint, sidesE, nameE, notE, andE, orE, Relation, declare, attributeset, gives, roletransition, constrain, Written, sameFamily}
 
 -- "one or more operands (their union)": an operand, and those after it
@@ -119,21 +120,21 @@ unfoldable mutual
   expressionIn (word at w after) = connected w after (expressionWord w) (expressions after)
   expressionIn (part p inner after) = none
 
--- names and nothing else
-unfoldable pub namesIn : Forms → Option (List Name)
-namesIn closed = some []
-namesIn ended = none
-namesIn (word at w after) = more (asName w) (namesIn after)
-namesIn (part p i after) = none
+-- words and nothing else, each taken as a name
+unfoldable pub rowOf : (Name → Option Name) → Forms → Option (List Name)
+rowOf taken closed = some []
+rowOf taken ended = none
+rowOf taken (word at w after) = more (taken w) (rowOf taken after)
+rowOf taken (part p i after) = none
 
 -- "at least one permission"
 abbrev pub oneOrMore : List Name → Option (List Name)
 oneOrMore [] = none
 oneOrMore (x ∷ xs) = some (x ∷ xs)
 
--- a name, then one or more names in parentheses: "C (P ...)"
-abbrev pub classIn : {A : Type 0} → Forms → (Name → List Name → Option A) → Option A
-classIn f g = wordAndPart f (λ c ps. asName c >>= λ c. namesIn ps >>= λ ps. oneOrMore ps >>= λ ps. g c ps)
+-- a class, declared or used, then one or more permissions in parentheses: "C (P ...)"
+abbrev pub classIn : {A : Type 0} → (Name → Option Name) → Forms → (Name → List Name → Option A) → Option A
+classIn taken f g = wordAndPart f (λ c ps. taken c >>= λ c. rowOf asPart ps >>= λ ps. oneOrMore ps >>= λ ps. g c ps)
 
 -- "`(roletransition R T C R)`": exactly four names
 abbrev pub ofFour : List Name → Option Written
@@ -146,12 +147,12 @@ ofFour (r ∷ t ∷ c ∷ n ∷ x ∷ xs) = none
 
 -- the forms of "Statements", by the keyword and what follows it
 abbrev pub formed : Keyword → Forms → Option Written
-formed (declareK s) f = namesIn f >>= ofOne (λ w. declare (plain s w))
-formed classK f = classIn f (λ c ps. some (declare (class c ps)))
+formed (declareK s) f = rowOf asPart f >>= ofOne (λ w. declare (plain s w))
+formed classK f = classIn asPart f (λ c ps. some (declare (class c ps)))
 formed (setK a) f = wordAndPart f (λ w i. asName w >>= λ w. setIn i >>= λ s. some (attributeset a w s))
-formed (relationK r) f = namesIn f >>= ofTwo (gives r)
-formed transitionK f = namesIn f >>= ofFour
-formed constrainK f = twoParts f (λ i j. classIn i (λ c ps. expressionIn j >>= λ e. some (constrain c ps e)))
+formed (relationK r) f = rowOf asName f >>= ofTwo (gives r)
+formed transitionK f = rowOf asName f >>= ofFour
+formed constrainK f = twoParts f (λ i j. classIn asName i (λ c ps. expressionIn j >>= λ e. some (constrain c ps e)))
 
 -- what the parentheses of a statement hold
 abbrev pub written : Forms → Option Written
@@ -159,3 +160,28 @@ written closed = none
 written ended = none
 written (part p i after) = none
 written (word at w after) = keywordOf w >>= λ k. formed k after
+
+-- W-203: what starts with the word `block` is a block
+abbrev pub isBlock : Forms → Bool
+isBlock closed = false
+isBlock ended = false
+isBlock (part p i after) = false
+isBlock (word at w after) = same w blockWord
+
+-- "only parts in parentheses, or nothing"
+unfoldable pub partsAlone : Forms → Bool
+partsAlone closed = true
+partsAlone ended = false
+partsAlone (word at w after) = false
+partsAlone (part p i after) = partsAlone after
+
+-- "A block .. is of its form if only parts in parentheses, or nothing, follow its name": its name, by what follows the word `block`
+abbrev pub headerIn : Forms → Option Name
+headerIn f = wordThen f (λ b after. asPart b >>= λ b. given (partsAlone after) b)
+
+-- the name of the block whose parentheses hold f, if it is one and is of its form
+abbrev pub blockIn : Forms → Option Name
+blockIn closed = none
+blockIn ended = none
+blockIn (part p i after) = none
+blockIn (word at w after) = cond (same w blockWord) (headerIn after) none

@@ -4,6 +4,7 @@ pub mod Names
 pub mod Maxima
 pub mod Words
 pub mod Grammar
+pub mod Scopes
 pub mod Reading
 pub mod Meaning
 pub mod Faults
@@ -23,3 +24,4 @@ pub mod Worked
 pub mod Slips
 pub mod Objects
 pub mod Lines
+pub mod Blocks

@@ -26,6 +26,13 @@ maxConstraints = 128
 abbrev pub maxRows : ℕ
 maxRows = 2048
 
+-- W-203: "blocks nest to 8"; full names have "at most .. nine parts": those of eight blocks, and an own name
+abbrev pub maxDepth : ℕ
+maxDepth = 8
+
+abbrev pub maxParts : ℕ
+maxParts = 9
+
 -- "Stack need of E: .. At most 5"
 abbrev pub maxStack : ℕ
 maxStack = 5

@@ -1,10 +1,40 @@
--- Document 01, "Statements": what a name stands for where it is used. Assumes nothing.
+-- Document 01, "Statements", and document 02, W-203: full names, and what a name stands for where it is used. Assumes nothing.
 use Prim.Native.Nat.{ℕ}
-use mathlib.Core.Bool.{_&&_, cond}
+use mathlib.Core.Bool.{Bool, false, _&&_, cond}
 use mathlib.Core.List.{List, [], _∷_, _++_}
 use mathlib.Core.Option.{Option, none, some}
-use Rattle.policy.specs.Basics.{Name, same, _>>=_, given, indexOf}
+use lib.ListN.{drop}
+use Rattle.lexer.specs.Class.{is}
+use Rattle.lexer.specs.Spell.{bytes}
+use Rattle.policy.specs.Basics.{Name, same, _>>=_, orElse, given, indexOf}
 use Rattle.policy.specs.Statements.{Family, Sort, thingOf, attributeOf, Declaration, plain, class, Reference, thing, attribute, sameFamily, sameSort, familyOf, classNames, permissions, count}
+
+-- ---- W-203: full names. A path is the names of the blocks around a statement, the innermost first
+
+-- "`(block b ...)` puts the names declared inside under `b.`": the full name of w in the blocks of a path
+unfoldable pub full : List Name → Name → Name
+full [] w = w
+full (b ∷ path) w = full path b ++ bytes "." ++ w
+
+-- in the innermost block, then outward, last at the whole-text level
+unfoldable pub outward : List Name → Name → List Name
+outward [] w = w ∷ []
+outward (b ∷ path) w = full (b ∷ path) w ∷ outward path w
+
+abbrev pub hasDotInFront : Name → Bool
+hasDotInFront [] = false
+hasDotInFront (b ∷ w) = is "." b
+
+-- "A leading dot means the whole-text level; any other use is tried in the innermost block, then outward": the full names that a use is tried as
+unfoldable pub tries : List Name → Name → List Name
+tries path w = cond (hasDotInFront w) (drop 1 w ∷ []) (outward path w)
+
+-- "the first hit of the family decides"
+unfoldable pub firstHit : {A : Type 0} → (Name → Option A) → List Name → Option A
+firstHit find [] = none
+firstHit find (w ∷ ws) = orElse (find w) (firstHit find ws)
+
+-- ---- what names stand for
 
 -- what a name is declared as: a sort, and the number within it
 pub record Named : Type 0 where
@@ -25,11 +55,12 @@ firstFrom earlier (class v ps ∷ ds) f w = firstFrom (earlier ++ (class v ps �
 firstFrom earlier (plain s v ∷ ds) f w =
     cond (sameFamily f (familyOf s) && same w v) (some (record { sort = s; number = count s earlier })) (firstFrom (earlier ++ (plain s v ∷ [])) ds f w)
 
--- what the names stand for that are declared in ds: "A name must be declared earlier in the text than its use"
-unfoldable pub environmentOf : List Declaration → Environment
-environmentOf ds = record {
-  find = λ f w. firstFrom [] ds f w;
-  class = λ w. indexOf w (classNames ds);
+-- what the names stand for that are declared in ds, under their full names, where they are used in the blocks of a path: "A name must be declared earlier in
+-- the text than its use". "Permissions take no block's name"
+unfoldable pub environmentOf : List Declaration → List Name → Environment
+environmentOf ds path = record {
+  find = λ f w. firstHit (firstFrom [] ds f) (tries path w);
+  class = λ w. firstHit (λ v. indexOf v (classNames ds)) (tries path w);
   permission = λ c w. indexOf w (permissions ds c);
 }
 

@@ -1,15 +1,16 @@
 -- `unfolding computing` opens every definition, for examples that compute. Written by tools/opened.py. Assumes nothing.
 use Rattle.bitset.specs.Sets.{bit, member, fromBits, tabulate, setOf, countBelow, allBelow, meet, inserted, removed, unionOf, intersectionOf, symmetricDifferenceOf, differenceOf, copyOf, emptied, complementOf, within, meets, equal, count, bitByte, maskOf}
 use Rattle.bitset.specs.Relations.{joined, relation, granted}
-use Rattle.lexer.specs.Class.{classOf, allGoOn, isName}
+use Rattle.lexer.specs.Class.{classOf, allGoOn, isPart, allParts, parts, isDotted, isName}
 use Rattle.lexer.specs.Forms.{build, framesAt, formsOf, trim, closes, balanced, namesGood}
 use Rattle.lexer.specs.Scan.{scanFrom, scan}
 use Rattle.lexer.specs.Token.{tokensFrom, tokensAt, tokens, tokenAt}
 use Rattle.policy.specs.Basics.{same, any, every, each, eachOf, gather, isIn, isAmong, differ, indexOf, lookup, le, unle}
 use Rattle.policy.specs.Statements.{namesOf, familyNames, classNames, permissions, count as count-of-Statements, declarations, setsFor, transitions, constrains, size, need}
-use Rattle.policy.specs.Names.{firstFrom, environmentOf, refer, numberIn}
-use Rattle.policy.specs.Words.{reserved, isReserved, keywordOf, setWord, expressionWord, opOf, componentOf}
-use Rattle.policy.specs.Grammar.{operandRow, operands, setIn, expressions, expressionIn, namesIn}
+use Rattle.policy.specs.Names.{full, outward, tries, firstHit, firstFrom, environmentOf, refer, numberIn}
+use Rattle.policy.specs.Words.{reserved, isReserved, dotless, keywordOf, setWord, expressionWord, opOf, componentOf}
+use Rattle.policy.specs.Grammar.{operandRow, operands, setIn, expressions, expressionIn, rowOf, partsAlone}
+use Rattle.policy.specs.Scopes.{scopedIn, blocksIn}
 use Rattle.policy.specs.Reading.{referS, referE, rowCount, judge, readFrom, readPolicy}
 use Rattle.policy.specs.Meaning.{ofS, countIn, unionOf as unionOf-of-Meaning, nested, final, stands, related, holds}
 use Rattle.policy.specs.Faults.{mentionsS, mentions, attributesIn, below, wider, reach, onCycle, places, firstCycle, cycle, clashes, firstClash, clash}
@@ -25,5 +26,5 @@ use Rattle.policy.specs.Roll.{digits, rollLines, rollOf, printed}
 
 -- to unfold this is to unfold all of them
 unfoldable pub computing : Unit {0}
-unfolding bit member fromBits tabulate setOf countBelow allBelow meet inserted removed unionOf intersectionOf symmetricDifferenceOf differenceOf copyOf emptied complementOf within meets equal count bitByte maskOf joined relation granted classOf allGoOn isName build framesAt formsOf trim closes balanced namesGood scanFrom scan tokensFrom tokensAt tokens tokenAt same any every each eachOf gather isIn isAmong differ indexOf lookup le unle namesOf familyNames classNames permissions count-of-Statements declarations setsFor transitions constrains size need firstFrom environmentOf refer numberIn reserved isReserved keywordOf setWord expressionWord opOf componentOf operandRow operands setIn expressions expressionIn namesIn referS referE rowCount judge readFrom readPolicy ofS countIn unionOf-of-Meaning nested final stands related holds mentionsS mentions attributesIn below wider reach onCycle places firstCycle cycle clashes firstClash clash isObject validBy firstFailing decide declaredContext declaredQuestion asksRole mayBecome ruledBy answer rowsOf run balanced-of-Rows maskOf-of-Image imageOf permissionEntries entriesFrom entries headsFrom bodies pairs encode goodFrom wellFormed bodyLengths splitBodies bodiesIn pieces entriesIn group sameNumbers namesAt assignRows imageIn valid change firstTransition newRole nameFrom nameOf recordFrom entryOf validOn newRoleOn nameOn entryOn changeOn accept policyOf compiled lineFeeds refusalOf outcome after digits rollLines rollOf printed
+unfolding bit member fromBits tabulate setOf countBelow allBelow meet inserted removed unionOf intersectionOf symmetricDifferenceOf differenceOf copyOf emptied complementOf within meets equal count bitByte maskOf joined relation granted classOf allGoOn isPart allParts parts isDotted isName build framesAt formsOf trim closes balanced namesGood scanFrom scan tokensFrom tokensAt tokens tokenAt same any every each eachOf gather isIn isAmong differ indexOf lookup le unle namesOf familyNames classNames permissions count-of-Statements declarations setsFor transitions constrains size need full outward tries firstHit firstFrom environmentOf refer numberIn reserved isReserved dotless keywordOf setWord expressionWord opOf componentOf operandRow operands setIn expressions expressionIn rowOf partsAlone scopedIn blocksIn referS referE rowCount judge readFrom readPolicy ofS countIn unionOf-of-Meaning nested final stands related holds mentionsS mentions attributesIn below wider reach onCycle places firstCycle cycle clashes firstClash clash isObject validBy firstFailing decide declaredContext declaredQuestion asksRole mayBecome ruledBy answer rowsOf run balanced-of-Rows maskOf-of-Image imageOf permissionEntries entriesFrom entries headsFrom bodies pairs encode goodFrom wellFormed bodyLengths splitBodies bodiesIn pieces entriesIn group sameNumbers namesAt assignRows imageIn valid change firstTransition newRole nameFrom nameOf recordFrom entryOf validOn newRoleOn nameOn entryOn changeOn accept policyOf compiled lineFeeds refusalOf outcome after digits rollLines rollOf printed
 computing = tt

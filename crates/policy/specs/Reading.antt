@@ -1,4 +1,4 @@
--- Document 01, "Refusal numbers": the reading of a text into its statements, with faults 1 to 7 in their order. Assumes nothing.
+-- Document 01, "Refusal numbers", and document 02, W-203: the reading of a text into its statements, with faults 1 to 7 in their order. Assumes nothing.
 use Prim.Native.Nat.{ℕ, _+_}
 use mathlib.Core.Bool.{Bool, true, false, not, _&&_, cond}
 use mathlib.Core.List.{List, [], _∷_, _++_}
@@ -7,12 +7,26 @@ use lib.Dec.{leb, ltb}
 use lib.ListN.{length}
 use Rattle.lexer.specs.declared.Scanned.{Scanned}
 use Rattle.lexer.specs.Scan.{scan, maxText}
-use Rattle.lexer.specs.Forms.{Forms, closed, ended, word, part, formsOf}
+use Rattle.lexer.specs.Class.{maxName}
+use Rattle.lexer.specs.Forms.{formsOf}
 use Rattle.policy.specs.Basics.{Name, _>>=_, eachOf, isIn, differ}
 use Rattle.policy.specs.Statements.{Family, roles, types, thingOf, attributeOf, Declaration, plain, class, Reference, SetExpr, nameS, allS, notS, andS, orS, xorS, unionS, emptyS, Constraint, sidesE, nameE, notE, andE, orE, fromOf, toOf, declare, attributeset, gives, roletransition, constrain, Written, Statement, Policy, familyOf, familyNames, classNames, count, declarations, transitions, constrains, Constrain, size, need}
-use Rattle.policy.specs.Names.{Environment, environmentOf, refer, numberIn}
-use Rattle.policy.specs.Maxima.{maxOf, maxClasses, maxPermissions, maxTransitions, maxConstraints, maxRows, maxStack}
-use Rattle.policy.specs.Grammar.{written}
+use Rattle.policy.specs.Names.{full, Environment, environmentOf, refer, numberIn}
+use Rattle.policy.specs.Maxima.{maxOf, maxClasses, maxPermissions, maxTransitions, maxConstraints, maxRows, maxStack, maxDepth}
+use Rattle.policy.specs.Grammar.{written, isBlock, blockIn}
+use Rattle.policy.specs.Scopes.{Scoped, scopedIn, blocksIn}
+
+-- W-203: what is declared has its full name. "Permissions take no block's name"
+abbrev pub fullDeclaration : List Name → Declaration → Declaration
+fullDeclaration path (plain s w) = plain s (full path w)
+fullDeclaration path (class w ps) = class (full path w) ps
+
+abbrev pub inBlocks : List Name → Written → Written
+inBlocks path (declare d) = declare (fullDeclaration path d)
+inBlocks path (attributeset f a s) = attributeset f a s
+inBlocks path (gives r x y) = gives r x y
+inBlocks path (roletransition r t c n) = roletransition r t c n
+inBlocks path (constrain c ps e) = constrain c ps e
 
 -- FAULT 4: "name declared again in its family, or permission twice in a class"
 abbrev pub isNew : List Declaration → Declaration → Bool
@@ -55,7 +69,11 @@ resolved env (constrain c ps e) =
     env .class c >>= λ c. eachOf (λ p. env .permission c p) ps >>= λ ps.
     referE env e >>= λ e. some (constrain c ps e)
 
--- FAULT 6: "one of the other maxima passed"
+-- FAULT 6: "one of the other maxima passed"; W-203: "6 for a full name too long"
+abbrev pub isShort : Declaration → Bool
+isShort (plain s w) = leb (length w) maxName
+isShort (class w ps) = leb (length w) maxName
+
 abbrev pub hasRoom : List Declaration → Declaration → Bool
 hasRoom ds (plain s w) = ltb (count s ds) (maxOf s)
 hasRoom ds (class w ps) = ltb (length (classNames ds)) maxClasses && leb (length ps) maxPermissions
@@ -65,7 +83,7 @@ rowCount [] = 0
 rowCount (c ∷ cs) = size (c .body) + rowCount cs
 
 abbrev pub fits : Policy → Statement → Bool
-fits p (declare d) = hasRoom (declarations p) d
+fits p (declare d) = hasRoom (declarations p) d && isShort d
 fits p (attributeset f a s) = true
 fits p (gives r x y) = true
 fits p (roletransition r t c n) = ltb (length (transitions p)) maxTransitions
@@ -79,9 +97,10 @@ shallow (gives r x y) = true
 shallow (roletransition r t c n) = true
 shallow (constrain c ps e) = leb (need e) maxStack
 
--- a statement as read, or the number of its fault: "each tried for 3, 4, 5, 6, 7"
+-- a statement as read, a block that is opened, or the number of a fault: "each tried for 3, 4, 5, 6, 7"
 pub data Judged : Type 0 where
   reads : Statement → Judged
+  opens : Judged
   fault : ℕ → Judged
 
 abbrev pub sized : Policy → Statement → Judged
@@ -91,31 +110,42 @@ abbrev pub resolving : Policy → Option Statement → Judged
 resolving p none = fault 5
 resolving p (some s) = sized p s
 
-abbrev pub naming : Policy → Option Written → Judged
-naming p none = fault 3
-naming p (some w) = elim (again (declarations p) w) [
+-- a statement in the blocks of a path, after the statements of p
+abbrev pub naming : List Name → Policy → Option Written → Judged
+naming path p none = fault 3
+naming path p (some w) = elim (again (declarations p) (inBlocks path w)) [
   | true ↦ fault 4
-  | false ↦ resolving p (resolved (environmentOf (declarations p)) w)
+  | false ↦ resolving p (resolved (environmentOf (declarations p) path) (inBlocks path w))
 ]
 
--- the statement whose parentheses hold f, after the statements of p
-unfoldable pub judge : Policy → Forms → Judged
-judge p f = naming p (written f)
+-- W-203: a block in the blocks of a path, by its name, where there are blocks of these full names: "3 for a dot in a .. block .. name, 4 for a block opened
+-- twice under one full name, 6 for a full name too long or a ninth level"
+abbrev pub opening : List Name → List Name → Option Name → Judged
+opening path blocks none = fault 3
+opening path blocks (some b) =
+    cond (isIn (full path b) blocks) (fault 4) (cond (ltb (length path) maxDepth && leb (length (full path b)) maxName) opens (fault 6))
+
+-- a statement or block after those before it, whose statements are p
+unfoldable pub judge : List Scoped → Policy → Scoped → Judged
+judge before p x = cond (isBlock (x .form)) (opening (x .path) (blocksIn before) (blockIn (x .form))) (naming (x .path) p (written (x .form)))
 
 -- the statements of a text, or a refusal's number and place
 pub data Read : Type 0 where
   policy : Policy → Read
   refused : ℕ → ℕ → Read
 
--- "then statements in text order"; the parts of the text's own row are its statements
-unfoldable pub readFrom : Forms → Policy → Read
-readFrom closed p = policy p
-readFrom ended p = policy p
-readFrom (word at w after) p = readFrom after p
-readFrom (part at inner after) p = elim (judge p inner) [
-  | reads s ↦ readFrom after (p ++ (record { place = at; says = s } ∷ []))
-  | fault n ↦ refused n at
+-- "then statements in text order", after those before them, whose statements are p. A refusal is "each at its statement, or at the block's own parenthesis"
+unfoldable pub readFrom : List Scoped → List Scoped → Policy → Read
+readFrom before [] p = policy p
+readFrom before (x ∷ xs) p = elim (judge before p x) [
+  | reads s ↦ readFrom (before ++ (x ∷ [])) xs (p ++ (record { place = x .place; says = s } ∷ []))
+  | opens ↦ readFrom (before ++ (x ∷ [])) xs p
+  | fault n ↦ refused n (x .place)
 ]
+
+-- the statements and blocks of a whole text
+abbrev pub readAll : List Scoped → Read
+readAll xs = readFrom [] xs []
 
 -- "Order: 1; then 2, where the scan stops at the first byte that is wrong (lowest place); then statements in text order"
 abbrev pub afterScan : Scanned → Read → Read
@@ -124,4 +154,4 @@ afterScan (Scanned.Wrong p) r = refused 2 p
 afterScan Scanned.Clean r = r
 
 unfoldable pub readPolicy : List ℕ → Read
-readPolicy text = afterScan (scan text) (readFrom (formsOf text) [])
+readPolicy text = afterScan (scan text) (readAll (scopedIn [] (formsOf text)))

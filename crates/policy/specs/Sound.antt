@@ -7,10 +7,10 @@ use lib.Dec.{eqb, leb, ltb}
 use lib.ListN.{length, getD, getElem?, take, drop}
 use Rattle.bitset.specs.Relations.{joined}
 use Rattle.policy.specs.Basics.{Name, same, _>>=_, given, more, each, eachOf, every, unle}
-use Rattle.lexer.specs.Class.{isName}
+use Rattle.lexer.specs.Class.{maxName, isPart, parts, isDotted}
 use Rattle.policy.specs.Words.{isReserved}
 use Rattle.policy.specs.Statements.{Family, users, roles, types, Sort, thingOf, attributeOf, Declaration, plain, class, count, classNames, permissions}
-use Rattle.policy.specs.Maxima.{maxTransitions, maxConstraints, maxRows}
+use Rattle.policy.specs.Maxima.{maxTransitions, maxConstraints, maxRows, maxParts}
 use Rattle.policy.specs.Reading.{isNew, hasRoom}
 use Rattle.bitset.specs.Sets.{within}
 use Rattle.policy.specs.Rows.{Row, row, balanced}
@@ -19,17 +19,21 @@ use Rattle.policy.specs.Encode.{NameEntry, nameEntry, entries, Constrain
 
 -- WELL FORMED: what must hold of an image besides its layout
 
--- "names are good, not reserved"
+-- "names are good, not reserved"; W-203: "Tables, sound ones included, hold the full dotted name without leading dot, at most 64 bytes and nine parts"
 abbrev pub isGood : Name → Bool
-isGood w = isName w && not (isReserved w)
+isGood w = isDotted w && leb (length w) maxName && leb (length (parts w)) maxParts && not (isReserved w)
 
-abbrev pub someGood : List Name → Bool
-someGood [] = false
-someGood (w ∷ ws) = every isGood (w ∷ ws)
+-- "a permission's one"
+abbrev pub isGoodPart : Name → Bool
+isGoodPart w = isPart w && leb (length w) maxName && not (isReserved w)
+
+abbrev pub goodPermissions : List Name → Bool
+goodPermissions [] = false
+goodPermissions (w ∷ ws) = every isGoodPart (w ∷ ws)
 
 abbrev pub goodNames : Declaration → Bool
 goodNames (plain s w) = isGood w
-goodNames (class w ps) = isGood w && someGood ps
+goodNames (class w ps) = isGood w && goodPermissions ps
 
 -- "unique in their families", "its permissions differ", "counts agree with .. the maxima"
 unfoldable pub goodFrom : List Declaration → List Declaration → Bool

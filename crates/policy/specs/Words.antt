@@ -1,4 +1,4 @@
--- Document 01's keywords and reserved words. Assumes nothing.
+-- The keywords and reserved words of document 01, and what W-203 adds to them. Assumes nothing.
 use Prim.Native.Nat.{ℕ}
 use Prim.Native.String.{String}
 use mathlib.Core.Bool.{Bool, true, false, not, _&&_, _||_, cond}
@@ -7,7 +7,8 @@ use mathlib.Core.Option.{Option, none, some}
 use lib.Dec.{leb}
 use lib.ListN.{length}
 use Rattle.lexer.specs.Spell.{bytes}
-use Rattle.policy.specs.Basics.{Name, isIn, every, Under, lookup, given}
+use Rattle.lexer.specs.Class.{is, parts}
+use Rattle.policy.specs.Basics.{Name, isIn, any, Under, lookup, given}
 use Rattle.policy.specs.Statements.{Family, users, roles, types, Sort, thingOf, attributeOf, Side, source, target, Op, eq, neq, dom, domby, incomp, Relation, userrole, roletype, roleallow}
 
 -- a word and its value
@@ -22,12 +23,21 @@ reserved =
     ∷ bytes "u1" ∷ bytes "u2" ∷ bytes "u3" ∷ bytes "r1" ∷ bytes "r2" ∷ bytes "r3" ∷ bytes "t1" ∷ bytes "t2" ∷ bytes "t3"
     ∷ bytes "l1" ∷ bytes "l2" ∷ bytes "h1" ∷ bytes "h2" ∷ []
 
+-- W-203: "A name with a reserved part counts as reserved"
 unfoldable pub isReserved : Name → Bool
-isReserved w = isIn w reserved
+isReserved w = any (λ p. isIn p reserved) (parts w)
 
 -- "A reserved word where a name is asked for .. is fault 3"
 abbrev pub asName : Name → Option Name
 asName w = given (not (isReserved w)) w
+
+-- W-203: "3 for a dot in a declared, block or permission name": such a name is one part
+unfoldable pub dotless : Name → Bool
+dotless [] = true
+dotless (b ∷ w) = not (is "." b) && dotless w
+
+abbrev pub asPart : Name → Option Name
+asPart w = given (dotless w && not (isReserved w)) w
 
 -- what a statement's first word says it is
 pub data Keyword : Type 0 where
@@ -55,6 +65,10 @@ keywordOf w = lookup w (
     ∷ "roletransition" ↦→ transitionK
     ∷ "constrain" ↦→ constrainK
     ∷ [])
+
+-- W-203: the word that a block starts with
+abbrev pub blockWord : Name
+blockWord = bytes "block"
 
 -- the operators of S and of E
 pub data Connective : Type 0 where

@@ -79,6 +79,20 @@ impl Row {
     pub const MAX: usize = 2_048;
 }
 
+// A block: how deep blocks may nest.
+pub struct Block;
+
+impl Block {
+    pub const MAX_DEPTH: usize = 8;
+}
+
+// A full name: the names of the blocks around it and its own.
+pub struct FullName;
+
+impl FullName {
+    pub const MAX_PARTS: usize = Block::MAX_DEPTH + 1;
+}
+
 // What a name is declared as, in the order of the numbers that stand in the table.
 pub enum Sort {
     User,

@@ -4,6 +4,7 @@ pub mod Refused2
 pub mod Refused3
 pub mod Refused4
 pub mod Refused5
+pub mod Refused6
 pub mod Accepted0
 pub mod Accepted1
 pub mod Lent0

@@ -67,7 +67,12 @@ printed-11 : printed (ofText (bytes "(role a)(type a)(type b)(type c)(type d)(ty
 unfolding computing
 printed-11 = refl
 
--- attributes and classes print nothing
-printed-12 : printed (ofText (bytes "(userattribute x)(class c(p))(type t)(role long-name_1)")) ≡ bytes "accepted 199 bytes\nrole long-name_1 types 0\n"
+-- W-203: full names
+printed-12 : printed (ofText (bytes "(block b(role a)(block c(user u)(userrole u a)))")) ≡ bytes "accepted 180 bytes\nuser b.c.u roles 1\nrole b.a types 0\n"
 unfolding computing
 printed-12 = refl
+
+-- attributes and classes print nothing
+printed-13 : printed (ofText (bytes "(userattribute x)(class c(p))(type t)(role long-name_1)")) ≡ bytes "accepted 199 bytes\nrole long-name_1 types 0\n"
+unfolding computing
+printed-13 = refl

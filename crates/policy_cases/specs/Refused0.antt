@@ -146,162 +146,162 @@ refused-27 : outcome (ofText (bytes "(role a;\r)")) 65536 ≡ rejected (refusalA
 unfolding computing
 refused-27 = refl
 
--- reading 9: a dot is wrong
-refused-28 : outcome (ofText (bytes "(role a.b)")) 65536 ≡ rejected (refusalAt 2 7 1)
+-- reading 9: a quote is wrong
+refused-28 : outcome (ofText (bytes "(role \"a\")")) 65536 ≡ rejected (refusalAt 2 6 1)
 unfolding computing
 refused-28 = refl
 
--- reading 9: a quote is wrong
-refused-29 : outcome (ofText (bytes "(role \"a\")")) 65536 ≡ rejected (refusalAt 2 6 1)
+-- reading 9: NUL is wrong
+refused-29 : outcome (ofText (bytes "(role a\0)")) 65536 ≡ rejected (refusalAt 2 7 1)
 unfolding computing
 refused-29 = refl
 
--- reading 9: NUL is wrong
-refused-30 : outcome (ofText (bytes "(role a\0)")) 65536 ≡ rejected (refusalAt 2 7 1)
+-- reading 9: VT is wrong
+refused-30 : outcome (ofText (bytes "(role\u{b}a)")) 65536 ≡ rejected (refusalAt 2 5 1)
 unfolding computing
 refused-30 = refl
 
--- reading 9: VT is wrong
-refused-31 : outcome (ofText (bytes "(role\u{b}a)")) 65536 ≡ rejected (refusalAt 2 5 1)
+-- reading 9: FF is wrong
+refused-31 : outcome (ofText (bytes "(role\u{c}a)")) 65536 ≡ rejected (refusalAt 2 5 1)
 unfolding computing
 refused-31 = refl
 
--- reading 9: FF is wrong
-refused-32 : outcome (ofText (bytes "(role\u{c}a)")) 65536 ≡ rejected (refusalAt 2 5 1)
+-- a wrong byte
+refused-32 : outcome (ofText (bytes "(role a)!")) 65536 ≡ rejected (refusalAt 2 8 1)
 unfolding computing
 refused-32 = refl
 
 -- a wrong byte
-refused-33 : outcome (ofText (bytes "(role a)!")) 65536 ≡ rejected (refusalAt 2 8 1)
+refused-33 : outcome (ofText (bytes "#")) 65536 ≡ rejected (refusalAt 2 0 1)
 unfolding computing
 refused-33 = refl
 
 -- a wrong byte
-refused-34 : outcome (ofText (bytes "#")) 65536 ≡ rejected (refusalAt 2 0 1)
+refused-34 : outcome (ofText (bytes "(role/a)")) 65536 ≡ rejected (refusalAt 2 5 1)
 unfolding computing
 refused-34 = refl
 
 -- a wrong byte
-refused-35 : outcome (ofText (bytes "(role/a)")) 65536 ≡ rejected (refusalAt 2 5 1)
+refused-35 : outcome (ofText (bytes "(role a])")) 65536 ≡ rejected (refusalAt 2 7 1)
 unfolding computing
 refused-35 = refl
 
 -- a wrong byte
-refused-36 : outcome (ofText (bytes "(role a])")) 65536 ≡ rejected (refusalAt 2 7 1)
+refused-36 : outcome (ofText (bytes "{role a}")) 65536 ≡ rejected (refusalAt 2 0 1)
 unfolding computing
 refused-36 = refl
 
 -- a wrong byte
-refused-37 : outcome (ofText (bytes "{role a}")) 65536 ≡ rejected (refusalAt 2 0 1)
+refused-37 : outcome (ofText (bytes "(role a:b)")) 65536 ≡ rejected (refusalAt 2 7 1)
 unfolding computing
 refused-37 = refl
 
 -- a wrong byte
-refused-38 : outcome (ofText (bytes "(role a:b)")) 65536 ≡ rejected (refusalAt 2 7 1)
+refused-38 : outcome (ofText (bytes "(role a+)")) 65536 ≡ rejected (refusalAt 2 7 1)
 unfolding computing
 refused-38 = refl
 
 -- a wrong byte
-refused-39 : outcome (ofText (bytes "(role a+)")) 65536 ≡ rejected (refusalAt 2 7 1)
+refused-39 : outcome (ofText (bytes "(role a~)")) 65536 ≡ rejected (refusalAt 2 7 1)
 unfolding computing
 refused-39 = refl
 
 -- a wrong byte
-refused-40 : outcome (ofText (bytes "(role a~)")) 65536 ≡ rejected (refusalAt 2 7 1)
+refused-40 : outcome (ofText (bytes "(role `)")) 65536 ≡ rejected (refusalAt 2 6 1)
 unfolding computing
 refused-40 = refl
 
--- a wrong byte
-refused-41 : outcome (ofText (bytes "(role `)")) 65536 ≡ rejected (refusalAt 2 6 1)
+-- reading 11: form before 4
+refused-41 : outcome (ofText (bytes "(class c (p p all))")) 65536 ≡ rejected (refusalAt 3 0 1)
 unfolding computing
 refused-41 = refl
 
--- reading 11: form before 4
-refused-42 : outcome (ofText (bytes "(class c (p p all))")) 65536 ≡ rejected (refusalAt 3 0 1)
+-- reading 11: form before 5
+refused-42 : outcome (ofText (bytes "(roletransition nope nope nope r1)")) 65536 ≡ rejected (refusalAt 3 0 1)
 unfolding computing
 refused-42 = refl
 
 -- reading 11: form before 5
-refused-43 : outcome (ofText (bytes "(roletransition nope nope nope r1)")) 65536 ≡ rejected (refusalAt 3 0 1)
+refused-43 : outcome (ofText (bytes "(role a)(class c (p))(constrain (c (nope)) (eq a u1))")) 65536 ≡ rejected (refusalAt 3 21 1)
 unfolding computing
 refused-43 = refl
 
--- reading 11: form before 5
-refused-44 : outcome (ofText (bytes "(role a)(class c (p))(constrain (c (nope)) (eq a u1))")) 65536 ≡ rejected (refusalAt 3 21 1)
+-- reading 11: an earlier 4 beats a later 3
+refused-44 : outcome (ofText (bytes "(role a)(role a)()")) 65536 ≡ rejected (refusalAt 4 8 1)
 unfolding computing
 refused-44 = refl
 
--- reading 11: an earlier 4 beats a later 3
-refused-45 : outcome (ofText (bytes "(role a)(role a)()")) 65536 ≡ rejected (refusalAt 4 8 1)
+-- reading 11: an earlier 5 beats a later 3
+refused-45 : outcome (ofText (bytes "(roletype a t)()")) 65536 ≡ rejected (refusalAt 5 0 1)
 unfolding computing
 refused-45 = refl
 
--- reading 11: an earlier 5 beats a later 3
-refused-46 : outcome (ofText (bytes "(roletype a t)()")) 65536 ≡ rejected (refusalAt 5 0 1)
+-- reading 12: the statement's own place
+refused-46 : outcome (ofText (bytes "(role a)(roleattribute x)(roleattributeset x (or a (and a (not a a))))")) 65536 ≡ rejected (refusalAt 3 25 1)
 unfolding computing
 refused-46 = refl
 
 -- reading 12: the statement's own place
-refused-47 : outcome (ofText (bytes "(role a)(roleattribute x)(roleattributeset x (or a (and a (not a a))))")) 65536 ≡ rejected (refusalAt 3 25 1)
+refused-47 : outcome (ofText (bytes "(class c (p))(constrain (c (p)) (not (and (eq u1 u2) (eq u2 u1))))")) 65536 ≡ rejected (refusalAt 3 13 1)
 unfolding computing
 refused-47 = refl
 
--- reading 12: the statement's own place
-refused-48 : outcome (ofText (bytes "(class c (p))(constrain (c (p)) (not (and (eq u1 u2) (eq u2 u1))))")) 65536 ≡ rejected (refusalAt 3 13 1)
+-- reading 17: S is parenthesised
+refused-48 : outcome (ofText (bytes "(role a)(roleattribute x)(roleattributeset x a)")) 65536 ≡ rejected (refusalAt 3 25 1)
 unfolding computing
 refused-48 = refl
 
--- reading 17: S is parenthesised
-refused-49 : outcome (ofText (bytes "(role a)(roleattribute x)(roleattributeset x a)")) 65536 ≡ rejected (refusalAt 3 25 1)
+-- reading 17: () as S
+refused-49 : outcome (ofText (bytes "(roleattribute x)(roleattributeset x ())")) 65536 ≡ rejected (refusalAt 3 17 1)
 unfolding computing
 refused-49 = refl
 
--- reading 17: () as S
-refused-50 : outcome (ofText (bytes "(roleattribute x)(roleattributeset x ())")) 65536 ≡ rejected (refusalAt 3 17 1)
+-- reading 17: () within S
+refused-50 : outcome (ofText (bytes "(role a)(roleattribute x)(roleattributeset x (a ()))")) 65536 ≡ rejected (refusalAt 3 25 1)
 unfolding computing
 refused-50 = refl
 
--- reading 17: () within S
-refused-51 : outcome (ofText (bytes "(role a)(roleattribute x)(roleattributeset x (a ()))")) 65536 ≡ rejected (refusalAt 3 25 1)
+-- one S only
+refused-51 : outcome (ofText (bytes "(role a)(roleattribute x)(roleattributeset x (a) (a))")) 65536 ≡ rejected (refusalAt 3 25 1)
 unfolding computing
 refused-51 = refl
 
--- one S only
-refused-52 : outcome (ofText (bytes "(role a)(roleattribute x)(roleattributeset x (a) (a))")) 65536 ≡ rejected (refusalAt 3 25 1)
+-- S is missing
+refused-52 : outcome (ofText (bytes "(roleattribute x)(roleattributeset x)")) 65536 ≡ rejected (refusalAt 3 17 1)
 unfolding computing
 refused-52 = refl
 
--- S is missing
-refused-53 : outcome (ofText (bytes "(roleattribute x)(roleattributeset x)")) 65536 ≡ rejected (refusalAt 3 17 1)
+-- A is a name
+refused-53 : outcome (ofText (bytes "(role a)(roleattributeset (x) (a))")) 65536 ≡ rejected (refusalAt 3 8 1)
 unfolding computing
 refused-53 = refl
 
--- A is a name
-refused-54 : outcome (ofText (bytes "(role a)(roleattributeset (x) (a))")) 65536 ≡ rejected (refusalAt 3 8 1)
+-- a reserved word for A
+refused-54 : outcome (ofText (bytes "(roleattributeset all (a))")) 65536 ≡ rejected (refusalAt 3 0 1)
 unfolding computing
 refused-54 = refl
 
--- a reserved word for A
-refused-55 : outcome (ofText (bytes "(roleattributeset all (a))")) 65536 ≡ rejected (refusalAt 3 0 1)
+-- reading 19
+refused-55 : outcome (ofText (bytes "(class c (p))(constrain (c p) (eq u1 u2))")) 65536 ≡ rejected (refusalAt 3 13 1)
 unfolding computing
 refused-55 = refl
 
 -- reading 19
-refused-56 : outcome (ofText (bytes "(class c (p))(constrain (c p) (eq u1 u2))")) 65536 ≡ rejected (refusalAt 3 13 1)
+refused-56 : outcome (ofText (bytes "(class c (p))(constrain (c ()) (eq u1 u2))")) 65536 ≡ rejected (refusalAt 3 13 1)
 unfolding computing
 refused-56 = refl
 
 -- reading 19
-refused-57 : outcome (ofText (bytes "(class c (p))(constrain (c ()) (eq u1 u2))")) 65536 ≡ rejected (refusalAt 3 13 1)
+refused-57 : outcome (ofText (bytes "(class c (p q))(constrain (c (p) (q)) (eq u1 u2))")) 65536 ≡ rejected (refusalAt 3 15 1)
 unfolding computing
 refused-57 = refl
 
 -- reading 19
-refused-58 : outcome (ofText (bytes "(class c (p q))(constrain (c (p) (q)) (eq u1 u2))")) 65536 ≡ rejected (refusalAt 3 15 1)
+refused-58 : outcome (ofText (bytes "(class c (p))(constrain c (p) (eq u1 u2))")) 65536 ≡ rejected (refusalAt 3 13 1)
 unfolding computing
 refused-58 = refl
 
 -- reading 19
-refused-59 : outcome (ofText (bytes "(class c (p))(constrain c (p) (eq u1 u2))")) 65536 ≡ rejected (refusalAt 3 13 1)
+refused-59 : outcome (ofText (bytes "(class c (p))(constrain ((c) (p)) (eq u1 u2))")) 65536 ≡ rejected (refusalAt 3 13 1)
 unfolding computing
 refused-59 = refl

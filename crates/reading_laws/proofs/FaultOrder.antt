@@ -1,46 +1,95 @@
--- "Order: 1; then 2, ..; then statements in text order, each tried for 3, 4, 5, 6, 7": a text is refused with a number and a place exactly
--- where this is its first fault in that order. The place of 3 to 7 is that of the statement, all before it having been read.
--- By induction on the row; the converse by reading the row in two parts. Assumes nothing.
+-- "Order: 1; then 2, ..; then statements in text order, each tried for 3, 4, 5, 6, 7", and with W-203 "A block is tried before the statements in it", for 3, 4
+-- and 6: a text is refused with a number and a place exactly where this is its first fault in that order. The place of 3 to 7 is that of the statement or the
+-- block, all before it having been read. By induction on the statements and blocks; the converse by reading them in two parts. Assumes nothing.
 use Prim.Native.Nat.{ℕ, _≤_}
 use native.Mathlib.Omega.{arith}
 use mathlib.Core.Path.{_≡_, refl, sym, ap, _∙_, subst, subst₂}
-use mathlib.Core.Bool.{Bool, true, false, cond}
-use mathlib.Core.List.{List, [], _∷_, _++_}
+use mathlib.Core.Bool.{Bool, true, false, _&&_, cond}
+use mathlib.Core.List.{List, [], _∷_, _++_, append-assoc, append-nil}
 use mathlib.Core.Option.{Option, none, some}
+use lib.Dec.{leb, ltb}
+use lib.ListN.{length}
 use Rattle.lexer.specs.declared.Scanned.{Scanned}
 use Rattle.lexer.specs.Scan.{scan, maxText}
-use Rattle.lexer.specs.Forms.{Forms, closed, ended, word, part, formsOf}
+use Rattle.lexer.specs.Class.{maxName}
+use Rattle.lexer.specs.Forms.{formsOf}
+use Rattle.policy.specs.Basics.{Name, isIn}
 use Rattle.policy.specs.Statements.{Statement, Written, Policy, declarations}
-use Rattle.policy.specs.Grammar.{written}
-use Rattle.policy.specs.Reading.{again, resolved, fits, shallow, Judged, reads, fault, sized, resolving, naming, judge, policy, refused, readFrom, afterScan, readPolicy}
-use Rattle.policy.specs.Names.{environmentOf}
-use Rattle.reading_laws.proofs.ReadThen.{_then_, line, judgedAt, read-part, stopped-row}
+use Rattle.policy.specs.Maxima.{maxDepth}
+use Rattle.policy.specs.Grammar.{written, isBlock, blockIn}
+use Rattle.policy.specs.Scopes.{Scoped, scopedIn, blocksIn}
+use Rattle.policy.specs.Reading.{inBlocks, again, resolved, fits, shallow}
+use Rattle.policy.specs.Reading.{Judged, reads, opens, fault, sized, resolving, naming, opening, judge, policy, refused, readFrom, readAll, afterScan, readPolicy}
+use Rattle.policy.specs.Names.{full, environmentOf}
+use Rattle.reading_laws.proofs.BlockOrStatement.{judge-block, judge-statement}
+use Rattle.reading_laws.proofs.ReadThen.{line, judgedAt, read-one, read-reads, read-opens, stopped-row}
 
--- a statement's first fault after the statements of p: each is told with those before it ruled out
-pub data FaultIn (p : Policy) (f : Forms) : ℕ → Type 0 where
-  no-form : written f ≡ none → FaultIn p f 3
-  declared-again : (w : Written) → written f ≡ some w → again (declarations p) w ≡ true → FaultIn p f 4
-  not-declared : (w : Written) → written f ≡ some w → again (declarations p) w ≡ false → resolved (environmentOf (declarations p)) w ≡ none → FaultIn p f 5
-  too-many : (w : Written) (s : Statement) → written f ≡ some w → again (declarations p) w ≡ false → resolved (environmentOf (declarations p)) w ≡ some s
-      → fits p s ≡ false → FaultIn p f 6
-  too-deep : (w : Written) (s : Statement) → written f ≡ some w → again (declarations p) w ≡ false → resolved (environmentOf (declarations p)) w ≡ some s
-      → fits p s ≡ true → shallow s ≡ false → FaultIn p f 7
+-- ---- one statement or block
 
-pub fault-number : {p : Policy} {f : Forms} {n : ℕ} → FaultIn p f n → (3 ≤ n) × (n ≤ 7)
-fault-number (no-form e) = (omega arith, omega arith)
-fault-number (declared-again w e a) = (omega arith, omega arith)
-fault-number (not-declared w e a r) = (omega arith, omega arith)
-fault-number (too-many w s e a r x) = (omega arith, omega arith)
-fault-number (too-deep w s e a r x y) = (omega arith, omega arith)
+-- a statement's first fault in the blocks of a path, after the statements of p, by its written form: each is told with those before it ruled out
+pub data StatementFault (path : List Name) (p : Policy) (o : Option Written) : ℕ → Type 0 where
+  no-form : o ≡ none → StatementFault path p o 3
+  declared-again : (w : Written) → o ≡ some w → again (declarations p) (inBlocks path w) ≡ true → StatementFault path p o 4
+  not-declared : (w : Written) → o ≡ some w → again (declarations p) (inBlocks path w) ≡ false
+      → resolved (environmentOf (declarations p) path) (inBlocks path w) ≡ none → StatementFault path p o 5
+  too-many : (w : Written) (s : Statement) → o ≡ some w → again (declarations p) (inBlocks path w) ≡ false
+      → resolved (environmentOf (declarations p) path) (inBlocks path w) ≡ some s → fits p s ≡ false → StatementFault path p o 6
+  too-deep : (w : Written) (s : Statement) → o ≡ some w → again (declarations p) (inBlocks path w) ≡ false
+      → resolved (environmentOf (declarations p) path) (inBlocks path w) ≡ some s → fits p s ≡ true → shallow s ≡ false → StatementFault path p o 7
 
-module _ (p : Policy) (f : Forms) where
-  pub fault-judged : (n : ℕ) → FaultIn p f n → judge p f ≡ fault n
-  unfolding judge
-  fault-judged n (no-form e) = rw e
-  fault-judged n (declared-again w e a) = rw (e, a, naming)
-  fault-judged n (not-declared w e a r) = rw (e, a, naming, r)
-  fault-judged n (too-many w s e a r x) = rw (e, a, naming, r, x)
-  fault-judged n (too-deep w s e a r x y) = rw (e, a, naming, r, x, y)
+-- "6 for a full name too long or a ninth level": a block of the name has neither
+abbrev pub hasPlace : List Name → Name → Bool
+hasPlace path b = ltb (length path) maxDepth && leb (length (full path b)) maxName
+
+-- a block's first fault in the blocks of a path, by its own name, where blocks of these full names were opened before
+pub data BlockFault (path blocks : List Name) (o : Option Name) : ℕ → Type 0 where
+  no-block-form : o ≡ none → BlockFault path blocks o 3
+  opened-again : (b : Name) → o ≡ some b → isIn (full path b) blocks ≡ true → BlockFault path blocks o 4
+  no-place : (b : Name) → o ≡ some b → isIn (full path b) blocks ≡ false → hasPlace path b ≡ false → BlockFault path blocks o 6
+
+-- the first fault of a statement or a block after those before it, whose statements are p
+pub data FaultIn (before : List Scoped) (p : Policy) (x : Scoped) : ℕ → Type 0 where
+  of-statement : {n : ℕ} → isBlock (x .form) ≡ false → StatementFault (x .path) p (written (x .form)) n → FaultIn before p x n
+  of-block : {n : ℕ} → isBlock (x .form) ≡ true → BlockFault (x .path) (blocksIn before) (blockIn (x .form)) n → FaultIn before p x n
+
+-- their numbers are 3 to 7
+statement-number : {path : List Name} {p : Policy} {o : Option Written} {n : ℕ} → StatementFault path p o n → (3 ≤ n) × (n ≤ 7)
+statement-number (no-form e) = (omega arith, omega arith)
+statement-number (declared-again w e a) = (omega arith, omega arith)
+statement-number (not-declared w e a r) = (omega arith, omega arith)
+statement-number (too-many w s e a r x) = (omega arith, omega arith)
+statement-number (too-deep w s e a r x y) = (omega arith, omega arith)
+
+block-number : {path blocks : List Name} {o : Option Name} {n : ℕ} → BlockFault path blocks o n → (3 ≤ n) × (n ≤ 7)
+block-number (no-block-form e) = (omega arith, omega arith)
+block-number (opened-again b e a) = (omega arith, omega arith)
+block-number (no-place b e a h) = (omega arith, omega arith)
+
+pub fault-number : {before : List Scoped} {p : Policy} {x : Scoped} {n : ℕ} → FaultIn before p x n → (3 ≤ n) × (n ≤ 7)
+fault-number (of-statement e f) = statement-number f
+fault-number (of-block e f) = block-number f
+
+-- ---- it is judged faulty where it has the fault
+
+module _ (path : List Name) (p : Policy) (o : Option Written) where
+  naming-faulty : (n : ℕ) → StatementFault path p o n → naming path p o ≡ fault n
+  naming-faulty n (no-form e) = rw e
+  naming-faulty n (declared-again w e a) = rw (e, a, naming)
+  naming-faulty n (not-declared w e a r) = rw (e, a, naming, r)
+  naming-faulty n (too-many w s e a r x) = rw (e, a, naming, r, x)
+  naming-faulty n (too-deep w s e a r x y) = rw (e, a, naming, r, x, y)
+
+opening-faulty : (path blocks : List Name) (o : Option Name) (n : ℕ) → BlockFault path blocks o n → opening path blocks o ≡ fault n
+opening-faulty path blocks o n (no-block-form e) = rw e
+opening-faulty path blocks o n (opened-again b e a) = rw (e, a)
+opening-faulty path blocks o n (no-place b e a h) = rw (e, a, h)
+
+module _ (before : List Scoped) (p : Policy) (x : Scoped) where
+  pub fault-judged : (n : ℕ) → FaultIn before p x n → judge before p x ≡ fault n
+  fault-judged n (of-statement e f) = judge-statement before p x e ∙ naming-faulty (x .path) p (written (x .form)) n f
+  fault-judged n (of-block e f) = judge-block before p x e ∙ opening-faulty (x .path) (blocksIn before) (blockIn (x .form)) n f
+
+-- ---- and has it where it is judged faulty
 
 -- a property of the fault, if there is one
 record IfFault (Q : ℕ → Type 0) (j : Judged) : Type 0 where
@@ -52,88 +101,127 @@ a-fault {Q} {n} h = record { has = λ m e. let same : n ≡ m = cc in subst Q sa
 no-fault : {Q : ℕ → Type 0} (s : Statement) → IfFault Q (reads s)
 no-fault s = record { has = λ m e. let z : _≡_ {A = ℕ} 0 1 = cc in absurd (omega arith) }
 
-module _ (p : Policy) (f : Forms) where
-  sized-fault : (w : Written) (s : Statement) → written f ≡ some w → again (declarations p) w ≡ false → resolved (environmentOf (declarations p)) w ≡ some s
-      → IfFault (FaultIn p f) (sized p s)
+it-opens : {Q : ℕ → Type 0} → IfFault Q opens
+it-opens = record { has = λ m e. let z : _≡_ {A = ℕ} 0 1 = cc in absurd (omega arith) }
+
+module _ (path : List Name) (p : Policy) (o : Option Written) where
+  sized-fault : (w : Written) (s : Statement) → o ≡ some w → again (declarations p) (inBlocks path w) ≡ false
+      → resolved (environmentOf (declarations p) path) (inBlocks path w) ≡ some s → IfFault (StatementFault path p o) (sized p s)
   sized-fault w s e a r = go (fits p s) (shallow s) refl refl
     where
-      go : (x y : Bool) → fits p s ≡ x → shallow s ≡ y → IfFault (FaultIn p f) (cond x (cond y (reads s) (fault 7)) (fault 6))
+      go : (x y : Bool) → fits p s ≡ x → shallow s ≡ y → IfFault (StatementFault path p o) (cond x (cond y (reads s) (fault 7)) (fault 6))
       go false y i j = a-fault (too-many w s e a r i)
       go true false i j = a-fault (too-deep w s e a r i j)
       go true true i j = no-fault s
 
-  resolving-fault : (w : Written) → written f ≡ some w → again (declarations p) w ≡ false → (o : Option Statement) → resolved (environmentOf (declarations p)) w ≡ o
-      → IfFault (FaultIn p f) (resolving p o)
+  resolving-fault : (w : Written) → o ≡ some w → again (declarations p) (inBlocks path w) ≡ false → (r : Option Statement)
+      → resolved (environmentOf (declarations p) path) (inBlocks path w) ≡ r → IfFault (StatementFault path p o) (resolving p r)
   resolving-fault w e a none r = a-fault (not-declared w e a r)
   resolving-fault w e a (some s) r = sized-fault w s e a r
 
-  naming-fault : (o : Option Written) → written f ≡ o → IfFault (FaultIn p f) (naming p o)
+  naming-fault : (v : Option Written) → o ≡ v → IfFault (StatementFault path p o) (naming path p v)
   naming-fault none e = a-fault (no-form e)
-  naming-fault (some w) e = go (again (declarations p) w) refl
+  naming-fault (some w) e = go (again (declarations p) (inBlocks path w)) refl
     where
-      go : (b : Bool) → again (declarations p) w ≡ b
-          → IfFault (FaultIn p f) (elim b [ true ↦ fault 4 | false ↦ resolving p (resolved (environmentOf (declarations p)) w) ])
+      go : (b : Bool) → again (declarations p) (inBlocks path w) ≡ b
+          → IfFault (StatementFault path p o) (elim b [ true ↦ fault 4 | false ↦ resolving p (resolved (environmentOf (declarations p) path) (inBlocks path w)) ])
       go true a = a-fault (declared-again w e a)
-      go false a = resolving-fault w e a (resolved (environmentOf (declarations p)) w) refl
+      go false a = resolving-fault w e a (resolved (environmentOf (declarations p) path) (inBlocks path w)) refl
 
-  pub judged-fault : (n : ℕ) → judge p f ≡ fault n → FaultIn p f n
-  unfolding judge
-  judged-fault n h = naming-fault (written f) refl .has n h
-
--- the row f, read after the statements of p, has its first fault, of number n, in the statement at a place
-pub record Stops (f : Forms) (p : Policy) (n at : ℕ) : Type 0 where
-  pub before : Forms
-  pub inner : Forms
-  pub rest : Forms
-  pub row : f ≡ before then part at inner rest
-  pub sofar : Policy
-  pub read : readFrom before p ≡ policy sofar
-  pub faulty : FaultIn sofar inner n
-
-pub stops-refused : (f : Forms) (p : Policy) (n at : ℕ) → Stops f p n at → readFrom f p ≡ refused n at
-stops-refused f p n at s = rw (s .row) (stopped-row (s .before) (s .inner) (s .rest) at n p (s .sofar) (s .read) (fault-judged (s .sofar) (s .inner) n (s .faulty)))
-
-pub refused-stops : (f : Forms) (p : Policy) (n at : ℕ) → readFrom f p ≡ refused n at → Stops f p n at
-unfolding readFrom
-refused-stops closed p n at h = let z : _≡_ {A = ℕ} 0 1 = cc in absurd (omega arith)
-refused-stops ended p n at h = let z : _≡_ {A = ℕ} 0 1 = cc in absurd (omega arith)
-refused-stops (word b w r) p n at h =
-    let s = refused-stops r p n at h in
-    record { before = word b w (s .before); inner = s .inner; rest = s .rest; row = ap (word b w) (s .row); sofar = s .sofar; read = s .read; faulty = s .faulty }
-refused-stops (part b i r) p n at h = go (judge p i) refl (sym (read-part b i r p) ∙ h) (λ q. refused-stops r q n at)
+opening-fault : (path blocks : List Name) (o v : Option Name) → o ≡ v → IfFault (BlockFault path blocks o) (opening path blocks v)
+opening-fault path blocks o none e = a-fault (no-block-form e)
+opening-fault path blocks o (some b) e = go (isIn (full path b) blocks) (hasPlace path b) refl refl
   where
-    go : (j : Judged) → judge p i ≡ j → judgedAt b p (judge p i) (readFrom r) ≡ refused n at → ((q : Policy) → readFrom r q ≡ refused n at → Stops r q n at)
-        → Stops (part b i r) p n at
-    go (reads t) e k further =
-        let s = further (p ++ (line b t ∷ [])) (rw e at k) in
-        record {
-          before = part b i (s .before);
-          inner = s .inner;
-          rest = s .rest;
-          row = ap (part b i) (s .row);
-          sofar = s .sofar;
-          read = read-part b i (s .before) p ∙ rw e (s .read);
-          faulty = s .faulty;
-        }
-    go (fault m) e k further =
-        let k′ : refused m b ≡ refused n at = rw e at k in
-        let here : b ≡ at = cc in
-        let number : m ≡ n = cc in
-        record {
-          before = ended;
-          inner = i;
-          rest = r;
-          row = ap (λ (x : ℕ). part x i r) here;
-          sofar = p;
-          read = refl;
-          faulty = subst (FaultIn p i) number (judged-fault p i m e);
-        }
+    go : (i r : Bool) → isIn (full path b) blocks ≡ i → hasPlace path b ≡ r → IfFault (BlockFault path blocks o) (cond i (fault 4) (cond r opens (fault 6)))
+    go true r a h = a-fault (opened-again b e a)
+    go false true a h = it-opens
+    go false false a h = a-fault (no-place b e a h)
+
+module _ (before : List Scoped) (p : Policy) (x : Scoped) where
+  pub judged-fault : (n : ℕ) → judge before p x ≡ fault n → FaultIn before p x n
+  judged-fault n h = go (isBlock (x .form)) refl
+    where
+      go : (q : Bool) → isBlock (x .form) ≡ q → FaultIn before p x n
+      go false e = of-statement e (naming-fault (x .path) p (written (x .form)) (written (x .form)) refl .has n (sym (judge-statement before p x e) ∙ h))
+      go true e = of-block e (opening-fault (x .path) (blocksIn before) (blockIn (x .form)) (blockIn (x .form)) refl .has n (sym (judge-block before p x e) ∙ h))
+
+-- ---- some statements and blocks
+
+-- xs, read after those earlier, whose statements are p, have their first fault, of number n, in a statement or block at a place: those before it are read
+pub record StopsAfter (earlier : List Scoped) (p : Policy) (xs : List Scoped) (n at : ℕ) : Type 0 where
+  pub before : List Scoped
+  pub here : Scoped
+  pub rest : List Scoped
+  pub row : xs ≡ before ++ (here ∷ rest)
+  pub place : here .place ≡ at
+  pub sofar : Policy
+  pub read : readFrom earlier before p ≡ policy sofar
+  pub faulty : FaultIn (earlier ++ before) sofar here n
+
+-- those of a whole text
+abbrev pub Stops : List Scoped → ℕ → ℕ → Type 0
+Stops xs n at = StopsAfter [] [] xs n at
+
+-- where they stop they are refused
+pub stops-refused : (earlier : List Scoped) (p : Policy) (xs : List Scoped) (n at : ℕ) → StopsAfter earlier p xs n at → readFrom earlier xs p ≡ refused n at
+stops-refused earlier p xs n at s =
+    rw (s .row)
+    (stopped-row earlier (s .before) (s .here) (s .rest) n p (s .sofar) (s .read) (fault-judged (earlier ++ s .before) (s .sofar) (s .here) n (s .faulty))
+    ∙ ap (refused n) (s .place))
+
+-- one more in front, that is read or opened
+later : (earlier : List Scoped) (x : Scoped) (p q : Policy) (xs : List Scoped) (n at : ℕ)
+    → ((ys : List Scoped) → readFrom earlier (x ∷ ys) p ≡ readFrom (earlier ++ (x ∷ [])) ys q)
+    → StopsAfter (earlier ++ (x ∷ [])) q xs n at → StopsAfter earlier p (x ∷ xs) n at
+later earlier x p q xs n at one s = record {
+  before = x ∷ s .before;
+  here = s .here;
+  rest = s .rest;
+  row = ap {B = List Scoped} (λ l. x ∷ l) (s .row);
+  place = s .place;
+  sofar = s .sofar;
+  read = one (s .before) ∙ s .read;
+  faulty = subst (λ (l : List Scoped). FaultIn l (s .sofar) (s .here) n) (append-assoc earlier (x ∷ []) (s .before)) (s .faulty);
+}
+
+-- the first of them
+at-once : (earlier : List Scoped) (x : Scoped) (p : Policy) (xs : List Scoped) (m n at : ℕ) → judge earlier p x ≡ fault m → refused m (x .place) ≡ refused n at
+    → StopsAfter earlier p (x ∷ xs) n at
+unfolding readFrom
+at-once earlier x p xs m n at h e =
+    let here : x .place ≡ at = cc in
+    let number : m ≡ n = cc in
+    record {
+      before = [];
+      here = x;
+      rest = xs;
+      row = refl;
+      place = here;
+      sofar = p;
+      read = refl;
+      faulty = subst₂ (λ (l : List Scoped) (k : ℕ). FaultIn l p x k) (sym (append-nil earlier)) number (judged-fault earlier p x m h);
+    }
+
+-- and they stop where they are refused
+pub refused-stops : (earlier : List Scoped) (p : Policy) (xs : List Scoped) (n at : ℕ) → readFrom earlier xs p ≡ refused n at → StopsAfter earlier p xs n at
+unfolding readFrom
+refused-stops earlier p [] n at h = let z : _≡_ {A = ℕ} 0 1 = cc in absurd (omega arith)
+refused-stops earlier p (x ∷ xs) n at h = go (judge earlier p x) refl (sym (read-one earlier x xs p) ∙ h) (λ q. refused-stops (earlier ++ (x ∷ [])) q xs n at)
+  where
+    go : (j : Judged) → judge earlier p x ≡ j → judgedAt (x .place) p j (readFrom (earlier ++ (x ∷ [])) xs) ≡ refused n at
+        → ((q : Policy) → readFrom (earlier ++ (x ∷ [])) xs q ≡ refused n at → StopsAfter (earlier ++ (x ∷ [])) q xs n at) → StopsAfter earlier p (x ∷ xs) n at
+    go (reads s) e k further =
+        let q = p ++ (line (x .place) s ∷ []) in later earlier x p q xs n at (λ ys. read-reads earlier x ys p s e) (further q k)
+    go opens e k further = later earlier x p p xs n at (λ ys. read-opens earlier x ys p e) (further p k)
+    go (fault m) e k further = at-once earlier x p xs m n at e k
+
+-- ---- a text
 
 -- why a text is refused
 pub data RefusedFor (text : List ℕ) : ℕ → ℕ → Type 0 where
   too-long : scan text ≡ Scanned.TooLong → RefusedFor text 1 maxText
   wrong-byte : (at : ℕ) → scan text ≡ Scanned.Wrong at → RefusedFor text 2 at
-  at-statement : (n at : ℕ) → scan text ≡ Scanned.Clean → Stops (formsOf text) [] n at → RefusedFor text n at
+  at-statement : (n at : ℕ) → scan text ≡ Scanned.Clean → Stops (scopedIn [] (formsOf text)) n at → RefusedFor text n at
 
 pub refusal-number : {text : List ℕ} {n at : ℕ} → RefusedFor text n at → (1 ≤ n) × (n ≤ 7)
 refusal-number (too-long e) = (omega arith, omega arith)
@@ -144,17 +232,19 @@ module _ (text : List ℕ) where
   same-refusal : {m b n at : ℕ} → refused m b ≡ refused n at → RefusedFor text m b → RefusedFor text n at
   same-refusal {m} {b} {n} {at} e r = let number : m ≡ n = cc in let here : b ≡ at = cc in subst₂ (RefusedFor text) number here r
 
+  -- a text that is refused has the fault as its first
   pub fault-order : (n at : ℕ) → readPolicy text ≡ refused n at → RefusedFor text n at
   unfolding readPolicy
   fault-order n at h = go (scan text) refl h
     where
-      go : (s : Scanned) → scan text ≡ s → afterScan s (readFrom (formsOf text) []) ≡ refused n at → RefusedFor text n at
+      go : (s : Scanned) → scan text ≡ s → afterScan s (readAll (scopedIn [] (formsOf text))) ≡ refused n at → RefusedFor text n at
       go Scanned.TooLong e k = same-refusal k (too-long e)
       go (Scanned.Wrong b) e k = same-refusal k (wrong-byte b e)
-      go Scanned.Clean e k = at-statement n at e (refused-stops (formsOf text) [] n at k)
+      go Scanned.Clean e k = at-statement n at e (refused-stops [] [] (scopedIn [] (formsOf text)) n at k)
 
+  -- and one that has the fault as its first is refused so
   pub order-fault : (n at : ℕ) → RefusedFor text n at → readPolicy text ≡ refused n at
   unfolding readPolicy
   order-fault n at (too-long e) = rw e
   order-fault n at (wrong-byte b e) = rw e
-  order-fault n at (at-statement m b e s) = rw e (stops-refused (formsOf text) [] m b s)
+  order-fault n at (at-statement m b e s) = rw e (stops-refused [] [] (scopedIn [] (formsOf text)) m b s)

@@ -2,17 +2,22 @@
 -- has good names, and it has room. The law follows the order of the faults. Assumes nothing.
 use Prim.Native.Nat.{ℕ}
 use native.Mathlib.Omega.{arith}
-use mathlib.Core.Path.{_≡_, refl, ap, subst}
+use mathlib.Core.Path.{_≡_, refl, sym, ap, _∙_, subst}
 use mathlib.Core.Bool.{Bool, true, false, cond}
-use mathlib.Core.Option.{Option, none, some}
-use Rattle.lexer.specs.Forms.{Forms, namesGood}
-use Rattle.policy.specs.Statements.{Statement, Written, Policy, declarations}
-use Rattle.policy.specs.Reading.{again, resolved, fits, shallow, Judged, reads, fault, sized, resolving, naming, judge}
+use mathlib.Core.List.{List}
+use mathlib.Core.Option.{Option, none, some, Option·some-injective}
+use Rattle.lexer.specs.Forms.{namesGood}
+use Rattle.policy.specs.Basics.{Name}
+use Rattle.policy.specs.Statements.{Statement, Written, declare, attributeset, gives, roletransition, constrain, Policy, declarations}
+use Rattle.policy.specs.Reading.{inBlocks, again, resolved, isShort, hasRoom, fits, shallow, Judged, reads, fault, sized, resolving, naming, judge}
 use Rattle.policy.specs.Grammar.{written}
-use Rattle.policy.specs.Accepted.{StatementIn}
+use Rattle.policy.specs.Scopes.{Scoped}
+use Rattle.policy.specs.Accepted.{StatementIn, GoodPath}
 use Rattle.policy.specs.Names.{environmentOf}
+use Rattle.policy.proofs.Lists.{both-true}
 use Rattle.policy.proofs.IfAny.{IfAny}
-use Rattle.reading_laws.proofs.Resolving.{WellWritten, Declares, Resolved, resolved-in}
+use Rattle.reading_laws.proofs.BlockOrStatement.{judge-statement, reads-statement}
+use Rattle.reading_laws.proofs.Resolving.{WellWritten, Declares, shortNamed, Resolved, resolved-in}
 use Rattle.reading_laws.proofs.Written.{written-well}
 
 -- a property of the statement that is read, if one is
@@ -28,30 +33,38 @@ pub record Passes (p : Policy) (s : Statement) : Type 0 where
   pub declares : Declares (declarations p) s
   pub room : fits p s ≡ true
 
+-- what fits has a full name that is not too long
+fits-short : (p : Policy) (s : Statement) → fits p s ≡ true → shortNamed s ≡ true
+fits-short p (declare d) h = both-true (hasRoom (declarations p) d) (isShort d) h .1
+fits-short p (attributeset f a s) h = refl
+fits-short p (gives k x y) h = refl
+fits-short p (roletransition r t c n) h = refl
+fits-short p (constrain c ps e) h = refl
+
 module _ (p : Policy) where
   sized-passes : (s : Statement) → Resolved (declarations p) s → IfReads (Passes p) (sized p s)
   sized-passes s h = go (fits p s) (shallow s) refl refl
     where
+      passes : fits p s ≡ true → shallow s ≡ true → Passes p s
+      passes e k = record { inside = h .0 k; declares = h .1 (fits-short p s e); room = e }
+
       go : (a b : Bool) → fits p s ≡ a → shallow s ≡ b → IfReads (Passes p) (cond a (cond b (reads s) (fault 7)) (fault 6))
       go false b e k = faulty 6
       go true false e k = faulty 7
-      go true true e k = record { has = λ t i. let same : s ≡ t = cc in subst (Passes p) same (record { inside = h .0 k; declares = h .1; room = e }) }
+      go true true e k = record { has = λ t i. let same : s ≡ t = cc in subst (Passes p) same (passes e k) }
 
   resolving-passes : (o : Option Statement) → IfAny (Resolved (declarations p)) o → IfReads (Passes p) (resolving p o)
   resolving-passes none h = faulty 5
   resolving-passes (some s) h = sized-passes s (h .has s refl)
 
-  naming-passes : (o : Option Written) → IfAny WellWritten o → IfReads (Passes p) (naming p o)
-  naming-passes none h = faulty 3
-  naming-passes (some w) h = go (again (declarations p) w) refl
+  naming-passes : (path : List Name) → GoodPath path → (o : Option Written) → IfAny WellWritten o → IfReads (Passes p) (naming path p o)
+  naming-passes path good none h = faulty 3
+  naming-passes path good (some w) h = go (again (declarations p) (inBlocks path w)) refl
     where
-      go : (b : Bool) → again (declarations p) w ≡ b → IfReads (Passes p) (elim b [ true ↦ fault 4 | false ↦ resolving p (resolved (environmentOf (declarations p)) w) ])
+      go : (b : Bool) → again (declarations p) (inBlocks path w) ≡ b
+          → IfReads (Passes p) (elim b [ true ↦ fault 4 | false ↦ resolving p (resolved (environmentOf (declarations p) path) (inBlocks path w)) ])
       go true e = faulty 4
-      go false e = resolving-passes _ (resolved-in (declarations p) w (h .has w refl) e)
-
-  pub judge-passes : (f : Forms) → namesGood f ≡ true → IfReads (Passes p) (judge p f)
-  unfolding judge
-  judge-passes f h = naming-passes (written f) (written-well f h)
+      go false e = resolving-passes _ (resolved-in (declarations p) path good w (h .has w refl) e)
 
   -- a statement that is judged good is what its written form resolves to
   sized-reads : (s t : Statement) → sized p s ≡ reads t → s ≡ t
@@ -66,10 +79,34 @@ module _ (p : Policy) where
   resolving-reads none t h = let z : _≡_ {A = ℕ} 0 1 = cc in absurd (omega arith)
   resolving-reads (some s) t h = ap some (sized-reads s t h)
 
-  pub judge-resolves : (f : Forms) (w : Written) (s : Statement) → written f ≡ some w → judge p f ≡ reads s → resolved (environmentOf (declarations p)) w ≡ some s
-  unfolding judge
-  judge-resolves f w s e h = go (again (declarations p) w) (rw e at h)
+  naming-reads : (path : List Name) (s : Statement) (o : Option Written) → naming path p o ≡ reads s
+      → (w : Written) × (o ≡ some w) × (resolved (environmentOf (declarations p) path) (inBlocks path w) ≡ some s)
+  naming-reads path s none h = let z : _≡_ {A = ℕ} 0 1 = cc in absurd (omega arith)
+  naming-reads path s (some w) h = (w, refl, go (again (declarations p) (inBlocks path w)) h)
     where
-      go : (b : Bool) → elim b [ true ↦ fault 4 | false ↦ resolving p (resolved (environmentOf (declarations p)) w) ] ≡ reads s → resolved (environmentOf (declarations p)) w ≡ some s
+      go : (b : Bool) → elim b [ true ↦ fault 4 | false ↦ resolving p (resolved (environmentOf (declarations p) path) (inBlocks path w)) ] ≡ reads s
+          → resolved (environmentOf (declarations p) path) (inBlocks path w) ≡ some s
       go true k = let z : _≡_ {A = ℕ} 0 1 = cc in absurd (omega arith)
-      go false k = resolving-reads (resolved (environmentOf (declarations p)) w) s k
+      go false k = resolving-reads (resolved (environmentOf (declarations p) path) (inBlocks path w)) s k
+
+module _ (before : List Scoped) (p : Policy) (x : Scoped) where
+  -- what is read is a statement, so it is judged as one
+  named : (s : Statement) → judge before p x ≡ reads s → naming (x .path) p (written (x .form)) ≡ reads s
+  named s h = sym (judge-statement before p x (reads-statement before p x s h)) ∙ h
+
+  -- a statement in good blocks that is judged good passes
+  pub judge-passes : GoodPath (x .path) → namesGood (x .form) ≡ true → IfReads (Passes p) (judge before p x)
+  judge-passes good h = record { has = λ s e. naming-passes p (x .path) good (written (x .form)) (written-well (x .form) h) .has s (named s e) }
+
+  -- what is judged good has a written form, and is what it resolves to
+  pub judge-written : (s : Statement) → judge before p x ≡ reads s
+      → (w : Written) × (written (x .form) ≡ some w) × (resolved (environmentOf (declarations p) (x .path)) (inBlocks (x .path) w) ≡ some s)
+  judge-written s h = naming-reads p (x .path) s (written (x .form)) (named s h)
+
+  -- so a written form that is known resolves to it
+  pub judge-resolves : (w : Written) (s : Statement) → written (x .form) ≡ some w → judge before p x ≡ reads s
+      → resolved (environmentOf (declarations p) (x .path)) (inBlocks (x .path) w) ≡ some s
+  judge-resolves w s e h =
+      let k = judge-written s h in
+      let same : k .0 ≡ w = Option·some-injective (k .0) w (sym (k .1) ∙ e) in
+      ap (λ (v : Written). resolved (environmentOf (declarations p) (x .path)) (inBlocks (x .path) v)) (sym same) ∙ k .2

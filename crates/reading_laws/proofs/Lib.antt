@@ -1,4 +1,6 @@
+pub mod BlockOrStatement
 pub mod FaultOrder
+pub mod FullNames
 pub mod Growing
 pub mod Judging
 pub mod LongerText
@@ -12,3 +14,4 @@ pub mod Resolving
 pub mod TextMoved
 pub mod TextThen
 pub mod Written
+pub mod Resuming

@@ -3,58 +3,82 @@
 use Prim.Native.Nat.{ℕ, _+_}
 use native.Mathlib.Omega.{arith}
 use mathlib.Core.Path.{_≡_, refl, sym, ap, _∙_}
+use mathlib.Core.Bool.{false≢true}
 use mathlib.Core.List.{List, [], _∷_, _++_, append-assoc}
-use mathlib.Core.Option.{some}
+use mathlib.Core.Option.{none, some}
 use lib.ListN.{length, length-append}
 use Rattle.lexer.specs.declared.Scanned.{Scanned}
 use Rattle.lexer.specs.Scan.{scan}
 use Rattle.lexer.specs.Forms.{Forms, ended, part, framesAt, formsOf}
 use Rattle.policy.specs.Basics.{Name, eachOf}
 use Rattle.policy.specs.Statements.{Reference, Constraint, constrain, Written, Statement, Policy, declarations}
-use Rattle.policy.specs.Reading.{referE, resolved, Judged, reads, fault, judge, policy, readFrom, afterScan, readPolicy}
-use Rattle.policy.specs.Grammar.{written}
+use Rattle.policy.specs.Reading.{referE, resolved, Judged, reads, opens, fault, judge, policy, readFrom, readAll, afterScan, readPolicy}
+use Rattle.policy.specs.Grammar.{written, blockIn}
+use Rattle.policy.specs.Scopes.{Scoped, scoped, scopedIn}
 use Rattle.policy.specs.Names.{environmentOf, Environment}
 use Rattle.policy.proofs.IfAny.{IfAny, just, whatever}
+use Rattle.reading_laws.proofs.BlockOrStatement.{no-block, is-block, written-no-block, in-no-blocks, opens-block}
 use Rattle.reading_laws.proofs.Judging.{judge-resolves}
 use Rattle.reading_laws.proofs.Placed.{placed, written-placed}
-use Rattle.reading_laws.proofs.ReadThen.{line, judgedAt, read-part, read-then}
+use Rattle.reading_laws.proofs.ReadThen.{scoped-then, scoped-statement, line, judgedAt, read-one, read-on}
 use Rattle.reading_laws.proofs.TextMoved.{text-moved}
 use Rattle.reading_laws.proofs.TextThen.{text-then}
 
 -- a text that is read is clean
-read-clean : (t : List ℕ) (p : Policy) → readPolicy t ≡ policy p → (scan t ≡ Scanned.Clean) × (readFrom (formsOf t) [] ≡ policy p)
+read-clean : (t : List ℕ) (p : Policy) → readPolicy t ≡ policy p → (scan t ≡ Scanned.Clean) × (readAll (scopedIn [] (formsOf t)) ≡ policy p)
 unfolding readPolicy
 read-clean t p h = go (scan t) refl h
   where
-    go : (s : Scanned) → scan t ≡ s → afterScan s (readFrom (formsOf t) []) ≡ policy p → (scan t ≡ Scanned.Clean) × (readFrom (formsOf t) [] ≡ policy p)
+    go : (s : Scanned) → scan t ≡ s → afterScan s (readAll (scopedIn [] (formsOf t))) ≡ policy p → (scan t ≡ Scanned.Clean) × (readAll (scopedIn [] (formsOf t)) ≡ policy p)
     go Scanned.TooLong e k = let z : _≡_ {A = ℕ} 0 1 = cc in absurd (omega arith)
     go (Scanned.Wrong at) e k = let z : _≡_ {A = ℕ} 0 1 = cc in absurd (omega arith)
     go Scanned.Clean e k = (e, k)
 
--- a statement more: what stands in its parentheses, resolved, is the last line
+-- a statement more, at the whole-text level: what stands in its parentheses, resolved, is the last line
 pub record OneStatementMore (p p′ : Policy) (w : Written) : Type 0 where
   pub place : ℕ
   pub statement : Statement
-  pub resolves : resolved (environmentOf (declarations p)) w ≡ some statement
+  pub resolves : resolved (environmentOf (declarations p) []) w ≡ some statement
   pub last : p′ ≡ p ++ (line place statement ∷ [])
 
--- a row of one statement, read
-one-part : (p p′ : Policy) (at : ℕ) (i : Forms) (w : Written) → written i ≡ some w → readFrom (part at i ended) p ≡ policy p′ → OneStatementMore p p′ w
+-- one statement, read after others
+one-part : (before : List Scoped) (p p′ : Policy) (at : ℕ) (i : Forms) (w : Written) → written i ≡ some w → readFrom before (scoped at [] i ∷ []) p ≡ policy p′
+    → OneStatementMore p p′ w
 unfolding readFrom
-one-part p p′ at i w e h = go (judge p i) refl (sym (read-part at i ended p) ∙ h)
+one-part before p p′ at i w e h = go (judge before p x) refl (sym (read-one before x [] p) ∙ h)
   where
-    go : (j : Judged) → judge p i ≡ j → judgedAt at p j (readFrom ended) ≡ policy p′ → OneStatementMore p p′ w
-    go (reads s) g k = record { place = at; statement = s; resolves = judge-resolves p i w s e g; last = cc }
+    x : Scoped
+    x = scoped at [] i
+
+    go : (j : Judged) → judge before p x ≡ j → judgedAt at p j (readFrom (before ++ (x ∷ [])) []) ≡ policy p′ → OneStatementMore p p′ w
+    go (reads s) g k = record {
+      place = at;
+      statement = s;
+      resolves = sym (ap (resolved (environmentOf (declarations p) [])) (in-no-blocks w)) ∙ judge-resolves before p x w s e g;
+      last = cc;
+    }
+    go opens g k =
+        let o = opens-block before p x g in
+        absurd (false≢true (sym (written-no-block i w e) ∙ is-block i (o .name) (o .form)))
     go (fault n) g k = let z : _≡_ {A = ℕ} 0 1 = cc in absurd (omega arith)
+
+-- a row of one statement
+alone : (at : ℕ) (i : Forms) → blockIn i ≡ none → scopedIn [] (part at i ended) ≡ scoped at [] i ∷ []
+unfolding scopedIn
+alone at i e = scoped-statement [] at i ended e
 
 module _ (t u : List ℕ) where
   -- the whole is read on after the statements of the first text
   longer-text : (p : Policy) → readPolicy t ≡ policy p → scan (t ++ (10 ∷ u)) ≡ Scanned.Clean
-      → readPolicy (t ++ (10 ∷ u)) ≡ readFrom (framesAt (t ++ (10 ∷ u)) (length t + 1) .here) p
+      → readPolicy (t ++ (10 ∷ u)) ≡ readFrom (scopedIn [] (formsOf t)) (scopedIn [] (framesAt (t ++ (10 ∷ u)) (length t + 1) .here)) p
   unfolding readPolicy
   longer-text p h k =
       let c = read-clean t p h in
-      rw k (rw (text-then t u (c .0)) (read-then (formsOf t) (framesAt (t ++ (10 ∷ u)) (length t + 1) .here) [] ∙ rw (c .1)))
+      let more = framesAt (t ++ (10 ∷ u)) (length t + 1) .here in
+      rw k
+      (ap (λ (f : Forms). readAll (scopedIn [] f)) (text-then t u (c .0))
+      ∙ ap readAll (scoped-then [] (formsOf t) more)
+      ∙ read-on [] (scopedIn [] (formsOf t)) (scopedIn [] more) [] p (c .1))
 
   -- behind the line feed the bytes read as they do by themselves, at other places
   behind-feed : framesAt (t ++ (10 ∷ u)) (length t + 1) .here ≡ placed (λ p. length (t ++ (10 ∷ [])) + p) (formsOf u)
@@ -69,9 +93,11 @@ module _ (t u : List ℕ) where
       → formsOf u ≡ part at i ended → written i ≡ some w → OneStatementMore p p′ w
   one-statement-more p p′ at i w h k e f =
       let g : ℕ → ℕ = λ p. length (t ++ (10 ∷ [])) + p in
-      let r : readFrom (part (g at) (placed g i) ended) p ≡ policy p′
-      = sym (longer-text p h (read-clean (t ++ (10 ∷ u)) p′ k .0) ∙ ap (λ (f : Forms). readFrom f p) (behind-feed ∙ ap (placed g) e)) ∙ k in
-      one-part p p′ (g at) (placed g i) w (written-placed g i ∙ f) r
+      let w′ : written (placed g i) ≡ some w = written-placed g i ∙ f in
+      let row : scopedIn [] (framesAt (t ++ (10 ∷ u)) (length t + 1) .here) ≡ scoped (g at) [] (placed g i) ∷ []
+      = ap (scopedIn []) (behind-feed ∙ ap (placed g) e) ∙ alone (g at) (placed g i) (no-block (placed g i) (written-no-block (placed g i) w w′)) in
+      one-part (scopedIn [] (formsOf t)) p p′ (g at) (placed g i) w w′
+      (sym (longer-text p h (read-clean (t ++ (10 ∷ u)) p′ k .0) ∙ ap (λ (l : List Scoped). readFrom (scopedIn [] (formsOf t)) l p) row) ∙ k)
 
 -- a constrain resolves to a constrain
 pub record AConstrain (s : Statement) : Type 0 where

@@ -1,16 +1,18 @@
--- Where the names of a family differ, the first that has a name is the only one: its number is the place of the name among the names of its sort,
--- and a name is found as a thing where it is a thing's, and else as an attribute. By induction on the declarations, from what is declared before.
--- Assumes nothing.
+-- Where the full names of a family differ, the first that has a name is the only one: its number is the place of the name among the names of its sort,
+-- and a name is found as a thing where it is a thing's, and else as an attribute. By induction on the declarations, from what is declared before. So each full name
+-- that a use is tried as stands for its place. Assumes nothing.
 use mathlib.Core.Path.{_≡_, refl, sym, ap, subst, _∙_}
-use mathlib.Core.Bool.{Bool, true, false, _&&_, _||_, cond, false≢true}
+use mathlib.Core.Bool.{Bool, true, false, _||_, cond, false≢true}
 use mathlib.Core.List.{List, [], _∷_, _++_}
 use mathlib.Core.Option.{Option, none, some}
 use Prim.Native.Nat.{ℕ, _+_}
 use native.Mathlib.Omega.{arith}
 use lib.ListN.{length, length-append}
+use Rattle.lexer.specs.Spell.{bytes}
 use Rattle.policy.specs.Basics.{Name, same, any, isIn, next, indexOf, gather, keep, given, _>>=_, orElse}
-use Rattle.policy.specs.Statements.{Family, Sort, Declaration, plain, class, sameFamily, sameSort, familyOf, ofSort, ofFamily, namesOf, familyNames, count, thingOf, attributeOf, thing, attribute}
-use Rattle.policy.specs.Names.{Named, environmentOf, firstFrom, numberIn, refer, referenceOf}
+use Rattle.policy.specs.Statements.{Family, Sort, Declaration, plain, class}
+use Rattle.policy.specs.Statements.{sameFamily, sameSort, familyOf, ofSort, ofFamily, namesOf, familyNames, count, thingOf, attributeOf, Reference, thing, attribute}
+use Rattle.policy.specs.Names.{hasDotInFront, outward, tries, firstHit, Named, environmentOf, firstFrom, numberIn, refer, referenceOf}
 use Rattle.policy.specs.Sound.{goodFrom}
 use Rattle.policy.proofs.Lists.{same-is, any-append, gather-append, gather-over, gather-last}
 use Rattle.policy.proofs.Sameness.{family-same, family-self, sort-same, sort-self}
@@ -75,7 +77,8 @@ shift-none : (o : Option ℕ) → shift 0 o ≡ o
 shift-none none = refl
 shift-none (some n) = ap some (omega arith)
 
-abbrev ofTheSort : Sort → Option Named → Option ℕ
+-- the number of what is found, if it is of the sort
+abbrev pub ofTheSort : Sort → Option Named → Option ℕ
 ofTheSort s o = o >>= λ d. given (sameSort s (d .sort)) (d .number)
 
 -- what is found among the declarations ds, after e
@@ -114,10 +117,34 @@ sort-from s w e (plain t v ∷ ds) g =
     let good = good-rest e (plain t v) ds g in
     by-sort s w e v ds t good (sameSort s t) refl (sort-from s w (e ++ (plain t v ∷ [])) ds good)
 
--- "Things are numbered from 0 in text order within their sort": what a name of a sort stands for is its place among the names of the sort
-pub number-is-place : (ds : List Declaration) (s : Sort) (w : Name) → goodFrom [] ds ≡ true → numberIn (environmentOf ds) s w ≡ indexOf w (namesOf s ds)
-unfolding environmentOf numberIn count namesOf gather
-number-is-place ds s w g = sort-from s w [] ds g ∙ shift-none (indexOf w (gather (ofSort s) ds))
+-- what a full name of a sort is found as is its place among the names of the sort
+pub first-is-place : (ds : List Declaration) (s : Sort) (w : Name) → goodFrom [] ds ≡ true → ofTheSort s (firstFrom [] ds (familyOf s) w) ≡ indexOf w (namesOf s ds)
+unfolding count namesOf gather
+first-is-place ds s w g = sort-from s w [] ds g ∙ shift-none (indexOf w (gather (ofSort s) ds))
+
+-- ---- uses of names
+
+-- nothing behind the first
+or-none : {A : Type 0} (o : Option A) → orElse o none ≡ o
+or-none none = refl
+or-none (some a) = refl
+
+-- "Things are numbered from 0 in text order within their sort": a use that is tried as one full name alone stands, in any block, for the place of that name among
+-- the names of the sort
+pub number-is-place : (ds : List Declaration) (path : List Name) (s : Sort) (v w : Name) → tries path v ≡ w ∷ [] → goodFrom [] ds ≡ true
+    → numberIn (environmentOf ds path) s v ≡ indexOf w (namesOf s ds)
+unfolding environmentOf numberIn firstHit
+number-is-place ds path s v w e g = rw e (ap (ofTheSort s) (or-none (firstFrom [] ds (familyOf s) w)) ∙ first-is-place ds s w g)
+
+-- "A leading dot means the whole-text level": such a use is tried as the full name behind the dot
+pub tried-behind-dot : (path : List Name) (w : Name) → tries path (bytes "." ++ w) ≡ w ∷ []
+unfolding tries
+tried-behind-dot path w = refl
+
+-- and so is any use that stands in no block
+pub tried-in-no-block : (w : Name) → hasDotInFront w ≡ false → tries [] w ≡ w ∷ []
+unfolding tries outward
+tried-in-no-block w h = rw h
 
 -- a name that may stand for a thing or an attribute stands for the thing that has it, and else for the attribute
 as-placed : (f : Family) (o : Option Named) (x y : Option ℕ) → IfAny (λ d. familyOf (d .sort) ≡ f) o → ofTheSort (thingOf f) o ≡ x → ofTheSort (attributeOf f) o ≡ y
@@ -130,10 +157,36 @@ as-placed f (some d) x y h p q = by (d .sort) refl
     by (thingOf g) e = let k : g ≡ f = sym (ap familyOf e) ∙ h .has d refl in rw (← p, e, k, family-self f)
     by (attributeOf g) e = let k : g ≡ f = sym (ap familyOf e) ∙ h .has d refl in rw (← p, ← q, e, k, family-self f)
 
-pub reference-is-place : (ds : List Declaration) (f : Family) (w : Name) → goodFrom [] ds ≡ true
-    → refer (environmentOf ds) f w
-    ≡ orElse (indexOf w (namesOf (thingOf f) ds) >>= λ n. some (thing n)) (indexOf w (namesOf (attributeOf f) ds) >>= λ n. some (attribute n))
-unfolding refer numberIn
-reference-is-place ds f w g =
-    as-placed f (environmentOf ds .find f w) _ _ (record { has = λ d e. named-in ds f w .has d e .family })
-    (number-is-place ds (thingOf f) w g) (number-is-place ds (attributeOf f) w g)
+-- what a full name of a family stands for
+abbrev pub placeIn : List Declaration → Family → Name → Option Reference
+placeIn ds f w = orElse (indexOf w (namesOf (thingOf f) ds) >>= λ n. some (thing n)) (indexOf w (namesOf (attributeOf f) ds) >>= λ n. some (attribute n))
+
+-- what is found is of the family
+of-family : (ds : List Declaration) (f : Family) (w : Name) → IfAny (λ d. familyOf (d .sort) ≡ f) (firstFrom [] ds f w)
+unfolding environmentOf tries firstHit
+of-family ds f w = record { has = λ d e. named-in ds [] f (bytes "." ++ w) .has d (or-none (firstFrom [] ds f w) ∙ e) .family }
+
+-- so it is a thing's or an attribute's place
+pub first-is-reference : (ds : List Declaration) (f : Family) (w : Name) → goodFrom [] ds ≡ true
+    → (firstFrom [] ds f w >>= λ d. some (referenceOf d)) ≡ placeIn ds f w
+first-is-reference ds f w g =
+    as-placed f (firstFrom [] ds f w) _ _ (of-family ds f w) (first-is-place ds (thingOf f) w g) (first-is-place ds (attributeOf f) w g)
+
+-- "the first hit of the family decides"
+hit-is-reference : (ds : List Declaration) (f : Family) (ws : List Name) → goodFrom [] ds ≡ true
+    → (firstHit (firstFrom [] ds f) ws >>= λ d. some (referenceOf d)) ≡ firstHit (placeIn ds f) ws
+unfolding firstHit
+hit-is-reference ds f [] g = refl
+hit-is-reference ds f (w ∷ ws) g = by (firstFrom [] ds f w) (first-is-reference ds f w g) (hit-is-reference ds f ws g)
+  where
+    by : (o : Option Named) → (o >>= λ d. some (referenceOf d)) ≡ placeIn ds f w
+        → (firstHit (firstFrom [] ds f) ws >>= λ d. some (referenceOf d)) ≡ firstHit (placeIn ds f) ws
+        → (orElse o (firstHit (firstFrom [] ds f) ws) >>= λ d. some (referenceOf d)) ≡ orElse (placeIn ds f w) (firstHit (placeIn ds f) ws)
+    by none h k = rw (← h) k
+    by (some d) h k = rw (← h)
+
+-- a use stands, in any block, for what the first stands for of the full names that it is tried as and that stand for something
+pub reference-is-place : (ds : List Declaration) (path : List Name) (f : Family) (v : Name) → goodFrom [] ds ≡ true
+    → refer (environmentOf ds path) f v ≡ firstHit (placeIn ds f) (tries path v)
+unfolding refer environmentOf
+reference-is-place ds path f v g = hit-is-reference ds f (tries path v) g

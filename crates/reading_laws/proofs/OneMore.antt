@@ -10,7 +10,7 @@ use borrow.Author.Tests.{ltb-true, leb-true}
 use Rattle.policy.specs.Basics.{gather, keep, All}
 use Rattle.policy.specs.Statements.{Declaration, Statement, declare, attributeset, gives, roletransition, constrain, Line, Policy, declared, declarations, transition, transitions, constrained, constrains, Constrain, size}
 use Rattle.policy.specs.Maxima.{maxTransitions, maxConstraints, maxRows}
-use Rattle.policy.specs.Reading.{isNew, hasRoom, rowCount}
+use Rattle.policy.specs.Reading.{isNew, isShort, hasRoom, rowCount}
 use Rattle.policy.specs.Sound.{goodNames, goodFrom}
 use Rattle.policy.specs.Accepted.{StatementIn, Accepted}
 use Rattle.policy.proofs.Lists.{both-true, true-both, gather-append, all-append}
@@ -84,7 +84,8 @@ module _ (p : Policy) (l : Line) where
 
 -- a statement that passes keeps what is accepted so far
 pub one-more : (p : Policy) (at : ℕ) (s : Statement) → Accepted p → Passes p s → Accepted (p ++ (record { place = at; says = s } ∷ []))
-one-more p at (declare d) a h = accepted-more p _ a tt (just (h .declares .0, h .declares .1, h .room)) nothing nothing nothing
+one-more p at (declare d) a h =
+    accepted-more p _ a tt (just (h .declares .0, h .declares .1, both-true (hasRoom (declarations p) d) (isShort d) (h .room) .0)) nothing nothing nothing
 one-more p at (attributeset f b s) a h = accepted-more p _ a (h .inside) nothing nothing nothing nothing
 one-more p at (gives k x y) a h = accepted-more p _ a (h .inside) nothing nothing nothing nothing
 one-more p at (roletransition r t c n) a h =

@@ -1,5 +1,5 @@
--- The place of a statement, and of every part in it, is that of an opening parenthesis of the text. By induction on the bytes, then on the
--- tokens. Assumes nothing.
+-- The place of a statement, of a block, and of every part in them, is that of an opening parenthesis of the text. By induction on the bytes, then on the
+-- tokens, then on the rows. Assumes nothing.
 use Prim.Native.Nat.{ℕ, suc, _+_, _≤_}
 use Prim.Native.Char.{code}
 use native.Mathlib.Nat.{add-zero, zero-add, add-assoc}
@@ -8,18 +8,21 @@ use native.Mathlib.Omega.{arith}
 use mathlib.Core.Path.{_≡_, refl, sym, ap, _∙_, subst}
 use mathlib.Core.Bool.{Bool, true, false, cond, false≢true}
 use mathlib.Core.List.{List, [], _∷_}
+use mathlib.Core.Option.{Option, none, some}
 use lib.ListN.{getD}
 use borrow.Author.Tests.{eqb-true}
 use Rattle.lexer.specs.declared.ByteClass.{ByteClass}
-use Rattle.lexer.specs.declared.ByteClass.the-variants.{Blank, LineFeed, Comment, Open, Close, Letter, Digit, Wrong}
+use Rattle.lexer.specs.declared.ByteClass.the-variants.{Blank, LineFeed, Comment, Open, Close, Letter, Digit, Dot, Wrong}
 use Rattle.lexer.specs.declared.Token.{Token}
-use Rattle.lexer.specs.Class.{classOf, goesOn, is, isBlank, isLetter, isDigit}
+use Rattle.lexer.specs.Class.{classOf, inWord, is, isBlank, isLetter, isDigit}
 use Rattle.lexer.specs.Scan.{Mode, between, inComment, inName}
 use Rattle.lexer.specs.Token.{ownToken, modeThen, ending, endingLast, tokensFrom, tokensAt}
 use Rattle.lexer.specs.Forms.{Forms, closed, ended, word, part, Frames, head, tail, step, build, framesAt, formsOf}
-use Rattle.policy.specs.Basics.{All}
-use Rattle.policy.proofs.Lists.{all-append}
-use Rattle.reading_laws.proofs.ReadThen.{_then_}
+use Rattle.policy.specs.Basics.{Name, All}
+use Rattle.policy.specs.Grammar.{blockIn}
+use Rattle.policy.specs.Scopes.{Scoped, scopedIn}
+use Rattle.policy.proofs.Lists.{all-append, all-right}
+use Rattle.reading_laws.proofs.ReadThen.{within}
 use Rattle.reading_laws.proofs.FaultOrder.{RefusedFor, too-long, wrong-byte, at-statement}
 
 -- the byte of the class: none of the other tests gives it
@@ -31,6 +34,7 @@ isOpen Open = true
 isOpen Close = false
 isOpen Letter = false
 isOpen Digit = false
+isOpen Dot = false
 isOpen Wrong = false
 
 past : (c : Bool) (x y : ByteClass) → isOpen x ≡ false → isOpen (cond c x y) ≡ true → isOpen y ≡ true
@@ -42,12 +46,12 @@ unfolding classOf
 open-byte b h = go (is "(" b) refl (past (is ";" b) Comment _ refl (past (isBlank b) Blank _ refl (ap isOpen h)))
   where
     rest : ByteClass
-    rest = cond (is ")" b) Close (cond (isLetter b) Letter (cond (isDigit b) Digit (cond (is "\n" b) LineFeed Wrong)))
+    rest = cond (is ")" b) Close (cond (isLetter b) Letter (cond (isDigit b) Digit (cond (is "." b) Dot (cond (is "\n" b) LineFeed Wrong))))
 
     go : (c : Bool) → is "(" b ≡ c → isOpen (cond c Open rest) ≡ true → b ≡ code "("
     go true e k = eqb-true b (code "(") e
     go false e k =
-        absurd (false≢true (past (is "\n" b) LineFeed Wrong refl (past (isDigit b) Digit _ refl (past (isLetter b) Letter _ refl (past (is ")" b) Close _ refl k)))))
+        absurd (false≢true (past (is "\n" b) LineFeed Wrong refl (past (is "." b) Dot _ refl (past (isDigit b) Digit _ refl (past (isLetter b) Letter _ refl (past (is ")" b) Close _ refl k))))))
 
 module _ (text : List ℕ) where
   -- an opening parenthesis stands at the place; a token, and the parts of a row, are at such places
@@ -74,12 +78,13 @@ module _ (text : List ℕ) where
   own-opens at Close e = (tt, tt)
   own-opens at Letter e = tt
   own-opens at Digit e = tt
+  own-opens at Dot e = tt
   own-opens at Wrong e = tt
 
   ending-opens : (m : Mode) (at : ℕ) (k : ByteClass) → classOf (getD text at 0) ≡ k → All TokenOpens (ending m at k)
   ending-opens between at k e = own-opens at k e
   ending-opens inComment at k e = tt
-  ending-opens (inName first len) at k e = go (goesOn k)
+  ending-opens (inName first len) at k e = go (inWord k)
     where
       go : (b : Bool) → All TokenOpens (cond b [] (Token.Word first len ∷ ownToken at k))
       go true = tt
@@ -124,14 +129,25 @@ module _ (text : List ℕ) where
   unfolding formsOf framesAt tokensAt
   forms-open = build-opens _ (tokens-open text between 0 λ k. rw zero-add) .0
 
-  part-opens : (f i r : Forms) (at : ℕ) → PartsOpen (f then part at i r) → OpensAt at
-  part-opens closed i r at h = h .0
-  part-opens ended i r at h = h .0
-  part-opens (word b w g) i r at h = part-opens g i r at h
-  part-opens (part b j g) i r at h = part-opens g i r at (h .2)
+  -- so are the places of the statements and blocks of a row
+  abbrev pub ScopedOpens : Scoped → Type 0
+  ScopedOpens x = OpensAt (x .place)
 
-  -- a statement's fault is placed at an opening parenthesis
+  pub scoped-open : (path : List Name) (f : Forms) → PartsOpen f → All ScopedOpens (scopedIn path f)
+  unfolding scopedIn
+  scoped-open path closed h = tt
+  scoped-open path ended h = tt
+  scoped-open path (word at w r) h = scoped-open path r h
+  scoped-open path (part at i r) h =
+      (h .0, all-append ScopedOpens (within path i) (scopedIn path r) (inside (blockIn i) (λ b. scoped-open (b ∷ path) i (h .1))) (scoped-open path r (h .2)))
+    where
+      inside : (o : Option Name) → ((b : Name) → All ScopedOpens (scopedIn (b ∷ path) i)) → All ScopedOpens (elim o [ none ↦ [] | some b ↦ scopedIn (b ∷ path) i ])
+      inside none k = tt
+      inside (some b) k = k b
+
+  -- the fault of a statement or a block is placed at an opening parenthesis
   pub fault-place : (n at : ℕ) → 3 ≤ n → RefusedFor text n at → OpensAt at
   fault-place n at l (too-long e) = absurd (omega arith)
   fault-place n at l (wrong-byte b e) = absurd (omega arith)
-  fault-place n at l (at-statement m b e s) = part-opens (s .before) (s .inner) (s .rest) b (subst PartsOpen (s .row) forms-open)
+  fault-place n at l (at-statement m b e s) =
+      subst OpensAt (s .place) (all-right ScopedOpens (s .before) (s .here ∷ s .rest) (subst (All ScopedOpens) (s .row) (scoped-open [] (formsOf text) forms-open)) .0)

@@ -5,10 +5,10 @@ use mathlib.Core.Path.{_≡_, refl, ap}
 use mathlib.Core.List.{List}
 use mathlib.Core.Option.{Option, none, some}
 use Rattle.lexer.specs.Forms.{Forms, closed, ended, word, part}
-use Rattle.policy.specs.Basics.{Name, _>>=_, more, ofOne, ofTwo}
-use Rattle.policy.specs.Words.{asName, Keyword, declareK, classK, setK, relationK, transitionK, constrainK, Connective, keywordOf, setWord, expressionWord, opOf, componentOf}
-use Rattle.policy.specs.Grammar.{unionOf, headed, operands, setIn, compared, atClose, wordThen, partThen, twoWords, twoParts, wordAndPart, comparison, formE, connected, expressions, expressionIn, namesIn, oneOrMore, classIn, ofFour, formed, written}
-use Rattle.policy.specs.Statements.{SetExpr, Constraint, Written, plain, declare, gives}
+use Rattle.policy.specs.Basics.{Name, _>>=_, more}
+use Rattle.policy.specs.Words.{asName, asPart, Keyword, declareK, classK, setK, relationK, transitionK, constrainK, Connective, keywordOf, expressionWord, opOf, componentOf}
+use Rattle.policy.specs.Grammar.{operands, setIn, compared, atClose, wordThen, partThen, twoWords, twoParts, wordAndPart, comparison, connected, expressions, expressionIn, rowOf, classIn, formed, written}
+use Rattle.policy.specs.Statements.{Constraint}
 
 -- the same row at other places
 abbrev pub placed : (ℕ → ℕ) → Forms → Forms
@@ -48,15 +48,15 @@ module _ (g : ℕ → ℕ) where
     two-parts-placed f h e = part-placed f _ _ λ i r. part-placed r _ _ λ j r. rw (e i j) (close-placed r (h i j))
 
   -- NAMES AND CLASSES
-  names-placed : (f : Forms) → namesIn (placed g f) ≡ namesIn f
-  unfolding namesIn
-  names-placed closed = refl
-  names-placed ended = refl
-  names-placed (word at w r) = ap (more (asName w)) (names-placed r)
-  names-placed (part at i r) = refl
+  names-placed : (taken : Name → Option Name) (f : Forms) → rowOf taken (placed g f) ≡ rowOf taken f
+  unfolding rowOf
+  names-placed taken closed = refl
+  names-placed taken ended = refl
+  names-placed taken (word at w r) = ap (more (taken w)) (names-placed taken r)
+  names-placed taken (part at i r) = refl
 
-  class-placed : {A : Type 0} (f : Forms) (h : Name → List Name → Option A) → classIn (placed g f) h ≡ classIn f h
-  class-placed f h = word-and-part-placed f _ λ c i. rw (names-placed i)
+  class-placed : {A : Type 0} (taken : Name → Option Name) (f : Forms) (h : Name → List Name → Option A) → classIn taken (placed g f) h ≡ classIn taken f h
+  class-placed taken f h = word-and-part-placed f _ λ c i. rw (names-placed asPart i)
 
   -- SETS
   mutual
@@ -104,12 +104,12 @@ module _ (g : ℕ → ℕ) where
 
   -- STATEMENTS
   formed-placed : (k : Keyword) (f : Forms) → formed k (placed g f) ≡ formed k f
-  formed-placed (declareK s) f = rw (names-placed f)
-  formed-placed classK f = class-placed f _
+  formed-placed (declareK s) f = rw (names-placed asPart f)
+  formed-placed classK f = class-placed asPart f _
   formed-placed (setK a) f = word-and-part-placed f _ λ w i. rw (set-placed i)
-  formed-placed (relationK r) f = rw (names-placed f)
-  formed-placed transitionK f = rw (names-placed f)
-  formed-placed constrainK f = two-parts-placed f _ λ i j. rw (expression-placed j) (class-placed i _)
+  formed-placed (relationK r) f = rw (names-placed asName f)
+  formed-placed transitionK f = rw (names-placed asName f)
+  formed-placed constrainK f = two-parts-placed f _ λ i j. rw (expression-placed j) (class-placed asName i _)
 
   pub written-placed : (f : Forms) → written (placed g f) ≡ written f
   written-placed closed = refl

@@ -1,8 +1,9 @@
--- A text that is read gives statements with the facts of `Accepted`: these facts hold of no statements, and each statement that is judged
--- good keeps them. Induction on the row of statements. That every word of a clean text is a name is the lexer's law. Assumes nothing.
+-- A text that is read gives statements with the facts of `Accepted`: these facts hold of no statements, each statement that is judged
+-- good keeps them, and each block that is opened leaves the blocks around those in it good. Induction on the row. That every word of a clean text is a name is the
+-- lexer's law. Assumes nothing.
 use Prim.Native.Nat.{ℕ}
 use native.Mathlib.Omega.{arith}
-use mathlib.Core.Path.{_≡_, refl, ap, _∙_, subst, subst⁻¹}
+use mathlib.Core.Path.{_≡_, refl, ap, _∙_, subst}
 use mathlib.Core.Bool.{true}
 use mathlib.Core.List.{List, [], _∷_, _++_}
 use mathlib.Core.Option.{Option, none, some}
@@ -11,52 +12,52 @@ use Rattle.lexer.specs.Scan.{scan}
 use Rattle.lexer.specs.Forms.{Forms, closed, ended, word, part, namesGood, formsOf}
 use Rattle.lexer.specs.Class.{isName}
 use Rattle.lexer.proofs.Clean.{clean-names}
-use Rattle.policy.specs.Basics.{gather}
+use Rattle.policy.specs.Basics.{Name, gather}
 use Rattle.policy.specs.Statements.{Statement, Policy, declarations, transitions, constrains}
-use Rattle.policy.specs.Reading.{rowCount, Judged, reads, fault, judge, Read, policy, refused, readFrom, afterScan, readPolicy}
+use Rattle.policy.specs.Scopes.{Scoped, scoped, scopedIn}
+use Rattle.policy.specs.Reading.{rowCount, reads, judge, Read, policy, refused, readFrom, readAll, afterScan, readPolicy}
 use Rattle.policy.specs.Sound.{goodFrom}
 use Rattle.policy.specs.Faults.{cycle, clash}
 use Rattle.policy.specs.Outcome.{Input, accept, policyOf}
-use Rattle.policy.specs.Accepted.{Accepted}
+use Rattle.policy.specs.Accepted.{Accepted, GoodPath}
 use Rattle.policy.proofs.Lists.{both-true}
+use Rattle.reading_laws.proofs.FullNames.{good-top, good-inner}
 use Rattle.reading_laws.proofs.Judging.{judge-passes}
 use Rattle.reading_laws.proofs.OneMore.{one-more}
-use Rattle.reading_laws.proofs.ReadThen.{line, judgedAt, read-part}
-
--- a property of the policy that is read, if one is
-pub record IfRead (P : Policy → Type 0) (r : Read) : Type 0 where
-  pub has : (p : Policy) → r ≡ policy p → P p
-
-unread : {P : Policy → Type 0} (n at : ℕ) → IfRead P (refused n at)
-unread n at = record { has = λ p e. let z : _≡_ {A = ℕ} 0 1 = cc in absurd (omega arith) }
-
-is-read : {P : Policy → Type 0} (p : Policy) → P p → IfRead P (policy p)
-is-read {P} p h = record { has = λ q e. let same : p ≡ q = cc in subst P same h }
+use Rattle.reading_laws.proofs.ReadThen.{line, PartRead, first-statement, first-block, part-read}
 
 -- no statements
 none-accepted : Accepted []
 unfolding declarations transitions constrains gather goodFrom rowCount
 none-accepted = record { names = refl; statements = tt; few-transitions = omega arith; few-constrains = omega arith; few-rows = omega arith }
 
--- one statement that is judged good, after those of p
-pub statement-accepted : (p : Policy) (f : Forms) (at : ℕ) (s : Statement) → Accepted p → namesGood f ≡ true → judge p f ≡ reads s
-    → Accepted (p ++ (line at s ∷ []))
-statement-accepted p f at s a h e = one-more p at s a (judge-passes p f h .has s e)
+-- one statement that is judged good in good blocks, after those of p
+pub statement-accepted : (before : List Scoped) (p : Policy) (x : Scoped) (s : Statement) → Accepted p → GoodPath (x .path) → namesGood (x .form) ≡ true
+    → judge before p x ≡ reads s → Accepted (p ++ (line (x .place) s ∷ []))
+statement-accepted before p x s a g h e = one-more p (x .place) s a (judge-passes before p x g h .has s e)
 
--- a row of statements, after those of p
-pub row-accepted : (f : Forms) → namesGood f ≡ true → (p : Policy) → Accepted p → IfRead Accepted (readFrom f p)
-unfolding readFrom namesGood
-row-accepted closed h p a = is-read p a
-row-accepted ended h p a = is-read p a
-row-accepted (word at w r) h p a = row-accepted r (both-true (isName w) (namesGood r) h .1) p a
-row-accepted (part at i r) h p a =
-    let b = both-true (namesGood i) (namesGood r) h in
-    subst⁻¹ (IfRead Accepted) (read-part at i r p) (go (judge p i) (λ s e. statement-accepted p i at s a (b .0) e) (row-accepted r (b .1)))
+-- the statements and blocks of a row in the blocks of a path, read after those before them, whatever these are
+abbrev pub KeepsAccepted : List Name → Forms → Type 0
+KeepsAccepted path f = (before : List Scoped) (p q : Policy) → Accepted p → readFrom before (scopedIn path f) p ≡ policy q → Accepted q
+
+-- a statement, or a block with what is in it, and the rest of the row
+part-accepted : (path : List Name) (at : ℕ) (i r : Forms) → GoodPath path → namesGood i ≡ true → ((b : Name) → GoodPath (b ∷ path) → KeepsAccepted (b ∷ path) i)
+    → KeepsAccepted path r → KeepsAccepted path (part at i r)
+part-accepted path at i r g n inner rest before p q a h = go (part-read path at i r before p q h)
   where
-    go : (j : Judged) → ((s : Statement) → j ≡ reads s → Accepted (p ++ (line at s ∷ []))) → ((q : Policy) → Accepted q → IfRead Accepted (readFrom r q))
-        → IfRead Accepted (judgedAt at p j (readFrom r))
-    go (reads s) one rest = rest (p ++ (line at s ∷ [])) (one s refl)
-    go (fault n) one rest = unread n at
+    go : PartRead path at i r before p q → Accepted q
+    go (first-statement s j k) = rest _ _ q (statement-accepted before p (scoped at path i) s a g n j) k
+    go (first-block b o j e k l) = rest _ o q (inner b (good-inner before p (scoped at path i) b j g e n) _ p o a k) l
+
+-- every row in good blocks
+pub row-accepted : (path : List Name) (f : Forms) → GoodPath path → namesGood f ≡ true → KeepsAccepted path f
+unfolding readFrom scopedIn namesGood
+row-accepted path closed g n before p q a h = let same : p ≡ q = cc in subst Accepted same a
+row-accepted path ended g n before p q a h = let same : p ≡ q = cc in subst Accepted same a
+row-accepted path (word at w r) g n before p q a h = row-accepted path r g (both-true (isName w) (namesGood r) n .1) before p q a h
+row-accepted path (part at i r) g n before p q a h =
+    let t = both-true (namesGood i) (namesGood r) n in
+    part-accepted path at i r g (t .0) (λ b k. row-accepted (b ∷ path) i k (t .0)) (row-accepted path r g (t .1)) before p q a h
 
 -- what passes 8 and 9 too
 accept-passes : (q p : Policy) → accept q ≡ policy p → (q ≡ p) × (cycle q ≡ none) × (clash q ≡ none)
@@ -70,14 +71,15 @@ accept-passes q p h = go (cycle q) (clash q) refl refl h
     go none (some at) c d e = let z : _≡_ {A = ℕ} 0 1 = cc in absurd (omega arith)
     go (some at) y c d e = let z : _≡_ {A = ℕ} 0 1 = cc in absurd (omega arith)
 
+-- a whole text
 pub read-accepted : (text : List ℕ) (p : Policy) → readPolicy text ≡ policy p → Accepted p
 unfolding readPolicy
-read-accepted text p h = go (scan text) refl .has p h
+read-accepted text p h = go (scan text) refl h
   where
-    go : (s : Scanned) → scan text ≡ s → IfRead Accepted (afterScan s (readFrom (formsOf text) []))
-    go Scanned.TooLong e = unread _ _
-    go (Scanned.Wrong at) e = unread _ _
-    go Scanned.Clean e = row-accepted (formsOf text) (clean-names text e) [] none-accepted
+    go : (s : Scanned) → scan text ≡ s → afterScan s (readAll (scopedIn [] (formsOf text))) ≡ policy p → Accepted p
+    go Scanned.TooLong e k = let z : _≡_ {A = ℕ} 0 1 = cc in absurd (omega arith)
+    go (Scanned.Wrong at) e k = let z : _≡_ {A = ℕ} 0 1 = cc in absurd (omega arith)
+    go Scanned.Clean e k = row-accepted [] (formsOf text) good-top (clean-names text e) [] [] p none-accepted k
 
 pub policy-accepted : (x : Input) (p : Policy) → policyOf x ≡ policy p → Accepted p × (cycle p ≡ none) × (clash p ≡ none)
 unfolding policyOf

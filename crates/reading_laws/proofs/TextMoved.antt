@@ -5,15 +5,15 @@ use native.Mathlib.Omega.{arith}
 use mathlib.Core.Path.{_≡_, refl, sym, ap, _∙_}
 use mathlib.Core.Bool.{Bool, true, false, cond}
 use mathlib.Core.List.{List, [], _∷_, _++_}
-use lib.ListN.{length, take, drop}
+use lib.ListN.{length}
 use lib.Seq.{drop-append-seam, drop-append-add}
 use Rattle.lexer.specs.declared.ByteClass.{ByteClass}
-use Rattle.lexer.specs.declared.ByteClass.the-variants.{Blank, LineFeed, Comment, Open, Close, Letter, Digit, Wrong}
+use Rattle.lexer.specs.declared.ByteClass.the-variants.{Blank, LineFeed, Comment, Open, Close, Letter, Digit, Dot, Wrong}
 use Rattle.lexer.specs.declared.Token.{Token}
-use Rattle.lexer.specs.Class.{classOf, goesOn, endsComment}
+use Rattle.lexer.specs.Class.{classOf, inWord, endsComment}
 use Rattle.lexer.specs.Scan.{Mode, between, inComment, inName, commentThen}
 use Rattle.lexer.specs.Token.{betweenThen, ownToken, modeThen, ending, tokensFrom, tokensAt}
-use Rattle.lexer.specs.Forms.{Forms, ended, word, part, Frames, head, tail, step, build, framesAt, formsOf}
+use Rattle.lexer.specs.Forms.{Forms, Frames, head, tail, step, build, framesAt, formsOf}
 use Rattle.policy.specs.Basics.{each}
 use Rattle.policy.proofs.Lists.{each-append}
 use Rattle.reading_laws.proofs.Placed.{placed}
@@ -40,6 +40,7 @@ module _ (n : ℕ) where
   own-moved at Close = refl
   own-moved at Letter = refl
   own-moved at Digit = refl
+  own-moved at Dot = refl
   own-moved at Wrong = refl
 
   between-moved : (at : ℕ) (k : ByteClass) → betweenThen (n + at) k ≡ movedMode (betweenThen at k)
@@ -50,6 +51,7 @@ module _ (n : ℕ) where
   between-moved at Close = refl
   between-moved at Letter = refl
   between-moved at Digit = refl
+  between-moved at Dot = refl
   between-moved at Wrong = refl
 
   comment-moved : (k : ByteClass) → commentThen k ≡ movedMode (commentThen k)
@@ -63,7 +65,7 @@ module _ (n : ℕ) where
   unfolding each
   ending-moved between at k = own-moved at k
   ending-moved inComment at k = refl
-  ending-moved (inName s l) at k = go (goesOn k)
+  ending-moved (inName s l) at k = go (inWord k)
     where
       go : (q : Bool) → cond q [] (Token.Word (n + s) l ∷ ownToken (n + at) k) ≡ each movedToken (cond q [] (Token.Word s l ∷ ownToken at k))
       go true = refl
@@ -72,7 +74,7 @@ module _ (n : ℕ) where
   mode-moved : (m : Mode) (at : ℕ) (k : ByteClass) → modeThen (movedMode m) (n + at) k ≡ movedMode (modeThen m at k)
   mode-moved between at k = between-moved at k
   mode-moved inComment at k = comment-moved k
-  mode-moved (inName s l) at k = go (goesOn k)
+  mode-moved (inName s l) at k = go (inWord k)
     where
       go : (q : Bool) → cond q (inName (n + s) (l + 1)) (betweenThen (n + at) k) ≡ movedMode (cond q (inName s (l + 1)) (betweenThen at k))
       go true = refl

@@ -12,11 +12,11 @@ use lib.ListN.{length, take, drop, length-drop}
 use lib.Seq.{take-append-le, drop-append-le}
 use borrow.Author.Tests.{eqb-false}
 use Rattle.lexer.specs.declared.ByteClass.{ByteClass}
-use Rattle.lexer.specs.declared.ByteClass.the-variants.{Blank, LineFeed, Comment, Open, Close, Letter, Digit, Wrong}
+use Rattle.lexer.specs.declared.ByteClass.the-variants.{Blank, LineFeed, Comment, Open, Close, Letter, Digit, Dot, Wrong}
 use Rattle.lexer.specs.declared.Scanned.{Scanned}
 use Rattle.lexer.specs.declared.Token.{Token}
-use Rattle.lexer.specs.Class.{classOf, goesOn, endsComment, maxName}
-use Rattle.lexer.specs.Scan.{maxText, maxLevel, Mode, between, inComment, inName, going, stopped, commentThen, stepBetween, stepName, scanFrom, scan}
+use Rattle.lexer.specs.Class.{classOf, inWord, endsComment, isName}
+use Rattle.lexer.specs.Scan.{maxText, maxLevel, Mode, between, inComment, inName, going, stopped, commentThen, stepBetween, stepName, closedAt, scanFrom, scan}
 use Rattle.lexer.specs.Token.{betweenThen, ownToken, modeThen, ending, tokensFrom, tokensAt}
 use Rattle.lexer.specs.Forms.{ended, word, Frames, out, step, build, framesAt, formsOf}
 use Rattle.reading_laws.proofs.ReadThen.{_then_}
@@ -39,10 +39,10 @@ comment-under level at k = go (endsComment k)
     go true = tt
     go false = tt
 
-never : (bs : List ℕ) (place at : ℕ) → scanFrom bs (stopped place) at ≡ Scanned.Clean → ⊥
+never : (t bs : List ℕ) (place at : ℕ) → scanFrom t bs (stopped place) at ≡ Scanned.Clean → ⊥
 unfolding scanFrom
-never [] place at h = let z : _≡_ {A = ℕ} 0 1 = cc in omega arith
-never (b ∷ bs) place at h = let z : _≡_ {A = ℕ} 0 1 = cc in omega arith
+never t [] place at h = let z : _≡_ {A = ℕ} 0 1 = cc in omega arith
+never t (b ∷ bs) place at h = let z : _≡_ {A = ℕ} 0 1 = cc in omega arith
 
 module _ (t u : List ℕ) where
   abbrev whole : List ℕ
@@ -67,25 +67,25 @@ module _ (t u : List ℕ) where
   GoesOn bs m level at = build whole (tokensFrom (bs ++ (10 ∷ u)) m at) ≡ goingOn level (build t (tokensFrom bs m at)) rest
 
   module _ (bs : List ℕ) (at : ℕ) (left : at + 1 + length bs ≡ length t)
-      (ih : (m : Mode) (level : ℕ) → Under m level (at + 1) → scanFrom bs (going m level) (at + 1) ≡ Scanned.Clean → GoesOn bs m level (at + 1)) where
-    opened : (level : ℕ) (q : Bool) → scanFrom bs (cond q (going between (level + 1)) (stopped at)) (at + 1) ≡ Scanned.Clean
+      (ih : (m : Mode) (level : ℕ) → Under m level (at + 1) → scanFrom t bs (going m level) (at + 1) ≡ Scanned.Clean → GoesOn bs m level (at + 1)) where
+    opened : (level : ℕ) (q : Bool) → scanFrom t bs (cond q (going between (level + 1)) (stopped at)) (at + 1) ≡ Scanned.Clean
         → step whole (Token.Open at) (build whole (tokensFrom (bs ++ (10 ∷ u)) between (at + 1))) ≡ goingOn level (step t (Token.Open at) (build t (tokensFrom bs between (at + 1)))) rest
-    opened level false h = absurd (never bs at (at + 1) h)
+    opened level false h = absurd (never t bs at (at + 1) h)
     opened level true h = ap (step whole (Token.Open at)) (ih between (suc level) tt (rw (add-one level) at h)) ∙ open-on level at (build t (tokensFrom bs between (at + 1))) rest
 
-    shut : (level : ℕ) → scanFrom bs (stepBetween level at Close) (at + 1) ≡ Scanned.Clean
+    shut : (level : ℕ) → scanFrom t bs (stepBetween level at Close) (at + 1) ≡ Scanned.Clean
         → step whole (Token.Close at) (build whole (tokensFrom (bs ++ (10 ∷ u)) between (at + 1))) ≡ goingOn level (step t (Token.Close at) (build t (tokensFrom bs between (at + 1)))) rest
-    shut zero h = absurd (never bs at (at + 1) h)
+    shut zero h = absurd (never t bs at (at + 1) h)
     shut (suc level) h =
         let e : suc level - 1 ≡ level = omega arith in
         ap (step whole (Token.Close at)) (ih between level tt (rw (eqb·suc-zero level, e) at h))
 
-    begun : (level : ℕ) (q : Bool) → eqb level 0 ≡ q → scanFrom bs (cond q (stopped at) (going (inName at 1) level)) (at + 1) ≡ Scanned.Clean
+    begun : (level : ℕ) (q : Bool) → eqb level 0 ≡ q → scanFrom t bs (cond q (stopped at) (going (inName at 1) level)) (at + 1) ≡ Scanned.Clean
         → GoesOn bs (inName at 1) level (at + 1)
-    begun level true e h = absurd (never bs at (at + 1) h)
+    begun level true e h = absurd (never t bs at (at + 1) h)
     begun level false e h = ih (inName at 1) level (omega (arith, eqb-false level 0 e), refl) h
 
-    in-between : (level : ℕ) (k : ByteClass) → scanFrom bs (stepBetween level at k) (at + 1) ≡ Scanned.Clean
+    in-between : (level : ℕ) (k : ByteClass) → scanFrom t bs (stepBetween level at k) (at + 1) ≡ Scanned.Clean
         → build whole (ownToken at k ++ tokensFrom (bs ++ (10 ∷ u)) (betweenThen at k) (at + 1))
         ≡ goingOn level (build t (ownToken at k ++ tokensFrom bs (betweenThen at k) (at + 1))) rest
     unfolding build
@@ -95,28 +95,32 @@ module _ (t u : List ℕ) where
     in-between level Open h = opened level (ltb level maxLevel) h
     in-between level Close h = shut level h
     in-between level Letter h = begun level (eqb level 0) refl h
-    in-between level Digit h = absurd (never bs at (at + 1) h)
-    in-between level Wrong h = absurd (never bs at (at + 1) h)
+    in-between level Digit h = absurd (never t bs at (at + 1) h)
+    in-between level Dot h = begun level (eqb level 0) refl h
+    in-between level Wrong h = absurd (never t bs at (at + 1) h)
 
-    longer : (level s n : ℕ) (q : Bool) → Under (inName s n) level at → scanFrom bs (cond q (going (inName s (n + 1)) level) (stopped s)) (at + 1) ≡ Scanned.Clean
-        → GoesOn bs (inName s (n + 1)) level (at + 1)
-    longer level s n false v h = absurd (never bs s (at + 1) h)
-    longer level s n true v h = ih (inName s (n + 1)) level (v .0, omega arith) h
+    -- a run that is over is a name, and the byte behind it is one between names
+    over : (level s : ℕ) (k : ByteClass) (q : Bool) → scanFrom t bs (cond q (stepBetween level at k) (stopped s)) (at + 1) ≡ Scanned.Clean
+        → scanFrom t bs (stepBetween level at k) (at + 1) ≡ Scanned.Clean
+    over level s k true h = h
+    over level s k false h = absurd (never t bs s (at + 1) h)
 
-    in-name : (level s n : ℕ) (k : ByteClass) → Under (inName s n) level at → scanFrom bs (stepName s n level at k) (at + 1) ≡ Scanned.Clean
+    in-name : (level s n : ℕ) (k : ByteClass) → Under (inName s n) level at → scanFrom t bs (stepName t s n level at k) (at + 1) ≡ Scanned.Clean
         → build whole (ending (inName s n) at k ++ tokensFrom (bs ++ (10 ∷ u)) (modeThen (inName s n) at k) (at + 1))
         ≡ goingOn level (build t (ending (inName s n) at k ++ tokensFrom bs (modeThen (inName s n) at k) (at + 1))) rest
     unfolding build
-    in-name level s n k v h = go (goesOn k) refl
+    in-name level s n k v h = go (inWord k) refl
       where
-        go : (q : Bool) → goesOn k ≡ q
+        go : (q : Bool) → inWord k ≡ q
             → build whole (ending (inName s n) at k ++ tokensFrom (bs ++ (10 ∷ u)) (modeThen (inName s n) at k) (at + 1))
             ≡ goingOn level (build t (ending (inName s n) at k ++ tokensFrom bs (modeThen (inName s n) at k) (at + 1))) rest
-        go true g = rw g (longer level s n (ltb n maxName) v (rw g at h))
+        go true g = rw g (ih (inName s (n + 1)) level (v .0, omega arith) (rw g at h))
         go false g =
-            rw g (ap (step whole (Token.Word s n)) (in-between level k (rw g at h)) ∙ word-on level s n (build t (ownToken at k ++ tokensFrom bs (betweenThen at k) (at + 1))) rest (v .0) (omega arith))
+            rw g
+            (ap (step whole (Token.Word s n)) (in-between level k (over level s k (isName (take n (drop s t))) (rw g at h)))
+            ∙ word-on level s n (build t (ownToken at k ++ tokensFrom bs (betweenThen at k) (at + 1))) rest (v .0) (omega arith))
 
-  at-end : (level at : ℕ) → at + 0 ≡ length t → scanFrom [] (going between level) at ≡ Scanned.Clean
+  at-end : (level at : ℕ) → at + 0 ≡ length t → scanFrom t [] (going between level) at ≡ Scanned.Clean
       → build whole (tokensFrom u between (at + 1)) ≡ goingOn level (record { here = ended; around = [] }) rest
   unfolding scanFrom rest
   at-end zero at e h = ap (λ (n : ℕ). build whole (tokensFrom u between n)) (omega arith)
@@ -125,16 +129,21 @@ module _ (t u : List ℕ) where
       let z : _≡_ {A = ℕ} 0 1 = cc in
       absurd (omega arith)
 
-  from : (bs : List ℕ) (m : Mode) (level at : ℕ) → at + length bs ≡ length t → Under m level at → scanFrom bs (going m level) at ≡ Scanned.Clean
+  -- a run that ends with the text lies within parentheses, which are not closed
+  unclosed : (level at first : ℕ) (q : Bool) → 0 < level → cond q (closedAt level at) (Scanned.Wrong first) ≡ Scanned.Clean → ⊥
+  unclosed zero at first q l h = omega arith
+  unclosed (suc level) at first true l h =
+      let g : Scanned.Wrong at ≡ Scanned.Clean = rw (eqb·suc-zero level) at h in
+      let z : _≡_ {A = ℕ} 0 1 = cc in
+      omega arith
+  unclosed (suc level) at first false l h = let z : _≡_ {A = ℕ} 0 1 = cc in omega arith
+
+  from : (bs : List ℕ) (m : Mode) (level at : ℕ) → at + length bs ≡ length t → Under m level at → scanFrom t bs (going m level) at ≡ Scanned.Clean
       → GoesOn bs m level at
   unfolding scanFrom tokensFrom build classOf
   from [] between level at e v h = at-end level at e h
   from [] inComment level at e v h = at-end level at e h
-  from [] (inName s n) zero at e v h = absurd (omega arith)
-  from [] (inName s n) (suc level) at e v h =
-      let g : Scanned.Wrong at ≡ Scanned.Clean = rw (eqb·suc-zero level) at h in
-      let z : _≡_ {A = ℕ} 0 1 = cc in
-      absurd (omega arith)
+  from [] (inName s n) level at e v h = absurd (unclosed level at s (isName (take n (drop s t))) (v .0) h)
   from (b ∷ bs) between level at e v h =
       in-between bs at (omega arith) (λ m l w g. from bs m l (at + 1) (omega arith) w g) level (classOf b) h
   from (b ∷ bs) inComment level at e v h =
@@ -143,11 +152,11 @@ module _ (t u : List ℕ) where
       in-name bs at (omega arith) (λ m l w g. from bs m l (at + 1) (omega arith) w g) level s n (classOf b) v h
 
 -- a clean scan goes over the bytes
-clean-bytes : (t : List ℕ) → scan t ≡ Scanned.Clean → scanFrom t (going between 0) 0 ≡ Scanned.Clean
+clean-bytes : (t : List ℕ) → scan t ≡ Scanned.Clean → scanFrom t t (going between 0) 0 ≡ Scanned.Clean
 unfolding scan
 clean-bytes t h = go (ltb maxText (length t)) h
   where
-    go : (q : Bool) → cond q Scanned.TooLong (scanFrom t (going between 0) 0) ≡ Scanned.Clean → scanFrom t (going between 0) 0 ≡ Scanned.Clean
+    go : (q : Bool) → cond q Scanned.TooLong (scanFrom t t (going between 0) 0) ≡ Scanned.Clean → scanFrom t t (going between 0) 0 ≡ Scanned.Clean
     go true e = let z : _≡_ {A = ℕ} 0 1 = cc in absurd (omega arith)
     go false e = e
 

@@ -1,4 +1,4 @@
--- What the form of a statement gives of it, where every word of the text is a name: FAULT 3's other side. Names that are declared are good,
+-- What the form of a statement gives of it, where every word of the text is a name: FAULT 3's other side. Names that are declared are good parts,
 -- a class and a constrain have a permission at least, operators are those that the forms allow. Each law follows the definition of the
 -- grammar that it speaks of. Assumes nothing.
 use Prim.Native.Nat.{_<_, zero-le, suc-le-suc}
@@ -10,39 +10,37 @@ use mathlib.Core.Option.{Option, none, some}
 use lib.ListN.{length}
 use Rattle.lexer.specs.Class.{isName}
 use Rattle.lexer.specs.Forms.{Forms, closed, ended, word, part, namesGood}
-use Rattle.policy.specs.Basics.{Name, every, All}
-use Rattle.policy.specs.Words.{isReserved, asName, Keyword, declareK, classK, setK, relationK, transitionK, constrainK, Connective, allC, notC, andC, orC, xorC, keywordOf, expressionWord, opOf, isPlain, Component, componentOf}
-use Rattle.policy.specs.Grammar.{setIn, areSides, isRoles, compared, atClose, wordThen, partThen, twoWords, wordAndPart, comparison, formE, connected, expressions, expressionIn, namesIn, oneOrMore, classIn, ofFour, formed, written}
-use Rattle.policy.specs.Statements.{Op, Constraint, notE, andE, orE}
-use Rattle.policy.specs.Sound.{isGood, someGood}
+use Rattle.policy.specs.Basics.{Name, every, All, ofTwo}
+use Rattle.policy.specs.Words.{isReserved, asName, asPart, Keyword, declareK, classK, setK, relationK, transitionK, constrainK, Connective, allC, notC, andC, orC, xorC, keywordOf, expressionWord, opOf, isPlain, Component, componentOf}
+use Rattle.policy.specs.Grammar.{setIn, areSides, isRoles, compared, atClose, wordThen, partThen, twoWords, wordAndPart, comparison, formE, connected, expressions, expressionIn, rowOf, oneOrMore, classIn, ofFour, formed, written}
+use Rattle.policy.specs.Statements.{Op, Constraint, notE, andE, orE, Relation, gives}
+use Rattle.policy.specs.Sound.{isGoodPart, goodPermissions}
 use Rattle.policy.proofs.Lists.{both-true, true-both}
 use Rattle.policy.proofs.IfAny.{IfAny, nothing, just, and-then, whatever, if-given, if-one, if-two, if-more}
+use Rattle.reading_laws.proofs.FullNames.{part-good}
 use Rattle.reading_laws.proofs.Resolving.{Allowed, WellWritten}
 
-abbrev GoodName : Name → Type 0
-GoodName w = isGood w ≡ true
+abbrev GoodPart : Name → Type 0
+GoodPart w = isGoodPart w ≡ true
 
 -- NAMES
-name-good : (w : Name) → isName w ≡ true → IfAny GoodName (asName w)
-name-good w h = if-given (not (isReserved w)) w (true-both (isName w) (not (isReserved w)) h)
+parts-good : (f : Forms) → namesGood f ≡ true → IfAny (All GoodPart) (rowOf asPart f)
+unfolding rowOf namesGood
+parts-good closed h = just tt
+parts-good ended h = nothing
+parts-good (word at w r) h = let b = both-true (isName w) (namesGood r) h in if-more _ _ (part-good w (b .0)) (parts-good r (b .1))
+parts-good (part p i r) h = nothing
 
-names-good : (f : Forms) → namesGood f ≡ true → IfAny (All GoodName) (namesIn f)
-unfolding namesIn namesGood
-names-good closed h = just tt
-names-good ended h = nothing
-names-good (word at w r) h = let b = both-true (isName w) (namesGood r) h in if-more _ _ (name-good w (b .0)) (names-good r (b .1))
-names-good (part p i r) h = nothing
-
-one-or-more : (ps : List Name) → All GoodName ps → IfAny (λ qs. (0 < length qs) × All GoodName qs) (oneOrMore ps)
+one-or-more : (ps : List Name) → All GoodPart ps → IfAny (λ qs. (0 < length qs) × All GoodPart qs) (oneOrMore ps)
 one-or-more [] h = nothing
 one-or-more (p ∷ ps) h = just (suc-le-suc zero-le, h)
 
-every-good : (ps : List Name) → All GoodName ps → every isGood ps ≡ true
+every-good : (ps : List Name) → All GoodPart ps → every isGoodPart ps ≡ true
 unfolding every
 every-good [] h = refl
-every-good (p ∷ ps) h = true-both (isGood p) (every isGood ps) (h .0) (every-good ps (h .1))
+every-good (p ∷ ps) h = true-both (isGoodPart p) (every isGoodPart ps) (h .0) (every-good ps (h .1))
 
-some-good : (ps : List Name) → 0 < length ps → All GoodName ps → someGood ps ≡ true
+some-good : (ps : List Name) → 0 < length ps → All GoodPart ps → goodPermissions ps ≡ true
 some-good [] l h = absurd (not-suc-le-zero l)
 some-good (p ∷ ps) l h = every-good (p ∷ ps) h
 
@@ -77,10 +75,11 @@ module _ {A : Type 0} {P : A → Type 0} where
       → ((w : Name) (i : Forms) → isName w ≡ true → namesGood i ≡ true → IfAny P (g w i)) → IfAny P (wordAndPart f g)
   word-and-part f g h k = word-then f _ λ w r a. part-then r _ λ i r b. at-close r _ (k w i (a h .0) (b (a h .1) .0))
 
-  class-in : (f : Forms) (g : Name → List Name → Option A) → namesGood f ≡ true
-      → ((c : Name) (ps : List Name) → GoodName c → 0 < length ps → All GoodName ps → IfAny P (g c ps)) → IfAny P (classIn f g)
-  class-in f g h k = word-and-part f _ h λ c i a b.
-      and-then _ _ (name-good c a) λ c good. and-then _ _ (names-good i b) λ ps each. and-then _ _ (one-or-more ps each) λ ps both. k c ps good (both .0) (both .1)
+  -- a class that is declared, and one that is used: its name is what the word is taken as
+  class-in : (taken : Name → Option Name) (Q : Name → Type 0) → ((w : Name) → isName w ≡ true → IfAny Q (taken w)) → (f : Forms) (g : Name → List Name → Option A)
+      → namesGood f ≡ true → ((c : Name) (ps : List Name) → Q c → 0 < length ps → All GoodPart ps → IfAny P (g c ps)) → IfAny P (classIn taken f g)
+  class-in taken Q t f g h k = word-and-part f _ h λ c i a b.
+      and-then _ _ (t c a) λ c good. and-then _ _ (parts-good i b) λ ps each. and-then _ _ (one-or-more ps each) λ ps both. k c ps good (both .0) (both .1)
 
 -- EXPRESSIONS
 compared-allowed : (o : Op) (x : Component) (w : Name) (c : Option Component) → IfAny Allowed (compared o x w c)
@@ -125,14 +124,25 @@ four-well (r ∷ t ∷ c ∷ []) = nothing
 four-well (r ∷ t ∷ c ∷ n ∷ []) = just tt
 four-well (r ∷ t ∷ c ∷ n ∷ x ∷ xs) = nothing
 
+-- a name that is used may be any
+any-name : (w : Name) → isName w ≡ true → IfAny (λ _. Unit {0}) (asName w)
+any-name w h = if-given (not (isReserved w)) w λ _. tt
+
+two-well : (r : Relation) (ws : List Name) → IfAny WellWritten (ofTwo (gives r) ws)
+two-well r [] = nothing
+two-well r (x ∷ []) = nothing
+two-well r (x ∷ y ∷ []) = just tt
+two-well r (x ∷ y ∷ z ∷ ws) = nothing
+
 formed-well : (k : Keyword) (f : Forms) → namesGood f ≡ true → IfAny WellWritten (formed k f)
-formed-well (declareK s) f h = and-then _ _ (names-good f h) λ ws g. if-one _ ws g λ w i. i
-formed-well classK f h = class-in f _ h λ c ps good one each. just (true-both (isGood c) (someGood ps) good (some-good ps one each))
+formed-well (declareK s) f h = and-then _ _ (parts-good f h) λ ws g. if-one _ ws g λ w i. i
+formed-well classK f h =
+    class-in asPart GoodPart part-good f _ h λ c ps good one each. just (true-both (isGoodPart c) (goodPermissions ps) good (some-good ps one each))
 formed-well (setK a) f h = word-and-part f _ h λ w i _ _. whatever (asName w) _ λ w. whatever (setIn i) _ λ s. just tt
-formed-well (relationK r) f h = and-then _ _ (names-good f h) λ ws g. if-two _ ws g λ x y _ _. tt
-formed-well transitionK f h = whatever (namesIn f) _ four-well
+formed-well (relationK r) f h = whatever (rowOf asName f) _ (two-well r)
+formed-well transitionK f h = whatever (rowOf asName f) _ four-well
 formed-well constrainK f h = part-then f _ λ i r a. part-then r _ λ j r _. at-close r _
-    (class-in i _ (a h .0) λ c ps _ one _. and-then _ _ (expression-allowed j) λ e ok. just (one, ok))
+    (class-in asName (λ _. Unit {0}) any-name i _ (a h .0) λ c ps _ one _. and-then _ _ (expression-allowed j) λ e ok. just (one, ok))
 
 pub written-well : (f : Forms) → namesGood f ≡ true → IfAny WellWritten (written f)
 unfolding namesGood

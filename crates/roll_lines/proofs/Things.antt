@@ -95,7 +95,7 @@ names-short s ds h = all-gather (λ (w : Name). length w ≤ 64) (λ (d : Declar
     by false w h = tt
 
     kept : (d : Declaration) → goodNames d ≡ true → OfValue (λ (w : Name). length w ≤ 64) (ofSort s d)
-    kept (plain t w) g = by (sameSort s t) w (name-short w (both-true (isName w) (not (isReserved w)) g .0))
+    kept (plain t w) g = by (sameSort s t) w (name-short w g)
     kept (class w ps) g = tt
 
 module _ (i : Image) (h : wellFormed i ≡ true) where

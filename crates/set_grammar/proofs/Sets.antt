@@ -21,17 +21,14 @@ use Rattle.items.specs.Reads.{isSome, enough, counted}
 use Rattle.items.specs.declared.Item.{Item}
 use Rattle.items.specs.declared.Wanted.{Wanted}
 use Rattle.items.proofs.Items.{Looked, sees, by-word, by-close, by-end, alike-open}
-use Rattle.items.proofs.Counts.{one-more, one-less, no-more, of-none, of-one, of-two, is-name}
+use Rattle.items.proofs.Counts.{one-more, one-less, no-more, of-none, of-one, of-two}
 use Rattle.set_grammar.specs.Starts.{operandsOf, begun, startBy, startOf}
 use Rattle.set_grammar.specs.declared.Begun.{Begun}
 
--- a word whose number is that of a name is an operand
-is-operand : (w : Name) (k : ℕ) (b : Bool) → numberOf w ≡ k → b ≡ not (isReserved (wordOf k)) → isSome (asName w >>= λ n. some (nameS n)) ≡ b
-is-operand w k b e f = go b (is-name w k b e f)
-  where
-    go : (b : Bool) → not (isReserved w) ≡ b → isSome (asName w >>= λ n. some (nameS n)) ≡ b
-    go true d = rw d
-    go false d = rw d
+-- a word that is a name is an operand
+is-operand : (w : Name) (b : Bool) → b ≡ not (isReserved w) → isSome (asName w >>= λ n. some (nameS n)) ≡ b
+is-operand w true e = rw (sym e)
+is-operand w false e = rw (sym e)
 
 -- a union is one or more operands
 union-counts : (x : Option (SetExpr Name)) (xs : Option (List (SetExpr Name))) → counted Wanted.OneOrMore 0 (more x xs) ≡ isSome (unionOf x xs)
@@ -51,11 +48,10 @@ operator-counts xorC xs = of-two xorS xs
 -- ---- the operands of an S, by the first of them, after n
 
 module _ (v : Wanted) (n : ℕ) where
-  pub word-operand : (w : Name) (s k : ℕ) (f : Forms) (b : Bool) → numberOf w ≡ k → b ≡ not (isReserved (wordOf k))
-      → counted v n (operands (word s w f)) ≡ b && counted v (n + 1) (operands f)
+  pub word-operand : (w : Name) (s : ℕ) (f : Forms) (b : Bool) → b ≡ not (isReserved w) → counted v n (operands (word s w f)) ≡ b && counted v (n + 1) (operands f)
   unfolding operands
-  word-operand w s k f true e h = one-more v n (asName w >>= λ n. some (nameS n)) (operands f) (is-operand w k true e h)
-  word-operand w s k f false e h = one-less v n (asName w >>= λ n. some (nameS n)) (operands f) (is-operand w k false e h)
+  word-operand w s f true h = one-more v n (asName w >>= λ n. some (nameS n)) (operands f) (is-operand w true h)
+  word-operand w s f false h = one-less v n (asName w >>= λ n. some (nameS n)) (operands f) (is-operand w false h)
 
   pub part-operand : (p : ℕ) (f g : Forms) (b : Bool) → isSome (setIn f) ≡ b → counted v n (operands (part p f g)) ≡ b && counted v (n + 1) (operands g)
   unfolding operands

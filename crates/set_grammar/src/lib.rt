@@ -10,6 +10,8 @@ ghost use Rattle.set_grammar.specs.Starts.{operandsOf, startOf};
 use items::Item;
 use items::Parsed;
 use items::Wanted;
+use lexer::Token;
+use words::NameKind;
 use words::Word;
 
 // How many operands a set expression must have, and where they begin.
@@ -67,20 +69,20 @@ pub fn set_form(text: &[u8], at: usize, levels: usize) -> Parsed
     let mut i = begun.next;
     let mut count: usize = 0;
     loop {
-        let item = items::look(text, i);
-        match item {
-            Item::Word { number, next, .. } => {
-                if !words::is_name(number) {
+        let token = lexer::next(text, i);
+        match token {
+            Token::Word { start, len } => {
+                if !words::is_name(NameKind::Name, text, start, len) {
                     return Parsed::Bad;
                 }
-                i = next;
+                i = start + len;
                 count += 1;
             }
-            Item::Open { next, .. } => {
+            Token::Open(place) => {
                 if levels == 0 {
                     return Parsed::Bad;
                 }
-                let operand = set_form(text, next, levels - 1);
+                let operand = set_form(text, place + 1, levels - 1);
                 match operand {
                     Parsed::Next(past) => {
                         i = past;
@@ -89,8 +91,8 @@ pub fn set_form(text: &[u8], at: usize, levels: usize) -> Parsed
                     Parsed::Bad => return Parsed::Bad,
                 }
             }
-            Item::Close { next } => return items::ended(wanted, count, next),
-            Item::End => return Parsed::Bad,
+            Token::Close(place) => return items::ended(wanted, count, place + 1),
+            Token::End => return Parsed::Bad,
         }
     }
 }

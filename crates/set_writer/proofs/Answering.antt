@@ -20,7 +20,7 @@ use Rattle.statement_code.specs.Code.{setCode}
 use Rattle.code_laws.specs.Weight.{weight}
 use Rattle.code_laws.proofs.TextWeight.{frames-weight}
 use Rattle.code_laws.proofs.SetShape.{set-fits}
-use Rattle.name_chains.specs.Symbols.{Symbols}
+use Rattle.scopes.specs.Symbols.{Symbols}
 use Rattle.set_writer.specs.Sets.{Past, Answers, WritesSet}
 use Rattle.set_writer.specs.declared.SetWritten.{SetWritten}
 

@@ -18,7 +18,7 @@ use Rattle.items.specs.declared.Item.{Item}
 use Rattle.items.proofs.Frames.{around-of, closes, by-word, by-part, by-close, by-end, too-deep}
 use Rattle.statement_code.specs.Code.{referenceUnit, setCode, endUnit}
 use Rattle.set_writer.specs.Writing.{Wrote, Keeps, Stored}
-use Rattle.name_chains.specs.Symbols.{Symbols}
+use Rattle.scopes.specs.Symbols.{Symbols}
 use Rattle.set_writer.specs.Naming.{Refers}
 use Rattle.set_writer.specs.Sets.{Begins, Past, Moves, Answers, WritesSet}
 use Rattle.set_writer.specs.declared.Begun.{Begun}

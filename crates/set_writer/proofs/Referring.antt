@@ -16,8 +16,8 @@ use Rattle.policy.proofs.IfAny.{IfAny}
 use Rattle.symbols.specs.Resolving.{foundNamed}
 use Rattle.symbols.specs.declared.Found.{Found}
 use Rattle.statement_code.specs.Code.{referenceUnit}
-use Rattle.name_chains.specs.Symbols.{Looks}
-use Rattle.name_chains.proofs.Bounds.{bounded}
+use Rattle.scopes.specs.Symbols.{Looks}
+use Rattle.scopes.proofs.Bounds.{bounded}
 use Rattle.set_writer.specs.Naming.{referred, Refers}
 use Rattle.set_writer.specs.declared.Referred.{Referred}
 

@@ -6,7 +6,7 @@ use Prim.Native.Nat.{ℕ}
 use Rattle.policy.specs.Basics.{Name}
 use Rattle.policy.specs.Statements.{Family, Reference}
 use Rattle.policy.specs.Names.{refer, Environment}
-use Rattle.name_chains.specs.Symbols.{Symbols}
+use Rattle.scopes.specs.Symbols.{Symbols}
 use Rattle.symbols.specs.Resolving.{familyCode}
 use Rattle.statement_code.specs.Code.{referenceUnit}
 use Rattle.set_writer.specs.declared.Referred.{Referred}

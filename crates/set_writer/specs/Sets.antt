@@ -14,7 +14,7 @@ use Rattle.policy.specs.Names.{Environment}
 use Rattle.symbols.specs.Resolving.{familyCode}
 use Rattle.statement_code.specs.Code.{setCode, allUnit, notUnit, andUnit, orUnit, xorUnit, unionUnit, endUnit}
 use Rattle.set_writer.specs.Writing.{Wrote, Keeps}
-use Rattle.name_chains.specs.Symbols.{Symbols}
+use Rattle.scopes.specs.Symbols.{Symbols}
 use Rattle.set_writer.specs.declared.Begun.{Begun}
 use Rattle.set_writer.specs.declared.SetWritten.{SetWritten}
 

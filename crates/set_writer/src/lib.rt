@@ -45,7 +45,7 @@ pub fn put_unit(code: &mut [u16], at: usize, unit: u16) -> usize
 pub fn reference(symbols: &[u8], family: usize, text: &[u8], start: usize, len: usize) -> Referred
     ensures { λ r. ⌜ Refers (now (symbols .entry)) family (part (now (text .entry)) start len) r ⌝ }
 {
-    let found = name_chains::lookup(symbols, family, text, start, len);
+    let found = scopes::lookup(symbols, family, text, start, len);
     match found {
         Found::At { sort, number } => {
             if Unit::ATTRIBUTE as usize <= number {

@@ -47,7 +47,7 @@ module _ {t : List ℕ} {at start len number next : ℕ} (l : Looked t at (Item.
 module _ {t : List ℕ} {at place : ℕ} {before after : Memory} {s : Progress} {r : Step} where
   -- nothing is said of a row of no form
   formless : written (framesAt t at .here) ≡ none → StepsAt t at place before after s r
-  formless e = record { says = λ lent p w h row room. absurd (Option·none-ne-some w (sym e ∙ row .form)) }
+  formless e = record { says = λ lent p path w h row room. absurd (Option·none-ne-some w (sym e ∙ row .form)) }
 
   pub no-word : (i : Item) → i ≡ itemAt t at → OneOf (1 ∷ 2 ∷ 3 ∷ []) (tagOf the-type i) → StepsAt t at place before after s r
   no-word i e h = formless (alike-here written (λ f. none) t at i (1 ∷ 2 ∷ 3 ∷ []) (tt, λ x f g. refl, refl, refl) e h)
@@ -57,7 +57,7 @@ module _ {t : List ℕ} {at place : ℕ} {before after : Memory} {s : Progress} 
     no-keyword e = formless (said l none e)
 
     pub by-keyword : (k : Keyword) → keywordOf (wordOf number) ≡ some k → Steps t next place k before after s r → StepsAt t at place before after s r
-    by-keyword k e x = record { says = λ lent p w h row room. x .says lent p w h (behind row) room }
+    by-keyword k e x = record { says = λ lent p path w h row room. x .says lent p path w h (behind row) room }
       where
         behind : {w : Written} → RowIs (framesAt t at .here) (written (framesAt t at .here)) w → RowIs (framesAt t next .here) (formed k (framesAt t next .here)) w
         behind row = record {

@@ -5,9 +5,9 @@ use mathlib.Core.List.{List, [], _∷_}
 use mathlib.Core.Option.{Option}
 use Rattle.lexer.specs.Forms.{Forms, closed, ended, word, part}
 use Rattle.policy.specs.Basics.{Name, eachOf, ofOne, ofTwo}
-use Rattle.policy.specs.Words.{asName, Keyword, declareK, classK, setK, relationK, transitionK, constrainK}
+use Rattle.policy.specs.Words.{asName, asPart, Keyword, declareK, classK, setK, relationK, transitionK, constrainK}
 use Rattle.policy.specs.Statements.{roles, types, thingOf, attributeOf, plain, class, Reference, SetExpr, Constraint, StatementOf, declare, attributeset, gives, roletransition, constrain, Written, fromOf, toOf}
-use Rattle.policy.specs.Grammar.{wordAndPart, twoParts, setIn, expressionIn, namesIn, oneOrMore, classIn, ofFour, formed}
+use Rattle.policy.specs.Grammar.{wordAndPart, twoParts, setIn, expressionIn, rowOf, oneOrMore, classIn, ofFour, formed}
 use Rattle.policy.specs.Names.{refer, Environment, numberIn}
 use Rattle.policy.specs.Reading.{referS, referE, resolved}
 use Rattle.policy.proofs.IfAny.{IfAny, nothing, just, whatever}
@@ -47,27 +47,28 @@ module _ {A : Type 0} {P : A → Type 0} where
   two-parts (part p i (part q j (word s w r))) g k = nothing
   two-parts (part p i (part q j (part s h r))) g k = nothing
 
-  class-in : (f : Forms) (g : Name → List Name → Option A) → ((c : Name) (ps : List Name) → IfAny P (g c ps)) → IfAny P (classIn f g)
-  class-in f g k = word-and-part f _ λ c i. whatever (asName c) _ λ c. whatever (namesIn i) _ λ ps. whatever (oneOrMore ps) _ λ ps. k c ps
+  class-in : (taken : Name → Option Name) (f : Forms) (g : Name → List Name → Option A) → ((c : Name) (ps : List Name) → IfAny P (g c ps))
+      → IfAny P (classIn taken f g)
+  class-in taken f g k = word-and-part f _ λ c i. whatever (taken c) _ λ c. whatever (rowOf asPart i) _ λ ps. whatever (oneOrMore ps) _ λ ps. k c ps
 
 -- as it is written
 pub formed-of : (k : Keyword) (f : Forms) → IfAny (IsOf {R = Name} {N = Name} k) (formed k f)
-formed-of (declareK s) f = whatever (namesIn f) _ one
+formed-of (declareK s) f = whatever (rowOf asPart f) _ one
   where
     one : (ws : List Name) → IfAny (IsOf {R = Name} {N = Name} (declareK s)) (ofOne (λ w. declare (plain s w)) ws)
     one [] = nothing
     one (w ∷ []) = just (w, refl)
     one (v ∷ w ∷ ws) = nothing
-formed-of classK f = class-in f _ λ c ps. just (c, ps, refl)
+formed-of classK f = class-in asPart f _ λ c ps. just (c, ps, refl)
 formed-of (setK a) f = word-and-part f _ λ w i. whatever (asName w) _ λ w. whatever (setIn i) _ λ s. just (w, s, refl)
-formed-of (relationK r) f = whatever (namesIn f) _ two
+formed-of (relationK r) f = whatever (rowOf asName f) _ two
   where
     two : (ws : List Name) → IfAny (IsOf {R = Name} {N = Name} (relationK r)) (ofTwo (gives r) ws)
     two [] = nothing
     two (w ∷ []) = nothing
     two (v ∷ w ∷ []) = just (v, w, refl)
     two (u ∷ v ∷ w ∷ ws) = nothing
-formed-of transitionK f = whatever (namesIn f) _ four
+formed-of transitionK f = whatever (rowOf asName f) _ four
   where
     four : (ws : List Name) → IfAny (IsOf {R = Name} {N = Name} transitionK) (ofFour ws)
     four [] = nothing
@@ -76,7 +77,7 @@ formed-of transitionK f = whatever (namesIn f) _ four
     four (r ∷ t ∷ c ∷ []) = nothing
     four (r ∷ t ∷ c ∷ n ∷ []) = just (r, t, c, n, refl)
     four (r ∷ t ∷ c ∷ n ∷ x ∷ xs) = nothing
-formed-of constrainK f = two-parts f _ λ i j. class-in i _ λ c ps. whatever (expressionIn j) _ λ e. just (c, ps, e, refl)
+formed-of constrainK f = two-parts f _ λ i j. class-in asName i _ λ c ps. whatever (expressionIn j) _ λ e. just (c, ps, e, refl)
 
 -- as it is resolved
 pub resolved-of : (env : Environment) (k : Keyword) (w : Written) → IsOf k w → IfAny (IsOf {R = Reference} {N = ℕ} k) (resolved env w)

@@ -4,7 +4,7 @@ use Prim.Native.Nat.{ℕ, _+_, _-_, _*_, _≤_}
 use native.Mathlib.Omega.{arith}
 use borrow.Author.Tests.{ltb-true, leb-true}
 use mathlib.Core.Path.{_≡_, refl, sym, ap, ap₂, subst, _∙_}
-use mathlib.Core.Bool.{Bool, true, false, not, cond}
+use mathlib.Core.Bool.{Bool, true, false, not, _&&_, cond}
 use mathlib.Core.List.{List, [], _∷_, _++_, append-nil}
 use mathlib.Core.Option.{Option, none, some}
 use lib.Dec.{ltb, leb}
@@ -13,12 +13,12 @@ use lib.Seq.{take-take, length-take-le}
 use Rattle.bitset.specs.Parts.{put}
 use Rattle.bitset.specs.Relations.{joined}
 use Rattle.lexer.specs.Forms.{framesAt}
-use Rattle.policy.specs.Basics.{each}
+use Rattle.policy.specs.Basics.{Name, each}
 use Rattle.policy.specs.Words.{Keyword, constrainK}
 use Rattle.policy.specs.Maxima.{maxTransitions, maxConstraints, maxRows, maxStack}
-use Rattle.policy.specs.Statements.{Declaration, class, Reference, Constraint, Written, Statement, declare, attributeset, gives, roletransition, constrain, Policy, declared, declarations, transition, Transition, transitions, Constrain, constrained, constrains, size, need}
+use Rattle.policy.specs.Statements.{Declaration, plain, class, Reference, Constraint, Written, Statement, declare, attributeset, gives, roletransition, constrain, Policy, declared, declarations, transition, Transition, transitions, Constrain, constrained, constrains, size, need}
 use Rattle.policy.specs.Grammar.{formed}
-use Rattle.policy.specs.Reading.{isNew, hasRoom, resolved, rowCount, Judged, reads, fault, sized, resolving, naming}
+use Rattle.policy.specs.Reading.{fullDeclaration, isNew, hasRoom, isShort, resolved, rowCount, Judged, reads, fault, sized, resolving, naming}
 use Rattle.policy.specs.Rows as rows
 use Rattle.policy.specs.Encode.{headBytes, rowBytes}
 use Rattle.policy.proofs.Lists.{both-true, each-length}
@@ -51,7 +51,7 @@ use Rattle.statement_reader.proofs.Filling.{now-long, front, put-behind
 use Rattle.statement_reader.proofs.Sections.{row-count-more, declared-more, declared-same, symbols-more, symbols-same, transitions-more, transitions-same, constrains-more, constrains-same, constraints-more, constraints-same, rows-more, rows-same}
 use Rattle.statement_reader.proofs.KeywordKinds.{IsOf, formed-of, resolved-of}
 
-module _ {p : Policy} {lent : Memory} {sy co cs rs : List ℕ} {s : Progress} (h : Holds p lent (memory sy co cs rs) s) where
+module _ {p : Policy} {path : List Name} {lent : Memory} {sy co cs rs : List ℕ} {s : Progress} (h : Holds p path lent (memory sy co cs rs) s) where
   -- the memory of the symbols holds what the statements declare
   table-holds : declaring.Holds sy (s .symbols) (declarations p)
   unfolding symbolsOf
@@ -68,12 +68,13 @@ module _ {p : Policy} {lent : Memory} {sy co cs rs : List ℕ} {s : Progress} (h
   module _ (place : ℕ) where
     filled-declared : {sy' co' : List ℕ} {past to : ℕ} (d : Declaration) → declaring.Adds sy sy' (s .symbols) past (declarations p) d
         → Wrote co (s .code) (declarationCode place d) co' to → length (codeOf p) + length (declarationCode place d) ≤ length (lent .code)
-        → Filled (p ++ (line place (declare d) ∷ [])) lent (memory sy' co' cs rs) (withSymbols (withCode s to (s .transitions)) past)
+        → Filled (p ++ (line place (declare d) ∷ [])) path lent (memory sy' co' cs rs) (withSymbols (withCode s to (s .transitions)) past)
     filled-declared d a w f =
         let l = line place (declare d) in
         record {
           symbols = rw (symbols-more p l d refl) (put-behind (h .symbols) _ _ _ (a .written) (a .moved) (omega (arith, a .fits, names-long)));
           chained = rw (declared-more p l d refl) (a .chained);
+          scope = a .scope path (h .scope);
           code = rw (code-last p l) (wrote-behind (h .code) _ _ _ w f);
           constraints = rw (constraints-same p l refl) (h .constraints);
           rows = rw (rows-same p l refl) (h .rows);
@@ -85,12 +86,13 @@ module _ {p : Policy} {lent : Memory} {sy co cs rs : List ℕ} {s : Progress} (h
     filled-coded : {co' : List ℕ} {to : ℕ} (st : Statement) → declared (line place st) ≡ none → constrained (line place st) ≡ none
         → (n : ℕ) → n ≡ length (transitions (p ++ (line place st ∷ [])))
         → Wrote co (s .code) (statementCode place st) co' to → length (codeOf p) + length (statementCode place st) ≤ length (lent .code)
-        → Filled (p ++ (line place st ∷ [])) lent (memory sy co' cs rs) (withCode s to n)
+        → Filled (p ++ (line place st ∷ [])) path lent (memory sy co' cs rs) (withCode s to n)
     filled-coded st d k n e w f =
         let l = line place st in
         record {
           symbols = rw (symbols-same p l d) (h .symbols);
           chained = rw (declared-same p l d) (h .chained);
+          scope = h .scope;
           code = rw (code-last p l) (wrote-behind (h .code) _ _ _ w f);
           constraints = rw (constraints-same p l k) (h .constraints);
           rows = rw (rows-same p l k) (h .rows);
@@ -101,7 +103,7 @@ module _ {p : Policy} {lent : Memory} {sy co cs rs : List ℕ} {s : Progress} (h
 
     filled-constrained : {cs' rs' : List ℕ} {next : ℕ} (c : ℕ) (ps : List ℕ) (e : Constraint Reference)
         → constraining.Adds c ps e cs cs' (s .constraints) rs rs' (s .rows) next → 1280 ≤ length (lent .constraints) → 12288 ≤ length (lent .rows)
-        → Filled (p ++ (line place (constrain c ps e) ∷ [])) lent (memory sy co cs' rs') (withRows s next)
+        → Filled (p ++ (line place (constrain c ps e) ∷ [])) path lent (memory sy co cs' rs') (withRows s next)
     filled-constrained {cs'} {rs'} {next} c ps e a wide long =
         let l = line place (constrain c ps e) in
         let k : Constrain = record { class = c; perms = ps; body = e } in
@@ -118,6 +120,7 @@ module _ {p : Policy} {lent : Memory} {sy co cs rs : List ℕ} {s : Progress} (h
         record {
           symbols = rw (symbols-same p l refl) (h .symbols);
           chained = rw (declared-same p l refl) (h .chained);
+          scope = h .scope;
           code = rw (code-last p l, append-nil) (h .code);
           constraints = rw (constraints-more p l k refl) (put-behind (h .constraints) head cs' (10 * (s .constraints + 1))
               (a .head ∙ ap (λ (n : ℕ). put cs (10 * s .constraints) (headBytes (headOf c ps e n))) (h .row-count))
@@ -129,17 +132,28 @@ module _ {p : Policy} {lent : Memory} {sy co cs rs : List ℕ} {s : Progress} (h
         }
 
 -- the same step of the same judgement
-stepped-as : (p : Policy) (place : ℕ) (lent now : Memory) {j i : Judged} {r q : Step} → j ≡ i → r ≡ q → Stepped i p place lent now q → Stepped j p place lent now r
-stepped-as p place lent now {j} {i} {r} {q} e f x =
-    subst (λ (a : Judged). Stepped a p place lent now r) (sym e) (subst (λ (b : Step). Stepped i p place lent now b) (sym f) x)
+stepped-as : (p : Policy) (path : List Name) (place : ℕ) (lent now : Memory) {j i : Judged} {r q : Step} → j ≡ i → r ≡ q
+    → Stepped i p path place lent now q → Stepped j p path place lent now r
+stepped-as p path place lent now {j} {i} {r} {q} e f x =
+    subst (λ (a : Judged). Stepped a p path place lent now r) (sym e) (subst (λ (b : Step). Stepped i p path place lent now b) (sym f) x)
 
 -- DECLARATIONS: fault 4, then 6
-module _ (p : Policy) (d : Declaration) where
-  abbrev judgedBy : Bool → Bool → Judged
-  judgedBy new room = elim (not new) [ true ↦ fault 4 | false ↦ cond room (cond true (reads (declare d)) (fault 7)) (fault 6) ]
+module _ (p : Policy) (path : List Name) (d : Declaration) where
+  -- under its full name
+  abbrev named : Declaration
+  named = fullDeclaration path d
 
-  judged-declared : (new room : Bool) → isNew (declarations p) d ≡ new → hasRoom (declarations p) d ≡ room → naming p (some (declare d)) ≡ judgedBy new room
+  abbrev judgedBy : Bool → Bool → Judged
+  judgedBy new room = elim (not new) [ true ↦ fault 4 | false ↦ cond room (cond true (reads (declare named)) (fault 7)) (fault 6) ]
+
+  judged-declared : (new room : Bool) → isNew (declarations p) named ≡ new → hasRoom (declarations p) named && isShort named ≡ room
+      → naming path p (some (declare d)) ≡ judgedBy new room
   judged-declared new room e f = ap₂ judgedBy e f
+
+-- its code has no name in it
+same-code : (path : List Name) (place : ℕ) (d : Declaration) → declarationCode place d ≡ declarationCode place (fullDeclaration path d)
+same-code path place (plain s w) = refl
+same-code path place (class w ps) = refl
 
 -- what is written for the declaration that the statement is
 pub record Declaring (k : Keyword) (place : ℕ) (co co' : List ℕ) (from to : ℕ) : Type 0 where
@@ -150,10 +164,11 @@ module _ {t : List ℕ} {at place : ℕ} {k : Keyword} {sy sy' co co' cs rs : Li
       → Steps t at place k (memory sy co cs rs) (memory sy' co' cs rs) s (declaredStep r (withCode s to (s .transitions)))
   declared-steps r a x = record { says = says r a }
     where
-      says : (r : Declared) → DeclaresAt t at k sy sy' (s .symbols) r → (lent : Memory) (p : Policy) (w : Written) → Holds p lent (memory sy co cs rs) s
-          → RowIs (framesAt t at .here) (formed k (framesAt t at .here)) w → Room lent p place w
-          → Stepped (naming p (some w)) p place lent (memory sy' co' cs rs) (declaredStep r (withCode s to (s .transitions)))
-      says r a lent p w h row room = go r (a .says (declarations p) d (table-holds h) (row .names) (row .form ∙ ap (λ (v : Written). some v) (o .1)))
+      says : (r : Declared) → DeclaresAt t at k sy sy' (s .symbols) r → (lent : Memory) (p : Policy) (path : List Name) (w : Written) → Holds p path lent (memory sy co cs rs) s
+          → RowIs (framesAt t at .here) (formed k (framesAt t at .here)) w → Room lent p path place w
+          → Stepped (naming path p (some w)) p path place lent (memory sy' co' cs rs) (declaredStep r (withCode s to (s .transitions)))
+      says r a lent p path w h row room =
+          go r (a .says (declarations p) path d (table-holds h) (h .scope) (h .blocks) (row .names) (row .form ∙ ap (λ (v : Written). some v) (o .1)))
         where
           o : (d : Declaration) × (w ≡ declare d) × Wrote co (s .code) (declarationCode place d) co' to
           o = x .of w (formed-of k (framesAt t at .here) .has w (row .form))
@@ -161,37 +176,42 @@ module _ {t : List ℕ} {at place : ℕ} {k : Keyword} {sy sy' co co' cs rs : Li
           d : Declaration
           d = o .0
 
-          as-declared : (j : Judged) → naming p (some (declare d)) ≡ j → naming p (some w) ≡ j
-          as-declared j e = ap (λ (v : Written). naming p (some v)) (o .1) ∙ e
+          as-declared : (j : Judged) → naming path p (some (declare d)) ≡ j → naming path p (some w) ≡ j
+          as-declared j e = ap (λ (v : Written). naming path p (some v)) (o .1) ∙ e
 
-          go : (r : Declared) → Declares sy sy' (s .symbols) (declarations p) d r
-              → Stepped (naming p (some w)) p place lent (memory sy' co' cs rs) (declaredStep r (withCode s to (s .transitions)))
+          go : (r : Declared) → Declares sy sy' (s .symbols) (declarations p) (named p path d) r
+              → Stepped (naming path p (some w)) p path place lent (memory sy' co' cs rs) (declaredStep r (withCode s to (s .transitions)))
           go (Declared.Next past) y =
-              let e = as-declared _ (judged-declared p d true true (y .new) (y .room)) in
-              stepped-as p place lent (memory sy' co' cs rs) e refl (filled-declared h place d y (o .2) (room .code (declare d) e))
+              let e = as-declared _ (judged-declared p path d true true (y .new) (y .room)) in
+              let wrote = subst (λ (us : List ℕ). Wrote co (s .code) us co' to) (same-code path place d) (o .2) in
+              stepped-as p path place lent (memory sy' co' cs rs) e refl (filled-declared h place (named p path d) y wrote (room .code (declare (named p path d)) e))
           go Declared.Again y =
-              stepped-as p place lent (memory sy' co' cs rs) (as-declared _ (ap (λ (new : Bool). judgedBy p d new (hasRoom (declarations p) d)) (y .0))) refl refl
-          go Declared.Full y = stepped-as p place lent (memory sy' co' cs rs) (as-declared _ (judged-declared p d true false (y .0) (y .1))) refl refl
+              stepped-as p path place lent (memory sy' co' cs rs) (as-declared _ (judged-declared p path d false _ (y .0) refl)) refl refl
+          go Declared.Full y = stepped-as p path place lent (memory sy' co' cs rs) (as-declared _ (judged-declared p path d true false (y .0) (y .1))) refl refl
 
 -- STATEMENTS WITH CODE: fault 5, then 6
-coded-naming : (kind : CodedKind) (p : Policy) (w : Written) → IsOf (codedKeyword kind) w → naming p (some w) ≡ resolving p (resolved (environmentOf (declarations p)) w)
-coded-naming (CodedKind.Set f) p w i = ap (λ (v : Written). naming p (some v)) (i .2) ∙ ap (λ (v : Written). resolving p (resolved (environmentOf (declarations p)) v)) (sym (i .2))
-coded-naming (CodedKind.Relation r) p w i = ap (λ (v : Written). naming p (some v)) (i .2) ∙ ap (λ (v : Written). resolving p (resolved (environmentOf (declarations p)) v)) (sym (i .2))
-coded-naming CodedKind.Transition p w i = ap (λ (v : Written). naming p (some v)) (i .4) ∙ ap (λ (v : Written). resolving p (resolved (environmentOf (declarations p)) v)) (sym (i .4))
+coded-naming : (kind : CodedKind) (path : List Name) (p : Policy) (w : Written) → IsOf (codedKeyword kind) w
+    → naming path p (some w) ≡ resolving p (resolved (environmentOf (declarations p) path) w)
+coded-naming (CodedKind.Set f) path p w i =
+    ap (λ (v : Written). naming path p (some v)) (i .2) ∙ ap (λ (v : Written). resolving p (resolved (environmentOf (declarations p) path) v)) (sym (i .2))
+coded-naming (CodedKind.Relation r) path p w i =
+    ap (λ (v : Written). naming path p (some v)) (i .2) ∙ ap (λ (v : Written). resolving p (resolved (environmentOf (declarations p) path) v)) (sym (i .2))
+coded-naming CodedKind.Transition path p w i =
+    ap (λ (v : Written). naming path p (some v)) (i .4) ∙ ap (λ (v : Written). resolving p (resolved (environmentOf (declarations p) path) v)) (sym (i .4))
 
-module _ {p : Policy} {lent : Memory} {sy co co' cs rs : List ℕ} {s : Progress} {to : ℕ} (h : Holds p lent (memory sy co cs rs) s) (place : ℕ) (st : Statement)
+module _ {p : Policy} {path : List Name} {lent : Memory} {sy co co' cs rs : List ℕ} {s : Progress} {to : ℕ} (h : Holds p path lent (memory sy co cs rs) s) (place : ℕ) (st : Statement)
     (room : sized p st ≡ reads st → length (codeOf p) + length (statementCode place st) ≤ length (lent .code))
     (w : Wrote co (s .code) (statementCode place st) co' to) where
   -- a statement that is no transition
   plain-step : (v : Statement) → st ≡ v → sized p v ≡ reads v → declared (line place v) ≡ none → constrained (line place v) ≡ none → transition (line place v) ≡ none
-      → Stepped (sized p st) p place lent (memory sy co' cs rs) (Step.Read (withCode s to (s .transitions)))
+      → Stepped (sized p st) p path place lent (memory sy co' cs rs) (Step.Read (withCode s to (s .transitions)))
   plain-step v i e d k m =
       let f : sized p st ≡ reads st = ap (sized p) i ∙ e ∙ ap (λ (x : Statement). reads x) (sym i) in
-      stepped-as p place lent (memory sy co' cs rs) f refl
+      stepped-as p path place lent (memory sy co' cs rs) f refl
       (filled-coded h place st (ap (λ (x : Statement). declared (line place x)) i ∙ d) (ap (λ (x : Statement). constrained (line place x)) i ∙ k) (s .transitions)
       (h .transition-count ∙ ap length (sym (transitions-same p (line place st) (ap (λ (x : Statement). transition (line place x)) i ∙ m)))) w (room f))
 
-  coded-sized : (kind : CodedKind) → IsOf (codedKeyword kind) st → Stepped (sized p st) p place lent (memory sy co' cs rs) (codedStep kind (Coded.Next to) s)
+  coded-sized : (kind : CodedKind) → IsOf (codedKeyword kind) st → Stepped (sized p st) p path place lent (memory sy co' cs rs) (codedStep kind (Coded.Next to) s)
   coded-sized (CodedKind.Set f) i = plain-step (attributeset (familyOf f) (i .0) (i .1)) (i .2) refl refl refl refl
   coded-sized (CodedKind.Relation r) i = plain-step (gives (relationOf r) (i .0) (i .1)) (i .2) refl refl refl refl
   coded-sized CodedKind.Transition i = go (ltb (length (transitions p)) maxTransitions) refl
@@ -215,43 +235,44 @@ module _ {p : Policy} {lent : Memory} {sy co co' cs rs : List ℕ} {s : Progress
           ap (sized p) (i .4) ∙ ap (λ (x : Bool). cond x (reads v) (fault 6)) e ∙ ap (λ (x : Statement). cond b (reads x) (fault 6)) (sym (i .4))
 
       go : (b : Bool) → ltb (length (transitions p)) maxTransitions ≡ b
-          → Stepped (sized p st) p place lent (memory sy co' cs rs) (codedStep CodedKind.Transition (Coded.Next to) s)
+          → Stepped (sized p st) p path place lent (memory sy co' cs rs) (codedStep CodedKind.Transition (Coded.Next to) s)
       go true e =
-          stepped-as p place lent (memory sy co' cs rs) (judged true e) (step true e)
+          stepped-as p path place lent (memory sy co' cs rs) (judged true e) (step true e)
           (filled-coded h place st (ap (λ (x : Statement). declared (line place x)) (i .4)) (ap (λ (x : Statement). constrained (line place x)) (i .4)) (s .transitions + 1)
           (omega (arith, h .transition-count, count)) w (room (judged true e)))
-      go false e = stepped-as p place lent (memory sy co' cs rs) (judged false e) (step false e) refl
+      go false e = stepped-as p path place lent (memory sy co' cs rs) (judged false e) (step false e) refl
 
 module _ {t : List ℕ} {at place : ℕ} {sy co co' cs rs : List ℕ} {s : Progress} (kind : CodedKind) where
   pub coded-steps : (r : Coded) → WritesStatement t at (codedKeyword kind) place sy co (s .code) co' r
       → Steps t at place (codedKeyword kind) (memory sy co cs rs) (memory sy co' cs rs) s (codedStep kind r s)
   coded-steps r a = record { says = says }
     where
-      says : (lent : Memory) (p : Policy) (w : Written) → Holds p lent (memory sy co cs rs) s
-          → RowIs (framesAt t at .here) (formed (codedKeyword kind) (framesAt t at .here)) w → Room lent p place w
-          → Stepped (naming p (some w)) p place lent (memory sy co' cs rs) (codedStep kind r s)
-      says lent p w h row room =
-          stepped-as p place lent (memory sy co' cs rs) named refl (go (resolved (environmentOf (declarations p)) w) refl r (a .says (environmentOf (declarations p)) w (holds-symbols (table-holds h)) (ap (formed (codedKeyword kind)) (row .uncut) ∙ row .form)))
+      says : (lent : Memory) (p : Policy) (path : List Name) (w : Written) → Holds p path lent (memory sy co cs rs) s
+          → RowIs (framesAt t at .here) (formed (codedKeyword kind) (framesAt t at .here)) w → Room lent p path place w
+          → Stepped (naming path p (some w)) p path place lent (memory sy co' cs rs) (codedStep kind r s)
+      says lent p path w h row room =
+          stepped-as p path place lent (memory sy co' cs rs) named refl (go (resolved (environmentOf (declarations p) path) w) refl r (a .says (environmentOf (declarations p) path) w (holds-symbols (table-holds h) (h .scope)) (ap (formed (codedKeyword kind)) (row .uncut) ∙ row .form)))
         where
           i : IsOf (codedKeyword kind) w
           i = formed-of (codedKeyword kind) (framesAt t at .here) .has w (row .form)
 
-          named : naming p (some w) ≡ resolving p (resolved (environmentOf (declarations p)) w)
-          named = coded-naming kind p w i
+          named : naming path p (some w) ≡ resolving p (resolved (environmentOf (declarations p) path) w)
+          named = coded-naming kind path p w i
 
-          go : (o : Option Statement) → resolved (environmentOf (declarations p)) w ≡ o → (r : Coded) → coding.Answers co (s .code) place o co' r
-              → Stepped (resolving p o) p place lent (memory sy co' cs rs) (codedStep kind r s)
+          go : (o : Option Statement) → resolved (environmentOf (declarations p) path) w ≡ o → (r : Coded) → coding.Answers co (s .code) place o co' r
+              → Stepped (resolving p o) p path place lent (memory sy co' cs rs) (codedStep kind r s)
           go none e Coded.Undeclared y = refl
           go none e (Coded.Next u) y = absurd y
           go (some st) e Coded.Undeclared y = absurd y
           go (some st) e (Coded.Next u) y =
-              coded-sized h place st (λ f. room .code st (named ∙ ap (resolving p) e ∙ f)) y kind (resolved-of (environmentOf (declarations p)) (codedKeyword kind) w i .has st e)
+              coded-sized h place st (λ f. room .code st (named ∙ ap (resolving p) e ∙ f)) y kind (resolved-of (environmentOf (declarations p) path) (codedKeyword kind) w i .has st e)
 
 -- CONSTRAINTS: fault 5, then 6, then 7
-constrain-naming : (p : Policy) (w : Written) → IsOf constrainK w → naming p (some w) ≡ resolving p (resolved (environmentOf (declarations p)) w)
-constrain-naming p w i = ap (λ (v : Written). naming p (some v)) (i .3) ∙ ap (λ (v : Written). resolving p (resolved (environmentOf (declarations p)) v)) (sym (i .3))
+constrain-naming : (path : List Name) (p : Policy) (w : Written) → IsOf constrainK w → naming path p (some w) ≡ resolving p (resolved (environmentOf (declarations p) path) w)
+constrain-naming path p w i =
+    ap (λ (v : Written). naming path p (some v)) (i .3) ∙ ap (λ (v : Written). resolving p (resolved (environmentOf (declarations p) path) v)) (sym (i .3))
 
-module _ {p : Policy} {lent : Memory} {sy co cs rs : List ℕ} {s : Progress} (h : Holds p lent (memory sy co cs rs) s) (c : ℕ) (ps : List ℕ) (e : Constraint Reference) where
+module _ {p : Policy} {path : List Name} {lent : Memory} {sy co cs rs : List ℕ} {s : Progress} (h : Holds p path lent (memory sy co cs rs) s) (c : ℕ) (ps : List ℕ) (e : Constraint Reference) where
   -- what the maxima say by the counts of the memory is what they say of the statements
   counts : fitsBefore (length (constrains p)) (rowCount (constrains p) + size e) ≡ fitsBefore (s .constraints) (s .rows + size e)
   counts = ap₂ (λ (n m : ℕ). fitsBefore n (m + size e)) (sym (h .constraint-count)) (sym (h .row-count))
@@ -263,28 +284,28 @@ module _ {p : Policy} {lent : Memory} {sy co cs rs : List ℕ} {s : Progress} (h
 
   constrained-sized : (place : ℕ) (cs' rs' : List ℕ) → 1280 ≤ length (lent .constraints) → 12288 ≤ length (lent .rows)
       → (r : Constrained) → constraining.Answers (some (constrain c ps e)) cs cs' (s .constraints) rs rs' (s .rows) r
-      → Stepped (sized p (constrain c ps e)) p place lent (memory sy co cs' rs') (constrainedStep r s)
+      → Stepped (sized p (constrain c ps e)) p path place lent (memory sy co cs' rs') (constrainedStep r s)
   constrained-sized place cs' rs' wide long (Constrained.Next next) a =
-      stepped-as p place lent (memory sy co cs' rs') (judged-constrained true true (a .fits) (a .shallow))
+      stepped-as p path place lent (memory sy co cs' rs') (judged-constrained true true (a .fits) (a .shallow))
       (ap (λ (b : Bool). cond b (Step.Read (withRows s next)) (Step.Fault 6)) (both-true (ltb (s .constraints) maxConstraints) (leb (s .rows + size e) maxRows) (a .fits) .0))
       (filled-constrained h place c ps e a wide long)
   constrained-sized place cs' rs' wide long Constrained.Undeclared a = absurd a
   constrained-sized place cs' rs' wide long Constrained.Full a =
-      stepped-as p place lent (memory sy co cs' rs') (ap (λ (b : Bool). cond b (cond (leb (need e) maxStack) (reads (constrain c ps e)) (fault 7)) (fault 6)) (counts ∙ a)) refl refl
-  constrained-sized place cs' rs' wide long Constrained.Deep a = stepped-as p place lent (memory sy co cs' rs') (judged-constrained true false (a .0) (a .1)) refl refl
+      stepped-as p path place lent (memory sy co cs' rs') (ap (λ (b : Bool). cond b (cond (leb (need e) maxStack) (reads (constrain c ps e)) (fault 7)) (fault 6)) (counts ∙ a)) refl refl
+  constrained-sized place cs' rs' wide long Constrained.Deep a = stepped-as p path place lent (memory sy co cs' rs') (judged-constrained true false (a .0) (a .1)) refl refl
 
 module _ {t : List ℕ} {at place : ℕ} {sy co cs cs' rs rs' : List ℕ} {s : Progress} where
   pub constrained-steps : (r : Constrained) → WritesConstrain t at sy cs cs' (s .constraints) rs rs' (s .rows) r
       → Steps t at place constrainK (memory sy co cs rs) (memory sy co cs' rs') s (constrainedStep r s)
   constrained-steps r a = record { says = says }
     where
-      says : (lent : Memory) (p : Policy) (w : Written) → Holds p lent (memory sy co cs rs) s
-          → RowIs (framesAt t at .here) (formed constrainK (framesAt t at .here)) w → Room lent p place w
-          → Stepped (naming p (some w)) p place lent (memory sy co cs' rs') (constrainedStep r s)
-      says lent p w h row room =
-          stepped-as p place lent (memory sy co cs' rs') (constrain-naming p w i) refl
-          (go (resolved (environmentOf (declarations p)) w) refl r
-          (a .says (environmentOf (declarations p)) w (holds-symbols (table-holds h)) few (ap (formed constrainK) (row .uncut) ∙ row .form)))
+      says : (lent : Memory) (p : Policy) (path : List Name) (w : Written) → Holds p path lent (memory sy co cs rs) s
+          → RowIs (framesAt t at .here) (formed constrainK (framesAt t at .here)) w → Room lent p path place w
+          → Stepped (naming path p (some w)) p path place lent (memory sy co cs' rs') (constrainedStep r s)
+      says lent p path w h row room =
+          stepped-as p path place lent (memory sy co cs' rs') (constrain-naming path p w i) refl
+          (go (resolved (environmentOf (declarations p) path) w) refl r
+          (a .says (environmentOf (declarations p) path) w (holds-symbols (table-holds h) (h .scope)) few (ap (formed constrainK) (row .uncut) ∙ row .form)))
         where
           i : IsOf constrainK w
           i = formed-of constrainK (framesAt t at .here) .has w (row .form)
@@ -292,14 +313,14 @@ module _ {t : List ℕ} {at place : ℕ} {sy co cs cs' rs rs' : List ℕ} {s : P
           few : s .rows ≤ maxRows
           few = omega (arith, h .row-count, h .accepted .few-rows)
 
-          go : (o : Option Statement) → resolved (environmentOf (declarations p)) w ≡ o → (r : Constrained) → constraining.Answers o cs cs' (s .constraints) rs rs' (s .rows) r
-              → Stepped (resolving p o) p place lent (memory sy co cs' rs') (constrainedStep r s)
+          go : (o : Option Statement) → resolved (environmentOf (declarations p) path) w ≡ o → (r : Constrained) → constraining.Answers o cs cs' (s .constraints) rs rs' (s .rows) r
+              → Stepped (resolving p o) p path place lent (memory sy co cs' rs') (constrainedStep r s)
           go none e (Constrained.Next n) y = absurd y
           go none e Constrained.Undeclared y = refl
           go none e Constrained.Full y = absurd y
           go none e Constrained.Deep y = absurd y
           go (some st) e r y =
-              let j = resolved-of (environmentOf (declarations p)) constrainK w i .has st e in
-              subst (λ (x : Statement). Stepped (sized p x) p place lent (memory sy co cs' rs') (constrainedStep r s)) (sym (j .3))
+              let j = resolved-of (environmentOf (declarations p) path) constrainK w i .has st e in
+              subst (λ (x : Statement). Stepped (sized p x) p path place lent (memory sy co cs' rs') (constrainedStep r s)) (sym (j .3))
               (constrained-sized h (j .0) (j .1) (j .2) place cs' rs' (room .constraints) (room .rows) r
               (subst (λ (x : Statement). constraining.Answers (some x) cs cs' (s .constraints) rs rs' (s .rows) r) (j .3) y))

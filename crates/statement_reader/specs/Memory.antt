@@ -5,14 +5,15 @@ use mathlib.Core.Path.{_≡_}
 use mathlib.Core.List.{List, _++_}
 use lib.ListN.{length, take, drop}
 use Rattle.bitset.specs.Relations.{joined}
-use Rattle.policy.specs.Basics.{each}
+use Rattle.policy.specs.Basics.{Name, each}
 use Rattle.policy.specs.Statements.{Policy, declarations, transitions, constrains}
 use Rattle.policy.specs.Reading.{rowCount}
-use Rattle.policy.specs.Accepted.{Accepted}
+use Rattle.policy.specs.Accepted.{Accepted, GoodPath}
 use Rattle.policy.specs.Image.{ConstraintEntry, constraintEntry}
 use Rattle.policy.specs.Encode.{entries, headBytes, headsFrom, rowBytes}
 use Rattle.statement_code.specs.Code.{codeOf}
 use Rattle.name_chains.specs.Chains.{Chained}
+use Rattle.scopes.specs.Scope.{InScope}
 use Rattle.declarations.specs.Declaring.{sectionOf}
 use Rattle.statement_reader.specs.declared.Progress.{Progress}
 
@@ -44,11 +45,14 @@ pub record Starts (lent content now : List ℕ) (end : ℕ) : Type 0 where
   pub ends : end ≡ length content
   pub fits : length content ≤ length lent
 
--- the lent memory holds the statements of p, which keep every rule that faults 3 to 7 stand for. The symbols end before their index
-pub record Holds (p : Policy) (lent now : Memory) (s : Progress) : Type 0 where
+-- the lent memory holds the statements of p, which keep every rule that faults 3 to 7 stand for, and the scope of the blocks that are open. The symbols end
+-- before their index
+pub record Holds (p : Policy) (path : List Name) (lent now : Memory) (s : Progress) : Type 0 where
   pub accepted : Accepted p
+  pub blocks : GoodPath path
   pub symbols : Starts (take 137088 (lent .symbols)) (symbolsOf p) (take 137088 (now .symbols)) (s .symbols)
   pub chained : Chained (now .symbols) (s .symbols) (entries (declarations p))
+  pub scope : InScope (now .symbols) path
   pub code : Starts (lent .code) (codeOf p) (now .code) (s .code)
   pub constraints : Starts (lent .constraints) (constraintsOf p) (now .constraints) (10 * s .constraints)
   pub rows : Starts (lent .rows) (rowsOf p) (now .rows) (6 * s .rows)

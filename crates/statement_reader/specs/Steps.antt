@@ -7,16 +7,18 @@ use mathlib.Core.Option.{Option, none, some}
 use lib.Dec.{ltb}
 use lib.ListN.{length, take}
 use Rattle.lexer.specs.Forms.{Forms, framesAt, trim, namesGood}
+use Rattle.policy.specs.Basics.{Name}
 use Rattle.lexer.specs.Scan.{maxLevel}
 use Rattle.policy.specs.Words as words
 use Rattle.policy.specs.Words.{setK, relationK, transitionK}
 use Rattle.policy.specs.Statements.{Written, Statement, Policy, declarations, transitions, constrains}
 use Rattle.policy.specs.Maxima.{maxTransitions, maxConstraints}
 use Rattle.policy.specs.Grammar.{formed, written}
-use Rattle.policy.specs.Reading.{Judged, reads, fault, naming, rowCount}
+use Rattle.policy.specs.Reading.{Judged, reads, opens, fault, naming, rowCount}
 use Rattle.policy.specs.Answers.{familyOf, relationOf}
 use Rattle.policy.specs.Encode.{entries}
 use Rattle.name_chains.specs.Chains.{Chained}
+use Rattle.scopes.specs.Scope.{InScope}
 use Rattle.statement_code.specs.Code.{statementCode, codeOf}
 use Rattle.declarations.specs.declared.Declared.{Declared}
 use Rattle.statement_writer.specs.declared.Coded.{Coded}
@@ -33,9 +35,10 @@ codedKeyword (CodedKind.Relation r) = relationK (relationOf r)
 codedKeyword CodedKind.Transition = transitionK
 
 -- the lent memory holds what the statements of p leave there
-pub record Filled (p : Policy) (lent now : Memory) (s : Progress) : Type 0 where
+pub record Filled (p : Policy) (path : List Name) (lent now : Memory) (s : Progress) : Type 0 where
   pub symbols : Starts (take 137088 (lent .symbols)) (symbolsOf p) (take 137088 (now .symbols)) (s .symbols)
   pub chained : Chained (now .symbols) (s .symbols) (entries (declarations p))
+  pub scope : InScope (now .symbols) path
   pub code : Starts (lent .code) (codeOf p) (now .code) (s .code)
   pub constraints : Starts (lent .constraints) (constraintsOf p) (now .constraints) (10 * s .constraints)
   pub rows : Starts (lent .rows) (rowsOf p) (now .rows) (6 * s .rows)
@@ -43,12 +46,13 @@ pub record Filled (p : Policy) (lent now : Memory) (s : Progress) : Type 0 where
   pub constraint-count : s .constraints ≡ length (constrains p)
   pub row-count : s .rows ≡ rowCount (constrains p)
 
--- one statement after those of p: it is read, and the memory holds it too; or its fault is answered
-abbrev pub Stepped : Judged → Policy → ℕ → Memory → Memory → Step → Type 0
-Stepped (reads s) p place lent now (Step.Read q) = Filled (p ++ (record { place = place; says = s } ∷ [])) lent now q
-Stepped (reads s) p place lent now (Step.Fault n) = ⊥
-Stepped (fault n) p place lent now (Step.Read q) = ⊥
-Stepped (fault n) p place lent now (Step.Fault m) = m ≡ n
+-- one statement after those of p, in the blocks of a path: it is read, and the memory holds it too; or its fault is answered. A block is no statement
+abbrev pub Stepped : Judged → Policy → List Name → ℕ → Memory → Memory → Step → Type 0
+Stepped (reads s) p path place lent now (Step.Read q) = Filled (p ++ (record { place = place; says = s } ∷ [])) path lent now q
+Stepped (reads s) p path place lent now (Step.Fault n) = ⊥
+Stepped opens p path place lent now r = ⊥
+Stepped (fault n) p path place lent now (Step.Read q) = ⊥
+Stepped (fault n) p path place lent now (Step.Fault m) = m ≡ n
 
 -- the row that is read as w: its words are names, and no part of it lies too deep
 pub record RowIs (row : Forms) (o : Option Written) (w : Written) : Type 0 where
@@ -57,20 +61,20 @@ pub record RowIs (row : Forms) (o : Option Written) (w : Written) : Type 0 where
   pub form : o ≡ some w
 
 -- there is room for the code of w, if it has no fault, and for all constraints and rows that the maxima allow
-pub record Room (lent : Memory) (p : Policy) (place : ℕ) (w : Written) : Type 0 where
-  pub code : (s : Statement) → naming p (some w) ≡ reads s → length (codeOf p) + length (statementCode place s) ≤ length (lent .code)
+pub record Room (lent : Memory) (p : Policy) (path : List Name) (place : ℕ) (w : Written) : Type 0 where
+  pub code : (s : Statement) → naming path p (some w) ≡ reads s → length (codeOf p) + length (statementCode place s) ≤ length (lent .code)
   pub constraints : 1280 ≤ length (lent .constraints)
   pub rows : 12288 ≤ length (lent .rows)
 
 -- the statement behind the keyword k at a place of the text
 pub record Steps (t : List ℕ) (at place : ℕ) (k : words.Keyword) (before after : Memory) (s : Progress) (r : Step) : Type 0 where
-  pub says : (lent : Memory) (p : Policy) (w : Written) → Holds p lent before s
-      → RowIs (framesAt t at .here) (formed k (framesAt t at .here)) w → Room lent p place w → Stepped (naming p (some w)) p place lent after r
+  pub says : (lent : Memory) (p : Policy) (path : List Name) (w : Written) → Holds p path lent before s
+      → RowIs (framesAt t at .here) (formed k (framesAt t at .here)) w → Room lent p path place w → Stepped (naming path p (some w)) p path place lent after r
 
 -- the statement whose parentheses are open at a place of the text
 pub record StepsAt (t : List ℕ) (at place : ℕ) (before after : Memory) (s : Progress) (r : Step) : Type 0 where
-  pub says : (lent : Memory) (p : Policy) (w : Written) → Holds p lent before s
-      → RowIs (framesAt t at .here) (written (framesAt t at .here)) w → Room lent p place w → Stepped (naming p (some w)) p place lent after r
+  pub says : (lent : Memory) (p : Policy) (path : List Name) (w : Written) → Holds p path lent before s
+      → RowIs (framesAt t at .here) (written (framesAt t at .here)) w → Room lent p path place w → Stepped (naming path p (some w)) p path place lent after r
 
 -- the step of a declaration without code: fault 4 before 6
 abbrev pub withSymbols : Progress → ℕ → Progress

@@ -19,9 +19,9 @@ use Rattle.statement_code.specs.Code as code
 use Rattle.statement_code.specs.Code.{referenceUnit}
 use Rattle.symbols.specs.Lookup.{familyNumber}
 use Rattle.symbols.specs.Resolving.{familyCode, foundClass, foundNamed}
-use Rattle.name_chains.specs.Symbols.{Looks}
+use Rattle.scopes.specs.Symbols.{Looks}
 use Rattle.symbols.specs.declared.Found.{Found}
-use Rattle.name_chains.proofs.Bounds.{bounded}
+use Rattle.scopes.proofs.Bounds.{bounded}
 use Rattle.symbols.proofs.CountLaws.{same-code}
 use Rattle.symbols.proofs.ReferencesFound.{code-of}
 use Rattle.set_writer.specs.Naming.{referred, Refers}

@@ -9,9 +9,9 @@ use Rattle.lexer.specs.Forms.{Forms, closed, ended, word, part}
 use Rattle.policy.specs.Answers.{familyOf}
 use Rattle.policy.specs.declared.Family as theFamily
 use Rattle.policy.specs.Basics.{Name, _>>=_, given, more, ofTwo}
-use Rattle.policy.specs.Words.{isReserved, setK, relationK, transitionK}
+use Rattle.policy.specs.Words.{isReserved, asName, setK, relationK, transitionK}
 use Rattle.policy.specs.Statements.{Family, roles, types, thingOf, attributeOf, Reference, SetExpr, Relation, fromOf, toOf, attributeset, gives, roletransition, Written, Statement}
-use Rattle.policy.specs.Grammar.{namesIn, setIn, ofFour, formed}
+use Rattle.policy.specs.Grammar.{rowOf, setIn, ofFour, formed}
 use Rattle.policy.specs.Names.{refer, Environment, numberIn}
 use Rattle.policy.specs.Reading.{referS, resolved}
 use Rattle.statement_code.specs.Code.{referenceUnit, setCode, setTag, relationTag, transitionTag, statementCode}
@@ -33,15 +33,15 @@ unitsOf env [] ws = some []
 unitsOf env (k ∷ ks) [] = none
 unitsOf env (k ∷ ks) (w ∷ ws) = unitIn env k w >>= λ u. unitsOf env ks ws >>= λ us. some (u ∷ us)
 
-row-units : (env : Environment) (ks : List Kind) (g : Forms) (ws : List Name) → namesIn g ≡ some ws → namesUnits env ks g ≡ unitsOf env ks ws
-unfolding namesIn
+row-units : (env : Environment) (ks : List Kind) (g : Forms) (ws : List Name) → rowOf asName g ≡ some ws → namesUnits env ks g ≡ unitsOf env ks ws
+unfolding rowOf
 row-units env [] g ws h = refl
 row-units env (k ∷ ks) closed ws h = ap (unitsOf env (k ∷ ks)) (Option·some-injective [] ws h)
 row-units env (k ∷ ks) ended ws h = absurd (Option·none-ne-some ws h)
 row-units env (k ∷ ks) (part p i g) ws h = absurd (Option·none-ne-some ws h)
-row-units env (k ∷ ks) (word s w g) ws h = go (row-units env ks g) (not (isReserved w)) (namesIn g) refl h
+row-units env (k ∷ ks) (word s w g) ws h = go (row-units env ks g) (not (isReserved w)) (rowOf asName g) refl h
   where
-    go : ((vs : List Name) → namesIn g ≡ some vs → namesUnits env ks g ≡ unitsOf env ks vs) → (b : Bool) (o : Option (List Name)) → namesIn g ≡ o → more (given b w) o ≡ some ws
+    go : ((vs : List Name) → rowOf asName g ≡ some vs → namesUnits env ks g ≡ unitsOf env ks vs) → (b : Bool) (o : Option (List Name)) → rowOf asName g ≡ o → more (given b w) o ≡ some ws
         → (unitIn env k w >>= λ u. namesUnits env ks g >>= λ us. some (u ∷ us)) ≡ unitsOf env (k ∷ ks) ws
     go ih false o e q = absurd (Option·none-ne-some ws q)
     go ih true none e q = absurd (Option·none-ne-some ws q)
@@ -71,9 +71,9 @@ module _ (env : Environment) (place : ℕ) (r : Relation) (a b : theFamily.Famil
 
   pub relation-whole : (g : Forms) (w : Written) → formed (relationK r) g ≡ some w
       → codeIn place (resolved env w) ≡ headed (relationTag r) place (namesUnits env (Kind.Reference a ∷ Kind.Reference b ∷ []) g)
-  relation-whole g w h = go (namesIn g) refl h
+  relation-whole g w h = go (rowOf asName g) refl h
     where
-      go : (o : Option (List Name)) → namesIn g ≡ o → (o >>= ofTwo (gives r)) ≡ some w
+      go : (o : Option (List Name)) → rowOf asName g ≡ o → (o >>= ofTwo (gives r)) ≡ some w
           → codeIn place (resolved env w) ≡ headed (relationTag r) place (namesUnits env (Kind.Reference a ∷ Kind.Reference b ∷ []) g)
       go none e q = absurd (Option·none-ne-some w q)
       go (some []) e q = absurd (Option·none-ne-some w q)
@@ -104,9 +104,9 @@ module _ (env : Environment) (place : ℕ) where
 
   pub transition-whole : (g : Forms) (w : Written) → formed transitionK g ≡ some w
       → codeIn place (resolved env w) ≡ headed transitionTag place (namesUnits env transitionKinds g)
-  transition-whole g w h = go (namesIn g) refl h
+  transition-whole g w h = go (rowOf asName g) refl h
     where
-      go : (o : Option (List Name)) → namesIn g ≡ o → (o >>= ofFour) ≡ some w
+      go : (o : Option (List Name)) → rowOf asName g ≡ o → (o >>= ofFour) ≡ some w
           → codeIn place (resolved env w) ≡ headed transitionTag place (namesUnits env transitionKinds g)
       go none e q = absurd (Option·none-ne-some w q)
       go (some []) e q = absurd (Option·none-ne-some w q)

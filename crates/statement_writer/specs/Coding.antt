@@ -11,7 +11,7 @@ use Rattle.policy.specs.Grammar.{formed}
 use Rattle.policy.specs.Reading.{resolved}
 use Rattle.policy.specs.Names.{Environment}
 use Rattle.statement_code.specs.Code.{statementCode}
-use Rattle.name_chains.specs.Symbols.{Symbols}
+use Rattle.scopes.specs.Symbols.{Symbols}
 use Rattle.set_writer.specs.Writing.{Wrote, Keeps}
 use Rattle.statement_writer.specs.declared.Coded.{Coded}
 

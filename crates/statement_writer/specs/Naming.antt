@@ -10,7 +10,7 @@ use Rattle.policy.specs.Statements.{roles, Sort, thingOf, attributeOf}
 use Rattle.policy.specs.Encode.{sortCode}
 use Rattle.policy.specs.Names.{refer, Environment, numberIn}
 use Rattle.statement_code.specs.Code.{referenceUnit}
-use Rattle.name_chains.specs.Symbols.{Symbols}
+use Rattle.scopes.specs.Symbols.{Symbols}
 use Rattle.set_writer.specs.Writing.{Wrote, Keeps}
 use Rattle.set_writer.specs.declared.Referred.{Referred}
 use Rattle.statement_writer.specs.declared.Kind.{Kind}

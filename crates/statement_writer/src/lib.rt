@@ -65,7 +65,7 @@ fn number_of(symbols: &[u8], sort: usize, text: &[u8], start: usize, len: usize)
     ensures { λ r. ⌜ Numbers (now (symbols .entry)) sort (part (now (text .entry)) start len) r ⌝ }
 {
     let family = symbols::family_of(sort, 0);
-    let found = name_chains::lookup(symbols, family, text, start, len);
+    let found = scopes::lookup(symbols, family, text, start, len);
     match found {
         Found::At { sort: s, number } => {
             if s != sort {

@@ -18,7 +18,6 @@ use Rattle.symbols.specs.Resolving.{foundNumber, foundClass, foundPermis
 use Rattle.symbols.specs.declared.Found.{Found}
 use Rattle.symbols.proofs.Searching.{orFound, first-append, own-entry, found-index, found-in, permissions-other, permissions-own, skip-plain, after-class, skip-permissions}
 use Rattle.policy.proofs.Good.{good-first, good-rest}
-use Rattle.policy.specs.Names.{environmentOf}
 
 -- ---- how many classes are declared before
 
@@ -46,12 +45,11 @@ class-from w e (class v ps ∷ ds) =
     ∙ class-from w (e ++ (class v ps ∷ [])) ds ∙ ap (λ (n : ℕ). foundNumber 6 n (indexOf w (classNames ds))) (classes-more e v ps))
 
 -- family 3 answers as classes are looked up
-pub find-class : (ds : List Declaration) (w : Name) → firstNamed 3 w (entries ds) ≡ foundClass (environmentOf ds .class w)
-unfolding entries environmentOf classNames gather
+pub find-class : (ds : List Declaration) (w : Name) → firstNamed 3 w (entries ds) ≡ foundClass (indexOf w (classNames ds))
+unfolding entries classNames gather
 find-class ds w = class-from w [] ds
 
 pub class-found : (ds : List Declaration) (w : Name) → isFound (firstNamed 3 w (entries ds)) ≡ isIn w (classNames ds)
-unfolding environmentOf
 class-found ds w = ap isFound (find-class ds w) ∙ found-in w 6 0 (classNames ds)
 
 -- ---- permissions: class k is the next one
@@ -102,15 +100,15 @@ pub few-permissions : (e ds : List Declaration) → goodFrom e ds ≡ true → A
 few-permissions e [] h = tt
 few-permissions e (plain s w ∷ ds) h = (tt, few-permissions (e ++ (plain s w ∷ [])) ds (good-rest e (plain s w) ds h))
 few-permissions e (class w ps ∷ ds) h =
-    (leb-true (length ps) 32 (both-true (ltb (length (classNames e)) 32) (leb (length ps) 32) (good-first e (class w ps) ds h .room) .1), few-permissions (e ++ (class w ps ∷ [])) ds (good-rest e (class w ps) ds h))
+    let room = both-true (ltb (length (classNames e)) 32) (leb (length ps) 32) (good-first e (class w ps) ds h .room) in
+    (leb-true (length ps) 32 (room .1), few-permissions (e ++ (class w ps ∷ [])) ds (good-rest e (class w ps) ds h))
 
 -- family 4 + c answers as the permissions of class c are looked up
 pub find-permission : (ds : List Declaration) (c : ℕ) (w : Name) → All FewPermissions ds
-    → firstNamed (4 + c) w (entries ds) ≡ foundPermission c (environmentOf ds .permission c w)
-unfolding entries environmentOf classNames gather
+    → firstNamed (4 + c) w (entries ds) ≡ foundPermission c (indexOf w (permissions ds c))
+unfolding entries classNames gather
 find-permission ds c w few = permission-from c w [] ds few c (omega arith)
 
 pub permission-found : (ds : List Declaration) (c : ℕ) (w : Name) → All FewPermissions ds
     → isFound (firstNamed (4 + c) w (entries ds)) ≡ isIn w (permissions ds c)
-unfolding environmentOf
 permission-found ds c w few = ap isFound (find-permission ds c w few) ∙ found-in w 7 (c * 32) (permissions ds c)

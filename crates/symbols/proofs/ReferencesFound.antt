@@ -1,4 +1,4 @@
--- Finding a thing or an attribute of a family among the entries of declarations is looking its name up. By induction on the declarations, from what
+-- Finding a thing or an attribute of a family among the entries of declarations is looking its full name up. By induction on the declarations, from what
 -- is declared before. Assumes nothing.
 use mathlib.Core.Path.{_≡_, refl, ap, _∙_}
 use mathlib.Core.Bool.{Bool, true, false, _&&_, cond}
@@ -11,7 +11,7 @@ use lib.ListN.{length}
 use Rattle.policy.specs.Basics.{Name, same, any, isIn, gather, keep}
 use Rattle.policy.specs.Statements.{Family, users, roles, types, Sort, thingOf, attributeOf, Declaration, plain, class, sameFamily, familyOf, ofFamily, familyNames, classNames, count}
 use Rattle.policy.specs.Encode.{nameEntry, sortCode, entriesFrom, entries}
-use Rattle.policy.specs.Names.{Named, environmentOf, firstFrom}
+use Rattle.policy.specs.Names.{Named, firstFrom}
 use Rattle.symbols.specs.Lookup.{familyNumber, firstNamed}
 use Rattle.symbols.specs.Resolving.{familyCode, isFound, foundNamed}
 use Rattle.symbols.specs.declared.Found.{Found}
@@ -72,8 +72,8 @@ named-from f w e (plain s v ∷ ds) =
     by found later ih true = refl
     by found later ih false = ih
 
-pub find-named : (ds : List Declaration) (f : Family) (w : Name) → firstNamed (familyCode f) w (entries ds) ≡ foundNamed (environmentOf ds .find f w)
-unfolding entries environmentOf
+pub find-named : (ds : List Declaration) (f : Family) (w : Name) → firstNamed (familyCode f) w (entries ds) ≡ foundNamed (firstFrom [] ds f w)
+unfolding entries
 find-named ds f w = named-from f w [] ds
 
 -- something is found exactly where the family has the name

@@ -89,7 +89,7 @@ pub fn look(table: &[u8], at: usize, end: usize) -> Entry
 }
 
 // Whether two slices hold the same bytes. Lengths are compared first.
-fn same_bytes(a: &[u8], b: &[u8]) -> bool
+pub fn same_bytes(a: &[u8], b: &[u8]) -> bool
     ensures { λ r. ⌜ r ≡ basics.same (now (a .entry)) (now (b .entry)) ⌝ }
 {
     if a.len() != b.len() {

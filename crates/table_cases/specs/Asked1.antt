@@ -368,79 +368,130 @@ asked-31-statements : fromText asked-31 ((record { source = context 0 0 0; targe
 unfolding computing
 asked-31-statements = refl
 
--- a random policy and random questions
+-- only the full names process and object_r are treated apart
 abbrev asked-32 : List ℕ
-asked-32 = bytes "(user c1)(userattribute b5)(role c2)(roleattribute f1)(type __-)(class d1(a7 e6 d3))(userrole b5 f1)(roletype c2 __-)(userattributeset b5(not c1))(userrole c1 c2)(roleattributeset f1(or c2 c2))(userrole b5 c2)(role b8)(user d6)"
+asked-32 = bytes "(user u)(type t)(role a)(block b(role object_r)(class process(transition)))(role object_r)(class process(transition))(userrole u a)(roletype a t)"
 
 abbrev asked-32-table : List ℕ
-asked-32-table = 1 ∷ 0 ∷ 8 ∷ 0 ∷ 68 ∷ 0 ∷ 0 ∷ 0 ∷ 67 ∷ 0 ∷ 0 ∷ 0 ∷ 135 ∷ 0 ∷ 0 ∷ 0 ∷ 32 ∷ 0 ∷ 0 ∷ 0 ∷ 167 ∷ 0 ∷ 0 ∷ 0 ∷ 128 ∷ 0 ∷ 0 ∷ 0 ∷ 39 ∷ 1 ∷ 0 ∷ 0 ∷ 32 ∷ 0 ∷ 0 ∷ 0 ∷ 71 ∷ 1 ∷ 0 ∷ 0 ∷ 0 ∷ 0 ∷ 0 ∷ 0 ∷ 71 ∷ 1 ∷ 0 ∷ 0 ∷ 0 ∷ 0 ∷ 0 ∷ 0 ∷ 71 ∷ 1 ∷ 0 ∷ 0 ∷ 0 ∷ 0 ∷ 0 ∷ 0 ∷ 71 ∷ 1 ∷ 0 ∷ 0 ∷ 32 ∷ 0 ∷ 0 ∷ 0 ∷ 0 ∷ 0 ∷ 0 ∷ 2 ∷ 99 ∷ 49 ∷ 3 ∷ 0 ∷ 0 ∷ 2 ∷ 98 ∷ 53 ∷ 1 ∷ 0 ∷ 0 ∷ 2 ∷ 99 ∷ 50 ∷ 4 ∷ 0 ∷ 0 ∷ 2 ∷ 102 ∷ 49 ∷ 2 ∷ 0 ∷ 0 ∷ 3 ∷ 95 ∷ 95 ∷ 45 ∷ 6 ∷ 0 ∷ 0 ∷ 2 ∷ 100 ∷ 49 ∷ 7 ∷ 0 ∷ 0 ∷ 2 ∷ 97 ∷ 55 ∷ 7 ∷ 1 ∷ 0 ∷ 2 ∷ 101 ∷ 54 ∷ 7 ∷ 2 ∷ 0 ∷ 2 ∷ 100 ∷ 51 ∷ 1 ∷ 1 ∷ 0 ∷ 2 ∷ 98 ∷ 56 ∷ 0 ∷ 1 ∷ 0 ∷ 2 ∷ 100 ∷ 54 ∷ 1 ∷ 0 ∷ 0 ∷ 0 ∷ 0 ∷ 0 ∷ 0 ∷ 0 ∷ 0 ∷ 0 ∷ 0 ∷ 0 ∷ 0 ∷ 0 ∷ 0 ∷ 0 ∷ 1 ∷ 0 ∷ 0 ∷ 0 ∷ 0 ∷ 0 ∷ 0 ∷ 0 ∷ 0 ∷ 0 ∷ 0 ∷ 0 ∷ 0 ∷ 0 ∷ 0 ∷ 0 ∷ 1 ∷ 0 ∷ 0 ∷ 0 ∷ 0 ∷ 0 ∷ 0 ∷ 0 ∷ 0 ∷ 0 ∷ 0 ∷ 0 ∷ 0 ∷ 0 ∷ 0 ∷ 0 ∷ 0 ∷ 0 ∷ 0 ∷ 0 ∷ 0 ∷ 0 ∷ 0 ∷ 0 ∷ 0 ∷ 0 ∷ 0 ∷ 0 ∷ 0 ∷ 0 ∷ 0 ∷ 0 ∷ 0 ∷ 0 ∷ 0 ∷ 0 ∷ 0 ∷ 0 ∷ 0 ∷ 0 ∷ 0 ∷ 0 ∷ 0 ∷ 0 ∷ 0 ∷ 0 ∷ 0 ∷ 0 ∷ 0 ∷ 0 ∷ 0 ∷ 0 ∷ 0 ∷ 0 ∷ 0 ∷ 0 ∷ 0 ∷ 0 ∷ 0 ∷ 0 ∷ 0 ∷ 0 ∷ 0 ∷ 0 ∷ 0 ∷ 0 ∷ 0 ∷ 0 ∷ 0 ∷ 0 ∷ 0 ∷ 0 ∷ 0 ∷ 0 ∷ 0 ∷ 0 ∷ 0 ∷ 0 ∷ 0 ∷ 0 ∷ 0 ∷ 0 ∷ 0 ∷ 0 ∷ 0 ∷ 0 ∷ 0 ∷ 0 ∷ 0 ∷ 0 ∷ 0 ∷ 0 ∷ 0 ∷ 0 ∷ 0 ∷ 0 ∷ 0 ∷ 0 ∷ 0 ∷ 0 ∷ 0 ∷ 0 ∷ 0 ∷ 0 ∷ 0 ∷ 0 ∷ 0 ∷ 0 ∷ 0 ∷ 0 ∷ 0 ∷ 0 ∷ 0 ∷ 0 ∷ 0 ∷ 0 ∷ 0 ∷ 0 ∷ 0 ∷ 0 ∷ 0 ∷ 0 ∷ 0 ∷ 0 ∷ 0 ∷ 0 ∷ 0 ∷ 0 ∷ 0 ∷ 0 ∷ 0 ∷ 0 ∷ 0 ∷ 0 ∷ 0 ∷ 0 ∷ 0 ∷ 0 ∷ 0 ∷ 0 ∷ 0 ∷ 0 ∷ 0 ∷ 0 ∷ 0 ∷ 0 ∷ 0 ∷ 0 ∷ 0 ∷ 0 ∷ 0 ∷ 0 ∷ 0 ∷ 0 ∷ 0 ∷ 0 ∷ 0 ∷ 0 ∷ 0 ∷ 0 ∷ 2 ∷ 0 ∷ 0 ∷ 0 ∷ 0 ∷ 0 ∷ 0 ∷ 0 ∷ 0 ∷ 0 ∷ 0 ∷ 0 ∷ 0 ∷ 0 ∷ 0 ∷ 0 ∷ 1 ∷ 0 ∷ 0 ∷ 0 ∷ 0 ∷ 0 ∷ 0 ∷ 0 ∷ 0 ∷ 0 ∷ 0 ∷ 0 ∷ 0 ∷ 0 ∷ 0 ∷ 0 ∷ []
+asked-32-table = 1 ∷ 0 ∷ 8 ∷ 0 ∷ 68 ∷ 0 ∷ 0 ∷ 0 ∷ 93 ∷ 0 ∷ 0 ∷ 0 ∷ 161 ∷ 0 ∷ 0 ∷ 0 ∷ 16 ∷ 0 ∷ 0 ∷ 0 ∷ 177 ∷ 0 ∷ 0 ∷ 0 ∷ 192 ∷ 0 ∷ 0 ∷ 0 ∷ 113 ∷ 1 ∷ 0 ∷ 0 ∷ 48 ∷ 0 ∷ 0 ∷ 0 ∷ 161 ∷ 1 ∷ 0 ∷ 0 ∷ 0 ∷ 0 ∷ 0 ∷ 0 ∷ 161 ∷ 1 ∷ 0 ∷ 0 ∷ 0 ∷ 0 ∷ 0 ∷ 0 ∷ 161 ∷ 1 ∷ 0 ∷ 0 ∷ 0 ∷ 0 ∷ 0 ∷ 0 ∷ 161 ∷ 1 ∷ 0 ∷ 0 ∷ 0 ∷ 0 ∷ 0 ∷ 0 ∷ 0 ∷ 0 ∷ 0 ∷ 1 ∷ 117 ∷ 2 ∷ 0 ∷ 0 ∷ 1 ∷ 116 ∷ 1 ∷ 0 ∷ 0 ∷ 1 ∷ 97 ∷ 1 ∷ 1 ∷ 0 ∷ 10 ∷ 98 ∷ 46 ∷ 111 ∷ 98 ∷ 106 ∷ 101 ∷ 99 ∷ 116 ∷ 95 ∷ 114 ∷ 6 ∷ 0 ∷ 0 ∷ 9 ∷ 98 ∷ 46 ∷ 112 ∷ 114 ∷ 111 ∷ 99 ∷ 101 ∷ 115 ∷ 115 ∷ 7 ∷ 0 ∷ 0 ∷ 10 ∷ 116 ∷ 114 ∷ 97 ∷ 110 ∷ 115 ∷ 105 ∷ 116 ∷ 105 ∷ 111 ∷ 110 ∷ 1 ∷ 2 ∷ 0 ∷ 8 ∷ 111 ∷ 98 ∷ 106 ∷ 101 ∷ 99 ∷ 116 ∷ 95 ∷ 114 ∷ 6 ∷ 1 ∷ 0 ∷ 7 ∷ 112 ∷ 114 ∷ 111 ∷ 99 ∷ 101 ∷ 115 ∷ 115 ∷ 7 ∷ 32 ∷ 0 ∷ 10 ∷ 116 ∷ 114 ∷ 97 ∷ 110 ∷ 115 ∷ 105 ∷ 116 ∷ 105 ∷ 111 ∷ 110 ∷ 1 ∷ 0 ∷ 0 ∷ 0 ∷ 0 ∷ 0 ∷ 0 ∷ 0 ∷ 0 ∷ 0 ∷ 0 ∷ 0 ∷ 0 ∷ 0 ∷ 0 ∷ 0 ∷ 1 ∷ 0 ∷ 0 ∷ 0 ∷ 0 ∷ 0 ∷ 0 ∷ 0 ∷ 0 ∷ 0 ∷ 0 ∷ 0 ∷ 0 ∷ 0 ∷ 0 ∷ 0 ∷ 0 ∷ 0 ∷ 0 ∷ 0 ∷ 0 ∷ 0 ∷ 0 ∷ 0 ∷ 0 ∷ 0 ∷ 0 ∷ 0 ∷ 0 ∷ 0 ∷ 0 ∷ 0 ∷ 0 ∷ 0 ∷ 0 ∷ 0 ∷ 0 ∷ 0 ∷ 0 ∷ 0 ∷ 0 ∷ 0 ∷ 0 ∷ 0 ∷ 0 ∷ 0 ∷ 0 ∷ 0 ∷ 0 ∷ 0 ∷ 0 ∷ 0 ∷ 0 ∷ 0 ∷ 0 ∷ 0 ∷ 0 ∷ 0 ∷ 0 ∷ 0 ∷ 0 ∷ 0 ∷ 0 ∷ 0 ∷ 0 ∷ 0 ∷ 0 ∷ 0 ∷ 0 ∷ 0 ∷ 0 ∷ 0 ∷ 0 ∷ 0 ∷ 0 ∷ 0 ∷ 0 ∷ 0 ∷ 0 ∷ 0 ∷ 0 ∷ 0 ∷ 0 ∷ 0 ∷ 0 ∷ 0 ∷ 0 ∷ 0 ∷ 0 ∷ 0 ∷ 0 ∷ 0 ∷ 0 ∷ 0 ∷ 0 ∷ 0 ∷ 0 ∷ 0 ∷ 0 ∷ 0 ∷ 0 ∷ 0 ∷ 0 ∷ 0 ∷ 0 ∷ 0 ∷ 0 ∷ 0 ∷ 0 ∷ 0 ∷ 0 ∷ 0 ∷ 0 ∷ 0 ∷ 0 ∷ 0 ∷ 0 ∷ 0 ∷ 0 ∷ 0 ∷ 0 ∷ 0 ∷ 0 ∷ 0 ∷ 0 ∷ 0 ∷ 0 ∷ 0 ∷ 0 ∷ 0 ∷ 0 ∷ 0 ∷ 0 ∷ 0 ∷ 0 ∷ 0 ∷ 0 ∷ 0 ∷ 0 ∷ 0 ∷ 0 ∷ 0 ∷ 0 ∷ 0 ∷ 0 ∷ 0 ∷ 0 ∷ 0 ∷ 0 ∷ 0 ∷ 0 ∷ 0 ∷ 0 ∷ 0 ∷ 0 ∷ 0 ∷ 0 ∷ 0 ∷ 0 ∷ 0 ∷ 0 ∷ 0 ∷ 0 ∷ 0 ∷ 0 ∷ 0 ∷ 0 ∷ 0 ∷ 0 ∷ 0 ∷ 0 ∷ 0 ∷ 0 ∷ 0 ∷ 0 ∷ 0 ∷ 0 ∷ 0 ∷ 0 ∷ 0 ∷ 0 ∷ 0 ∷ 0 ∷ 0 ∷ 0 ∷ 0 ∷ 0 ∷ 0 ∷ 0 ∷ 0 ∷ 0 ∷ 0 ∷ 0 ∷ 0 ∷ 0 ∷ 0 ∷ 0 ∷ 0 ∷ 0 ∷ 0 ∷ 0 ∷ 0 ∷ 0 ∷ 0 ∷ 0 ∷ 0 ∷ 0 ∷ 0 ∷ 0 ∷ 0 ∷ 0 ∷ 0 ∷ 0 ∷ 0 ∷ 0 ∷ 0 ∷ 0 ∷ 0 ∷ 0 ∷ 0 ∷ 0 ∷ 0 ∷ 0 ∷ 0 ∷ 0 ∷ 0 ∷ 0 ∷ 0 ∷ 0 ∷ 0 ∷ 0 ∷ 0 ∷ 0 ∷ 0 ∷ 0 ∷ 0 ∷ 0 ∷ 0 ∷ 0 ∷ 0 ∷ []
 
 asked-32-written : tableOf asked-32 ≡ asked-32-table
 unfolding computing
 asked-32-written = refl
 
-asked-32-3 : newRoleOn asked-32-table 0 0 0 ≡ answered 0
+asked-32-0 : validOn asked-32-table (context 0 1 0) ≡ answered false
 unfolding computing
-asked-32-3 = refl
+asked-32-0 = refl
 
-asked-32-5 : nameOn asked-32-table 2 0 ≡ answered (record { start = 96; long = 3 })
+asked-32-1 : validOn asked-32-table (context 0 2 0) ≡ answered true
 unfolding computing
-asked-32-5 = refl
+asked-32-1 = refl
 
-asked-32-changes : changesOn asked-32-table ((record { source = context 0 0 0; target = context 0 0 0; class = 0; perm = 1 }) ∷ (record { source = context 0 0 0; target = context 1 0 0; class = 0; perm = 0 }) ∷ (record { source = context 0 0 0; target = context 0 0 0; class = 0; perm = 2 }) ∷ (record { source = context 0 0 0; target = context 1 0 0; class = 0; perm = 2 }) ∷ []) ≡ record { verdict = granted; consulted = 0 } ∷ record { verdict = granted; consulted = 0 } ∷ record { verdict = granted; consulted = 0 } ∷ record { verdict = granted; consulted = 0 } ∷ []
+asked-32-6 : nameOn asked-32-table 1 1 ≡ answered (record { start = 87; long = 10 })
+unfolding computing
+asked-32-6 = refl
+
+asked-32-changes : changesOn asked-32-table ((record { source = context 0 0 0; target = context 0 1 0; class = 0; perm = 0 }) ∷ (record { source = context 0 0 0; target = context 0 2 0; class = 0; perm = 0 }) ∷ (record { source = context 0 0 0; target = context 0 2 0; class = 1; perm = 0 }) ∷ (record { source = context 0 2 0; target = context 0 2 0; class = 1; perm = 0 }) ∷ []) ≡ record { verdict = denied 2; consulted = 0 } ∷ record { verdict = granted; consulted = 0 } ∷ record { verdict = denied 3; consulted = 0 } ∷ record { verdict = granted; consulted = 0 } ∷ []
 unfolding computing
 asked-32-changes = refl
 
-asked-32-statements : fromText asked-32 ((record { source = context 0 0 0; target = context 0 0 0; class = 0; perm = 1 }) ∷ (record { source = context 0 0 0; target = context 1 0 0; class = 0; perm = 0 }) ∷ (record { source = context 0 0 0; target = context 0 0 0; class = 0; perm = 2 }) ∷ (record { source = context 0 0 0; target = context 1 0 0; class = 0; perm = 2 }) ∷ []) ≡ record { verdict = granted; consulted = 0 } ∷ record { verdict = granted; consulted = 0 } ∷ record { verdict = granted; consulted = 0 } ∷ record { verdict = granted; consulted = 0 } ∷ []
+asked-32-statements : fromText asked-32 ((record { source = context 0 0 0; target = context 0 1 0; class = 0; perm = 0 }) ∷ (record { source = context 0 0 0; target = context 0 2 0; class = 0; perm = 0 }) ∷ (record { source = context 0 0 0; target = context 0 2 0; class = 1; perm = 0 }) ∷ (record { source = context 0 2 0; target = context 0 2 0; class = 1; perm = 0 }) ∷ []) ≡ record { verdict = denied 2; consulted = 0 } ∷ record { verdict = granted; consulted = 0 } ∷ record { verdict = denied 3; consulted = 0 } ∷ record { verdict = granted; consulted = 0 } ∷ []
 unfolding computing
 asked-32-statements = refl
 
 -- a random policy and random questions
 abbrev asked-33 : List ℕ
-asked-33 = bytes "(user d6)(role c2)(roleattribute f6)(type a1)(class process(transition e1))(constrain(process(transition e1 e1))(or(domby r1 r2)(and(neq r1 c2)(or(incomp r1 r2)(or(neq r2 c2)(neq r2 f6))))))(roletype f6 a1)(userrole d6 f6)(class e4(b5 e6 d7))(constrain(e4(d7))(not(dom r1 r2)))(userrole d6 c2)(userattribute c9)(user a3)(user a5)(role b7)"
+asked-33 = bytes "(user e9)(role e0)(roleattribute d4)(type c2)(class process(transition c5 b9))(type a2)(constrain(process(transition transition c5 c5))(eq t2 a2))(roletype d4 a2)(roletype d4 a2)(userrole e9 d4)(roletype e0 a2)(roletransition d4 c2 process e0)(roletransition d4 c2 process e0)(constrain(process(c5 b9 b9 b9))(not(neq u1 e9)))(roletransition e0 c2 process e0)"
 
 abbrev asked-33-table : List ℕ
-asked-33-table = 1 ∷ 0 ∷ 8 ∷ 0 ∷ 68 ∷ 0 ∷ 0 ∷ 0 ∷ 103 ∷ 0 ∷ 0 ∷ 0 ∷ 171 ∷ 0 ∷ 0 ∷ 0 ∷ 48 ∷ 0 ∷ 0 ∷ 0 ∷ 219 ∷ 0 ∷ 0 ∷ 0 ∷ 128 ∷ 0 ∷ 0 ∷ 0 ∷ 91 ∷ 1 ∷ 0 ∷ 0 ∷ 32 ∷ 0 ∷ 0 ∷ 0 ∷ 123 ∷ 1 ∷ 0 ∷ 0 ∷ 0 ∷ 0 ∷ 0 ∷ 0 ∷ 123 ∷ 1 ∷ 0 ∷ 0 ∷ 20 ∷ 0 ∷ 0 ∷ 0 ∷ 143 ∷ 1 ∷ 0 ∷ 0 ∷ 66 ∷ 0 ∷ 0 ∷ 0 ∷ 209 ∷ 1 ∷ 0 ∷ 0 ∷ 32 ∷ 0 ∷ 0 ∷ 0 ∷ 0 ∷ 0 ∷ 0 ∷ 2 ∷ 100 ∷ 54 ∷ 1 ∷ 0 ∷ 0 ∷ 2 ∷ 99 ∷ 50 ∷ 4 ∷ 0 ∷ 0 ∷ 2 ∷ 102 ∷ 54 ∷ 2 ∷ 0 ∷ 0 ∷ 2 ∷ 97 ∷ 49 ∷ 6 ∷ 0 ∷ 0 ∷ 7 ∷ 112 ∷ 114 ∷ 111 ∷ 99 ∷ 101 ∷ 115 ∷ 115 ∷ 7 ∷ 0 ∷ 0 ∷ 10 ∷ 116 ∷ 114 ∷ 97 ∷ 110 ∷ 115 ∷ 105 ∷ 116 ∷ 105 ∷ 111 ∷ 110 ∷ 7 ∷ 1 ∷ 0 ∷ 2 ∷ 101 ∷ 49 ∷ 6 ∷ 1 ∷ 0 ∷ 2 ∷ 101 ∷ 52 ∷ 7 ∷ 32 ∷ 0 ∷ 2 ∷ 98 ∷ 53 ∷ 7 ∷ 33 ∷ 0 ∷ 2 ∷ 101 ∷ 54 ∷ 7 ∷ 34 ∷ 0 ∷ 2 ∷ 100 ∷ 55 ∷ 3 ∷ 0 ∷ 0 ∷ 2 ∷ 99 ∷ 57 ∷ 0 ∷ 1 ∷ 0 ∷ 2 ∷ 97 ∷ 51 ∷ 0 ∷ 2 ∷ 0 ∷ 2 ∷ 97 ∷ 53 ∷ 1 ∷ 1 ∷ 0 ∷ 2 ∷ 98 ∷ 55 ∷ 1 ∷ 0 ∷ 0 ∷ 0 ∷ 0 ∷ 0 ∷ 0 ∷ 0 ∷ 0 ∷ 0 ∷ 0 ∷ 0 ∷ 0 ∷ 0 ∷ 0 ∷ 0 ∷ 0 ∷ 0 ∷ 0 ∷ 0 ∷ 0 ∷ 0 ∷ 0 ∷ 0 ∷ 0 ∷ 0 ∷ 0 ∷ 0 ∷ 0 ∷ 0 ∷ 0 ∷ 0 ∷ 0 ∷ 0 ∷ 0 ∷ 0 ∷ 0 ∷ 0 ∷ 0 ∷ 0 ∷ 0 ∷ 0 ∷ 0 ∷ 0 ∷ 0 ∷ 0 ∷ 0 ∷ 0 ∷ 0 ∷ 0 ∷ 0 ∷ 0 ∷ 0 ∷ 0 ∷ 0 ∷ 0 ∷ 0 ∷ 0 ∷ 0 ∷ 0 ∷ 0 ∷ 0 ∷ 0 ∷ 0 ∷ 0 ∷ 0 ∷ 0 ∷ 0 ∷ 0 ∷ 0 ∷ 0 ∷ 0 ∷ 0 ∷ 0 ∷ 0 ∷ 0 ∷ 0 ∷ 0 ∷ 0 ∷ 0 ∷ 0 ∷ 0 ∷ 0 ∷ 0 ∷ 0 ∷ 0 ∷ 0 ∷ 0 ∷ 0 ∷ 0 ∷ 0 ∷ 0 ∷ 0 ∷ 0 ∷ 0 ∷ 0 ∷ 0 ∷ 0 ∷ 0 ∷ 0 ∷ 0 ∷ 0 ∷ 0 ∷ 0 ∷ 0 ∷ 0 ∷ 0 ∷ 0 ∷ 0 ∷ 0 ∷ 0 ∷ 0 ∷ 0 ∷ 0 ∷ 0 ∷ 0 ∷ 0 ∷ 0 ∷ 0 ∷ 0 ∷ 0 ∷ 0 ∷ 0 ∷ 0 ∷ 0 ∷ 0 ∷ 0 ∷ 0 ∷ 0 ∷ 0 ∷ 0 ∷ 0 ∷ 0 ∷ 0 ∷ 0 ∷ 0 ∷ 0 ∷ 0 ∷ 0 ∷ 0 ∷ 0 ∷ 0 ∷ 0 ∷ 0 ∷ 0 ∷ 0 ∷ 0 ∷ 0 ∷ 0 ∷ 0 ∷ 0 ∷ 0 ∷ 0 ∷ 0 ∷ 0 ∷ 0 ∷ 0 ∷ 0 ∷ 0 ∷ 0 ∷ 0 ∷ 0 ∷ 0 ∷ 0 ∷ 0 ∷ 0 ∷ 0 ∷ 0 ∷ 0 ∷ 0 ∷ 0 ∷ 0 ∷ 0 ∷ 0 ∷ 0 ∷ 0 ∷ 0 ∷ 0 ∷ 0 ∷ 0 ∷ 0 ∷ 0 ∷ 0 ∷ 0 ∷ 0 ∷ 0 ∷ 0 ∷ 0 ∷ 0 ∷ 0 ∷ 0 ∷ 0 ∷ 0 ∷ 0 ∷ 0 ∷ 0 ∷ 0 ∷ 0 ∷ 0 ∷ 0 ∷ 0 ∷ 0 ∷ 0 ∷ 0 ∷ 0 ∷ 0 ∷ 0 ∷ 0 ∷ 0 ∷ 0 ∷ 3 ∷ 0 ∷ 0 ∷ 0 ∷ 0 ∷ 0 ∷ 9 ∷ 0 ∷ 1 ∷ 0 ∷ 4 ∷ 0 ∷ 0 ∷ 0 ∷ 9 ∷ 0 ∷ 2 ∷ 0 ∷ 3 ∷ 2 ∷ 3 ∷ 0 ∷ 0 ∷ 0 ∷ 4 ∷ 2 ∷ 1 ∷ 0 ∷ 0 ∷ 0 ∷ 3 ∷ 2 ∷ 4 ∷ 0 ∷ 0 ∷ 0 ∷ 4 ∷ 3 ∷ 1 ∷ 0 ∷ 0 ∷ 0 ∷ 5 ∷ 3 ∷ 1 ∷ 0 ∷ 0 ∷ 0 ∷ 2 ∷ 0 ∷ 0 ∷ 0 ∷ 0 ∷ 0 ∷ 2 ∷ 0 ∷ 0 ∷ 0 ∷ 0 ∷ 0 ∷ 1 ∷ 0 ∷ 0 ∷ 0 ∷ 0 ∷ 0 ∷ 2 ∷ 0 ∷ 0 ∷ 0 ∷ 0 ∷ 0 ∷ 3 ∷ 2 ∷ 2 ∷ 0 ∷ 0 ∷ 0 ∷ 0 ∷ 0 ∷ 0 ∷ 0 ∷ 0 ∷ 0 ∷ 0 ∷ 0 ∷ 0 ∷ 0 ∷ 0 ∷ 0 ∷ 0 ∷ 0 ∷ 0 ∷ 0 ∷ 0 ∷ 0 ∷ 0 ∷ 0 ∷ 0 ∷ 0 ∷ 0 ∷ 0 ∷ 0 ∷ 0 ∷ 0 ∷ 0 ∷ 0 ∷ 0 ∷ 0 ∷ 0 ∷ 0 ∷ 0 ∷ 0 ∷ 0 ∷ 0 ∷ 0 ∷ []
+asked-33-table = 1 ∷ 0 ∷ 8 ∷ 0 ∷ 68 ∷ 0 ∷ 0 ∷ 0 ∷ 67 ∷ 0 ∷ 0 ∷ 0 ∷ 135 ∷ 0 ∷ 0 ∷ 0 ∷ 16 ∷ 0 ∷ 0 ∷ 0 ∷ 151 ∷ 0 ∷ 0 ∷ 0 ∷ 64 ∷ 0 ∷ 0 ∷ 0 ∷ 215 ∷ 0 ∷ 0 ∷ 0 ∷ 16 ∷ 0 ∷ 0 ∷ 0 ∷ 231 ∷ 0 ∷ 0 ∷ 0 ∷ 246 ∷ 0 ∷ 0 ∷ 0 ∷ 221 ∷ 1 ∷ 0 ∷ 0 ∷ 20 ∷ 0 ∷ 0 ∷ 0 ∷ 241 ∷ 1 ∷ 0 ∷ 0 ∷ 18 ∷ 0 ∷ 0 ∷ 0 ∷ 3 ∷ 2 ∷ 0 ∷ 0 ∷ 16 ∷ 0 ∷ 0 ∷ 0 ∷ 0 ∷ 0 ∷ 0 ∷ 2 ∷ 101 ∷ 57 ∷ 1 ∷ 0 ∷ 0 ∷ 2 ∷ 101 ∷ 48 ∷ 4 ∷ 0 ∷ 0 ∷ 2 ∷ 100 ∷ 52 ∷ 2 ∷ 0 ∷ 0 ∷ 2 ∷ 99 ∷ 50 ∷ 6 ∷ 0 ∷ 0 ∷ 7 ∷ 112 ∷ 114 ∷ 111 ∷ 99 ∷ 101 ∷ 115 ∷ 115 ∷ 7 ∷ 0 ∷ 0 ∷ 10 ∷ 116 ∷ 114 ∷ 97 ∷ 110 ∷ 115 ∷ 105 ∷ 116 ∷ 105 ∷ 111 ∷ 110 ∷ 7 ∷ 1 ∷ 0 ∷ 2 ∷ 99 ∷ 53 ∷ 7 ∷ 2 ∷ 0 ∷ 2 ∷ 98 ∷ 57 ∷ 2 ∷ 1 ∷ 0 ∷ 2 ∷ 97 ∷ 50 ∷ 0 ∷ 0 ∷ 0 ∷ 0 ∷ 0 ∷ 0 ∷ 0 ∷ 0 ∷ 0 ∷ 0 ∷ 0 ∷ 0 ∷ 0 ∷ 0 ∷ 0 ∷ 0 ∷ 2 ∷ 0 ∷ 0 ∷ 0 ∷ 0 ∷ 0 ∷ 0 ∷ 0 ∷ 0 ∷ 0 ∷ 0 ∷ 0 ∷ 0 ∷ 0 ∷ 0 ∷ 0 ∷ 0 ∷ 0 ∷ 0 ∷ 0 ∷ 0 ∷ 0 ∷ 0 ∷ 0 ∷ 0 ∷ 0 ∷ 0 ∷ 0 ∷ 0 ∷ 0 ∷ 0 ∷ 0 ∷ 0 ∷ 0 ∷ 0 ∷ 0 ∷ 0 ∷ 0 ∷ 0 ∷ 0 ∷ 0 ∷ 0 ∷ 0 ∷ 0 ∷ 0 ∷ 0 ∷ 0 ∷ 0 ∷ 0 ∷ 0 ∷ 0 ∷ 0 ∷ 0 ∷ 0 ∷ 0 ∷ 0 ∷ 0 ∷ 0 ∷ 0 ∷ 0 ∷ 0 ∷ 0 ∷ 0 ∷ 0 ∷ 0 ∷ 0 ∷ 0 ∷ 0 ∷ 0 ∷ 0 ∷ 0 ∷ 0 ∷ 0 ∷ 0 ∷ 0 ∷ 0 ∷ 0 ∷ 0 ∷ 0 ∷ 0 ∷ 0 ∷ 0 ∷ 0 ∷ 0 ∷ 0 ∷ 0 ∷ 0 ∷ 0 ∷ 0 ∷ 0 ∷ 0 ∷ 0 ∷ 0 ∷ 0 ∷ 0 ∷ 0 ∷ 1 ∷ 0 ∷ 0 ∷ 0 ∷ 0 ∷ 0 ∷ 0 ∷ 0 ∷ 0 ∷ 0 ∷ 0 ∷ 0 ∷ 0 ∷ 0 ∷ 0 ∷ 0 ∷ 0 ∷ 0 ∷ 0 ∷ 0 ∷ 0 ∷ 0 ∷ 0 ∷ 0 ∷ 0 ∷ 0 ∷ 0 ∷ 0 ∷ 0 ∷ 0 ∷ 0 ∷ 0 ∷ 0 ∷ 0 ∷ 0 ∷ 0 ∷ 0 ∷ 0 ∷ 0 ∷ 0 ∷ 0 ∷ 0 ∷ 0 ∷ 0 ∷ 0 ∷ 0 ∷ 0 ∷ 0 ∷ 0 ∷ 0 ∷ 0 ∷ 0 ∷ 0 ∷ 0 ∷ 0 ∷ 0 ∷ 0 ∷ 0 ∷ 0 ∷ 0 ∷ 0 ∷ 0 ∷ 0 ∷ 0 ∷ 0 ∷ 0 ∷ 0 ∷ 0 ∷ 0 ∷ 0 ∷ 0 ∷ 0 ∷ 0 ∷ 0 ∷ 0 ∷ 0 ∷ 0 ∷ 0 ∷ 0 ∷ 0 ∷ 0 ∷ 0 ∷ 1 ∷ 0 ∷ 0 ∷ 0 ∷ 0 ∷ 0 ∷ 0 ∷ 0 ∷ 0 ∷ 0 ∷ 0 ∷ 0 ∷ 0 ∷ 0 ∷ 0 ∷ 0 ∷ 0 ∷ 0 ∷ 0 ∷ 0 ∷ 0 ∷ 0 ∷ 0 ∷ 0 ∷ 0 ∷ 0 ∷ 0 ∷ 0 ∷ 0 ∷ 0 ∷ 0 ∷ 0 ∷ 0 ∷ 0 ∷ 0 ∷ 0 ∷ 0 ∷ 0 ∷ 0 ∷ 0 ∷ 0 ∷ 0 ∷ 0 ∷ 0 ∷ 0 ∷ 0 ∷ 0 ∷ 0 ∷ 0 ∷ 0 ∷ 0 ∷ 0 ∷ 0 ∷ 0 ∷ 0 ∷ 0 ∷ 0 ∷ 0 ∷ 0 ∷ 0 ∷ 0 ∷ 0 ∷ 0 ∷ 0 ∷ 0 ∷ 0 ∷ 1 ∷ 0 ∷ 0 ∷ 0 ∷ 0 ∷ 0 ∷ 0 ∷ 0 ∷ 0 ∷ 0 ∷ 0 ∷ 0 ∷ 0 ∷ 0 ∷ 0 ∷ 0 ∷ 1 ∷ 0 ∷ 0 ∷ 0 ∷ 0 ∷ 0 ∷ 0 ∷ 0 ∷ 0 ∷ 0 ∷ 0 ∷ 0 ∷ 0 ∷ 0 ∷ 0 ∷ 0 ∷ 0 ∷ 0 ∷ 0 ∷ 0 ∷ 0 ∷ 0 ∷ 0 ∷ 0 ∷ 0 ∷ 0 ∷ 0 ∷ 0 ∷ 0 ∷ 0 ∷ 0 ∷ 0 ∷ 0 ∷ 0 ∷ 0 ∷ 0 ∷ 0 ∷ 0 ∷ 0 ∷ 0 ∷ 0 ∷ 0 ∷ 0 ∷ 0 ∷ 0 ∷ 0 ∷ 0 ∷ 0 ∷ 0 ∷ 0 ∷ 0 ∷ 0 ∷ 0 ∷ 0 ∷ 0 ∷ 0 ∷ 0 ∷ 0 ∷ 0 ∷ 0 ∷ 0 ∷ 0 ∷ 0 ∷ 0 ∷ 0 ∷ 0 ∷ 0 ∷ 0 ∷ 3 ∷ 0 ∷ 0 ∷ 0 ∷ 0 ∷ 0 ∷ 1 ∷ 0 ∷ 0 ∷ 0 ∷ 6 ∷ 0 ∷ 0 ∷ 0 ∷ 1 ∷ 0 ∷ 2 ∷ 0 ∷ 4 ∷ 5 ∷ 0 ∷ 0 ∷ 1 ∷ 0 ∷ 4 ∷ 0 ∷ 1 ∷ 0 ∷ 0 ∷ 0 ∷ 0 ∷ 0 ∷ 0 ∷ 0 ∷ 0 ∷ 0 ∷ 0 ∷ 0 ∷ 0 ∷ 0 ∷ 0 ∷ 0 ∷ 0 ∷ 0 ∷ 0 ∷ 0 ∷ 0 ∷ 0 ∷ 0 ∷ 0 ∷ 0 ∷ 0 ∷ []
 
 asked-33-written : tableOf asked-33 ≡ asked-33-table
 unfolding computing
 asked-33-written = refl
 
-asked-33-2 : entryOn asked-33-table 5 0 ≡ refused 12 0
+asked-33-2 : validOn asked-33-table (context 8388608 0 1) ≡ refused 12 0
 unfolding computing
 asked-33-2 = refl
 
-asked-33-3 : entryOn asked-33-table 3 0 ≡ answered (record { start = 219; long = 64 })
+asked-33-3 : validOn asked-33-table (context 0 0 1) ≡ answered false
 unfolding computing
 asked-33-3 = refl
 
-asked-33-changes : changesOn asked-33-table ((record { source = context 0 1 0; target = context 1 0 0; class = 0; perm = 0 }) ∷ (record { source = context 0 1 2147483648; target = context 2 1 0; class = 0; perm = 0 }) ∷ (record { source = context 0 0 0; target = context 1 0 0; class = 1; perm = 0 }) ∷ (record { source = context 0 1 0; target = context 1 0 0; class = 0; perm = 0 }) ∷ []) ≡ record { verdict = denied 1; consulted = 0 } ∷ record { verdict = refuses 12 0; consulted = 0 } ∷ record { verdict = denied 1; consulted = 0 } ∷ record { verdict = denied 1; consulted = 0 } ∷ []
+asked-33-4 : entryOn asked-33-table 2 0 ≡ answered (record { start = 135; long = 16 })
+unfolding computing
+asked-33-4 = refl
+
+asked-33-changes : changesOn asked-33-table ((record { source = context 0 0 1; target = context 0 0 1; class = 0; perm = 0 }) ∷ (record { source = context 0 0 0; target = context 0 0 18446744073709551614; class = 0; perm = 2 }) ∷ (record { source = context 0 0 0; target = context 0 0 1; class = 0; perm = 0 }) ∷ []) ≡ record { verdict = denied 1; consulted = 0 } ∷ record { verdict = refuses 12 0; consulted = 0 } ∷ record { verdict = denied 1; consulted = 0 } ∷ []
 unfolding computing
 asked-33-changes = refl
 
-asked-33-statements : fromText asked-33 ((record { source = context 0 1 0; target = context 1 0 0; class = 0; perm = 0 }) ∷ (record { source = context 0 0 0; target = context 1 0 0; class = 1; perm = 0 }) ∷ (record { source = context 0 1 0; target = context 1 0 0; class = 0; perm = 0 }) ∷ []) ≡ record { verdict = denied 1; consulted = 0 } ∷ record { verdict = denied 1; consulted = 0 } ∷ record { verdict = denied 1; consulted = 0 } ∷ []
+asked-33-statements : fromText asked-33 ((record { source = context 0 0 1; target = context 0 0 1; class = 0; perm = 0 }) ∷ (record { source = context 0 0 0; target = context 0 0 1; class = 0; perm = 0 }) ∷ []) ≡ record { verdict = denied 1; consulted = 0 } ∷ record { verdict = denied 1; consulted = 0 } ∷ []
 unfolding computing
 asked-33-statements = refl
 
 -- a random policy and random questions
 abbrev asked-34 : List ℕ
-asked-34 = bytes "(user f3)(userattribute f2)(role b3)(roleattribute e5)(type f8)(typeattribute d9)(class c5(e5))(userrole f3 b3)(userrole f2 e5)(userattributeset f2(not f3))(role b1)(type r)(type d2)(userattributeset f2(f3 f3))(type f7)(userrole f2 e5)"
+asked-34 = bytes "(user f4)(userattribute d6)(role b7)(roleattribute h)(type d8)(typeattribute e4)(class process(transition e6))(userattributeset d6(all))(roletype b7 e4)(typeattribute e1)(constrain(process(transition transition))(or(not(not(not(neq u1 u2))))(and(or(or(neq t1 t2)(eq u1 u2))(not(eq r1 r2)))(and(neq u1 u2)(not(neq t1 t2))))))(roletype h d8)(typeattributeset e4((not d8)d8))(roleallow h h)(class d8(b8 d0))(userrole d6 h)(constrain(process(transition transition transition))(or(or(neq t1 d8)(and(or(eq u2 f4)(neq u1 u2))(or(eq u1 d6)(neq r1 r2))))(and(and(or(neq u1 u2)(neq u2 d6))(not(neq u1 d6)))(eq t2 d8))))(type a2)(userrole d6 h)"
 
 abbrev asked-34-table : List ℕ
-asked-34-table = 1 ∷ 0 ∷ 8 ∷ 0 ∷ 68 ∷ 0 ∷ 0 ∷ 0 ∷ 71 ∷ 0 ∷ 0 ∷ 0 ∷ 139 ∷ 0 ∷ 0 ∷ 0 ∷ 16 ∷ 0 ∷ 0 ∷ 0 ∷ 155 ∷ 0 ∷ 0 ∷ 0 ∷ 128 ∷ 0 ∷ 0 ∷ 0 ∷ 27 ∷ 1 ∷ 0 ∷ 0 ∷ 32 ∷ 0 ∷ 0 ∷ 0 ∷ 59 ∷ 1 ∷ 0 ∷ 0 ∷ 0 ∷ 0 ∷ 0 ∷ 0 ∷ 59 ∷ 1 ∷ 0 ∷ 0 ∷ 0 ∷ 0 ∷ 0 ∷ 0 ∷ 59 ∷ 1 ∷ 0 ∷ 0 ∷ 0 ∷ 0 ∷ 0 ∷ 0 ∷ 59 ∷ 1 ∷ 0 ∷ 0 ∷ 96 ∷ 0 ∷ 0 ∷ 0 ∷ 0 ∷ 0 ∷ 0 ∷ 2 ∷ 102 ∷ 51 ∷ 3 ∷ 0 ∷ 0 ∷ 2 ∷ 102 ∷ 50 ∷ 1 ∷ 0 ∷ 0 ∷ 2 ∷ 98 ∷ 51 ∷ 4 ∷ 0 ∷ 0 ∷ 2 ∷ 101 ∷ 53 ∷ 2 ∷ 0 ∷ 0 ∷ 2 ∷ 102 ∷ 56 ∷ 5 ∷ 0 ∷ 0 ∷ 2 ∷ 100 ∷ 57 ∷ 6 ∷ 0 ∷ 0 ∷ 2 ∷ 99 ∷ 53 ∷ 7 ∷ 0 ∷ 0 ∷ 2 ∷ 101 ∷ 53 ∷ 1 ∷ 1 ∷ 0 ∷ 2 ∷ 98 ∷ 49 ∷ 2 ∷ 1 ∷ 0 ∷ 1 ∷ 114 ∷ 2 ∷ 2 ∷ 0 ∷ 2 ∷ 100 ∷ 50 ∷ 2 ∷ 3 ∷ 0 ∷ 2 ∷ 102 ∷ 55 ∷ 1 ∷ 0 ∷ 0 ∷ 0 ∷ 0 ∷ 0 ∷ 0 ∷ 0 ∷ 0 ∷ 0 ∷ 0 ∷ 0 ∷ 0 ∷ 0 ∷ 0 ∷ 0 ∷ 0 ∷ 0 ∷ 0 ∷ 0 ∷ 0 ∷ 0 ∷ 0 ∷ 0 ∷ 0 ∷ 0 ∷ 0 ∷ 0 ∷ 0 ∷ 0 ∷ 0 ∷ 0 ∷ 0 ∷ 0 ∷ 0 ∷ 0 ∷ 0 ∷ 0 ∷ 0 ∷ 0 ∷ 0 ∷ 0 ∷ 0 ∷ 0 ∷ 0 ∷ 0 ∷ 0 ∷ 0 ∷ 0 ∷ 0 ∷ 0 ∷ 0 ∷ 0 ∷ 0 ∷ 0 ∷ 0 ∷ 0 ∷ 0 ∷ 0 ∷ 0 ∷ 0 ∷ 0 ∷ 0 ∷ 0 ∷ 0 ∷ 0 ∷ 0 ∷ 0 ∷ 0 ∷ 0 ∷ 0 ∷ 0 ∷ 0 ∷ 0 ∷ 0 ∷ 0 ∷ 0 ∷ 0 ∷ 0 ∷ 0 ∷ 0 ∷ 0 ∷ 0 ∷ 0 ∷ 0 ∷ 0 ∷ 0 ∷ 0 ∷ 0 ∷ 0 ∷ 0 ∷ 0 ∷ 0 ∷ 0 ∷ 0 ∷ 0 ∷ 0 ∷ 0 ∷ 0 ∷ 0 ∷ 0 ∷ 0 ∷ 0 ∷ 0 ∷ 0 ∷ 0 ∷ 0 ∷ 0 ∷ 0 ∷ 0 ∷ 0 ∷ 0 ∷ 0 ∷ 0 ∷ 0 ∷ 0 ∷ 0 ∷ 0 ∷ 0 ∷ 0 ∷ 0 ∷ 0 ∷ 0 ∷ 0 ∷ 0 ∷ 0 ∷ 0 ∷ 0 ∷ 0 ∷ 0 ∷ 0 ∷ 0 ∷ 0 ∷ 0 ∷ 0 ∷ 0 ∷ 0 ∷ 0 ∷ 0 ∷ 0 ∷ 0 ∷ 0 ∷ 0 ∷ 0 ∷ 0 ∷ 0 ∷ 0 ∷ 0 ∷ 0 ∷ 0 ∷ 0 ∷ 0 ∷ 0 ∷ 0 ∷ 0 ∷ 0 ∷ 0 ∷ 0 ∷ 0 ∷ 0 ∷ 0 ∷ 0 ∷ 0 ∷ 0 ∷ 0 ∷ 0 ∷ 0 ∷ 0 ∷ 0 ∷ 0 ∷ 0 ∷ 0 ∷ 0 ∷ 0 ∷ 0 ∷ 0 ∷ 1 ∷ 0 ∷ 0 ∷ 0 ∷ 0 ∷ 0 ∷ 0 ∷ 0 ∷ 0 ∷ 0 ∷ 0 ∷ 0 ∷ 0 ∷ 0 ∷ 0 ∷ 0 ∷ 0 ∷ 0 ∷ 0 ∷ 0 ∷ 0 ∷ 0 ∷ 0 ∷ 0 ∷ 0 ∷ 0 ∷ 0 ∷ 0 ∷ 0 ∷ 0 ∷ 0 ∷ 0 ∷ 0 ∷ 0 ∷ 0 ∷ 0 ∷ 0 ∷ 0 ∷ 0 ∷ 0 ∷ 0 ∷ 0 ∷ 0 ∷ 0 ∷ 0 ∷ 0 ∷ 0 ∷ 0 ∷ 0 ∷ 0 ∷ 0 ∷ 0 ∷ 0 ∷ 0 ∷ 0 ∷ 0 ∷ 0 ∷ 0 ∷ 0 ∷ 0 ∷ 0 ∷ 0 ∷ 0 ∷ 0 ∷ 0 ∷ 0 ∷ 0 ∷ 0 ∷ 0 ∷ 0 ∷ 0 ∷ 0 ∷ 0 ∷ 0 ∷ 0 ∷ 0 ∷ 0 ∷ 0 ∷ 0 ∷ 0 ∷ 0 ∷ 0 ∷ 0 ∷ 0 ∷ 0 ∷ 0 ∷ 0 ∷ 0 ∷ 0 ∷ 0 ∷ 0 ∷ 0 ∷ 0 ∷ 0 ∷ 0 ∷ 0 ∷ []
+asked-34-table = 1 ∷ 0 ∷ 8 ∷ 0 ∷ 68 ∷ 0 ∷ 0 ∷ 0 ∷ 96 ∷ 0 ∷ 0 ∷ 0 ∷ 164 ∷ 0 ∷ 0 ∷ 0 ∷ 16 ∷ 0 ∷ 0 ∷ 0 ∷ 180 ∷ 0 ∷ 0 ∷ 0 ∷ 64 ∷ 0 ∷ 0 ∷ 0 ∷ 244 ∷ 0 ∷ 0 ∷ 0 ∷ 16 ∷ 0 ∷ 0 ∷ 0 ∷ 4 ∷ 1 ∷ 0 ∷ 0 ∷ 0 ∷ 0 ∷ 0 ∷ 0 ∷ 4 ∷ 1 ∷ 0 ∷ 0 ∷ 20 ∷ 0 ∷ 0 ∷ 0 ∷ 24 ∷ 1 ∷ 0 ∷ 0 ∷ 204 ∷ 0 ∷ 0 ∷ 0 ∷ 228 ∷ 1 ∷ 0 ∷ 0 ∷ 160 ∷ 0 ∷ 0 ∷ 0 ∷ 0 ∷ 0 ∷ 0 ∷ 2 ∷ 102 ∷ 52 ∷ 3 ∷ 0 ∷ 0 ∷ 2 ∷ 100 ∷ 54 ∷ 1 ∷ 0 ∷ 0 ∷ 2 ∷ 98 ∷ 55 ∷ 4 ∷ 0 ∷ 0 ∷ 1 ∷ 104 ∷ 2 ∷ 0 ∷ 0 ∷ 2 ∷ 100 ∷ 56 ∷ 5 ∷ 0 ∷ 0 ∷ 2 ∷ 101 ∷ 52 ∷ 6 ∷ 0 ∷ 0 ∷ 7 ∷ 112 ∷ 114 ∷ 111 ∷ 99 ∷ 101 ∷ 115 ∷ 115 ∷ 7 ∷ 0 ∷ 0 ∷ 10 ∷ 116 ∷ 114 ∷ 97 ∷ 110 ∷ 115 ∷ 105 ∷ 116 ∷ 105 ∷ 111 ∷ 110 ∷ 7 ∷ 1 ∷ 0 ∷ 2 ∷ 101 ∷ 54 ∷ 5 ∷ 1 ∷ 0 ∷ 2 ∷ 101 ∷ 49 ∷ 6 ∷ 1 ∷ 0 ∷ 2 ∷ 100 ∷ 56 ∷ 7 ∷ 32 ∷ 0 ∷ 2 ∷ 98 ∷ 56 ∷ 7 ∷ 33 ∷ 0 ∷ 2 ∷ 100 ∷ 48 ∷ 2 ∷ 1 ∷ 0 ∷ 2 ∷ 97 ∷ 50 ∷ 0 ∷ 0 ∷ 0 ∷ 0 ∷ 0 ∷ 0 ∷ 0 ∷ 0 ∷ 0 ∷ 0 ∷ 0 ∷ 0 ∷ 0 ∷ 0 ∷ 0 ∷ 0 ∷ 3 ∷ 0 ∷ 0 ∷ 0 ∷ 0 ∷ 0 ∷ 0 ∷ 0 ∷ 0 ∷ 0 ∷ 0 ∷ 0 ∷ 0 ∷ 0 ∷ 0 ∷ 0 ∷ 0 ∷ 0 ∷ 0 ∷ 0 ∷ 0 ∷ 0 ∷ 0 ∷ 0 ∷ 0 ∷ 0 ∷ 0 ∷ 0 ∷ 0 ∷ 0 ∷ 0 ∷ 0 ∷ 0 ∷ 0 ∷ 0 ∷ 0 ∷ 0 ∷ 0 ∷ 0 ∷ 0 ∷ 0 ∷ 0 ∷ 0 ∷ 0 ∷ 0 ∷ 0 ∷ 0 ∷ 0 ∷ 0 ∷ 0 ∷ 0 ∷ 0 ∷ 0 ∷ 0 ∷ 0 ∷ 0 ∷ 0 ∷ 0 ∷ 0 ∷ 0 ∷ 0 ∷ 0 ∷ 0 ∷ 0 ∷ 0 ∷ 0 ∷ 0 ∷ 0 ∷ 0 ∷ 0 ∷ 0 ∷ 0 ∷ 0 ∷ 0 ∷ 0 ∷ 0 ∷ 0 ∷ 0 ∷ 0 ∷ 0 ∷ 0 ∷ 0 ∷ 1 ∷ 0 ∷ 0 ∷ 0 ∷ 0 ∷ 0 ∷ 16 ∷ 0 ∷ 0 ∷ 0 ∷ 1 ∷ 0 ∷ 0 ∷ 0 ∷ 16 ∷ 0 ∷ 18 ∷ 0 ∷ 3 ∷ 0 ∷ 1 ∷ 0 ∷ 0 ∷ 0 ∷ 0 ∷ 0 ∷ 0 ∷ 0 ∷ 0 ∷ 0 ∷ 0 ∷ 0 ∷ 0 ∷ 0 ∷ 0 ∷ 0 ∷ 0 ∷ 0 ∷ 0 ∷ 0 ∷ 0 ∷ 0 ∷ 3 ∷ 4 ∷ 1 ∷ 0 ∷ 0 ∷ 0 ∷ 3 ∷ 0 ∷ 0 ∷ 0 ∷ 0 ∷ 0 ∷ 2 ∷ 0 ∷ 0 ∷ 0 ∷ 0 ∷ 0 ∷ 3 ∷ 2 ∷ 0 ∷ 0 ∷ 0 ∷ 0 ∷ 0 ∷ 0 ∷ 0 ∷ 0 ∷ 0 ∷ 0 ∷ 2 ∷ 0 ∷ 0 ∷ 0 ∷ 0 ∷ 0 ∷ 3 ∷ 0 ∷ 1 ∷ 0 ∷ 0 ∷ 0 ∷ 3 ∷ 4 ∷ 1 ∷ 0 ∷ 0 ∷ 0 ∷ 0 ∷ 0 ∷ 0 ∷ 0 ∷ 0 ∷ 0 ∷ 1 ∷ 0 ∷ 0 ∷ 0 ∷ 0 ∷ 0 ∷ 1 ∷ 0 ∷ 0 ∷ 0 ∷ 0 ∷ 0 ∷ 2 ∷ 0 ∷ 0 ∷ 0 ∷ 0 ∷ 0 ∷ 4 ∷ 4 ∷ 1 ∷ 0 ∷ 0 ∷ 0 ∷ 4 ∷ 1 ∷ 0 ∷ 0 ∷ 0 ∷ 0 ∷ 3 ∷ 0 ∷ 1 ∷ 0 ∷ 0 ∷ 0 ∷ 2 ∷ 0 ∷ 0 ∷ 0 ∷ 0 ∷ 0 ∷ 5 ∷ 0 ∷ 0 ∷ 0 ∷ 0 ∷ 0 ∷ 3 ∷ 2 ∷ 1 ∷ 0 ∷ 0 ∷ 0 ∷ 2 ∷ 0 ∷ 0 ∷ 0 ∷ 0 ∷ 0 ∷ 1 ∷ 0 ∷ 0 ∷ 0 ∷ 0 ∷ 0 ∷ 2 ∷ 0 ∷ 0 ∷ 0 ∷ 0 ∷ 0 ∷ 3 ∷ 0 ∷ 1 ∷ 0 ∷ 0 ∷ 0 ∷ 5 ∷ 1 ∷ 1 ∷ 0 ∷ 0 ∷ 0 ∷ 2 ∷ 0 ∷ 0 ∷ 0 ∷ 0 ∷ 0 ∷ 5 ∷ 0 ∷ 1 ∷ 0 ∷ 0 ∷ 0 ∷ 0 ∷ 0 ∷ 0 ∷ 0 ∷ 0 ∷ 0 ∷ 1 ∷ 0 ∷ 0 ∷ 0 ∷ 0 ∷ 0 ∷ 4 ∷ 5 ∷ 0 ∷ 0 ∷ 0 ∷ 0 ∷ 1 ∷ 0 ∷ 0 ∷ 0 ∷ 0 ∷ 0 ∷ 2 ∷ 0 ∷ 0 ∷ 0 ∷ 0 ∷ 0 ∷ 1 ∷ 0 ∷ 0 ∷ 0 ∷ 0 ∷ 0 ∷ 0 ∷ 0 ∷ 0 ∷ 0 ∷ 0 ∷ 0 ∷ 0 ∷ 0 ∷ 0 ∷ 0 ∷ 0 ∷ 0 ∷ 0 ∷ 0 ∷ 0 ∷ 0 ∷ 0 ∷ 0 ∷ 0 ∷ 0 ∷ 0 ∷ 0 ∷ 0 ∷ 0 ∷ 0 ∷ 0 ∷ 3 ∷ 0 ∷ 0 ∷ 0 ∷ 0 ∷ 0 ∷ 0 ∷ 0 ∷ 0 ∷ 0 ∷ 0 ∷ 0 ∷ 0 ∷ 0 ∷ 0 ∷ 0 ∷ 0 ∷ 0 ∷ 0 ∷ 0 ∷ 0 ∷ 0 ∷ 0 ∷ 0 ∷ 0 ∷ 0 ∷ 0 ∷ 0 ∷ 0 ∷ 0 ∷ 0 ∷ 0 ∷ 0 ∷ 0 ∷ 0 ∷ 0 ∷ 0 ∷ 0 ∷ 0 ∷ 0 ∷ 0 ∷ 0 ∷ 0 ∷ 0 ∷ 0 ∷ 0 ∷ 0 ∷ 0 ∷ 0 ∷ 0 ∷ 0 ∷ 0 ∷ 0 ∷ 0 ∷ 0 ∷ 0 ∷ 0 ∷ 0 ∷ 0 ∷ 0 ∷ 0 ∷ 0 ∷ 0 ∷ 0 ∷ 0 ∷ 0 ∷ 0 ∷ 0 ∷ 0 ∷ 0 ∷ 0 ∷ 0 ∷ 0 ∷ 0 ∷ 0 ∷ 0 ∷ 0 ∷ 0 ∷ 0 ∷ 0 ∷ 0 ∷ 0 ∷ 0 ∷ 0 ∷ 0 ∷ 0 ∷ 0 ∷ 0 ∷ 0 ∷ 0 ∷ 0 ∷ 0 ∷ 0 ∷ 0 ∷ 0 ∷ 0 ∷ 0 ∷ 0 ∷ 0 ∷ 0 ∷ 0 ∷ 0 ∷ 0 ∷ 0 ∷ 0 ∷ 0 ∷ 0 ∷ 0 ∷ 0 ∷ 0 ∷ 0 ∷ 0 ∷ 0 ∷ 0 ∷ 0 ∷ 0 ∷ 0 ∷ 0 ∷ 0 ∷ 0 ∷ 0 ∷ 0 ∷ 0 ∷ 0 ∷ 0 ∷ 0 ∷ 0 ∷ 0 ∷ []
 
 asked-34-written : tableOf asked-34 ≡ asked-34-table
 unfolding computing
 asked-34-written = refl
 
-asked-34-1 : newRoleOn asked-34-table 0 0 0 ≡ answered 0
+asked-34-1 : nameOn asked-34-table 7 18446744073709551615 ≡ refused 12 0
 unfolding computing
 asked-34-1 = refl
 
-asked-34-changes : changesOn asked-34-table ((record { source = context 0 0 1; target = context 0 1 2; class = 0; perm = 0 }) ∷ (record { source = context 0 0 3; target = context 0 1 0; class = 0; perm = 0 }) ∷ (record { source = context 0 1 1; target = context 0 0 3; class = 0; perm = 0 }) ∷ (record { source = context 0 1 2; target = context 0 1 0; class = 0; perm = 0 }) ∷ (record { source = context 0 1 2; target = context 0 0 1; class = 0; perm = 0 }) ∷ []) ≡ record { verdict = denied 1; consulted = 0 } ∷ record { verdict = denied 1; consulted = 0 } ∷ record { verdict = denied 1; consulted = 0 } ∷ record { verdict = denied 1; consulted = 0 } ∷ record { verdict = denied 1; consulted = 0 } ∷ []
+asked-34-4 : entryOn asked-34-table 2 0 ≡ answered (record { start = 164; long = 16 })
+unfolding computing
+asked-34-4 = refl
+
+asked-34-5 : nameOn asked-34-table 7 33 ≡ answered (record { start = 156; long = 2 })
+unfolding computing
+asked-34-5 = refl
+
+asked-34-changes : changesOn asked-34-table ((record { source = context 0 0 1; target = context 0 0 1; class = 0; perm = 1 }) ∷ (record { source = context 0 0 0; target = context 0 0 0; class = 1; perm = 1 }) ∷ (record { source = context 0 0 1; target = context 0 0 1; class = 0; perm = 0 }) ∷ []) ≡ record { verdict = denied 1; consulted = 0 } ∷ record { verdict = denied 1; consulted = 0 } ∷ record { verdict = denied 1; consulted = 0 } ∷ []
 unfolding computing
 asked-34-changes = refl
 
-asked-34-statements : fromText asked-34 ((record { source = context 0 0 1; target = context 0 1 2; class = 0; perm = 0 }) ∷ (record { source = context 0 0 3; target = context 0 1 0; class = 0; perm = 0 }) ∷ (record { source = context 0 1 1; target = context 0 0 3; class = 0; perm = 0 }) ∷ (record { source = context 0 1 2; target = context 0 1 0; class = 0; perm = 0 }) ∷ (record { source = context 0 1 2; target = context 0 0 1; class = 0; perm = 0 }) ∷ []) ≡ record { verdict = denied 1; consulted = 0 } ∷ record { verdict = denied 1; consulted = 0 } ∷ record { verdict = denied 1; consulted = 0 } ∷ record { verdict = denied 1; consulted = 0 } ∷ record { verdict = denied 1; consulted = 0 } ∷ []
+asked-34-statements : fromText asked-34 ((record { source = context 0 0 1; target = context 0 0 1; class = 0; perm = 1 }) ∷ (record { source = context 0 0 0; target = context 0 0 0; class = 1; perm = 1 }) ∷ (record { source = context 0 0 1; target = context 0 0 1; class = 0; perm = 0 }) ∷ []) ≡ record { verdict = denied 1; consulted = 0 } ∷ record { verdict = denied 1; consulted = 0 } ∷ record { verdict = denied 1; consulted = 0 } ∷ []
 unfolding computing
 asked-34-statements = refl
+
+-- a random policy and random questions
+abbrev asked-35 : List ℕ
+asked-35 = bytes "(user roleattributeset)(userattribute b8)(role b8)(type a6)(typeattribute f1)(class process(dyntransition b6 d3 f0))(userattributeset b8(not roleattributeset))(roletype b8 a6)(userattribute a5)(constrain(process(d3 dyntransition))(domby r1 r2))(roletransition b8 a6 process b8)(userrole roleattributeset b8)(userrole a5 b8)(userattributeset a5(and roleattributeset b8))(constrain(process(f0 d3 f0 d3))(eq t2 a6))"
+
+abbrev asked-35-table : List ℕ
+asked-35-table = 1 ∷ 0 ∷ 8 ∷ 0 ∷ 68 ∷ 0 ∷ 0 ∷ 0 ∷ 96 ∷ 0 ∷ 0 ∷ 0 ∷ 164 ∷ 0 ∷ 0 ∷ 0 ∷ 16 ∷ 0 ∷ 0 ∷ 0 ∷ 180 ∷ 0 ∷ 0 ∷ 0 ∷ 64 ∷ 0 ∷ 0 ∷ 0 ∷ 244 ∷ 0 ∷ 0 ∷ 0 ∷ 16 ∷ 0 ∷ 0 ∷ 0 ∷ 4 ∷ 1 ∷ 0 ∷ 0 ∷ 82 ∷ 0 ∷ 0 ∷ 0 ∷ 86 ∷ 1 ∷ 0 ∷ 0 ∷ 20 ∷ 0 ∷ 0 ∷ 0 ∷ 106 ∷ 1 ∷ 0 ∷ 0 ∷ 12 ∷ 0 ∷ 0 ∷ 0 ∷ 118 ∷ 1 ∷ 0 ∷ 0 ∷ 96 ∷ 0 ∷ 0 ∷ 0 ∷ 0 ∷ 0 ∷ 0 ∷ 16 ∷ 114 ∷ 111 ∷ 108 ∷ 101 ∷ 97 ∷ 116 ∷ 116 ∷ 114 ∷ 105 ∷ 98 ∷ 117 ∷ 116 ∷ 101 ∷ 115 ∷ 101 ∷ 116 ∷ 3 ∷ 0 ∷ 0 ∷ 2 ∷ 98 ∷ 56 ∷ 1 ∷ 0 ∷ 0 ∷ 2 ∷ 98 ∷ 56 ∷ 2 ∷ 0 ∷ 0 ∷ 2 ∷ 97 ∷ 54 ∷ 5 ∷ 0 ∷ 0 ∷ 2 ∷ 102 ∷ 49 ∷ 6 ∷ 0 ∷ 0 ∷ 7 ∷ 112 ∷ 114 ∷ 111 ∷ 99 ∷ 101 ∷ 115 ∷ 115 ∷ 7 ∷ 0 ∷ 0 ∷ 13 ∷ 100 ∷ 121 ∷ 110 ∷ 116 ∷ 114 ∷ 97 ∷ 110 ∷ 115 ∷ 105 ∷ 116 ∷ 105 ∷ 111 ∷ 110 ∷ 7 ∷ 1 ∷ 0 ∷ 2 ∷ 98 ∷ 54 ∷ 7 ∷ 2 ∷ 0 ∷ 2 ∷ 100 ∷ 51 ∷ 7 ∷ 3 ∷ 0 ∷ 2 ∷ 102 ∷ 48 ∷ 3 ∷ 1 ∷ 0 ∷ 2 ∷ 97 ∷ 53 ∷ 1 ∷ 0 ∷ 0 ∷ 0 ∷ 0 ∷ 0 ∷ 0 ∷ 0 ∷ 0 ∷ 0 ∷ 0 ∷ 0 ∷ 0 ∷ 0 ∷ 0 ∷ 0 ∷ 1 ∷ 0 ∷ 0 ∷ 0 ∷ 0 ∷ 0 ∷ 0 ∷ 0 ∷ 0 ∷ 0 ∷ 0 ∷ 0 ∷ 0 ∷ 0 ∷ 0 ∷ 0 ∷ 0 ∷ 0 ∷ 0 ∷ 0 ∷ 0 ∷ 0 ∷ 0 ∷ 0 ∷ 0 ∷ 0 ∷ 0 ∷ 0 ∷ 0 ∷ 0 ∷ 0 ∷ 0 ∷ 0 ∷ 0 ∷ 0 ∷ 0 ∷ 0 ∷ 0 ∷ 0 ∷ 0 ∷ 0 ∷ 0 ∷ 0 ∷ 0 ∷ 0 ∷ 0 ∷ 0 ∷ 0 ∷ 0 ∷ 0 ∷ 0 ∷ 0 ∷ 0 ∷ 0 ∷ 0 ∷ 0 ∷ 0 ∷ 0 ∷ 0 ∷ 0 ∷ 0 ∷ 0 ∷ 0 ∷ 0 ∷ 0 ∷ 0 ∷ 0 ∷ 0 ∷ 0 ∷ 0 ∷ 0 ∷ 0 ∷ 0 ∷ 0 ∷ 0 ∷ 0 ∷ 0 ∷ 0 ∷ 0 ∷ 0 ∷ 1 ∷ 0 ∷ 0 ∷ 0 ∷ 0 ∷ 0 ∷ 0 ∷ 0 ∷ 0 ∷ 0 ∷ 0 ∷ 0 ∷ 0 ∷ 0 ∷ 0 ∷ 0 ∷ 1 ∷ 0 ∷ 0 ∷ 0 ∷ 0 ∷ 0 ∷ 0 ∷ 0 ∷ 0 ∷ 0 ∷ 0 ∷ 0 ∷ 0 ∷ 0 ∷ 0 ∷ 0 ∷ 0 ∷ 0 ∷ 0 ∷ 0 ∷ 0 ∷ 0 ∷ 0 ∷ 0 ∷ 0 ∷ 0 ∷ 0 ∷ 0 ∷ 0 ∷ 0 ∷ 0 ∷ 0 ∷ 0 ∷ 0 ∷ 0 ∷ 0 ∷ 0 ∷ 0 ∷ 0 ∷ 0 ∷ 0 ∷ 0 ∷ 0 ∷ 0 ∷ 0 ∷ 0 ∷ 0 ∷ 0 ∷ 0 ∷ 0 ∷ 0 ∷ 0 ∷ 0 ∷ 0 ∷ 0 ∷ 0 ∷ 0 ∷ 0 ∷ 0 ∷ 0 ∷ 0 ∷ 0 ∷ 0 ∷ 0 ∷ 0 ∷ 0 ∷ 0 ∷ 0 ∷ 5 ∷ 0 ∷ 0 ∷ 0 ∷ 0 ∷ 0 ∷ 1 ∷ 0 ∷ 0 ∷ 0 ∷ 12 ∷ 0 ∷ 0 ∷ 0 ∷ 1 ∷ 0 ∷ 1 ∷ 0 ∷ 3 ∷ 2 ∷ 3 ∷ 0 ∷ 0 ∷ 0 ∷ 4 ∷ 5 ∷ 0 ∷ 0 ∷ 0 ∷ 0 ∷ 0 ∷ 0 ∷ 0 ∷ 0 ∷ 0 ∷ 0 ∷ 0 ∷ 0 ∷ 0 ∷ 0 ∷ 0 ∷ 0 ∷ 0 ∷ 0 ∷ 0 ∷ 0 ∷ 0 ∷ 0 ∷ 0 ∷ 0 ∷ 0 ∷ 0 ∷ 0 ∷ 0 ∷ 0 ∷ 0 ∷ 0 ∷ 0 ∷ 0 ∷ 0 ∷ 0 ∷ 0 ∷ 0 ∷ 0 ∷ 0 ∷ 0 ∷ 0 ∷ 0 ∷ 0 ∷ 0 ∷ 0 ∷ 0 ∷ 0 ∷ 0 ∷ 0 ∷ 0 ∷ 0 ∷ 0 ∷ 0 ∷ 0 ∷ 0 ∷ 0 ∷ 0 ∷ 0 ∷ 0 ∷ 0 ∷ 0 ∷ 0 ∷ 0 ∷ 0 ∷ 0 ∷ 0 ∷ 0 ∷ 0 ∷ 0 ∷ 0 ∷ 0 ∷ 0 ∷ 0 ∷ 0 ∷ 0 ∷ 0 ∷ 0 ∷ 0 ∷ 0 ∷ 0 ∷ 0 ∷ 0 ∷ 0 ∷ 0 ∷ 0 ∷ 0 ∷ 0 ∷ 0 ∷ 0 ∷ 0 ∷ 0 ∷ 0 ∷ 0 ∷ 0 ∷ 0 ∷ 0 ∷ 0 ∷ 0 ∷ 0 ∷ 0 ∷ []
+
+asked-35-written : tableOf asked-35 ≡ asked-35-table
+unfolding computing
+asked-35-written = refl
+
+asked-35-0 : newRoleOn asked-35-table 0 0 0 ≡ answered 0
+unfolding computing
+asked-35-0 = refl
+
+asked-35-1 : nameOn asked-35-table 7 2 ≡ answered (record { start = 150; long = 2 })
+unfolding computing
+asked-35-1 = refl
+
+asked-35-2 : validOn asked-35-table (context 0 0 0) ≡ answered true
+unfolding computing
+asked-35-2 = refl
+
+asked-35-4 : validOn asked-35-table (context 0 0 0) ≡ answered true
+unfolding computing
+asked-35-4 = refl
+
+asked-35-changes : changesOn asked-35-table ((record { source = context 0 0 0; target = context 0 0 0; class = 0; perm = 3 }) ∷ (record { source = context 0 0 0; target = context 0 0 0; class = 0; perm = 2 }) ∷ []) ≡ record { verdict = granted; consulted = 1 } ∷ record { verdict = granted; consulted = 2 } ∷ []
+unfolding computing
+asked-35-changes = refl
+
+asked-35-statements : fromText asked-35 ((record { source = context 0 0 0; target = context 0 0 0; class = 0; perm = 3 }) ∷ (record { source = context 0 0 0; target = context 0 0 0; class = 0; perm = 2 }) ∷ []) ≡ record { verdict = granted; consulted = 1 } ∷ record { verdict = granted; consulted = 2 } ∷ []
+unfolding computing
+asked-35-statements = refl

@@ -2,14 +2,18 @@
 use Prim.Native.Nat.{ℕ, _<_, _≤_}
 use native.Mathlib.Omega.{arith}
 use mathlib.Core.Path.{_≡_, refl, sym, ap, _∙_}
-use mathlib.Core.Bool.{Bool, true, false, _&&_, false≢true}
+use mathlib.Core.Bool.{Bool, true, false, not, _&&_, false≢true}
 use mathlib.Core.List.{List, [], _∷_}
 use lib.Dec.{leb, ltb}
 use lib.ListN.{length}
 use borrow.Author.Tests.{ne-eqb, le-leb, lt-leb, ltb-true, ltb-false}
 use Rattle.lexer.specs.declared.ByteClass.{ByteClass}
 use Rattle.lexer.specs.declared.ByteClass.the-variants.{Wrong}
-use Rattle.lexer.specs.Class.{classOf, starts, goesOn, allGoOn, isName}
+use Rattle.lexer.specs.Class.{classOf, isDot, maxName, parts, isDotted}
+use Rattle.lexer.proofs.Names.{fits, partsFrom, dotted-from}
+use Rattle.policy.specs.Words.{isReserved}
+use Rattle.policy.specs.Maxima.{maxParts}
+use Rattle.policy.specs.Sound.{isGood}
 use Rattle.policy.proofs.Lists.{both-true}
 use Rattle.table_laws.specs.SoundTable.{Bytes}
 
@@ -24,6 +28,7 @@ wrong-above b h = rw (
   ne-eqb b 41 (λ e. omega arith),
   ne-eqb b 95 (λ e. omega arith),
   ne-eqb b 45 (λ e. omega arith),
+  ne-eqb b 46 (λ e. omega arith),
   ne-eqb b 10 (λ e. omega arith),
   le-leb 65 b (omega arith),
   lt-leb b 90 (omega arith),
@@ -41,14 +46,20 @@ not-wrong f z b h = by (ltb b 256) refl
     by true e = ltb-true b 256 e
     by false e = absurd (false≢true (sym z ∙ ap f (sym (wrong-above b (ltb-false b 256 e))) ∙ h))
 
-go-on-bytes : (bs : List ℕ) → allGoOn bs ≡ true → Bytes bs
-unfolding allGoOn
-go-on-bytes [] h = tt
-go-on-bytes (b ∷ bs) h = let p = both-true (goesOn (classOf b)) (allGoOn bs) h in (not-wrong goesOn refl b (p .0), go-on-bytes bs (p .1))
+-- bytes that are parts, from the start of one or from within it
+no-wrong : (fresh : Bool) → fits fresh Wrong ≡ false
+no-wrong true = refl
+no-wrong false = refl
 
-pub name-bytes : (w : List ℕ) → isName w ≡ true → Bytes w
-unfolding isName
-name-bytes [] h = tt
-name-bytes (b ∷ bs) h =
-    let p = both-true (starts (classOf b)) (allGoOn bs) (both-true (starts (classOf b) && allGoOn bs) (leb (length (b ∷ bs)) 64) h .0) in
-    (not-wrong starts refl b (p .0), go-on-bytes bs (p .1))
+part-bytes : (bs : List ℕ) (fresh : Bool) → partsFrom bs fresh ≡ true → Bytes bs
+unfolding partsFrom
+part-bytes [] fresh h = tt
+part-bytes (b ∷ bs) fresh h =
+    let p = both-true (fits fresh (classOf b)) (partsFrom bs (isDot (classOf b))) h in
+    (not-wrong (fits fresh) (no-wrong fresh) b (p .0), part-bytes bs (isDot (classOf b)) (p .1))
+
+pub name-bytes : (w : List ℕ) → isGood w ≡ true → Bytes w
+name-bytes w h =
+    let a = both-true (isDotted w && leb (length w) maxName && leb (length (parts w)) maxParts) (not (isReserved w)) h in
+    let b = both-true (isDotted w && leb (length w) maxName) (leb (length (parts w)) maxParts) (a .0) in
+    part-bytes w true (sym (dotted-from w) ∙ both-true (isDotted w) (leb (length w) maxName) (b .0) .0)

@@ -8,15 +8,18 @@ use mathlib.Core.List.{List, [], _∷_, _++_, append-assoc, append-nil}
 use lib.Dec.{leb, ltb}
 use lib.ListN.{length, length-append}
 use borrow.Author.Tests.{leb-true, ltb-true}
-use Rattle.lexer.specs.Class.{isName}
+use Rattle.lexer.specs.declared.ByteClass.{ByteClass}
+use Rattle.lexer.specs.declared.ByteClass.the-variants.{Blank, LineFeed, Comment, Open, Close, Letter, Digit, Dot, Wrong}
+use Rattle.lexer.specs.Class.{classOf, starts, goesOn, allGoOn, maxName, isPart, allParts, parts, isDotted}
+use Rattle.lexer.proofs.Names.{one-part}
 use Rattle.policy.specs.Basics.{Name, gather, All}
 use Rattle.policy.specs.Statements.{users, roles, types, Sort, thingOf, attributeOf, Declaration, plain, class, ofClass, count, classNames}
 use Rattle.policy.specs.Words.{isReserved}
 use Rattle.policy.specs.Maxima.{maxOf, maxClasses, maxPermissions}
 use Rattle.policy.specs.Reading.{isNew, hasRoom}
 use Rattle.policy.specs.Encode.{NameEntry, sortCode, permissionEntries, entriesOf, entriesFrom}
-use Rattle.policy.specs.Sound.{isGood, someGood, goodNames, goodFrom}
-use Rattle.policy.proofs.Lists.{both-true, all-append, gather-over, gather-last}
+use Rattle.policy.specs.Sound.{isGood, isGoodPart, goodPermissions, goodNames, goodFrom}
+use Rattle.policy.proofs.Lists.{both-true, true-both, all-append, gather-over, gather-last}
 use Rattle.table_laws.proofs.ListLaws.{every-all}
 use Rattle.policy.proofs.Counts.{few-classes}
 use Rattle.policy.proofs.Good.{good-first, good-rest}
@@ -36,7 +39,7 @@ peopled e (d ∷ ds) h = (peopled-one d (good-first e d ds h .names), peopled (e
 pub record GoodEntry (e : NameEntry) : Type 0 where
   pub sort : e .sort < 8
   pub number : e .number < 65536
-  pub name : isName (e .name) ≡ true
+  pub name : isGood (e .name) ≡ true
 
 pub most : (s : Sort) → maxOf s ≤ 512
 most (thingOf users) = omega arith
@@ -53,28 +56,53 @@ code-below (attributeOf users) = omega arith
 code-below (attributeOf roles) = omega arith
 code-below (attributeOf types) = omega arith
 
-good-name : (w : Name) → isGood w ≡ true → isName w ≡ true
-good-name w h = both-true (isName w) (not (isReserved w)) h .0
+-- what starts a part goes on one, so that a part is its only part
+start-goes-on : (k : ByteClass) → starts k ≡ true → goesOn k ≡ true
+start-goes-on Blank e = e
+start-goes-on LineFeed e = e
+start-goes-on Comment e = e
+start-goes-on Open e = e
+start-goes-on Close e = e
+start-goes-on Letter e = refl
+start-goes-on Digit e = refl
+start-goes-on Dot e = e
+start-goes-on Wrong e = e
 
-all-good : (ps : List Name) → someGood ps ≡ true → All (λ (w : Name). isGood w ≡ true) ps
+pub only-part : (w : Name) → isPart w ≡ true → parts w ≡ w ∷ []
+unfolding isPart allGoOn
+only-part [] e = absurd (false≢true e)
+only-part (b ∷ bs) e =
+    let p = both-true (starts (classOf b)) (allGoOn bs) e in
+    one-part (b ∷ bs) (true-both (goesOn (classOf b)) (allGoOn bs) (start-goes-on (classOf b) (p .0)) (p .1))
+
+-- a good part is a good name, of one part
+pub part-is-good : (w : Name) → isGoodPart w ≡ true → isGood w ≡ true
+unfolding isDotted allParts
+part-is-good w h =
+    let a = both-true (isPart w && leb (length w) maxName) (not (isReserved w)) h in
+    let b = both-true (isPart w) (leb (length w) maxName) (a .0) in
+    let one = only-part w (b .0) in
+    rw (one, b .0, b .1, a .1)
+
+all-good : (ps : List Name) → goodPermissions ps ≡ true → All (λ (w : Name). isGoodPart w ≡ true) ps
 all-good [] h = tt
-all-good (p ∷ ps) h = every-all isGood (p ∷ ps) h
+all-good (p ∷ ps) h = every-all isGoodPart (p ∷ ps) h
 
-permissions-fit : (n : ℕ) (ps : List Name) → All (λ (w : Name). isGood w ≡ true) ps → n + length ps ≤ 65536 → All GoodEntry (permissionEntries n ps)
+permissions-fit : (n : ℕ) (ps : List Name) → All (λ (w : Name). isGoodPart w ≡ true) ps → n + length ps ≤ 65536 → All GoodEntry (permissionEntries n ps)
 unfolding permissionEntries
 permissions-fit n [] g l = tt
 permissions-fit n (p ∷ ps) g l =
-    (record { sort = omega arith; number = omega arith; name = good-name p (g .0) }, permissions-fit (n + 1) ps (g .1) (omega arith))
+    (record { sort = omega arith; number = omega arith; name = part-is-good p (g .0) }, permissions-fit (n + 1) ps (g .1) (omega arith))
 
 entry-fit : (e : List Declaration) (d : Declaration) → goodNames d ≡ true → hasRoom e d ≡ true → All GoodEntry (entriesOf e d)
 entry-fit e (plain s w) g h =
-    (record { sort = omega (arith, code-below s); number = omega (arith, ltb-true (count s e) (maxOf s) h, most s); name = good-name w g }, tt)
+    (record { sort = omega (arith, code-below s); number = omega (arith, ltb-true (count s e) (maxOf s) h, most s); name = g }, tt)
 entry-fit e (class w ps) g h =
-    let names = both-true (isGood w) (someGood ps) g in
+    let names = both-true (isGood w) (goodPermissions ps) g in
     let room = both-true (ltb (length (classNames e)) 32) (leb (length ps) 32) h in
     let classes = ltb-true (length (classNames e)) 32 (room .0) in
     let perms = leb-true (length ps) 32 (room .1) in
-    (record { sort = omega arith; number = omega arith; name = good-name w (names .0) }, permissions-fit (length (classNames e) * 32) ps (all-good ps (names .1)) (omega arith))
+    (record { sort = omega arith; number = omega arith; name = names .0 }, permissions-fit (length (classNames e) * 32) ps (all-good ps (names .1)) (omega arith))
 
 pub entries-fit : (e ds : List Declaration) → goodFrom e ds ≡ true → All GoodEntry (entriesFrom e ds)
 unfolding entriesFrom

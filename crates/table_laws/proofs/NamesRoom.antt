@@ -2,17 +2,19 @@
 use Prim.Native.Nat.{ℕ, suc, _+_, _*_, _≤_}
 use native.Mathlib.Omega.{arith}
 use mathlib.Core.Path.{_≡_, refl, ap}
-use mathlib.Core.Bool.{true, _&&_, false≢true}
+use mathlib.Core.Bool.{true, not, _&&_}
 use mathlib.Core.List.{List, [], _∷_, _++_}
 use lib.Dec.{leb, ltb}
 use lib.ListN.{length, length-append}
 use borrow.Author.Tests.{leb-true}
 use Rattle.bitset.specs.Relations.{joined}
-use Rattle.lexer.specs.Class.{isName, allGoOn, starts, classOf}
+use Rattle.lexer.specs.Class.{maxName, parts, isDotted}
 use Rattle.policy.specs.Basics.{Name, each, gather, le, All}
 use Rattle.policy.specs.Statements.{users, roles, types, Sort, thingOf, attributeOf, Declaration, plain, class, count, namesOf, classNames}
 use Rattle.policy.specs.Encode.{NameEntry, permissionEntries, entriesFrom, entries, entryBytes}
-use Rattle.policy.specs.Sound.{goodFrom}
+use Rattle.policy.specs.Words.{isReserved}
+use Rattle.policy.specs.Maxima.{maxParts}
+use Rattle.policy.specs.Sound.{isGood, goodFrom}
 use Rattle.policy.proofs.Lists.{both-true}
 use Rattle.table_laws.specs.SoundTable.{namesLength}
 use Rattle.policy.proofs.Counts.{few-of, few-classes}
@@ -25,11 +27,12 @@ unfolding joined each le namesLength
 names-length [] = refl
 names-length (e ∷ es) = omega (arith, length-append (e .name) (joined (each entryBytes es)), names-length es)
 
--- "1 to 64 bytes"
-pub name-short : (w : Name) → isName w ≡ true → length w ≤ 64
-unfolding isName
-name-short [] h = absurd (false≢true h)
-name-short (b ∷ bs) h = leb-true (length (b ∷ bs)) 64 (both-true (starts (classOf b) && allGoOn bs) (leb (length (b ∷ bs)) 64) h .1)
+-- "at most 64 bytes"
+pub name-short : (w : Name) → isGood w ≡ true → length w ≤ 64
+name-short w h =
+    let a = both-true (isDotted w && leb (length w) maxName && leb (length (parts w)) maxParts) (not (isReserved w)) h in
+    let b = both-true (isDotted w && leb (length w) maxName) (leb (length (parts w)) maxParts) (a .0) in
+    leb-true (length w) maxName (both-true (isDotted w) (leb (length w) maxName) (b .0) .1)
 
 names-short : (es : List NameEntry) → All GoodEntry es → namesLength es ≤ 68 * length es
 unfolding namesLength

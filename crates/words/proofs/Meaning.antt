@@ -2,25 +2,29 @@
 -- have, and a case of it for each list of words that policy names. And what the words of some numbers mean, by one computation over the list.
 -- Assumes nothing.
 use mathlib.Core.Path.{_≡_, refl, sym, ap, subst, _∙_}
-use mathlib.Core.Bool.{Bool, true, false, not, _&&_, cond}
-use mathlib.Core.List.{List, [], _∷_, map}
+use mathlib.Core.Bool.{Bool, true, false, not, _&&_, _||_, cond}
+use mathlib.Core.List.{List, [], _∷_, _++_, map}
 use mathlib.Core.Option.{none, some}
 use Prim.Native.Nat.{ℕ, zero, suc, _+_, _-_, _<_, _≤_}
 use native.Mathlib.Nat.{add-zero, zero-add, le-of-suc-le-suc, not-suc-le-zero}
 use native.Mathlib.Omega.{arith}
-use borrow.Author.Tests.{eqb-true, ltb-true, ltb-false, not-true}
-use lib.Dec.{eqb, ltb}
+use borrow.Author.Tests.{eq-eqb, ltb-true, ltb-false, not-true}
+use lib.Dec.{eqb, ltb, leb}
 use lib.ListN.{length, getD, take, drop, replicate, getD-replicate, List·getD-map, List·getD-eq-default}
 use lib.Seq.{getD-take, getD-drop}
 use Rattle.policy.specs.Basics.{Name, same, any, every, isIn, Under, lookup}
-use Rattle.policy.specs.Words.{reserved, isReserved, keywordOf, setWord, expressionWord, opOf, componentOf}
+use Rattle.policy.specs.Words.{reserved, blockWord, keywordOf, setWord, expressionWord, opOf, componentOf}
 use Rattle.policy.proofs.Lists.{both-true, neither, any-append, same-is}
 use Rattle.words.specs.Numbers.{keywords, words, numberIn, numberOf, wordOf}
 
 -- how many there are
-counted : length words ≡ 38
+counted : length words ≡ 39
 unfolding reserved keywords words
 counted = refl
+
+-- the words of the numbers from 0 on
+abbrev pub numbered : List Name
+numbered = [] ∷ words
 
 -- ---- from a word to its number
 
@@ -36,41 +40,40 @@ by-cases P (x ∷ xs) w n a b = go (same w x) refl (λ h k. by-cases P xs w (n +
     go true e i = rw e (rw (add-zero n) at (b 0 (omega arith) (same-is w x e)))
     go false e i = rw e (i (λ h. a (rw e h)) (λ j l h. subst P (omega arith) (b (suc j) (omega arith) h)))
 
+-- the word of a number of the list
+word-listed : (j : ℕ) → wordOf (1 + j) ≡ getD words j []
+unfolding wordOf
+word-listed j = let d : 1 + j ≡ suc j = omega arith in ap (λ (n : ℕ). getD numbered n []) d
+
 pub by-number : {B : Type 0} (meaning : Name → B) → ((v : Name) → isIn v words ≡ false → meaning v ≡ meaning []) → (w : Name)
     → meaning w ≡ meaning (wordOf (numberOf w))
 unfolding numberOf wordOf
 by-number meaning other w =
-    by-cases (λ n. meaning w ≡ meaning (getD ([] ∷ words) n [])) words w 1 (other w)
-    (λ j l h. let d : suc j ≡ 1 + j = omega arith in ap meaning h ∙ ap (λ (n : ℕ). meaning (getD ([] ∷ words) n [])) d)
+    by-cases (λ n. meaning w ≡ meaning (wordOf n)) words w 1 (other w) (λ j l h. ap meaning (h ∙ sym (word-listed j)))
 
 -- ---- the meanings that policy names
 
--- a word outside the list is under no word of a list of some of them
-missing : {A : Type 0} (v : Name) (xs : List (Under A)) → every (λ x. isIn (x .word) words) xs ≡ true → isIn v words ≡ false → lookup v xs ≡ none
+-- a word that fails a test is under no word of a list of words that pass it
+pub missing : {A : Type 0} (test : Name → Bool) (v : Name) (xs : List (Under A)) → every (λ x. test (x .word)) xs ≡ true → test v ≡ false → lookup v xs ≡ none
 unfolding every lookup
-missing v [] e h = refl
-missing v (x ∷ xs) e h =
-    let b = both-true (isIn (x .word) words) (every (λ x. isIn (x .word) words) xs) e in
-    go (same v (x .word)) refl (b .0) (missing v xs (b .1) h)
+missing test v [] e h = refl
+missing test v (x ∷ xs) e h =
+    let b = both-true (test (x .word)) (every (λ x. test (x .word)) xs) e in
+    go (same v (x .word)) refl (b .0) (missing test v xs (b .1) h)
   where
-    go : (q : Bool) → same v (x .word) ≡ q → isIn (x .word) words ≡ true → lookup v xs ≡ none → cond (same v (x .word)) (some (x .value)) (lookup v xs) ≡ none
+    go : (q : Bool) → same v (x .word) ≡ q → test (x .word) ≡ true → lookup v xs ≡ none → cond (same v (x .word)) (some (x .value)) (lookup v xs) ≡ none
     go true d i k =
-        let w = same-is v (x .word) d in
-        let z : _≡_ {A = Bool} true false = sym (ap (λ (u : Name). isIn u words) w ∙ i) ∙ h in
+        let z : _≡_ {A = Bool} true false = sym (ap test (same-is v (x .word) d) ∙ i) ∙ h in
         absurd (let z : _≡_ {A = ℕ} 0 1 = cc in omega arith)
     go false d i k = rw d k
 
 -- so a word is under the same words of a list of some of them as the word of its number is
 by-list : {A : Type 0} (xs : List (Under A)) → every (λ x. isIn (x .word) words) xs ≡ true → (w : Name) → lookup w xs ≡ lookup (wordOf (numberOf w)) xs
 unfolding same any isIn reserved keywords words
-by-list xs e w = by-number (λ v. lookup v xs) (λ v h. missing v xs e h ∙ sym (missing [] xs e refl)) w
+by-list xs e w =
+    by-number (λ v. lookup v xs) (λ v h. missing (λ v. isIn v words) v xs e h ∙ sym (missing (λ v. isIn v words) [] xs e refl)) w
 
 module _ (w : Name) where
-  pub reserved-number : isReserved w ≡ isReserved (wordOf (numberOf w))
-  unfolding same any isIn reserved isReserved words
-  reserved-number =
-      by-number isReserved (λ v h. neither (isIn v reserved) (isIn v keywords) (sym (any-append (same v) reserved keywords) ∙ h) .0) w
-
   pub keyword-number : keywordOf w ≡ keywordOf (wordOf (numberOf w))
   unfolding same any every isIn reserved keywords words keywordOf
   keyword-number = by-list _ refl w
@@ -96,15 +99,15 @@ module _ (w : Name) where
 module _ {B : Type 0} (meaning : Name → B) (lo : ℕ) where
   -- what the words from a number on mean, in the order of their numbers
   abbrev pub meanings : List B
-  meanings = drop lo (map meaning ([] ∷ words))
+  meanings = drop lo (map meaning numbered)
 
   meant : (n : ℕ) → lo ≤ n → meaning (wordOf n) ≡ getD meanings (n - lo) (meaning [])
   unfolding wordOf
   meant n h =
       let d : lo + (n - lo) ≡ n = omega arith in
-      sym (List·getD-map meaning ([] ∷ words) n [])
-      ∙ ap (λ (k : ℕ). getD (map meaning ([] ∷ words)) k (meaning [])) (sym d)
-      ∙ sym (getD-drop lo (map meaning ([] ∷ words)) (n - lo) (meaning []))
+      sym (List·getD-map meaning numbered n [])
+      ∙ ap (λ (k : ℕ). getD (map meaning numbered) k (meaning [])) (sym d)
+      ∙ sym (getD-drop lo (map meaning numbered) (n - lo) (meaning []))
 
   -- what the words of a stretch of numbers all mean, the word of such a number means
   pub stretch : (size : ℕ) (b : B) → take size meanings ≡ replicate size b → (n : ℕ) → lo ≤ n → n < lo + size → meaning (wordOf n) ≡ b
@@ -115,8 +118,8 @@ module _ {B : Type 0} (meaning : Name → B) (lo : ℕ) where
       ∙ getD-replicate size (n - lo) b (meaning []) (omega arith)
 
   -- where the words from a number on all mean what the empty word does, so does the word of every number from there on
-  pub from-on : meanings ≡ replicate (39 - lo) (meaning []) → (n : ℕ) → lo ≤ n → meaning (wordOf n) ≡ meaning []
-  from-on e n h = meant n h ∙ ap (λ (l : List B). getD l (n - lo) (meaning [])) e ∙ all-same (39 - lo) (n - lo)
+  pub from-on : meanings ≡ replicate (40 - lo) (meaning []) → (n : ℕ) → lo ≤ n → meaning (wordOf n) ≡ meaning []
+  from-on e n h = meant n h ∙ ap (λ (l : List B). getD l (n - lo) (meaning [])) e ∙ all-same (40 - lo) (n - lo)
     where
       all-same : (k i : ℕ) → getD (replicate k (meaning [])) i (meaning []) ≡ meaning []
       all-same zero i = refl
@@ -145,14 +148,42 @@ agreed test f (w ∷ ws) n (suc k) e h =
     ap f d ∙ agreed test f ws (n + 1) k (both-true (alike (f n) (test w)) (agreeing test f ws (n + 1)) e .1) (le-of-suc-le-suc h)
 
 -- so they agree at every number and its word, if they do past the last
-pub agree : (test : Name → Bool) (f : ℕ → Bool) → agreeing test f ([] ∷ words) 0 ≡ true → ((n : ℕ) → 38 < n → f n ≡ test []) → (n : ℕ) → f n ≡ test (wordOf n)
+pub agree : (test : Name → Bool) (f : ℕ → Bool) → agreeing test f numbered 0 ≡ true → ((n : ℕ) → 39 < n → f n ≡ test []) → (n : ℕ) → f n ≡ test (wordOf n)
 unfolding wordOf
-agree test f e beyond n = go (ltb 38 n) refl
+agree test f e beyond n = go (ltb 39 n) refl
   where
-    go : (q : Bool) → ltb 38 n ≡ q → f n ≡ test (getD ([] ∷ words) n [])
+    go : (q : Bool) → ltb 39 n ≡ q → f n ≡ test (getD numbered n [])
     go true h =
-        let g = ltb-true 38 n h in
-        beyond n g ∙ ap test (sym (List·getD-eq-default ([] ∷ words) [] {n = n} (rw counted g)))
+        let g = ltb-true 39 n h in
+        beyond n g ∙ ap test (sym (List·getD-eq-default numbered [] {n = n} (rw counted g)))
     go false h =
         let d : 0 + n ≡ n = zero-add n in
-        sym (ap f d) ∙ agreed test f ([] ∷ words) 0 n e (rw counted (let g = ltb-false 38 n h in omega arith))
+        sym (ap f d) ∙ agreed test f numbered 0 n e (rw counted (let g = ltb-false 39 n h in omega arith))
+
+-- ---- the reserved words
+
+-- a word outside the list is not reserved
+not-reserved : (w : Name) → isIn w words ≡ false → isIn w reserved ≡ false
+unfolding isIn words
+not-reserved w h = neither (isIn w reserved) (isIn w keywords) (sym (any-append (same w) reserved keywords) ∙ h) .0
+
+-- the reserved words have the first 23 numbers
+pub reserved-number : (w : Name) → (ltb 0 (numberOf w) && leb (numberOf w) 23) ≡ isIn w reserved
+unfolding same any isIn reserved keywords words agreeing numberOf
+reserved-number w =
+    by-cases (λ n. (ltb 0 n && leb n 23) ≡ isIn w reserved) words w 1
+    (λ h. sym (not-reserved w h))
+    (λ j l h. agreed (λ v. isIn v reserved) (λ n. ltb 0 n && leb n 23) words 1 j refl l ∙ sym (ap (λ (v : Name). isIn v reserved) h))
+
+-- ---- the word `block`
+
+-- has the last number
+pub block-number : (w : Name) → same w blockWord ≡ eqb (numberOf w) 39
+unfolding same any isIn reserved keywords words numberOf agreeing
+block-number w =
+    by-cases (λ n. same w blockWord ≡ eqb n 39) words w 1
+    (λ h. last (take 38 words) blockWord h)
+    (λ j l h. ap (λ (v : Name). same v blockWord) h ∙ sym (agreed (λ v. same v blockWord) (λ n. eqb n 39) words 1 j refl l))
+  where
+    last : (xs : List Name) (x : Name) → any (same w) (xs ++ (x ∷ [])) ≡ false → same w x ≡ false
+    last xs x h = neither (same w x) false (neither (any (same w) xs) (any (same w) (x ∷ [])) (sym (any-append (same w) xs (x ∷ [])) ∙ h) .1) .0

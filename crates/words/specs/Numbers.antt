@@ -1,12 +1,14 @@
 -- The words that mean something, and the number of a word. What they mean is said in policy's Words; a number only stands for the word.
 -- Assumes nothing.
 use Prim.Native.Nat.{ℕ, _+_}
-use mathlib.Core.Bool.{true, false}
+use mathlib.Core.Bool.{Bool, true, false, not, _&&_}
 use mathlib.Core.List.{List, [], _∷_, _++_}
+use mathlib.Core.Option.{Option}
 use lib.ListN.{getD}
 use Rattle.lexer.specs.Spell.{bytes}
-use Rattle.policy.specs.Basics.{Name, same}
-use Rattle.policy.specs.Words.{reserved}
+use Rattle.policy.specs.Basics.{Name, same, given}
+use Rattle.policy.specs.Words.{reserved, isReserved, dotless, blockWord}
+use Rattle.words.specs.declared.NameKind.{NameKind}
 
 -- "Statement keywords are not reserved: `(role role)` is good."
 unfoldable pub keywords : List Name
@@ -16,7 +18,8 @@ keywords =
     ∷ bytes "class"
     ∷ bytes "userattributeset" ∷ bytes "roleattributeset" ∷ bytes "typeattributeset"
     ∷ bytes "userrole" ∷ bytes "roletype" ∷ bytes "roleallow"
-    ∷ bytes "roletransition" ∷ bytes "constrain" ∷ []
+    ∷ bytes "roletransition" ∷ bytes "constrain"
+    ∷ blockWord ∷ []
 
 -- in the order of their numbers, from 1
 unfoldable pub words : List Name
@@ -34,3 +37,11 @@ numberOf w = numberIn words w 1
 -- the word of a number; the empty word, which means nothing, stands for 0 and for a number of no word
 unfoldable pub wordOf : ℕ → Name
 wordOf n = getD ([] ∷ words) n []
+
+-- a word may be a name of the kind, and taken as one: asName and asPart of policy's Words
+abbrev pub mayBe : NameKind → Name → Bool
+mayBe NameKind.Name w = not (isReserved w)
+mayBe NameKind.Part w = dotless w && not (isReserved w)
+
+abbrev pub takenAs : NameKind → Name → Option Name
+takenAs k w = given (mayBe k w) w

@@ -1,10 +1,11 @@
-// The keywords and the reserved words, by their numbers.
+// The keywords and the reserved words, by their numbers; and which words may be names.
 ghost use mathlib.Core.Path.{_≡_};
-ghost use mathlib.Core.Bool.{true, not};
 ghost use Prim.Native.Nat.{_≤_, _<_, _+_};
 ghost use lib.ListN.{length, take, drop};
-ghost use Rattle.policy.specs.Words.{isReserved};
-ghost use Rattle.words.specs.Numbers.{numberOf, wordOf};
+ghost use Rattle.policy.specs.Basics.{isIn};
+ghost use Rattle.policy.specs.Words.{reserved, isReserved, dotless};
+ghost use Rattle.words.specs.Numbers.{numberOf, mayBe};
+ghost use Rattle.words.specs.Parts.{partEnd};
 ghost use Rattle.words.specs.Keys.{twoAt, threeAt, fourAt, fiveAt, sixAt, eightAt, numberBy};
 
 // The number of a word: its place in the table of words, from 1.
@@ -90,8 +91,16 @@ impl Word {
 
     pub const CONSTRAIN: usize = 38;
 
+    pub const BLOCK: usize = 39;
+
     // The last of the reserved words, which come first.
     pub const LAST_RESERVED: usize = 23;
+}
+
+// What a name may be: any name, or one part, which has no dot, as names that are declared, names of blocks and permissions are.
+pub enum NameKind {
+    Name,
+    Part,
 }
 
 // Letters of the words as numbers, little endian, so that up to eight are compared at once.
@@ -154,6 +163,8 @@ impl Letters {
 
     const CLAS: u64 = b'c' as u64 + 256 * (b'l' as u64 + 256 * (b'a' as u64 + 256 * (b's' as u64)));
 
+    const BLOC: u64 = b'b' as u64 + 256 * (b'l' as u64 + 256 * (b'o' as u64 + 256 * (b'c' as u64)));
+
     const INCO: u64 = b'i' as u64 + 256 * (b'n' as u64 + 256 * (b'c' as u64 + 256 * (b'o' as u64)));
 
     const ATTR: u64 = b'a' as u64 + 256 * (b't' as u64 + 256 * (b't' as u64 + 256 * (b'r' as u64)));
@@ -176,6 +187,8 @@ impl Letters {
     const DOMBY: u64 = Letters::DOMB + Letters::FOUR_ON * (b'y' as u64);
 
     const CLASS: u64 = Letters::CLAS + Letters::FOUR_ON * (b's' as u64);
+
+    const BLOCK: u64 = Letters::BLOC + Letters::FOUR_ON * (b'k' as u64);
 
     const INCOMP: u64 = Letters::INCO + Letters::FOUR_ON * (b'm' as u64 + 256 * (b'p' as u64));
 
@@ -307,6 +320,7 @@ fn of_five(low: u64) -> usize
     match low {
         Letters::DOMBY => Word::DOMBY,
         Letters::CLASS => Word::CLASS,
+        Letters::BLOCK => Word::BLOCK,
         _ => Word::OTHER,
     }
 }
@@ -418,12 +432,67 @@ pub fn number_at(text: &[u8], start: usize, len: usize) -> usize
     number_of(&text[start..end])
 }
 
-// Whether a word of the number may name a thing: all but the reserved words may.
-pub fn is_name(number: usize) -> bool
-    ensures { λ r. ⌜ r ≡ not (isReserved (wordOf number)) ⌝ }
+// Whether a word is reserved: the reserved words have the first numbers.
+fn is_reserved_word(w: &[u8]) -> bool
+    ensures { λ r. ⌜ r ≡ isIn (now (w .entry)) reserved ⌝ }
 {
+    let number = number_of(w);
     if number == Word::OTHER {
-        return true;
+        return false;
     }
-    Word::LAST_RESERVED < number
+    number <= Word::LAST_RESERVED
+}
+
+// Where the part ends that starts at a place of a word: at the next dot, or with the word.
+fn part_end(w: &[u8], at: usize) -> usize
+    ensures { λ r. ⌜ r ≡ partEnd (now (w .entry)) at ⌝ }
+{
+    let mut i = at;
+    while i < w.len() {
+        if w[i] == b'.' {
+            return i;
+        }
+        i += 1;
+    }
+    i
+}
+
+// Whether a word has no dot.
+fn is_dotless(w: &[u8]) -> bool
+    ensures { λ r. ⌜ r ≡ dotless (now (w .entry)) ⌝ }
+{
+    part_end(w, 0) == w.len()
+}
+
+// Whether a part of the word is a reserved word: "A name with a reserved part counts as reserved".
+pub fn has_reserved_part(w: &[u8]) -> bool
+    ensures { λ r. ⌜ r ≡ isReserved (now (w .entry)) ⌝ }
+{
+    let mut at: usize = 0;
+    loop {
+        let end = part_end(w, at);
+        if is_reserved_word(&w[at..end]) {
+            return true;
+        }
+        if w.len() <= end {
+            return false;
+        }
+        at = end + 1;
+    }
+}
+
+// Whether the word that stands in a text may be a name of the kind: the reserved words are none, nor are words with a reserved part.
+pub fn is_name(kind: NameKind, text: &[u8], start: usize, len: usize) -> bool
+    requires { ⌜ start + len ≤ length (now text) ⌝ }
+    ensures { λ r. ⌜ r ≡ mayBe kind (take len (drop start (now (text .entry)))) ⌝ }
+{
+    let end = start + len;
+    let w = &text[start..end];
+    if is_dotless(w) {
+        return !is_reserved_word(w);
+    }
+    match kind {
+        NameKind::Name => !has_reserved_part(w),
+        NameKind::Part => false,
+    }
 }

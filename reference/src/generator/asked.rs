@@ -19,6 +19,7 @@ pub fn asked() -> Vec<Asked> {
     list.extend(parts());
     list.extend(undeclared());
     list.extend(objects());
+    list.extend(apart_in_blocks());
     list
 }
 
@@ -280,6 +281,90 @@ fn undeclared() -> Vec<Asked> {
     questions.extend([valid(0, 0, 1), valid(1, 0, 0), valid(0, 256, 0), valid(u64::MAX, 0, 0)]);
     questions.extend([change(A, A, 1 << 32), new_role(1 << 16, 0, 0)]);
     vec![of("12 before any denial", text, &questions)]
+}
+
+/// Document 02, W-203: questions on policies in blocks. Reading 54 of document 02: only the full names `process` and `object_r` are
+/// treated apart; reading 55: a constrain behind the last block stands at whole-text level.
+pub fn in_blocks() -> Vec<Asked> {
+    let mut list = apart_in_blocks();
+    list.extend(names_in_blocks());
+    list
+}
+
+/// Those of W-203 that become theorems as well.
+fn apart_in_blocks() -> Vec<Asked> {
+    let apart = "(user u)(type t)(role a)(block b(role object_r)(class process(transition)))(role object_r)\
+                 (class process(transition))(userrole u a)(roletype a t)";
+    let inner = [0, 1, 0];
+    let object = [0, 2, 0];
+    vec![of(
+        "only the full names process and object_r are treated apart",
+        apart,
+        &[
+            valid(0, 1, 0),
+            valid(0, 2, 0),
+            change_in(A, inner, 0, 0),
+            change_in(A, object, 0, 0),
+            change_in(A, object, 1, 0),
+            change_in(object, object, 1, 0),
+            name(1, 1),
+        ],
+    )]
+}
+
+/// Those that go into the corpus alone.
+fn names_in_blocks() -> Vec<Asked> {
+    let process = format!(
+        "{TWO_ROLES}(block b(class process(transition)))(block process(class c(transition))(block process(class process(p))))\
+         (block c(block d(class e(transition dyntransition))))(class process(transition))"
+    );
+    let object = "(user u)(type t)(block b(role object_r))(block object_r(role a)(role object_r))(role object_r)(class c(p))";
+    let inner = "(user u)(role a)(type t)(block b(role a)(userrole u a)(roletype a t)(class c(p))\
+                 (constrain(c(p))(eq r1 a))(constrain(c(p))(neq r2 .a)))(constrain(b.c(p))(eq r1 a))";
+    let behind = format!(
+        "{TWO_ROLES}(class c(p))(block k(role a)(class c(p))(constrain(c(p))(eq r1 .a)))\
+         (constrain(c(p))(eq r1 a))(constrain(k.c(p))(neq r2 b))"
+    );
+    let all = "(user u)(type t)(block b(role a)(roleattribute x)(roleattributeset x(not a))(userrole u x)(roletype x t))\
+               (role a)(block c(role a))(class c(p))";
+    let transitions = "(role a)(type t)(class c(p))(block b(role a)(type t)(class c(p))(roletransition a .t c .a)\
+                       (roletransition .a t .c a))(roletransition a t b.c b.a)";
+    let transitions_asked: Vec<Question> =
+        (0..2).flat_map(|role| (0..2).flat_map(move |kind| (0..2).map(move |class| new_role(role, kind, class)))).collect();
+    let c = [0, 2, 0];
+    vec![
+        of(
+            "only the full name process asks a role allow",
+            &process,
+            &[
+                change_in(A, B, 0, 0),
+                change_in(A, B, 1, 0),
+                change_in(A, B, 2, 0),
+                change_in(A, B, 3, 1),
+                change_in(A, B, 4, 0),
+                name(6, 0),
+                name(6, 2),
+                name(7, 96),
+            ],
+        ),
+        of(
+            "only the full name object_r is always valid",
+            object,
+            &[valid(0, 0, 0), valid(0, 1, 0), valid(0, 2, 0), valid(0, 3, 0), change([0, 3, 0], A, 0), name(1, 1), name(1, 2)],
+        ),
+        of(
+            "the innermost name decides, in E too",
+            inner,
+            &[valid(0, 0, 0), valid(0, 1, 0), change(B, B, 0), change(A, B, 0), name(1, 1), name(6, 0), name(7, 0)],
+        ),
+        of(
+            "a constrain behind the last block stands at whole-text level",
+            &behind,
+            &[change_in(A, B, 0, 0), change_in(B, A, 0, 0), change_in(A, B, 1, 0), change_in(B, A, 1, 0), change_in(A, A, 1, 0)],
+        ),
+        of("(all) and not over all blocks", all, &[valid(0, 0, 0), valid(0, 1, 0), valid(0, 2, 0), change(B, c, 0)]),
+        of("new roles by full names", transitions, &transitions_asked),
+    ]
 }
 
 /// Document 02, W-201: "a context whose role is named `object_r` is valid with any declared user and any declared type.

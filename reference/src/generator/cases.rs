@@ -1,8 +1,9 @@
 //! Texts listed by hand, one for each cause that document 01 or a reading names. The place of a fault is marked with `@`,
 //! which is taken out of the text; an accepted text has none and the number 0. The line is counted from the place, but for
-//! the texts about lines (document 02, W-202): theirs is said beside them.
+//! the texts about lines (document 02, W-202) and blocks (W-203): theirs is said beside them.
 
 use crate::fault::Fault;
+use crate::generator::blocks;
 
 pub struct Case {
     pub text: Vec<u8>,
@@ -12,6 +13,18 @@ pub struct Case {
 
 /// Every listed case.
 pub fn cases() -> Vec<Case> {
+    let mut list = cases_for_theorems();
+    for (number, line, marked, rule) in [blocks::SCAN, blocks::FORM, blocks::NAMES].into_iter().flatten() {
+        list.push(case_on_line(*number, *line, marked, rule));
+    }
+    for (number, line, marked, rule) in blocks::built() {
+        list.push(case_on_line(number, line, &marked, rule));
+    }
+    list
+}
+
+/// The listed cases that may become theorems as well: those without blocks and dots, and a few with them.
+pub fn cases_for_theorems() -> Vec<Case> {
     let mut list: Vec<Case> = Vec::new();
     let tables = [PAPER, SCAN, FORM, SETS, EXPRESSIONS, FREE_WORDS, NAMES, CYCLES, CLASHES, TABLES];
     for (number, marked, rule) in tables.into_iter().flatten() {
@@ -20,7 +33,7 @@ pub fn cases() -> Vec<Case> {
     for (number, marked, rule) in built() {
         list.push(case(number, &marked, rule));
     }
-    for (number, line, marked, rule) in LINES {
+    for (number, line, marked, rule) in [LINES, blocks::FEW].into_iter().flatten() {
         list.push(case_on_line(*number, *line, marked, rule));
     }
     for (number, line, marked, rule) in built_of_lines() {
@@ -39,13 +52,15 @@ fn case(number: u8, marked: &str, rule: &str) -> Case {
 
 /// A case whose line is counted by hand.
 fn case_on_line(number: u8, line: usize, marked: &str, rule: &str) -> Case {
+    assert_eq!(number == 0, line == 0, "{marked}");
     let case = case(number, marked, rule);
     Case { fault: case.fault.map(|fault| Fault { line, ..fault }), ..case }
 }
 
 type Listed = (u8, &'static str, &'static str);
 /// The line comes after the number; it is 0 for an accepted text.
-type ListedOnLine = (u8, usize, &'static str, &'static str);
+pub type ListedOnLine = (u8, usize, &'static str, &'static str);
+pub type BuiltOnLine = (u8, usize, String, &'static str);
 
 /// P1 to P11 of "Checked by hand", and the examples of the running text.
 const PAPER: &[Listed] = &[
@@ -91,7 +106,6 @@ const SCAN: &[Listed] = &[
     (0, "(role;\na)", "reading 8: a comment parts tokens"),
     (3, "@(role a;b\nc)", "reading 8: a comment parts tokens"),
     (2, "(role a;\r)@", "reading 8: LF alone ends a comment"),
-    (2, "(role a@.b)", "reading 9: a dot is wrong"),
     (2, "(role @\"a\")", "reading 9: a quote is wrong"),
     (2, "(role a@\0)", "reading 9: NUL is wrong"),
     (2, "(role@\x0ba)", "reading 9: VT is wrong"),
@@ -152,7 +166,6 @@ const FORM: &[Listed] = &[
     (3, "@(role ())", "reading 20"),
     (3, "@((role a))", "reading 20: a statement that starts with a parenthesis"),
     (3, "@(() role a)", "reading 20: a statement that starts with a parenthesis"),
-    (3, "@(block b)", "reading 20: left out"),
     (3, "@(typealias a)", "reading 20: left out"),
     (3, "@(classmap c (p))", "reading 20: left out"),
     (3, "@(classpermission c)", "reading 20: left out"),
@@ -579,7 +592,7 @@ fn built() -> Vec<(u8, String, &'static str)> {
 }
 
 /// Cases about lines that need repetition.
-fn built_of_lines() -> Vec<(u8, usize, String, &'static str)> {
+fn built_of_lines() -> Vec<BuiltOnLine> {
     let classes: String = (0..32).map(|n| format!("(class a{n}(p))\n")).collect();
     let chain = marked(&right_chain("and", 6)).replace("@", "\n\n@").replace("(and", "\n(and");
     vec![

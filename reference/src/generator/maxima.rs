@@ -1,4 +1,4 @@
-//! Both sides of each maximum, with the answer worked out by hand from document 01.
+//! Both sides of each maximum, with the answer worked out by hand from documents 01 and 02.
 
 use crate::fault::Fault;
 
@@ -41,6 +41,7 @@ pub fn bounds() -> Vec<Bound> {
     list.extend(names());
     list.extend(texts());
     list.extend(stacks());
+    list.extend(blocks());
     list.into_iter().map(|bound| Bound { fault: bound.fault.in_text(&bound.past), ..bound }).collect()
 }
 
@@ -157,6 +158,36 @@ fn stacks() -> Vec<Bound> {
     ]
 }
 
+/// Document 02, W-203: "blocks nest to 8", a full name has "at most 64 bytes", a name as written "64 bytes not counting a leading
+/// dot"; reading 34 of document 02: the blocks' parentheses count among the 32 levels.
+fn blocks() -> Vec<Bound> {
+    let n = |count: usize| "n".repeat(count);
+    let nested = |count: usize| format!("{}(type t){}", "(block b".repeat(count), ")".repeat(count)).into_bytes();
+    let block = |length: usize| format!("(block b(block {}))", n(length)).into_bytes();
+    let used = |length: usize| format!("(role {})(roleallow .{} .{})", n(64), n(64), n(length)).into_bytes();
+    let levels = |count: usize| {
+        format!("(block b(userattribute x)(userattributeset x{}all{}))", "(".repeat(count), ")".repeat(count)).into_bytes()
+    };
+    let mut list = vec![
+        Bound { name: "blocks nested", at: nested(8), past: nested(9), fault: Fault::new(6, 64) },
+        Bound { name: "name behind a leading dot", at: used(64), past: used(65), fault: Fault::new(2, 148) },
+        Bound { name: "levels within a block", at: levels(30), past: levels(31), fault: Fault::new(2, 74) },
+        Bound { name: "full name of a block", at: block(62), past: block(63), fault: Fault::new(6, 8) },
+    ];
+    let declared = [
+        ("full name of a role", "role", ""),
+        ("full name of a user", "user", ""),
+        ("full name of a type", "type", ""),
+        ("full name of an attribute", "roleattribute", ""),
+        ("full name of a class", "class", "(p)"),
+    ];
+    for (name, word, end) in declared {
+        let text = |length: usize| format!("(block b(block c({word} {}{end})))", n(length)).into_bytes();
+        list.push(Bound { name, at: text(60), past: text(61), fault: Fault::new(6, 16) });
+    }
+    list
+}
+
 /// Reading 23: the order 4, 5, 6, 7 within a statement, at the maxima.
 pub fn orders() -> Vec<(&'static str, Vec<u8>, Fault)> {
     let find = |name: &str| bounds().into_iter().find(|b| b.name == name).expect("a bound of that name");
@@ -226,6 +257,47 @@ pub fn most_lines() -> Vec<(&'static str, Vec<u8>, Fault)> {
         ("65,536 LFs", lfs, Fault { number: 1, place: 65_535, line: 65_536 }),
         ("unclosed before 65,534 LFs", unclosed, Fault { number: 2, place: 65_535, line: 65_535 }),
     ]
+}
+
+/// Document 02, W-203: full names may be longer than the text that gives them. Here is every thing, attribute and class that
+/// can be, each of 64 bytes; the table passes 65,536 bytes, and the text has less than 13,000.
+pub fn longest_full_names() -> Vec<u8> {
+    let mut text = format!("(block {}", "b".repeat(59));
+    for n in 0..512 {
+        text.push_str(&format!("(type x{n:03})"));
+        if n < 128 {
+            text.push_str(&format!("(user x{n:03})(role x{n:03})"));
+        }
+        if n < 64 {
+            text.push_str(&format!("(userattribute y{n:03})(roleattribute y{n:03})(typeattribute y{n:03})"));
+        }
+        if n < 32 {
+            text.push_str(&format!("(class x{n:03}(p))"));
+        }
+    }
+    text.push_str("(userrole x000 x127)(typeattributeset y063(x511))(roletype x127 y063))");
+    text.into_bytes()
+}
+
+/// Reading 9 of document 02: up to 7,281 blocks in a text, all of nine bytes. In the second text the last one is opened again.
+pub fn most_blocks() -> Vec<(&'static str, Vec<u8>, Option<Fault>)> {
+    let all = blocks_within(&mut 7_281, 3);
+    let again = format!("{}(block a)", blocks_within(&mut 7_280, 8));
+    let fault = Fault::new(4, 65_520).in_text(again.as_bytes());
+    vec![("7,281 blocks", all.into_bytes(), None), ("7,280 blocks and one again", again.into_bytes(), Some(fault))]
+}
+
+/// Blocks of one letter, in each of them as many again, to this depth and until none is left.
+fn blocks_within(left: &mut usize, depth: usize) -> String {
+    let mut text = String::new();
+    for letter in ('a'..='z').chain('A'..='Z').chain(['_']) {
+        if *left == 0 || depth == 0 {
+            break;
+        }
+        *left -= 1;
+        text.push_str(&format!("(block {letter}{})", blocks_within(left, depth - 1)));
+    }
+    text
 }
 
 /// Every count at its maximum in one policy.

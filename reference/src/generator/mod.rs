@@ -1,6 +1,8 @@
-//! Seeded cases: policies, damaged texts, both sides of each maximum, tables, questions and tries at names.
+//! Seeded cases: policies, damaged texts, both sides of each maximum, tables, questions and tries at names; and those listed
+//! by hand.
 
 pub mod asked;
+pub mod blocks;
 pub mod cases;
 pub mod damage;
 pub mod layout;

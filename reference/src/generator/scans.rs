@@ -1,7 +1,7 @@
-//! Texts for the scan: every byte value in every situation, both sides of the levels and of the name length, and
-//! random soups of tokens.
+//! Texts for the scan: every byte value in every situation, both sides of the levels and of the name length, dots in every
+//! place of a name, and random soups of tokens.
 
-use crate::generator::damage::damage_bytes;
+use crate::generator::damage::{damage_bytes, damage_dots};
 use crate::random::Random;
 
 /// Each of the 256 byte values at top level, inside parentheses, inside a name, as first byte of a name, and in a comment.
@@ -59,6 +59,29 @@ pub fn long_names() -> Vec<Vec<u8>> {
     list
 }
 
+/// Document 02, W-203: every row of up to four of these pieces that has a dot; and names around 64 bytes with dots.
+pub fn dots() -> Vec<Vec<u8>> {
+    const PIECES: [&str; 5] = [".", "a", "1", "-", "!"];
+    let mut rows: Vec<String> = vec![String::new()];
+    let mut list = Vec::new();
+    for _ in 0..4 {
+        rows = rows.iter().flat_map(|row| PIECES.iter().map(move |piece| format!("{row}{piece}"))).collect();
+        let dotted = rows.iter().filter(|row| row.contains('.'));
+        list.extend(dotted.map(|row| format!("(x {row})").into_bytes()));
+    }
+    for length in 63..=66 {
+        for front in [".", "a.", ".a.", "..", "1.", "a.1.", ".a.b.c.d.e.f.g.h.i.j."] {
+            // The length does not count a leading dot.
+            let counted = front.strip_prefix('.').unwrap_or(front).len();
+            let name = format!("{front}{}", "n".repeat(length - counted));
+            for after in ["", ")", "!", ".)", ".b)", " .b)", ";.\n)"] {
+                list.push(format!("({name}{after}").into_bytes());
+            }
+        }
+    }
+    list
+}
+
 /// The two texts at the maximum length. The longer one also has other faults, which do not count.
 pub fn long_texts() -> Vec<Vec<u8>> {
     let mut longest = Vec::new();
@@ -74,8 +97,12 @@ pub fn long_texts() -> Vec<Vec<u8>> {
 
 /// A row of random tokens. `wrong` allows those that are a fault of their own.
 pub fn soup(random: &mut Random, tokens: usize, wrong: bool) -> Vec<u8> {
-    const GOOD: &[&str] = &["(", "(", ")", "(", ")", ")", " ", "\n", "a", "b1", "_", "role ", "all", "u1 ", "x-y", "\t", "\r"];
-    const MORE: &[&str] = &[";", ";x\n", ";(\n", ";)\r", "1", "-", "!", ".", "\0", "\x0b", "\x7f", "\u{e9}", "9a", "\""];
+    const GOOD: &[&str] = &[
+        "(", "(", ")", "(", ")", ")", " ", "\n", "a", "b1", "_", "role ", "all", "u1 ", "x-y", "\t", "\r", ".c", "a.b", "block ",
+    ];
+    const MORE: &[&str] = &[
+        ";", ";x\n", ";(\n", ";)\r", "1", "-", "!", ".", "..", "a.", ".1", ".-", "\0", "\x0b", "\x7f", "\u{e9}", "9a", "\"",
+    ];
     let mut text = Vec::new();
     let mut level = 0;
     for _ in 0..tokens {
@@ -83,7 +110,7 @@ pub fn soup(random: &mut Random, tokens: usize, wrong: bool) -> Vec<u8> {
         // Without wrong tokens the groups stay balanced and names inside them, so that many texts are clean.
         let token = match (wrong, level, *token) {
             (false, 0, ")") => "(",
-            (false, 0, t) if t.as_bytes()[0].is_ascii_alphabetic() || t == "_" => ";!\n",
+            (false, 0, t) if t.as_bytes()[0].is_ascii_alphabetic() || t == "_" || t == ".c" => ";!\n",
             (_, _, t) => t,
         };
         match token {
@@ -119,14 +146,19 @@ pub fn variant(random: &mut Random, text: &[u8]) -> Vec<u8> {
         81..=110 => noise(random),
         111..=160 => {
             let count = random.between(60, 67);
-            with_run(random, text, b'n', count)
+            with_run(random, text, &vec![b'n'; count])
         }
         161..=210 => {
             let count = random.between(28, 34);
-            let opened = with_run(random, text, b'(', count);
+            let opened = with_run(random, text, &vec![b'('; count]);
             let closing = count - random.below(3);
-            with_run(random, &opened, b')', closing)
+            with_run(random, &opened, &vec![b')'; closing])
         }
+        211..=250 => {
+            let run = dotted_run(random);
+            with_run(random, text, &run)
+        }
+        251..=280 => damage_dots(random, text),
         _ => {
             let mut bytes = text.to_vec();
             for _ in 0..random.between(1, 3) {
@@ -145,8 +177,21 @@ fn stretched(random: &mut Random, text: &[u8]) -> Vec<u8> {
     longer
 }
 
-/// The text with a run of one byte put in somewhere.
-fn with_run(random: &mut Random, text: &[u8], byte: u8, count: usize) -> Vec<u8> {
+/// The text with a run of bytes put in somewhere.
+fn with_run(random: &mut Random, text: &[u8], run: &[u8]) -> Vec<u8> {
     let at = random.below(text.len() + 1);
-    [&text[..at], &vec![byte; count], &text[at..]].concat()
+    [&text[..at], run, &text[at..]].concat()
+}
+
+/// Parts and dots in a row, with a blank on one side or none. Mostly a good name, short or around 64 bytes.
+fn dotted_run(random: &mut Random) -> Vec<u8> {
+    let mut run = if random.chance(50) { b" ".to_vec() } else { Vec::new() };
+    let bytes = if random.chance(70) { random.between(1, 12) } else { random.between(60, 68) };
+    while run.len() < bytes {
+        run.extend(random.pick(&[".a", ".b1", "c", "n-_", ".x", "Z.y"]).bytes());
+        if random.chance(2) {
+            run.extend(random.pick(&[".", "1", "..", ".-", "!"]).bytes());
+        }
+    }
+    run
 }

@@ -47,6 +47,7 @@ pub fn ways() -> Vec<Named> {
         layout_ways(),
         entry_ways(),
         name_ways(),
+        dot_ways(),
         class_ways(),
         order_ways(),
         count_ways(),
@@ -192,6 +193,47 @@ fn name_ways() -> Vec<Named> {
             }
             let places = r.pick(&families);
             c.names[places[places.len() - 1]].name = c.names[places[0]].name.clone();
+            true
+        })),
+    ]
+}
+
+/// Document 02, W-203 and its reading 53: full names that no sound table holds.
+fn dot_ways() -> Vec<Named> {
+    vec![
+        ("leading dot", Way::Contents(|c, r| rename(c, r, |name, _| {
+            name.truncate(63);
+            name.insert(0, b'.');
+        }))),
+        ("bad dot", Way::Contents(|c, r| rename(c, r, |name, r| {
+            name.truncate(60);
+            name.extend(*r.pick(&[b".", b"..b".as_slice(), b".1", b".-b", b".b."]));
+        }))),
+        ("ten parts", Way::Contents(|c, r| {
+            let parts = vec!["a"; r.between(10, 32)];
+            some_entry(c, r, &NUMBERED).map(|e| e.name = parts.join(".").into_bytes()).is_some()
+        })),
+        ("65 bytes with dots", Way::Contents(|c, r| {
+            let first = r.between(1, 63);
+            let name = format!("{}.{}", "n".repeat(first), "m".repeat(64 - first));
+            some_entry(c, r, &NUMBERED).map(|e| e.name = name.into_bytes()).is_some()
+        })),
+        ("dotted permission", Way::Contents(|c, r| {
+            let block = *r.pick(&["b.", "process.", "a.b."]);
+            some_entry(c, r, &[PERMISSION]).map(|e| e.name = [block.as_bytes(), b"p"].concat()).is_some()
+        })),
+        ("reserved part", Way::Contents(|c, r| {
+            let name = *r.pick(&["b.all", "all.b", "b.u1", "a.t3.b", "b.not.h1", "dom.eq", "a.l2"]);
+            some_entry(c, r, &NUMBERED).map(|e| e.name = name.as_bytes().to_vec()).is_some()
+        })),
+        ("dotted name twice in a family", Way::Contents(|c, r| {
+            let mut families = vec![vec![0, 3], vec![1, 4], vec![2, 5], vec![CLASS]];
+            families.retain(|sorts| c.names.iter().filter(|e| sorts.contains(&e.sort)).count() > 1);
+            if families.is_empty() {
+                return false;
+            }
+            let sorts = r.pick(&families);
+            c.names.iter_mut().filter(|e| sorts.contains(&e.sort)).for_each(|e| e.name = b"b.a".to_vec());
             true
         })),
     ]
@@ -345,11 +387,11 @@ fn bit_ways() -> Vec<Named> {
         })),
         ("role bit of a transition", Way::Contents(|c, r| {
             let declared = roles(c);
-            c.transitions.last_mut().is_some_and(|t| t.roles.insert(*r.pick(&[declared, 127])))
+            c.transitions.last_mut().is_some_and(|t| declared < 128 && t.roles.insert(*r.pick(&[declared, 127])))
         })),
         ("type bit of a transition", Way::Contents(|c, r| {
             let declared = types(c);
-            c.transitions.last_mut().is_some_and(|t| t.types.insert(*r.pick(&[declared, 511])))
+            c.transitions.last_mut().is_some_and(|t| declared < 512 && t.types.insert(*r.pick(&[declared, 511])))
         })),
     ]
 }
@@ -395,6 +437,10 @@ fn constraint_ways() -> Vec<Named> {
                 return false;
             }
             let place = r.below(counts.len());
+            // With 32 permissions every bit names one.
+            if counts[place] == 32 {
+                return false;
+            }
             c.constraints[place].mask |= 1 << r.pick(&[counts[place], 31]);
             true
         })),
@@ -526,9 +572,14 @@ fn stack_ways() -> Vec<Named> {
     ]
 }
 
-/// Random bytes changed anywhere in the table; what comes of it may still be sound.
+/// Random bytes changed anywhere in the table, or one in its names; what comes of it may still be sound.
 pub fn flip(random: &mut Random, table: &[u8]) -> Vec<u8> {
     let mut bytes = table.to_vec();
+    let names = u32::from_le_bytes([table[8], table[9], table[10], table[11]]) as usize;
+    if names > 0 && random.chance(15) {
+        bytes[HEADER + random.below(names)] = *random.pick(b"..ab_-1\x01\x40\x41");
+        return bytes;
+    }
     for _ in 0..random.between(1, 2) {
         let at = random.below(bytes.len());
         match random.below(3) {
@@ -538,6 +589,13 @@ pub fn flip(random: &mut Random, table: &[u8]) -> Vec<u8> {
         }
     }
     bytes
+}
+
+/// A table that is damaged in one of the ways, or by changed bytes.
+pub fn damaged(random: &mut Random, table: &[u8]) -> Vec<u8> {
+    let way = random.pick(&ways()).1;
+    let damaged = if random.chance(40) { apply(way, table, random) } else { None };
+    damaged.unwrap_or_else(|| flip(random, table))
 }
 
 /// Bytes behind the table: "Bytes after the last body are not read."
@@ -562,7 +620,7 @@ fn one_class(permissions: usize) -> Vec<NameEntry> {
 /// A table exactly at each maximum and one past it. Only the writer of a table could pass it: no text does.
 pub fn bounds() -> Vec<(&'static str, Vec<u8>, Vec<u8>)> {
     type Build = fn(usize) -> Contents;
-    let list: [(&'static str, usize, Build); 11] = [
+    let list: [(&'static str, usize, Build); 14] = [
         ("users", 128, |n| Contents { names: names_of(0, n), roles_of_user: vec![Numbers::new(); n], ..empty() }),
         ("roles", 128, |n| {
             let sets = vec![Numbers::new(); n];
@@ -577,6 +635,14 @@ pub fn bounds() -> Vec<(&'static str, Vec<u8>, Vec<u8>)> {
         ("transitions", 128, many_transitions),
         ("constraints", 128, |n| constraints_of(n, 1)),
         ("rows", 2_048, |n| constraints_of(1, n)),
+        // Document 02, W-203: "at most 64 bytes and nine parts, a permission's one".
+        ("parts of a name", 9, |n| one_type(&vec!["a"; n].join("."))),
+        ("bytes of a dotted name", 64, |n| one_type(&format!("a.{}", "n".repeat(n - 2)))),
+        ("parts of a permission", 1, |n| {
+            let mut names = one_class(1);
+            names[1].name = vec!["p"; n].join(".").into_bytes();
+            Contents { names, ..empty() }
+        }),
     ];
     let table = |contents: Contents| assemble(&bodies(&contents));
     list.into_iter().map(|(name, most, build)| (name, table(build(most)), table(build(most + 1)))).collect()
@@ -584,6 +650,10 @@ pub fn bounds() -> Vec<(&'static str, Vec<u8>, Vec<u8>)> {
 
 fn empty() -> Contents {
     Contents::default()
+}
+
+fn one_type(name: &str) -> Contents {
+    Contents { names: vec![NameEntry { sort: 2, number: 0, name: name.as_bytes().to_vec() }], ..empty() }
 }
 
 fn many_classes(count: usize) -> Contents {
@@ -615,7 +685,7 @@ fn constraints_of(count: usize, rows: usize) -> Contents {
     contents
 }
 
-/// Tables that no text gives and that are sound all the same (reading 34).
+/// Tables that no text gives and that are sound all the same (reading 34; document 02, reading 53).
 pub fn odd_and_sound() -> Vec<(&'static str, Vec<u8>)> {
     let table = |contents: &Contents| assemble(&bodies(contents));
     let mut clashing = many_transitions(1);
@@ -639,12 +709,20 @@ pub fn odd_and_sound() -> Vec<(&'static str, Vec<u8>)> {
             long_names.names.push(NameEntry { sort: PERMISSION, number: class * 32 + place, name });
         }
     }
+    // Names of one block here and there: no text opens a block twice. A block's name is a class's too.
+    let mut dotted = many_classes(2);
+    dotted.names[0].name = b"b".to_vec();
+    dotted.names[2].name = b"b.process".to_vec();
+    for (number, name) in ["b.a", "a", "b.b.a", "All.u4.not-", "b.c"].into_iter().enumerate() {
+        dotted.names.push(NameEntry { sort: 2, number: number as u16, name: name.as_bytes().to_vec() });
+    }
     vec![
         ("clashing transitions", table(&clashing)),
         ("empty transition sets", table(&many_transitions(2))),
         ("rows deeper than 32 levels", table(&constraints_of(2, 40))),
         ("sorts mixed", table(&mixed)),
         ("names longer in all than a text", table(&long_names)),
+        ("dotted names without blocks", table(&dotted)),
     ]
 }
 
@@ -656,6 +734,6 @@ pub const BASES: [&str; 3] = [
     "(class process(transition dyntransition))(class d(p))(user u)(user v)(role a)(type t)(userrole u a)(roletype a t)\
      (constrain(process(transition))(or(eq u1 u)(and(neq r2 a)(eq t1 t2))))(constrain(d(p))(not(eq u1 u2)))\
      (userattribute w)(userattributeset w(v))(constrain(d(p))(eq u2 w))(roletransition a t d a)",
-    "(type t)(class c(p))(role a)(roletype a t)(constrain(c(p))(incomp r1 r2))(constrain(c(p))(eq t1 t))(typeattribute k)\
-     (constrain(c(p))(and(neq t1 k)(and(eq t2 k)(and(eq u1 u2)(or(eq r1 a)(neq r2 a))))))",
+    "(type t)(block b(class c(p))(role a)(roletype a t)(constrain(c(p))(incomp r1 r2))(constrain(c(p))(eq t1 t))\
+     (typeattribute k))(constrain(b.c(p))(and(neq t1 b.k)(and(eq t2 .b.k)(and(eq u1 u2)(or(eq r1 b.a)(neq r2 b.a))))))",
 ];

@@ -91,6 +91,17 @@ const LISTED: &[(&str, &[(u32, &str)])] = &[
     ("(role a)(role ab)(role abc)(roleattribute abcd)(role abcde)(class a(ab a abc))", &[(1, "abcd"), (4, "ab")]),
     ("(role role)(roleattribute user)(class class(class user role))(user user)(type Type)(type type)", &[(2, "tYPE")]),
     ("(user u)(role a)(role b)(type t)(userrole u a)(roletype a t)", &[]),
+    // Document 02, W-203: entries are full names, and a try is at a full name.
+    (
+        "(role a)(block b(role c)(block d(role c)(roleattribute e)(class c(c d))))(role b-c)(block c(role a)(class c(p)))",
+        &[(1, "b.c"), (1, "b-c"), (1, "b.d.e"), (1, "b.d.f"), (1, "b.d"), (1, "c"), (1, ".a"), (1, "c.a"), (3, "b.d.c"), (4, "c")],
+    ),
+    // A full name of nine parts, and one of 64 bytes.
+    (
+        "(block a(block a(block a(block a(block a(block a(block a(block a(type a))))))))\
+         (type nnnnnnnnnnnnnnnnnnnnnnnnnnnnnnnnnnnnnnnnnnnnnnnnnnnnnnnnnnnnnn))",
+        &[(2, "a.a.a.a.a.a.a.a.a"), (2, "a.a.a.a.a.a.a.a"), (2, "a.a.a.a.a.a.a.a.b"), (2, "a-a.a.a.a.a.a.a.a")],
+    ),
 ];
 
 /// Names that differ only in their ninth byte or later, of every sort.
@@ -186,9 +197,14 @@ fn tries_near(random: &mut Random, entry: &NameEntry, classes: u32, share: Share
     list
 }
 
-/// A name cut by its last byte, prolonged by a byte, and with its first, middle, last, eighth or ninth byte changed.
+/// A name cut by its last byte, prolonged by a byte, and with its first, middle, last, eighth or ninth byte changed; a dotted
+/// one also without its first part, and with another byte for its first dot.
 fn near_names(random: &mut Random, name: &[u8]) -> Vec<Vec<u8>> {
     let mut list = vec![name[..name.len() - 1].to_vec(), [name, &[name_byte(random)]].concat()];
+    if let Some(dot) = name.iter().position(|&byte| byte == b'.') {
+        list.push(name[dot + 1..].to_vec());
+        list.push([&name[..dot], b"-", &name[dot + 1..]].concat());
+    }
     let mut places = vec![0, name.len() / 2, name.len() - 1, 7, 8];
     places.sort();
     places.dedup();
@@ -201,7 +217,7 @@ fn near_names(random: &mut Random, name: &[u8]) -> Vec<Vec<u8>> {
 }
 
 fn name_byte(random: &mut Random) -> u8 {
-    *random.pick(b"abcdefghnpqrtuxyzA_-0123456789")
+    *random.pick(b"abcdefghnpqrtuxyzA_-0123456789.")
 }
 
 /// Names that most likely are not there: the empty one, one of a length that occurs in the family, of good bytes and of any,

@@ -23,8 +23,8 @@ look-requires c κs = search needs
 enum-known-item : tie.Need-enum-known-item Inv-loop μ-loop
 enum-known-item c = search needs
 
-lookup-requires : tie.Need-lookup-requires Inv-loop μ-loop
-lookup-requires c κs = search needs
+lookup-permission-requires : tie.Need-lookup-permission-requires Inv-loop μ-loop
+lookup-permission-requires c κs = search needs
 
 enum-known-found : tie.Need-enum-known-found Inv-loop μ-loop
 enum-known-found c = search needs
@@ -33,16 +33,26 @@ enum-told : tie.Need-enum-told Inv-loop μ-loop
 enum-told c = search needs
 
 returns : tie.Need-returns Inv-loop μ-loop
-returns c = not-of-class (c .before .before .before .before .before .before .before .loop .inv) (sees (c .before .before .before .before .before .before .look .ensures) (c .before .before .before .before .item .given .1)) (c .before .before .lookup .ensures) (c .enum-told .given .1)
+returns c =
+    let looked = c .before .before .before .before .before .before in
+    let l = sees (looked .look .ensures) (c .before .before .before .before .item .given .1) in
+    not-of-class (looked .before .loop .inv) l (c .before .before .lookup-permission .ensures) (c .enum-told .given .1)
 
 with-permission-requires : tie.Need-with-permission-requires Inv-loop μ-loop
 with-permission-requires c κs = search needs
 
 loop-less : tie.Need-loop-less Inv-loop μ-loop
-loop-less c = let l = (sees (c .before .before .before .before .before .before .before .before .look .ensures) (c .before .before .before .before .before .before .item .given .1)) in omega (arith, l .ahead .0, l .ahead .1)
+loop-less c =
+    let looked = c .before .before .before .before .before .before .before .before in
+    let l = sees (looked .look .ensures) (c .before .before .before .before .before .before .item .given .1) in
+    omega (arith, l .ahead .0, l .ahead .1)
 
 loop-again : tie.Need-loop-again Inv-loop μ-loop
-loop-again c = one-more (c .before .before .before .before .before .before .before .before .before .loop .inv) (sees (c .before .before .before .before .before .before .before .before .look .ensures) (c .before .before .before .before .before .before .item .given .1)) (c .before .before .before .before .lookup .ensures) (c .before .before .found .given .1) (c .with-permission .ensures)
+loop-again c =
+    let found = c .before .before .before .before in
+    let looked = found .before .before .before .before in
+    let l = sees (looked .look .ensures) (found .before .before .item .given .1) in
+    one-more (looked .before .loop .inv) l (found .lookup-permission .ensures) (c .before .before .found .given .1) (c .with-permission .ensures)
 
 enum-known-item-2 : tie.Need-enum-known-item-2 Inv-loop μ-loop
 enum-known-item-2 c = search needs
@@ -62,7 +72,7 @@ permission-mask-spec =
     loop-holds
     look-requires
     enum-known-item
-    lookup-requires
+    lookup-permission-requires
     enum-known-found
     enum-told
     returns

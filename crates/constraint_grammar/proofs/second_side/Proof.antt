@@ -8,14 +8,15 @@ use Rattle.items.proofs.Items.{sees, alike-here}
 use Rattle.items.proofs.Rows.{refuse, after-word}
 use Rattle.constraint_grammar.proofs.second_side.Statement.{statement}
 use Rattle.constraint_grammar.proofs.second_side.Tie as tie
-use Rattle.constraint_grammar.proofs.second_side.Reads as reads
-use Rattle.constraint_grammar.proofs.second_side.Lts as lts
 
 look-requires : tie.Need-look-requires
 look-requires c κs = search needs
 
 enum-known-item : tie.Need-enum-known-item
 enum-known-item c = search needs
+
+is-name-requires : tie.Need-is-name-requires
+is-name-requires c κs = sees (c .before .before .before .look .ensures) (c .before .item .given .1) .ahead .3
 
 compares-requires : tie.Need-compares-requires
 compares-requires c κs = search needs
@@ -25,13 +26,19 @@ close-form-requires c κs = search needs
 
 returns : tie.Need-returns
 returns c =
-    let l = sees (c .before .before .before .before .before .before .look .ensures) (c .before .before .before .before .item .given .1) in
-    after-word l (ap (secondSide _ _) (l .here) ∙ rw (l .ahead .2, sym (c .before .before .compares .ensures) ∙ c .before .if1 .taken)) (c .close-form .ensures)
+    let compared = c .before .before in
+    let item = compared .before .before .before in
+    let l = sees (item .before .before .look .ensures) (item .item .given .1) in
+    let good = sym (compared .compares .ensures _ (l .ahead .2) (compared .before .is-name .ensures)) ∙ c .before .if1 .taken in
+    after-word l (ap (secondSide _ _) (l .here) ∙ rw good) (c .close-form .ensures)
 
 returns-2 : tie.Need-returns-2
 returns-2 c =
-    let l = sees (c .before .before .before .before .before .look .ensures) (c .before .before .before .item .given .1) in
-    refuse (ap (secondSide _ _) (l .here) ∙ rw (l .ahead .2, sym (c .before .compares .ensures) ∙ c .if1 .left))
+    let compared = c .before in
+    let item = compared .before .before .before in
+    let l = sees (item .before .before .look .ensures) (item .item .given .1) in
+    let bad = sym (compared .compares .ensures _ (l .ahead .2) (compared .before .is-name .ensures)) ∙ c .if1 .left in
+    refuse (ap (secondSide _ _) (l .here) ∙ rw bad)
 
 returns-3 : tie.Need-returns-3
 returns-3 c = refuse (alike-here (secondSide _ _) (λ f. false) _ _ _ (1 ∷ 2 ∷ 3 ∷ []) (tt, λ x f g. refl, refl, refl) (c .before .look .ensures) (c .match .keys2))
@@ -42,6 +49,7 @@ second-side-spec =
     (tie.spec
     look-requires
     enum-known-item
+    is-name-requires
     compares-requires
     close-form-requires
     returns

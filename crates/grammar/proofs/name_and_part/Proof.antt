@@ -1,16 +1,13 @@
 -- `grammar::name_and_part` meets its contract. Assumes nothing.
 use mathlib.Core.Path.{refl, sym, _∙_}
-use mathlib.Core.Bool.{true, false}
+use mathlib.Core.Bool.{false}
 use mathlib.Core.List.{[], _∷_}
 use borrow.Author.Needs.{needs}
 use Rattle.grammar.specs.Shapes.{nameAndPart}
 use Rattle.items.proofs.Items.{sees, by-word, alike}
 use Rattle.items.proofs.Rows.{refuse, after-word}
-use Rattle.items.proofs.Counts.{is-name}
 use Rattle.grammar.proofs.name_and_part.Statement.{statement}
 use Rattle.grammar.proofs.name_and_part.Tie as tie
-use Rattle.grammar.proofs.name_and_part.Reads as reads
-use Rattle.grammar.proofs.name_and_part.Lts as lts
 
 look-requires : tie.Need-look-requires
 look-requires c κs = search needs
@@ -19,23 +16,31 @@ enum-known-item : tie.Need-enum-known-item
 enum-known-item c = search needs
 
 is-name-requires : tie.Need-is-name-requires
-is-name-requires c κs = search needs
+is-name-requires c κs = sees (c .before .before .before .look .ensures) (c .before .item .given .1) .ahead .3
 
 only-part-requires : tie.Need-only-part-requires
 only-part-requires c κs = search needs
 
 returns : tie.Need-returns
 returns c =
-    let l = sees (c .before .before .before .before .before .before .look .ensures) (c .before .before .before .before .item .given .1) in
-    after-word l (by-word (nameAndPart _) _ l ∙ rw (is-name _ _ true (l .ahead .2) (sym (c .before .if1 .taken) ∙ c .before .before .is-name .ensures))) (c .only-part .ensures)
+    let looked = c .before .before .before .before .before .before in
+    let kind = looked .before .before .args .kind in
+    let l = sees (looked .look .ensures) (c .before .before .before .before .item .given .1) in
+    after-word l
+    (by-word (nameAndPart kind _) _ l ∙ rw (sym (c .before .before .is-name .ensures) ∙ c .before .if1 .taken))
+    (c .only-part .ensures)
 
 returns-2 : tie.Need-returns-2
 returns-2 c =
-    let l = sees (c .before .before .before .before .before .look .ensures) (c .before .before .before .item .given .1) in
-    refuse (by-word (nameAndPart _) _ l ∙ rw (is-name _ _ false (l .ahead .2) (sym (c .if1 .left) ∙ c .before .is-name .ensures)))
+    let looked = c .before .before .before .before .before in
+    let kind = looked .before .before .args .kind in
+    let l = sees (looked .look .ensures) (c .before .before .before .item .given .1) in
+    refuse (by-word (nameAndPart kind _) _ l ∙ rw (sym (c .before .is-name .ensures) ∙ c .if1 .left))
 
 returns-3 : tie.Need-returns-3
-returns-3 c = refuse (alike (nameAndPart _) (λ f. false) _ _ _ (1 ∷ 2 ∷ 3 ∷ []) _ (tt, λ x f g. refl, refl, refl) (c .before .look .ensures) (c .match .keys2))
+returns-3 c =
+    let kind = c .before .before .before .args .kind in
+    refuse (alike (nameAndPart kind _) (λ f. false) _ _ _ (1 ∷ 2 ∷ 3 ∷ []) _ (tt, λ x f g. refl, refl, refl) (c .before .look .ensures) (c .match .keys2))
 
 pub name-and-part-spec : {M : Type 1} → statement M
 name-and-part-spec =

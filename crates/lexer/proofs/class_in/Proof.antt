@@ -29,11 +29,15 @@ returns-7 : tie.Need-returns-7
 returns-7 c = marked _ _ _ (c .before .mark-in .ensures) (c .match .keys7)
 
 returns-8 : tie.Need-returns-8
-returns-8 c =
+returns-8 c = marked _ _ _ (c .before .mark-in .ensures) (c .match .keys8)
+
+returns-9 : tie.Need-returns-9
+returns-9 c =
     let r = c .match .rest in
-    unmarked _ _ (c .before .mark-in .ensures) (r .0 .0 .0 .0 .0 .0 .1) (r .0 .0 .0 .0 .0 .1) (r .0 .0 .0 .0 .1) (r .0 .0 .0 .1) (r .0 .0 .1) (r .0 .1) (r .1)
+    unmarked _ _ (c .before .mark-in .ensures) (r .0 .0 .0 .0 .0 .0 .0 .1) (r .0 .0 .0 .0 .0 .0 .1) (r .0 .0 .0 .0 .0 .1) (r .0 .0 .0 .0 .1)
+    (r .0 .0 .0 .1) (r .0 .0 .1) (r .0 .1) (r .1)
 
 pub class-in-spec : {M : Type 1} → statement M
 class-in-spec =
     tie.close
-    (tie.spec mark-in-requires returns returns-2 returns-3 returns-4 returns-5 returns-6 returns-7 returns-8)
+    (tie.spec mark-in-requires returns returns-2 returns-3 returns-4 returns-5 returns-6 returns-7 returns-8 returns-9)

@@ -16,7 +16,8 @@ returns c = sym (ap endsComment (c .enum-told .given .1))
 
 returns-2 : tie.Need-returns-2
 returns-2 c =
-    among (0 ∷ 2 ∷ 3 ∷ 4 ∷ 5 ∷ 6 ∷ 7 ∷ []) (λ k. false ≡ endsComment k) (refl, tt, refl, refl, refl, refl, refl, refl) (c .before .args .class) (c .match .keys2)
+    among (0 ∷ 2 ∷ 3 ∷ 4 ∷ 5 ∷ 6 ∷ 7 ∷ 8 ∷ []) (λ k. false ≡ endsComment k) (refl, tt, refl, refl, refl, refl, refl, refl, refl)
+    (c .before .args .class) (c .match .keys2)
 
 pub ends-comment-spec : {M : Type 1} → statement M
 ends-comment-spec = tie.close (tie.spec enum-told returns returns-2)

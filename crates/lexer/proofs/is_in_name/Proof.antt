@@ -1,12 +1,12 @@
--- `lexer::is_in_name` meets its contract: the marks of the classes with which a name goes on are below the others. Assumes nothing.
+-- `lexer::is_in_name` meets its contract: the marks of the classes with which a part goes on are below the others. Assumes nothing.
 use borrow.Author.Needs.{needs}
 use Rattle.lexer.specs.Class.{classOf}
-use Rattle.lexer.proofs.Marks.{capital}
+use Rattle.lexer.proofs.Marks.{part-mark}
 use Rattle.lexer.proofs.is_in_name.Statement.{statement}
 use Rattle.lexer.proofs.is_in_name.Tie as tie
 
 returns : tie.Need-returns
-returns c = capital (classOf (c .before .args .b)) _ (c .mark-in .ensures)
+returns c = part-mark (classOf (c .before .args .b)) _ (c .mark-in .ensures)
 
 pub is-in-name-spec : {M : Type 1} → statement M
 is-in-name-spec =

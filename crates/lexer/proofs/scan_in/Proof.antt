@@ -1,45 +1,58 @@
 -- `lexer::scan_in` meets its contract. Both loops: the scan that is left at the place reached, between names or within the name under
--- way, says what the scan of the whole text says. Each way through a loop is one turn of the definition. Assumes nothing.
-use Prim.Native.Nat.{_+_, _-_, _≤_, _<_}
-use mathlib.Core.Path.{_≡_, sym, _∙_}
-use mathlib.Core.Bool.{true}
+-- way, says what the scan of the whole text says. Each way through a loop is one law of the definition. Assumes nothing.
+use Prim.Native.Nat.{ℕ, _+_, _-_, _≤_, _<_}
+use mathlib.Core.Path.{_≡_, sym, ap, _∙_}
+use mathlib.Core.List.{List}
 use native.Mathlib.Omega.{arith}
 use borrow.Author.Needs.{needs}
-use borrow.Author.Tests.{eq-eqb, ne-eqb}
 use lib.ListN.{length, drop}
 use Rattle.lexer.specs.Class.{endsComment}
-use Rattle.lexer.specs.Scan.{between, inName, going, scanFrom, scan}
-use Rattle.lexer.specs.Answers.{goesOnWith}
+use Rattle.lexer.specs.Scan.{between, going, scanFrom, scan}
+use Rattle.lexer.specs.Answers.{stateOf}
 use Rattle.lexer.specs.declared.Step.{Step}
-use Rattle.lexer.proofs.Ends.{byte-there, ahead, within}
-use Rattle.lexer.proofs.Scans.{too-long, fits, halted, took, grows, overlong, leave, last, skip}
+use Rattle.lexer.proofs.Ends.{ahead, within, name-there}
+use Rattle.lexer.proofs.Scans.{not-long, halted, took, last, skip, InName, overlong, no-part-behind, goes, leaves, bare-first, starts-name}
 use Rattle.lexer.proofs.scan_in.Statement.{statement}
 use Rattle.lexer.proofs.scan_in.Tie as tie
 
 abbrev Inv-loop : tie.InvT-loop
-Inv-loop classes text at₀ level start at =
-    (start < at) × (at ≤ length text)
-    × (scanFrom (drop at text) (going (inName start (at - start)) level) at ≡ scan text)
+Inv-loop classes text at₀ level start from at = InName text start from level at
 
 abbrev μ-loop : tie.MeasureT-loop
-μ-loop classes text at₀ level start at = length text - at
+μ-loop classes text at₀ level start from at = length text - at
 
 abbrev Inv-text : tie.InvT-text
-Inv-text classes text at₀ level₀ at level = (at ≤ length text) × (scanFrom (drop at text) (going between level) at ≡ scan text)
+Inv-text classes text at₀ level₀ at level = (at ≤ length text) × (scanFrom text (drop at text) (going between level) at ≡ scan text)
 
 abbrev μ-text : tie.MeasureT-text
 μ-text classes text at₀ level₀ at level = length text - at
 
-returns : tie.Need-returns Inv-loop μ-loop Inv-text μ-text
-returns c = sym (too-long _ (omega arith))
+-- the text, seen from a byte between names and from a turn of the name loop
+abbrev textHere : tie.After-step-between Inv-loop μ-loop Inv-text μ-text → List ℕ
+textHere s = s .before .before .before .before .before .before .args .text .now
+
+abbrev textThere : tie.Then3 Inv-loop μ-loop Inv-text μ-text → List ℕ
+textThere c = textHere (c .before .before .before .before .before .before .before .before)
+
+-- a byte between names that was one step leaves the scan of the bytes behind it
+stepped : (s : tie.After-step-between Inv-loop μ-loop Inv-text μ-text) (x : Step) → s .step-between .result ≡ x
+    → let a = s .before .before .before .before in
+    scanFrom (textHere s) (drop (a .text .at + 1) (textHere s)) (stateOf (a .text .level) (a .text .at) x) (a .text .at + 1) ≡ scan (textHere s)
+stepped s x e =
+    let k = s .before in
+    let a = k .before .before .before in
+    took _ (a .text .at) (a .text .level) (k .class-in .result) _ x (k .before .before .if1 .left) (k .class-in .ensures) (s .step-between .ensures) e (a .text .inv .1)
 
 text-holds : tie.Need-text-holds Inv-loop μ-loop Inv-text μ-text
-text-holds c = (search needs, sym (fits _ (omega arith)))
+text-holds c = (search needs, sym (not-long _ (c .before .pre .1)))
 
-returns-2 : tie.Need-returns-2 Inv-loop μ-loop Inv-text μ-text
-returns-2 c =
+closed-at-requires : tie.Need-closed-at-requires Inv-loop μ-loop Inv-text μ-text
+closed-at-requires c κs = search needs
+
+returns : tie.Need-returns Inv-loop μ-loop Inv-text μ-text
+returns c =
     let a = c .before .before in
-    sym (rw (eq-eqb _ _ (c .if3 .taken)) at (last (a .before .before .before .args .text .now) (a .text .at) between (a .text .level) (c .before .if2 .taken))) ∙ a .text .inv .1
+    c .closed-at .ensures ∙ sym (last (a .before .before .args .text .now) (a .text .at) (a .text .level) (c .before .if1 .taken)) ∙ a .text .inv .1
 
 shared-slice-read-class-in : tie.Need-shared-slice-read-class-in Inv-loop μ-loop Inv-text μ-text
 shared-slice-read-class-in c = search needs
@@ -60,13 +73,7 @@ text-less : tie.Need-text-less Inv-loop μ-loop Inv-text μ-text
 text-less c = search needs
 
 text-again : tie.Need-text-again Inv-loop μ-loop Inv-text μ-text
-text-again c =
-    let s = c .before .before .before in
-    let a = s .before .before .before .before in (
-      search needs,
-      took _ (a .text .at) (a .text .level) (s .before .class-in .result) _ _ (s .before .before .before .if2 .left) (s .before .class-in .ensures) (s .step-between .ensures) (c .before .step .given .1)
-          (a .text .inv .1),
-    )
+text-again c = (search needs, stepped (c .before .before .before) _ (c .before .step .given .1))
 
 enum-told : tie.Need-enum-told Inv-loop μ-loop Inv-text μ-text
 enum-told c = search needs
@@ -79,102 +86,100 @@ comment-end-requires c κs = search needs
 
 text-less-2 : tie.Need-text-less-2 Inv-loop μ-loop Inv-text μ-text
 text-less-2 c =
-    let a = c .before .before .before .before .before .before .before in
-    omega (arith, c .comment-end .ensures, ahead (a .before .before .before .args .text .now) endsComment (a .text .at + 1))
+    let s = c .before .before .before in
+    let a = s .before .before .before .before in
+    omega (arith, c .comment-end .ensures, ahead (textHere s) endsComment (a .text .at + 1))
 
 text-again-2 : tie.Need-text-again-2 Inv-loop μ-loop Inv-text μ-text
 text-again-2 c =
     let s = c .before .before .before in
     let a = s .before .before .before .before in (
-      omega (arith, c .comment-end .ensures, within (a .before .before .before .args .text .now) endsComment (a .text .at + 1) (search needs)),
-      rw (c .comment-end .ensures)
-          (sym (skip _ (a .text .at + 1) (a .text .level))
-          ∙ took _ (a .text .at) (a .text .level) (s .before .class-in .result) _ Step.Comment (s .before .before .before .if2 .left) (s .before .class-in .ensures) (s .step-between .ensures) (c .before .enum-told .given .1)
-          (a .text .inv .1)),
+      omega (arith, c .comment-end .ensures, within (textHere s) endsComment (a .text .at + 1) (search needs)),
+      rw (c .comment-end .ensures) (sym (skip _ (a .text .at + 1) (a .text .level)) ∙ stepped s Step.Comment (c .before .enum-told .given .1)),
     )
 
 enum-told-2 : tie.Need-enum-told-2 Inv-loop μ-loop Inv-text μ-text
 enum-told-2 c = search needs
+
+counted-from-requires : tie.Need-counted-from-requires Inv-loop μ-loop Inv-text μ-text
+counted-from-requires c κs = search needs
+
+bare-dot-requires : tie.Need-bare-dot-requires Inv-loop μ-loop Inv-text μ-text
+bare-dot-requires c κs = search needs
 
 add-at-2 : tie.Need-add-at-2 Inv-loop μ-loop Inv-text μ-text
 add-at-2 c = search needs
 
 loop-holds : tie.Need-loop-holds Inv-loop μ-loop Inv-text μ-text
 loop-holds c =
-    let s = c .before .before in
-    let a = s .before .before .before .before in
-    let e : a .text .at + 1 - a .text .at ≡ 1 = omega arith in (
-      search needs,
-      search needs,
-      rw e
-          (took _ (a .text .at) (a .text .level) (s .before .class-in .result) _ Step.Name (s .before .before .before .if2 .left) (s .before .class-in .ensures) (s .step-between .ensures) (c .enum-told2 .given .1)
-          (a .text .inv .1)),
-    )
+    let f = c .before .before in
+    let s = f .before .before .before in
+    let k = s .before in
+    let a = k .before .before .before in
+    starts-name (textHere s) (a .text .at) (a .text .level) (k .before .before .if1 .left) (stepped s Step.Name (f .before .enum-told2 .given .1))
+    _ (k .class-in .result) (k .class-in .ensures)
+    (ap (stateOf (a .text .level) (a .text .at)) (sym (f .before .enum-told2 .given .1)) ∙ s .step-between .ensures (a .text .at))
+    (f .counted-from .ensures) (sym (c .before .bare-dot .ensures) ∙ c .if2 .left)
 
 name-goes-on-requires : tie.Need-name-goes-on-requires Inv-loop μ-loop Inv-text μ-text
 name-goes-on-requires c κs = search needs
 
-text-less-3 : tie.Need-text-less-3 Inv-loop μ-loop Inv-text μ-text
-text-less-3 c = search needs
-
-text-again-3 : tie.Need-text-again-3 Inv-loop μ-loop Inv-text μ-text
-text-again-3 c =
-    let l = c .before .before in (
-      search needs,
-      sym (leave _ _ _ _ _ (sym (c .before .name-goes-on .ensures) ∙ c .if4 .left)) ∙ l .loop .inv .2,
-    )
-
-sub-if5 : tie.Need-sub-if5 Inv-loop μ-loop Inv-text μ-text
-sub-if5 c = search needs
-
 -- a turn of the name loop: the name goes on, so that there is a byte
-more : (c : tie.Then4 Inv-loop μ-loop Inv-text μ-text)
-    → goesOnWith (drop (c .before .before .loop .at) (c .before .before .before .before .before .before .before .before .before .before .before .before .args .text .now)) ≡ true
-more c = sym (c .before .name-goes-on .ensures) ∙ c .if4 .taken
+there : (c : tie.Then3 Inv-loop μ-loop Inv-text μ-text) → c .before .before .loop .at < length (textThere c)
+there c = name-there (textThere c) (c .before .before .loop .at) (sym (c .before .name-goes-on .ensures) ∙ c .if3 .taken)
 
-there : (c : tie.Then4 Inv-loop μ-loop Inv-text μ-text) → c .before .before .loop .at < length (c .before .before .before .before .before .before .before .before .before .before .before .before .args .text .now)
-there c = byte-there (c .before .before .before .before .before .before .before .before .before .before .before .before .args .text .now) (c .before .before .loop .at) (more c)
+sub-if4 : tie.Need-sub-if4 Inv-loop μ-loop Inv-text μ-text
+sub-if4 c = omega (arith, c .before .before .loop .inv .counted)
 
 add-at-3 : tie.Need-add-at-3 Inv-loop μ-loop Inv-text μ-text
-add-at-3 c =
-    omega (arith, there (c .before))
+add-at-3 c = omega (arith, there (c .before))
 
 loop-less : tie.Need-loop-less Inv-loop μ-loop Inv-text μ-text
-loop-less c =
-    omega (arith, there (c .before))
+loop-less c = omega (arith, there (c .before))
 
 loop-again : tie.Need-loop-again Inv-loop μ-loop Inv-text μ-text
 loop-again c =
-    let l = c .before .before .before in
-    let a = c .before .before .before .before .before .before .before .before .before .before in
-    let h = there (c .before) in
-    let e : l .loop .at + 1 - a .text .at ≡ l .loop .at - a .text .at + 1 = omega arith in (
-      omega arith,
-      omega arith,
-      rw e (grows _ (l .loop .at) (a .text .at) _ (a .text .level) (more (c .before)) (omega arith) (l .loop .inv .2)),
+    let n = c .before .before in
+    goes _ _ _ _ _ (n .before .loop .inv) (sym (n .name-goes-on .ensures) ∙ c .before .if3 .taken) (omega arith)
+
+bare-dot-requires-2 : tie.Need-bare-dot-requires-2 Inv-loop μ-loop Inv-text μ-text
+bare-dot-requires-2 c κs = search needs
+
+text-less-3 : tie.Need-text-less-3 Inv-loop μ-loop Inv-text μ-text
+text-less-3 c = let l = c .before .before .before .before in omega (arith, l .loop .inv .begun, l .loop .inv .inside)
+
+text-again-3 : tie.Need-text-again-3 Inv-loop μ-loop Inv-text μ-text
+text-again-3 c =
+    let n = c .before .before .before in
+    let l = n .before in (
+      l .loop .inv .inside,
+      leaves _ _ _ _ _ (l .loop .inv) (sym (n .name-goes-on .ensures) ∙ c .before .before .if3 .left) (sym (c .before .bare-dot2 .ensures) ∙ c .if5 .left),
     )
 
 enum-told-3 : tie.Need-enum-told-3 Inv-loop μ-loop Inv-text μ-text
 enum-told-3 c = search needs
 
+returns-2 : tie.Need-returns-2 Inv-loop μ-loop Inv-text μ-text
+returns-2 c =
+    let f = c .before .before in
+    let s = f .before .before .before in
+    let a = s .before .before .before .before in
+    bare-first (textHere s) (a .text .at) (a .text .level) (s .before .before .before .if1 .left) (stepped s Step.Name (f .before .enum-told2 .given .1))
+    (sym (c .before .bare-dot .ensures) ∙ c .if2 .taken)
+
 returns-3 : tie.Need-returns-3 Inv-loop μ-loop Inv-text μ-text
 returns-3 c =
-    let a = c .before .before in
-    sym (rw (ne-eqb _ _ (c .if3 .left)) at (last (a .before .before .before .args .text .now) (a .text .at) between (a .text .level) (c .before .if2 .taken))) ∙ a .text .inv .1
+    let n = c .before .before in
+    overlong _ _ _ _ _ (n .before .loop .inv) (sym (n .name-goes-on .ensures) ∙ c .before .if3 .taken) (omega arith)
 
 returns-4 : tie.Need-returns-4 Inv-loop μ-loop Inv-text μ-text
 returns-4 c =
-    let l = c .before .before .before in
-    let a = c .before .before .before .before .before .before .before .before .before .before in
-    overlong _ (l .loop .at) (a .text .at) (l .loop .at - a .text .at) (a .text .level) (more (c .before)) (omega arith) (l .loop .inv .2)
+    let n = c .before .before .before in
+    no-part-behind _ _ _ _ _ (n .before .loop .inv) (sym (n .name-goes-on .ensures) ∙ c .before .before .if3 .left)
+    (sym (c .before .bare-dot2 .ensures) ∙ c .if5 .taken)
 
 returns-5 : tie.Need-returns-5 Inv-loop μ-loop Inv-text μ-text
-returns-5 c =
-    let s = c .before .before in
-    let a = s .before .before .before .before in
-    sym (halted _ _ _)
-    ∙ took _ (a .text .at) (a .text .level) (s .before .class-in .result) _ Step.Fault (s .before .before .before .if2 .left) (s .before .class-in .ensures) (s .step-between .ensures) (c .enum-told3 .given .1)
-    (a .text .inv .1)
+returns-5 c = sym (halted _ _ _ _) ∙ stepped (c .before .before) Step.Fault (c .enum-told3 .given .1)
 
 pub scan-in-spec : {M : Type 1} → statement M
 scan-in-spec =
@@ -184,9 +189,9 @@ scan-in-spec =
     μ-loop
     Inv-text
     μ-text
-    returns
     text-holds
-    returns-2
+    closed-at-requires
+    returns
     shared-slice-read-class-in
     class-in-requires
     step-between-requires
@@ -200,16 +205,20 @@ scan-in-spec =
     text-less-2
     text-again-2
     enum-told-2
+    counted-from-requires
+    bare-dot-requires
     add-at-2
     loop-holds
     name-goes-on-requires
-    text-less-3
-    text-again-3
-    sub-if5
+    sub-if4
     add-at-3
     loop-less
     loop-again
+    bare-dot-requires-2
+    text-less-3
+    text-again-3
     enum-told-3
+    returns-2
     returns-3
     returns-4
     returns-5)

@@ -1,4 +1,4 @@
--- `lexer::starts_name` meets its contract: the mark of the class with which a name starts is no other's. Assumes nothing.
+-- `lexer::starts_name` meets its contract: the mark of the class with which a part starts is no other's. Assumes nothing.
 use borrow.Author.Needs.{needs}
 use Rattle.lexer.specs.Class.{classOf}
 use Rattle.lexer.proofs.Marks.{letter}

@@ -1,4 +1,4 @@
--- `lexer::word_end` meets its contract: the first byte from the place reached on that does not go on a name is the first from
+-- `lexer::word_end` meets its contract: the first byte from the place reached on that does not go on a word is the first from
 -- the place asked on. Assumes nothing.
 use Prim.Native.Nat.{_-_, _<_}
 use mathlib.Core.Path.{_≡_, refl, sym, _∙_}
@@ -6,7 +6,7 @@ use mathlib.Core.Bool.{true}
 use native.Mathlib.Omega.{arith}
 use borrow.Author.Needs.{needs}
 use lib.ListN.{length, drop}
-use Rattle.lexer.specs.Answers.{goesOnWith, firstFrom, endsWord}
+use Rattle.lexer.specs.Answers.{wordGoesOn, firstFrom, endsWord}
 use Rattle.lexer.proofs.Ends.{word-ends, byte-there}
 use Rattle.lexer.proofs.Ends as ends
 use Rattle.lexer.proofs.word_end.Statement.{statement}
@@ -21,12 +21,12 @@ abbrev μ-loop : tie.MeasureT-loop
 loop-holds : tie.Need-loop-holds Inv-loop μ-loop
 loop-holds c = refl
 
-name-goes-on-requires : tie.Need-name-goes-on-requires Inv-loop μ-loop
-name-goes-on-requires c κs = search needs
+word-goes-on-requires : tie.Need-word-goes-on-requires Inv-loop μ-loop
+word-goes-on-requires c κs = search needs
 
--- a turn of the loop: the name goes on, so that there is a byte
-more : (c : tie.Then1 Inv-loop μ-loop) → goesOnWith (drop (c .before .before .loop .i) (c .before .before .before .before .args .text .now)) ≡ true
-more c = sym (c .before .name-goes-on .ensures) ∙ c .if1 .taken
+-- a turn of the loop: the word goes on, so that there is a byte
+more : (c : tie.Then1 Inv-loop μ-loop) → wordGoesOn (drop (c .before .before .loop .i) (c .before .before .before .before .args .text .now)) ≡ true
+more c = sym (c .before .word-goes-on .ensures) ∙ c .if1 .taken
 
 there : (c : tie.Then1 Inv-loop μ-loop) → c .before .before .loop .i < length (c .before .before .before .before .args .text .now)
 there c = byte-there (c .before .before .before .before .args .text .now) (c .before .before .loop .i) (more c)
@@ -43,9 +43,9 @@ loop-again c =
     sym (ends.word-goes-on (l .before .before .args .text .now) (l .loop .i) (more c)) ∙ l .loop .inv
 
 returns : tie.Need-returns Inv-loop μ-loop
-returns c = sym (word-ends _ _ (sym (c .before .name-goes-on .ensures) ∙ c .if1 .left)) ∙ c .before .before .loop .inv
+returns c = sym (word-ends _ _ (sym (c .before .word-goes-on .ensures) ∙ c .if1 .left)) ∙ c .before .before .loop .inv
 
 pub word-end-spec : {M : Type 1} → statement M
 word-end-spec =
     tie.close
-    (tie.spec Inv-loop μ-loop loop-holds name-goes-on-requires add-i loop-less loop-again returns)
+    (tie.spec Inv-loop μ-loop loop-holds word-goes-on-requires add-i loop-less loop-again returns)

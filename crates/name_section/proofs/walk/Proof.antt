@@ -1,4 +1,5 @@
--- `name_section::walk` meets its contract: at each turn the invariant is that of proofs/WalkLaws, and the filter knows the entries passed. Assumes nothing.
+-- `name_section::walk` meets its contract: at each turn the invariant is that of proofs/WalkLaws, and the filter knows the entries passed. In the needs below
+-- `e` is the place where an entry was seen, `l` the loop's, `s` the function's start, `a` its arguments. Assumes nothing.
 use Prim.Native.Nat.{_+_, _-_, _<_}
 use mathlib.Core.Path.{refl, sym, ap, _∙_}
 use native.Mathlib.Omega.{arith}
@@ -6,10 +7,12 @@ use borrow.Author.Tests.{not-true, not-false}
 use borrow.Author.Needs.{needs}
 use lib.ListN.{length}
 use Rattle.symbols.specs.Section.{between, entriesAt}
-use Rattle.name_section.specs.Filter.{Knows}
-use Rattle.name_section.proofs.FilterLaws.{not-found}
 use Rattle.name_spelling.proofs.SpellingLaws.{is-spelled, not-spelled, hashed-by}
-use Rattle.name_section.proofs.WalkLaws.{Walk, walk-begin, walk-room, walk-next, walk-refused, walk-done, walk-halts, not-free, free-by, counted-long, permitted-long, knows-begin, knows-next}
+use Rattle.name_section.specs.Filter.{Knows}
+use Rattle.name_section.specs.Tally.{mostParts}
+use Rattle.name_section.proofs.FilterLaws.{not-found}
+use Rattle.name_section.proofs.WalkLaws.{Walk, walk-begin, walk-room, walk-next, walk-refused, walk-done, walk-halts, knows-begin, knows-next}
+use Rattle.name_section.proofs.WalkLaws.{some-parts, not-free, free-by, counted-long, permitted-long}
 use Rattle.table_laws.proofs.ListLaws.{all-places}
 use Rattle.name_section.proofs.walk.Statement.{statement}
 use Rattle.name_section.proofs.walk.Tie as tie
@@ -21,9 +24,6 @@ Inv-loop table start end counts₀ permissions₀ classes filter₀ at₀ counts
 abbrev μ-loop : tie.MeasureT-loop
 μ-loop table start end counts₀ permissions₀ classes filter₀ at₀ counts permissions filter at = end - at
 
-class-table-requires : tie.Need-class-table-requires Inv-loop μ-loop
-class-table-requires c κs = search needs
-
 loop-holds : tie.Need-loop-holds Inv-loop μ-loop
 loop-holds c =
     let s = c .before .before .before .before in (
@@ -31,137 +31,227 @@ loop-holds c =
       knows-begin (s .args .table .now) (s .args .start) (s .args .end),
     )
 
-look-requires : tie.Need-look-requires Inv-loop μ-loop
-look-requires c κs = search needs
-
-enum-known-k : tie.Need-enum-known-k Inv-loop μ-loop
-enum-known-k c = search needs
+-- ---- the name of an entry
 
 add-spell : tie.Need-add-spell Inv-loop μ-loop
 add-spell c =
-    let here = rw (c .before .before .k .given .1) at (c .before .before .before .before .look .ensures) in
+    let e = c .before .before in
+    let here = rw (e .k .given .1) at (e .before .before .look .ensures) in
     omega (arith, here .within .ahead, here .within .stored)
 
 spell-requires : tie.Need-spell-requires Inv-loop μ-loop
 spell-requires c κs =
-    let here = rw (c .before .before .k .given .1) at (c .before .before .before .before .look .ensures) in
-    (c .before .before .before .before .before .before .class-table .ensures, here .within .ahead, here .within .stored)
+    let e = c .before .before .before in
+    let here = rw (e .k .given .1) at (e .before .before .look .ensures) in
+    (e .before .before .before .before .class-table .ensures, here .within .ahead, here .within .stored, rw (c .most-parts .ensures) (some-parts (e .k .given .0 .0)))
 
 same-length : tie.Need-same-length Inv-loop μ-loop
-same-length c = c .before .before .before .before .before .before .before .loop .inv .0 .tallied .eight ∙ sym (ap length (c .before .before .before .before .before .before .before .before .before .before .before .before .pre .none-counted))
+same-length c =
+    let l = c .before .before .before .before .before .before .before .before in
+    l .loop .inv .0 .tallied .eight ∙ sym (ap length (l .before .before .before .before .before .pre .none-counted))
 
 same-length-2 : tie.Need-same-length-2 Inv-loop μ-loop
-same-length-2 c = c .before .before .before .before .before .before .before .loop .inv .0 .tallied .each-class ∙ sym (ap length (c .before .before .before .before .before .before .before .before .before .before .before .before .pre .none-permitted))
+same-length-2 c =
+    let l = c .before .before .before .before .before .before .before .before in
+    l .loop .inv .0 .tallied .each-class ∙ sym (ap length (l .before .before .before .before .before .pre .none-permitted))
 
 returns : tie.Need-returns Inv-loop μ-loop
 returns c =
-    walk-refused (c .before .before .before .before .before .before .before .before .before .before .before .before .args .table .now) (c .before .before .before .before .before .before .before .before .before .before .before .before .args .start) (c .before .before .before .before .before .before .before .before .before .before .before .before .args .end) (c .before .before .before .before .before .before .before .loop .at) _ _ (c .before .before .before .before .before .before .before .loop .inv .0)
-    (c .before .before .before .before .k .given .0 .0) (c .before .before .before .before .k .given .0 .1 .0) (c .before .before .before .before .k .given .0 .1 .1 .0) (rw (c .before .before .before .before .k .given .1) at (c .before .before .before .before .before .before .look .ensures))
-    (all-places (λ k. k < 256) (c .before .before .before .before .before .before .before .before .before .before .before .before .args .table .now) 0 (λ i l. c .before .before .before .before .before .before .before .before .before .before .before .shared-slice-known .given i .fits))
-    (not-free _ _ (c .before .before .before .before .k .given .0 .0) (c .before .before .before .before .k .given .0 .1 .0) _ (not-spelled (between (c .before .before .before .before .before .before .before .before .before .before .before .before .args .table .now) (c .before .before .before .before .before .before .before .loop .at + 4) (c .before .before .before .before .k .given .0 .1 .1 .0)) _ (c .before .spell .ensures) (c .if1 .taken)))
+    let e = c .before .before .before .before .before in
+    let l = e .before .before .before in
+    let s = l .before .before .before .before .before in
+    let a = s .args in
+    let sort = e .k .given .0 .0 in
+    let number = e .k .given .0 .1 .0 in
+    let past = e .k .given .0 .1 .1 .0 in
+    let name = between (a .table .now) (l .loop .at + 4) past in
+    walk-refused (a .table .now) (a .start) (a .end) (l .loop .at) _ _ (l .loop .inv .0) sort number past (rw (e .k .given .1) at (e .before .before .look .ensures))
+    (all-places (λ k. k < 256) (a .table .now) 0 (λ i h. l .before .before .before .before .shared-slice-known .given i .fits))
+    (not-free _ _ sort number _ (not-spelled (mostParts sort) name _ (rw (c .before .before .most-parts .ensures) at (c .before .spell .ensures)) (c .if1 .taken)))
+
+-- ---- its sort and number
 
 is-allowed-requires : tie.Need-is-allowed-requires Inv-loop μ-loop
-is-allowed-requires c κs = c .before .before .before .before .before .before .before .before .loop .inv .0 .tallied .eight
+is-allowed-requires c κs = c .before .before .before .before .before .before .before .before .before .loop .inv .0 .tallied .eight
 
 same-length-3 : tie.Need-same-length-3 Inv-loop μ-loop
-same-length-3 c = c .before .before .before .before .before .before .before .before .before .before .loop .inv .0 .tallied .eight ∙ sym (ap length (c .before .before .before .before .before .before .before .before .before .before .before .before .before .before .before .pre .none-counted))
+same-length-3 c =
+    let e = c .before .before .before .before .before .before .before .before in
+    let l = e .before .before .before in
+    l .loop .inv .0 .tallied .eight ∙ sym (ap length (l .before .before .before .before .before .pre .none-counted))
 
 same-length-4 : tie.Need-same-length-4 Inv-loop μ-loop
-same-length-4 c = c .before .before .before .before .before .before .before .before .before .before .loop .inv .0 .tallied .each-class ∙ sym (ap length (c .before .before .before .before .before .before .before .before .before .before .before .before .before .before .before .pre .none-permitted))
+same-length-4 c =
+    let e = c .before .before .before .before .before .before .before .before in
+    let l = e .before .before .before in
+    l .loop .inv .0 .tallied .each-class ∙ sym (ap length (l .before .before .before .before .before .pre .none-permitted))
 
 returns-2 : tie.Need-returns-2 Inv-loop μ-loop
 returns-2 c =
-    walk-refused (c .before .before .before .before .before .before .before .before .before .before .before .before .before .before .before .args .table .now) (c .before .before .before .before .before .before .before .before .before .before .before .before .before .before .before .args .start) (c .before .before .before .before .before .before .before .before .before .before .before .before .before .before .before .args .end) (c .before .before .before .before .before .before .before .before .before .before .loop .at) _ _ (c .before .before .before .before .before .before .before .before .before .before .loop .inv .0)
-    (c .before .before .before .before .before .before .before .k .given .0 .0) (c .before .before .before .before .before .before .before .k .given .0 .1 .0) (c .before .before .before .before .before .before .before .k .given .0 .1 .1 .0) (rw (c .before .before .before .before .before .before .before .k .given .1) at (c .before .before .before .before .before .before .before .before .before .look .ensures))
-    (all-places (λ k. k < 256) (c .before .before .before .before .before .before .before .before .before .before .before .before .before .before .before .args .table .now) 0 (λ i l. c .before .before .before .before .before .before .before .before .before .before .before .before .before .before .shared-slice-known .given i .fits))
-    (free-by _ _ (c .before .before .before .before .before .before .before .k .given .0 .0) (c .before .before .before .before .before .before .before .k .given .0 .1 .0) _ (sym (c .before .is-allowed .ensures) ∙ not-true _ (c .if2 .taken)) refl refl)
+    let e = c .before .before .before .before .before .before .before .before in
+    let l = e .before .before .before in
+    let s = l .before .before .before .before .before in
+    let a = s .args in
+    let sort = e .k .given .0 .0 in
+    let number = e .k .given .0 .1 .0 in
+    let past = e .k .given .0 .1 .1 .0 in
+    walk-refused (a .table .now) (a .start) (a .end) (l .loop .at) _ _ (l .loop .inv .0) sort number past (rw (e .k .given .1) at (e .before .before .look .ensures))
+    (all-places (λ k. k < 256) (a .table .now) 0 (λ i h. l .before .before .before .before .shared-slice-known .given i .fits))
+    (free-by _ _ sort number _ (sym (c .before .is-allowed .ensures) ∙ not-true _ (c .if2 .taken)) refl refl)
 
 advance-requires : tie.Need-advance-requires Inv-loop μ-loop
 advance-requires c κs =
-    walk-room (c .before .before .before .before .before .before .before .before .before .before .before .before .before .before .before .before .before .args .table .now) (c .before .before .before .before .before .before .before .before .before .before .before .before .before .before .before .before .before .args .start) (c .before .before .before .before .before .before .before .before .before .before .before .before .before .before .before .before .before .args .end) (c .before .before .before .before .before .before .before .before .before .before .before .before .loop .at) _ _ (c .before .before .before .before .before .before .before .before .before .before .before .before .loop .inv .0)
-    (c .before .before .before .before .before .before .before .before .before .k .given .0 .0) (c .before .before .before .before .before .before .before .before .before .k .given .0 .1 .0) (c .before .before .before .before .before .before .before .before .before .k .given .0 .1 .1 .0) (rw (c .before .before .before .before .before .before .before .before .before .k .given .1) at (c .before .before .before .before .before .before .before .before .before .before .before .look .ensures))
-    (sym (c .before .before .before .is-allowed .ensures) ∙ not-false _ (c .before .before .if2 .left))
+    let allowed = c .before .before in
+    let e = allowed .before .before .before .before .before .before .before .before in
+    let l = e .before .before .before in
+    let a = l .before .before .before .before .before .args in
+    walk-room (a .table .now) (a .start) (a .end) (l .loop .at) _ _ (l .loop .inv .0) (e .k .given .0 .0) (e .k .given .0 .1 .0) (e .k .given .0 .1 .1 .0)
+    (rw (e .k .given .1) at (e .before .before .look .ensures))
+    (sym (allowed .before .is-allowed .ensures) ∙ not-false _ (allowed .if2 .left))
 
-family-of-requires : tie.Need-family-of-requires Inv-loop μ-loop
-family-of-requires c κs = search needs
+-- ---- whether it is new
 
 slice-aggregate-mark : tie.Need-slice-aggregate-mark Inv-loop μ-loop
-slice-aggregate-mark c = sym (c .before .before .before .before .before .before .before .before .before .before .before .before .before .before .before .before .before .before .before .loop .inv .1 .long)
+slice-aggregate-mark c =
+    let allowed = c .before .before .before .before .before .before .before .before .before in
+    let e = allowed .before .before .before .before .before .before .before .before in
+    sym (e .before .before .before .loop .inv .1 .long)
 
 step-requires : tie.Need-step-requires Inv-loop μ-loop
-step-requires c κs = is-spelled (between (c .before .before .before .before .before .before .before .before .before .before .before .before .before .before .before .before .before .before .before .before .before .before .before .before .args .table .now) (c .before .before .before .before .before .before .before .before .before .before .before .before .before .before .before .before .before .before .before .loop .at + 4) (c .before .before .before .before .before .before .before .before .before .before .before .before .before .before .before .before .k .given .0 .1 .1 .0)) _ (c .before .before .before .before .before .before .before .before .before .before .before .before .before .spell .ensures) (c .before .before .before .before .before .before .before .before .before .before .before .before .if1 .left) .2
+step-requires c κs =
+    let allowed = c .before .before .before .before .before .before .before .before .before in
+    let spelt = allowed .before .before .before in
+    let e = spelt .before .before .before .before .before in
+    let l = e .before .before .before in
+    let a = l .before .before .before .before .before .args in
+    is-spelled (mostParts (e .k .given .0 .0)) (between (a .table .now) (l .loop .at + 4) (e .k .given .0 .1 .1 .0)) _
+    (rw (spelt .before .before .most-parts .ensures) at (spelt .before .spell .ensures)) (spelt .if1 .left) .2
 
 mark-requires : tie.Need-mark-requires Inv-loop μ-loop
-mark-requires c κs = (c .before .before .before .before .before .before .before .before .before .before .before .before .before .before .before .before .before .before .before .before .loop .inv .1 .covers 0 .some-words, c .step .ensures .1)
+mark-requires c κs =
+    let allowed = c .before .before .before .before .before .before .before .before .before .before in
+    let e = allowed .before .before .before .before .before .before .before .before in
+    (e .before .before .before .loop .inv .1 .covers 0 .some-words, c .step .ensures .1)
 
 is-new-requires : tie.Need-is-new-requires Inv-loop μ-loop
 is-new-requires c κs =
-    let here = rw (c .before .before .before .before .before .before .before .before .before .before .before .before .before .before .before .before .before .before .before .k .given .1) at (c .before .before .before .before .before .before .before .before .before .before .before .before .before .before .before .before .before .before .before .before .before .look .ensures) in
-    (here .within .ahead, not-found _ _ _ (between (c .before .before .before .before .before .before .before .before .before .before .before .before .before .before .before .before .before .before .before .before .before .before .before .before .before .before .before .args .table .now) (c .before .before .before .before .before .before .before .before .before .before .before .before .before .before .before .before .before .before .before .before .before .before .loop .at + 4) (c .before .before .before .before .before .before .before .before .before .before .before .before .before .before .before .before .before .before .before .k .given .0 .1 .1 .0)) _ _ (c .before .before .before .before .before .before .before .before .before .before .before .before .before .before .before .before .before .before .before .before .before .before .loop .inv .1) (hashed-by (between (c .before .before .before .before .before .before .before .before .before .before .before .before .before .before .before .before .before .before .before .before .before .before .before .before .before .before .before .args .table .now) (c .before .before .before .before .before .before .before .before .before .before .before .before .before .before .before .before .before .before .before .before .before .before .loop .at + 4) (c .before .before .before .before .before .before .before .before .before .before .before .before .before .before .before .before .before .before .before .k .given .0 .1 .1 .0)) _ _ _ (is-spelled (between (c .before .before .before .before .before .before .before .before .before .before .before .before .before .before .before .before .before .before .before .before .before .before .before .before .before .before .before .args .table .now) (c .before .before .before .before .before .before .before .before .before .before .before .before .before .before .before .before .before .before .before .before .before .before .loop .at + 4) (c .before .before .before .before .before .before .before .before .before .before .before .before .before .before .before .before .before .before .before .k .given .0 .1 .1 .0)) _ (c .before .before .before .before .before .before .before .before .before .before .before .before .before .before .before .before .spell .ensures) (c .before .before .before .before .before .before .before .before .before .before .before .before .before .before .before .if1 .left) .1) (c .before .before .step .ensures .0)) (c .before .mark .ensures .0))
+    let mark = c .before in
+    let allowed = mark .before .before .before .before .before .before .before .before .before .before .before in
+    let spelt = allowed .before .before .before in
+    let e = spelt .before .before .before .before .before in
+    let l = e .before .before .before in
+    let a = l .before .before .before .before .before .args in
+    let here = rw (e .k .given .1) at (e .before .before .look .ensures) in
+    let name = between (a .table .now) (l .loop .at + 4) (e .k .given .0 .1 .1 .0) in
+    let is = is-spelled (mostParts (e .k .given .0 .0)) name _ (rw (spelt .before .before .most-parts .ensures) at (spelt .before .spell .ensures)) (spelt .if1 .left) in
+    (here .within .ahead, not-found _ _ _ name _ _ (l .loop .inv .1) (hashed-by name _ _ _ (is .1) (mark .before .step .ensures .0)) (mark .mark .ensures .0))
 
 same-length-5 : tie.Need-same-length-5 Inv-loop μ-loop
-same-length-5 c = ap length (c .before .before .before .before .before .before .before .before .before .before .before .advance .ensures .0) ∙ counted-long _ (c .before .before .before .before .before .before .before .before .before .before .before .before .before .before .before .before .before .before .before .before .before .k .given .0 .0) (c .before .before .before .before .before .before .before .before .before .before .before .before .before .before .before .before .before .before .before .before .before .k .given .0 .1 .0) ∙ c .before .before .before .before .before .before .before .before .before .before .before .before .before .before .before .before .before .before .before .before .before .before .before .before .loop .inv .0 .tallied .eight ∙ sym (ap length (c .before .before .before .before .before .before .before .before .before .before .before .before .before .before .before .before .before .before .before .before .before .before .before .before .before .before .before .before .before .pre .none-counted))
+same-length-5 c =
+    let advance = c .before .before .before .before .before .before .before .before .before .before .before in
+    let e = advance .before .before .before .before .before .before .before .before .before .before .before in
+    let l = e .before .before .before in
+    ap length (advance .advance .ensures .0) ∙ counted-long _ (e .k .given .0 .0) (e .k .given .0 .1 .0) ∙ l .loop .inv .0 .tallied .eight
+    ∙ sym (ap length (l .before .before .before .before .before .pre .none-counted))
 
 same-length-6 : tie.Need-same-length-6 Inv-loop μ-loop
-same-length-6 c = ap length (c .before .before .before .before .before .before .before .before .before .before .before .advance .ensures .1) ∙ permitted-long _ (c .before .before .before .before .before .before .before .before .before .before .before .before .before .before .before .before .before .before .before .before .before .k .given .0 .0) (c .before .before .before .before .before .before .before .before .before .before .before .before .before .before .before .before .before .before .before .before .before .k .given .0 .1 .0) ∙ c .before .before .before .before .before .before .before .before .before .before .before .before .before .before .before .before .before .before .before .before .before .before .before .before .loop .inv .0 .tallied .each-class ∙ sym (ap length (c .before .before .before .before .before .before .before .before .before .before .before .before .before .before .before .before .before .before .before .before .before .before .before .before .before .before .before .before .before .pre .none-permitted))
+same-length-6 c =
+    let advance = c .before .before .before .before .before .before .before .before .before .before .before in
+    let e = advance .before .before .before .before .before .before .before .before .before .before .before in
+    let l = e .before .before .before in
+    ap length (advance .advance .ensures .1) ∙ permitted-long _ (e .k .given .0 .0) (e .k .given .0 .1 .0) ∙ l .loop .inv .0 .tallied .each-class
+    ∙ sym (ap length (l .before .before .before .before .before .pre .none-permitted))
 
 returns-3 : tie.Need-returns-3 Inv-loop μ-loop
 returns-3 c =
-    walk-refused (c .before .before .before .before .before .before .before .before .before .before .before .before .before .before .before .before .before .before .before .before .before .before .before .before .before .before .before .before .before .args .table .now) (c .before .before .before .before .before .before .before .before .before .before .before .before .before .before .before .before .before .before .before .before .before .before .before .before .before .before .before .before .before .args .start) (c .before .before .before .before .before .before .before .before .before .before .before .before .before .before .before .before .before .before .before .before .before .before .before .before .before .before .before .before .before .args .end) (c .before .before .before .before .before .before .before .before .before .before .before .before .before .before .before .before .before .before .before .before .before .before .before .before .loop .at) _ _ (c .before .before .before .before .before .before .before .before .before .before .before .before .before .before .before .before .before .before .before .before .before .before .before .before .loop .inv .0)
-    (c .before .before .before .before .before .before .before .before .before .before .before .before .before .before .before .before .before .before .before .before .before .k .given .0 .0) (c .before .before .before .before .before .before .before .before .before .before .before .before .before .before .before .before .before .before .before .before .before .k .given .0 .1 .0) (c .before .before .before .before .before .before .before .before .before .before .before .before .before .before .before .before .before .before .before .before .before .k .given .0 .1 .1 .0) (rw (c .before .before .before .before .before .before .before .before .before .before .before .before .before .before .before .before .before .before .before .before .before .k .given .1) at (c .before .before .before .before .before .before .before .before .before .before .before .before .before .before .before .before .before .before .before .before .before .before .before .look .ensures))
-    (all-places (λ k. k < 256) (c .before .before .before .before .before .before .before .before .before .before .before .before .before .before .before .before .before .before .before .before .before .before .before .before .before .before .before .before .before .args .table .now) 0 (λ i l. c .before .before .before .before .before .before .before .before .before .before .before .before .before .before .before .before .before .before .before .before .before .before .before .before .before .before .before .before .shared-slice-known .given i .fits))
-    (free-by _ _ (c .before .before .before .before .before .before .before .before .before .before .before .before .before .before .before .before .before .before .before .before .before .k .given .0 .0) (c .before .before .before .before .before .before .before .before .before .before .before .before .before .before .before .before .before .before .before .before .before .k .given .0 .1 .0) (between (c .before .before .before .before .before .before .before .before .before .before .before .before .before .before .before .before .before .before .before .before .before .before .before .before .before .before .before .before .before .args .table .now) (c .before .before .before .before .before .before .before .before .before .before .before .before .before .before .before .before .before .before .before .before .before .before .before .before .loop .at + 4) (c .before .before .before .before .before .before .before .before .before .before .before .before .before .before .before .before .before .before .before .before .before .k .given .0 .1 .1 .0)) (sym (c .before .before .before .before .before .before .before .before .before .before .before .before .before .before .before .is-allowed .ensures) ∙ not-false _ (c .before .before .before .before .before .before .before .before .before .before .before .before .before .before .if2 .left)) (is-spelled (between (c .before .before .before .before .before .before .before .before .before .before .before .before .before .before .before .before .before .before .before .before .before .before .before .before .before .before .before .before .before .args .table .now) (c .before .before .before .before .before .before .before .before .before .before .before .before .before .before .before .before .before .before .before .before .before .before .before .before .loop .at + 4) (c .before .before .before .before .before .before .before .before .before .before .before .before .before .before .before .before .before .before .before .before .before .k .given .0 .1 .1 .0)) _ (c .before .before .before .before .before .before .before .before .before .before .before .before .before .before .before .before .before .before .spell .ensures) (c .before .before .before .before .before .before .before .before .before .before .before .before .before .before .before .before .before .if1 .left) .0)
-    (sym (rw (c .before .before .before .before .before .before .family-of .ensures) at (c .before .is-new .ensures)) ∙ not-true _ (c .if3 .taken)))
+    let family = c .before .before .before .before .before .before in
+    let allowed = family .before .before .before .before .before .before .before .before in
+    let spelt = allowed .before .before .before in
+    let e = spelt .before .before .before .before .before in
+    let l = e .before .before .before in
+    let a = l .before .before .before .before .before .args in
+    let sort = e .k .given .0 .0 in
+    let number = e .k .given .0 .1 .0 in
+    let past = e .k .given .0 .1 .1 .0 in
+    let name = between (a .table .now) (l .loop .at + 4) past in
+    let is = is-spelled (mostParts sort) name _ (rw (spelt .before .before .most-parts .ensures) at (spelt .before .spell .ensures)) (spelt .if1 .left) in
+    walk-refused (a .table .now) (a .start) (a .end) (l .loop .at) _ _ (l .loop .inv .0) sort number past (rw (e .k .given .1) at (e .before .before .look .ensures))
+    (all-places (λ k. k < 256) (a .table .now) 0 (λ i h. l .before .before .before .before .shared-slice-known .given i .fits))
+    (free-by _ _ sort number name (sym (allowed .before .is-allowed .ensures) ∙ not-false _ (allowed .if2 .left)) (is .0)
+    (sym (rw (family .family-of .ensures) at (c .before .is-new .ensures)) ∙ not-true _ (c .if3 .taken)))
+
+-- ---- the next turn
 
 loop-less : tie.Need-loop-less Inv-loop μ-loop
 loop-less c =
-    let here = rw (c .before .before .before .before .before .before .before .before .before .before .before .before .before .before .before .before .before .before .before .before .before .k .given .1) at (c .before .before .before .before .before .before .before .before .before .before .before .before .before .before .before .before .before .before .before .before .before .before .before .look .ensures) in
+    let advance = c .before .before .before .before .before .before .before .before .before .before .before in
+    let e = advance .before .before .before .before .before .before .before .before .before .before .before in
+    let here = rw (e .k .given .1) at (e .before .before .look .ensures) in
     omega (arith, here .within .ahead, here .within .inside)
 
 loop-again : tie.Need-loop-again Inv-loop μ-loop
 loop-again c =
-    let here = rw (c .before .before .before .before .before .before .before .before .before .before .before .before .before .before .before .before .before .before .before .before .before .k .given .1) at (c .before .before .before .before .before .before .before .before .before .before .before .before .before .before .before .before .before .before .before .before .before .before .before .look .ensures) in (
-      rw (c .before .before .before .before .before .before .before .before .before .before .before .advance .ensures .0, c .before .before .before .before .before .before .before .before .before .before .before .advance .ensures .1)
-          (walk-next (c .before .before .before .before .before .before .before .before .before .before .before .before .before .before .before .before .before .before .before .before .before .before .before .before .before .before .before .before .before .args .table .now) (c .before .before .before .before .before .before .before .before .before .before .before .before .before .before .before .before .before .before .before .before .before .before .before .before .before .before .before .before .before .args .start) (c .before .before .before .before .before .before .before .before .before .before .before .before .before .before .before .before .before .before .before .before .before .before .before .before .before .before .before .before .before .args .end) (c .before .before .before .before .before .before .before .before .before .before .before .before .before .before .before .before .before .before .before .before .before .before .before .before .loop .at) _ _ (c .before .before .before .before .before .before .before .before .before .before .before .before .before .before .before .before .before .before .before .before .before .before .before .before .loop .inv .0)
-          (c .before .before .before .before .before .before .before .before .before .before .before .before .before .before .before .before .before .before .before .before .before .k .given .0 .0) (c .before .before .before .before .before .before .before .before .before .before .before .before .before .before .before .before .before .before .before .before .before .k .given .0 .1 .0) (c .before .before .before .before .before .before .before .before .before .before .before .before .before .before .before .before .before .before .before .before .before .k .given .0 .1 .1 .0) here
-          (free-by _ _ (c .before .before .before .before .before .before .before .before .before .before .before .before .before .before .before .before .before .before .before .before .before .k .given .0 .0) (c .before .before .before .before .before .before .before .before .before .before .before .before .before .before .before .before .before .before .before .before .before .k .given .0 .1 .0) (between (c .before .before .before .before .before .before .before .before .before .before .before .before .before .before .before .before .before .before .before .before .before .before .before .before .before .before .before .before .before .args .table .now) (c .before .before .before .before .before .before .before .before .before .before .before .before .before .before .before .before .before .before .before .before .before .before .before .before .loop .at + 4) (c .before .before .before .before .before .before .before .before .before .before .before .before .before .before .before .before .before .before .before .before .before .k .given .0 .1 .1 .0)) (sym (c .before .before .before .before .before .before .before .before .before .before .before .before .before .before .before .is-allowed .ensures) ∙ not-false _ (c .before .before .before .before .before .before .before .before .before .before .before .before .before .before .if2 .left)) (is-spelled (between (c .before .before .before .before .before .before .before .before .before .before .before .before .before .before .before .before .before .before .before .before .before .before .before .before .before .before .before .before .before .args .table .now) (c .before .before .before .before .before .before .before .before .before .before .before .before .before .before .before .before .before .before .before .before .before .before .before .before .loop .at + 4) (c .before .before .before .before .before .before .before .before .before .before .before .before .before .before .before .before .before .before .before .before .before .k .given .0 .1 .1 .0)) _ (c .before .before .before .before .before .before .before .before .before .before .before .before .before .before .before .before .before .before .spell .ensures) (c .before .before .before .before .before .before .before .before .before .before .before .before .before .before .before .before .before .if1 .left) .0)
-          (sym (rw (c .before .before .before .before .before .before .family-of .ensures) at (c .before .is-new .ensures)) ∙ not-false _ (c .if3 .left)))),
-      rw (c .before .before .before .mark .ensures .1, hashed-by (between (c .before .before .before .before .before .before .before .before .before .before .before .before .before .before .before .before .before .before .before .before .before .before .before .before .before .before .before .before .before .args .table .now) (c .before .before .before .before .before .before .before .before .before .before .before .before .before .before .before .before .before .before .before .before .before .before .before .before .loop .at + 4) (c .before .before .before .before .before .before .before .before .before .before .before .before .before .before .before .before .before .before .before .before .before .k .given .0 .1 .1 .0)) _ _ _ (is-spelled (between (c .before .before .before .before .before .before .before .before .before .before .before .before .before .before .before .before .before .before .before .before .before .before .before .before .before .before .before .before .before .args .table .now) (c .before .before .before .before .before .before .before .before .before .before .before .before .before .before .before .before .before .before .before .before .before .before .before .before .loop .at + 4) (c .before .before .before .before .before .before .before .before .before .before .before .before .before .before .before .before .before .before .before .before .before .k .given .0 .1 .1 .0)) _ (c .before .before .before .before .before .before .before .before .before .before .before .before .before .before .before .before .before .before .spell .ensures) (c .before .before .before .before .before .before .before .before .before .before .before .before .before .before .before .before .before .if1 .left) .1) (c .before .before .before .before .step .ensures .0), c .before .before .before .before .before .before .family-of .ensures)
-          (knows-next (c .before .before .before .before .before .before .before .before .before .before .before .before .before .before .before .before .before .before .before .before .before .before .before .before .before .before .before .before .before .args .table .now) (c .before .before .before .before .before .before .before .before .before .before .before .before .before .before .before .before .before .before .before .before .before .before .before .before .before .before .before .before .before .args .start) (c .before .before .before .before .before .before .before .before .before .before .before .before .before .before .before .before .before .before .before .before .before .before .before .before .before .before .before .before .before .args .end) (c .before .before .before .before .before .before .before .before .before .before .before .before .before .before .before .before .before .before .before .before .before .before .before .before .loop .at) _ _ (c .before .before .before .before .before .before .before .before .before .before .before .before .before .before .before .before .before .before .before .before .before .before .before .before .loop .inv .0)
-          (c .before .before .before .before .before .before .before .before .before .before .before .before .before .before .before .before .before .before .before .before .before .k .given .0 .0) (c .before .before .before .before .before .before .before .before .before .before .before .before .before .before .before .before .before .before .before .before .before .k .given .0 .1 .0) (c .before .before .before .before .before .before .before .before .before .before .before .before .before .before .before .before .before .before .before .before .before .k .given .0 .1 .1 .0) here _ (c .before .before .before .before .before .before .before .before .before .before .before .before .before .before .before .before .before .before .before .before .before .before .before .before .loop .inv .1)),
+    let mark = c .before .before .before in
+    let family = mark .before .before .before in
+    let advance = family .before .before .before .before .before in
+    let allowed = advance .before .before .before in
+    let spelt = allowed .before .before .before in
+    let e = spelt .before .before .before .before .before in
+    let l = e .before .before .before in
+    let a = l .before .before .before .before .before .args in
+    let sort = e .k .given .0 .0 in
+    let number = e .k .given .0 .1 .0 in
+    let past = e .k .given .0 .1 .1 .0 in
+    let here = rw (e .k .given .1) at (e .before .before .look .ensures) in
+    let name = between (a .table .now) (l .loop .at + 4) past in
+    let is = is-spelled (mostParts sort) name _ (rw (spelt .before .before .most-parts .ensures) at (spelt .before .spell .ensures)) (spelt .if1 .left) in (
+      rw (advance .advance .ensures .0, advance .advance .ensures .1)
+          (walk-next (a .table .now) (a .start) (a .end) (l .loop .at) _ _ (l .loop .inv .0) sort number past here
+          (free-by _ _ sort number name (sym (allowed .before .is-allowed .ensures) ∙ not-false _ (allowed .if2 .left)) (is .0)
+          (sym (rw (family .family-of .ensures) at (c .before .is-new .ensures)) ∙ not-false _ (c .if3 .left)))),
+      rw (mark .mark .ensures .1, hashed-by name _ _ _ (is .1) (mark .before .step .ensures .0), family .family-of .ensures)
+          (knows-next (a .table .now) (a .start) (a .end) (l .loop .at) _ _ (l .loop .inv .0) sort number past here _ (l .loop .inv .1)),
     )
 
-enum-told : tie.Need-enum-told Inv-loop μ-loop
-enum-told c = search needs
+-- ---- the end, and bytes that are no entry
 
 slice-read-result : tie.Need-slice-read-result Inv-loop μ-loop
 slice-read-result c = omega (arith, c .before .before .before .before .loop .inv .0 .tallied .eight)
 
 same-length-7 : tie.Need-same-length-7 Inv-loop μ-loop
-same-length-7 c = c .before .before .before .before .loop .inv .0 .tallied .eight ∙ sym (ap length (c .before .before .before .before .before .before .before .before .before .pre .none-counted))
+same-length-7 c =
+    let l = c .before .before .before .before in
+    l .loop .inv .0 .tallied .eight ∙ sym (ap length (l .before .before .before .before .before .pre .none-counted))
 
 same-length-8 : tie.Need-same-length-8 Inv-loop μ-loop
-same-length-8 c = c .before .before .before .before .loop .inv .0 .tallied .each-class ∙ sym (ap length (c .before .before .before .before .before .before .before .before .before .pre .none-permitted))
+same-length-8 c =
+    let l = c .before .before .before .before in
+    l .loop .inv .0 .tallied .each-class ∙ sym (ap length (l .before .before .before .before .before .pre .none-permitted))
 
 returns-4 : tie.Need-returns-4 Inv-loop μ-loop
 returns-4 c =
-    walk-done (c .before .before .before .before .before .before .before .before .before .args .table .now) (c .before .before .before .before .before .before .before .before .before .args .start) (c .before .before .before .before .before .before .before .before .before .args .end) (c .before .before .before .before .loop .at) _ _ (c .before .before .before .before .loop .inv .0)
-    (all-places (λ k. k < 256) (c .before .before .before .before .before .before .before .before .before .args .table .now) 0 (λ i l. c .before .before .before .before .before .before .before .before .shared-slice-known .given i .fits))
+    let l = c .before .before .before .before in
+    let a = l .before .before .before .before .before .args in
+    walk-done (a .table .now) (a .start) (a .end) (l .loop .at) _ _ (l .loop .inv .0)
+    (all-places (λ k. k < 256) (a .table .now) 0 (λ i h. l .before .before .before .before .shared-slice-known .given i .fits))
     (rw (c .before .enum-told .given .1) at (c .before .before .before .look .ensures))
 
-enum-told-2 : tie.Need-enum-told-2 Inv-loop μ-loop
-enum-told-2 c = search needs
-
 same-length-9 : tie.Need-same-length-9 Inv-loop μ-loop
-same-length-9 c = c .before .before .before .loop .inv .0 .tallied .eight ∙ sym (ap length (c .before .before .before .before .before .before .before .before .pre .none-counted))
+same-length-9 c =
+    let l = c .before .before .before in
+    l .loop .inv .0 .tallied .eight ∙ sym (ap length (l .before .before .before .before .before .pre .none-counted))
 
 same-length-10 : tie.Need-same-length-10 Inv-loop μ-loop
-same-length-10 c = c .before .before .before .loop .inv .0 .tallied .each-class ∙ sym (ap length (c .before .before .before .before .before .before .before .before .pre .none-permitted))
+same-length-10 c =
+    let l = c .before .before .before in
+    l .loop .inv .0 .tallied .each-class ∙ sym (ap length (l .before .before .before .before .before .pre .none-permitted))
 
 returns-5 : tie.Need-returns-5 Inv-loop μ-loop
 returns-5 c =
-    walk-halts (c .before .before .before .before .before .before .before .before .args .table .now) (c .before .before .before .before .before .before .before .before .args .start) (c .before .before .before .before .before .before .before .before .args .end) (c .before .before .before .loop .at) _ _ (c .before .before .before .loop .inv .0)
-    (all-places (λ k. k < 256) (c .before .before .before .before .before .before .before .before .args .table .now) 0 (λ i l. c .before .before .before .before .before .before .before .shared-slice-known .given i .fits))
+    let l = c .before .before .before in
+    let a = l .before .before .before .before .before .args in
+    walk-halts (a .table .now) (a .start) (a .end) (l .loop .at) _ _ (l .loop .inv .0)
+    (all-places (λ k. k < 256) (a .table .now) 0 (λ i h. l .before .before .before .before .shared-slice-known .given i .fits))
     (rw (c .enum-told2 .given .1) at (c .before .before .look .ensures))
 
 pub walk-spec : {M : Type 1} → statement M
@@ -170,11 +260,12 @@ walk-spec =
     (tie.spec
     Inv-loop
     μ-loop
-    class-table-requires
+    (λ c κs. search needs)
     loop-holds
-    look-requires
-    enum-known-k
+    (λ c κs. search needs)
+    (λ c. search needs)
     add-spell
+    (λ c κs. search needs)
     spell-requires
     same-length
     same-length-2
@@ -184,7 +275,7 @@ walk-spec =
     same-length-4
     returns-2
     advance-requires
-    family-of-requires
+    (λ c κs. search needs)
     slice-aggregate-mark
     step-requires
     mark-requires
@@ -194,12 +285,12 @@ walk-spec =
     returns-3
     loop-less
     loop-again
-    enum-told
+    (λ c. search needs)
     slice-read-result
     same-length-7
     same-length-8
     returns-4
-    enum-told-2
+    (λ c. search needs)
     same-length-9
     same-length-10
     returns-5)

@@ -1,60 +1,82 @@
--- `name_spelling::spell` meets its contract: a name, then not a reserved word. Assumes nothing.
-use mathlib.Core.Path.{sym, _∙_}
+-- `name_spelling::spell` meets its contract: a name is its first part, and what stands behind it. Assumes nothing.
+use mathlib.Core.Path.{_≡_, sym, _∙_}
 use native.Mathlib.Omega.{arith}
-use borrow.Author.Tests.{not-true}
 use borrow.Author.Needs.{needs}
-use Rattle.symbols.specs.Section.{between}
-use Rattle.name_spelling.proofs.SpellingLaws.{is-scanned, not-scanned, some-bytes, not-reserved-here, spelled-by}
+use borrow.Author.Tests.{not-true, not-false}
+use Rattle.name_spelling.proofs.SpellingLaws.{a-byte, no-start, is-part, ends, goes-behind, too-long, by-parts}
 use Rattle.name_spelling.proofs.spell.Statement.{statement}
 use Rattle.name_spelling.proofs.spell.Tie as tie
 
-scan-requires : tie.Need-scan-requires
-scan-requires c κs = c .before .pre
-
 returns : tie.Need-returns
-returns c = not-scanned (between (c .before .before .before .args .table .now) (c .before .before .before .args .from) (c .before .before .before .args .past)) _ (c .before .scan .ensures) (c .if1 .taken)
-
-sub-may-be-reserved : tie.Need-sub-may-be-reserved
-sub-may-be-reserved c = search needs
-
-sub-may-be-reserved-2 : tie.Need-sub-may-be-reserved-2
-sub-may-be-reserved-2 c = omega (arith, some-bytes (c .before .before .before .args .table .now) (c .before .before .before .args .from) (c .before .before .before .args .past) (is-scanned (between (c .before .before .before .args .table .now) (c .before .before .before .args .from) (c .before .before .before .args .past)) _ (c .before .scan .ensures) (c .if1 .left) .0))
-
-shared-slice-read-may-be-reserved : tie.Need-shared-slice-read-may-be-reserved
-shared-slice-read-may-be-reserved c = omega (arith, some-bytes (c .before .before .before .before .args .table .now) (c .before .before .before .before .args .from) (c .before .before .before .before .args .past) (is-scanned (between (c .before .before .before .before .args .table .now) (c .before .before .before .before .args .from) (c .before .before .before .before .args .past)) _ (c .before .before .scan .ensures) (c .before .if1 .left) .0), c .before .before .before .before .pre .2)
-
-may-be-reserved-requires : tie.Need-may-be-reserved-requires
-may-be-reserved-requires c κs = search needs
+returns c =
+    let s = c .before .before in
+    too-long (s .args .table .now) (s .args .from) (s .args .past) (s .args .most-parts) (s .pre .1) (s .pre .2) (c .if1 .taken)
 
 returns-2 : tie.Need-returns-2
 returns-2 c =
-    let is = is-scanned (between (c .before .before .before .before .before .before .args .table .now) (c .before .before .before .before .before .before .args .from) (c .before .before .before .before .before .before .args .past)) _ (c .before .before .before .before .scan .ensures) (c .before .before .before .if1 .left) in
-    is .1
-    ∙ spelled-by (between (c .before .before .before .before .before .before .args .table .now) (c .before .before .before .before .before .before .args .from) (c .before .before .before .before .before .before .args .past)) _ (is .0)
-    (not-reserved-here (c .before .before .before .before .before .before .args .table .now) (c .before .before .before .before .before .before .args .from) (c .before .before .before .before .before .before .args .past) (some-bytes (c .before .before .before .before .before .before .args .table .now) (c .before .before .before .before .before .before .args .from) (c .before .before .before .before .before .before .args .past) (is-scanned (between (c .before .before .before .before .before .before .args .table .now) (c .before .before .before .before .before .before .args .from) (c .before .before .before .before .before .before .args .past)) _ (c .before .before .before .before .scan .ensures) (c .before .before .before .if1 .left) .0)) (c .before .before .before .before .before .before .pre .2) (sym (c .before .may-be-reserved .ensures) ∙ not-true _ (c .if2 .taken)))
+    let s = c .before .before .before .before in
+    let a = s .args in
+    sym (no-start (a .table .now) (a .most-parts) (a .from) (a .past) 0 (s .pre .2) (sym (c .before .starts-part .ensures) ∙ not-true _ (c .if2 .taken)))
+    ∙ by-parts (a .table .now) (a .from) (a .past) (a .most-parts) (s .pre .1) (s .pre .2) (c .before .before .if1 .left)
 
-is-reserved-requires : tie.Need-is-reserved-requires
-is-reserved-requires c κs = (c .before .before .before .before .before .before .pre .1, c .before .before .before .before .before .before .pre .2)
+read-part-requires : tie.Need-read-part-requires
+read-part-requires c κs =
+    let s = c .before .before .before .before in
+    (s .pre .0, a-byte (s .args .from) (s .args .past) _ (sym (c .before .starts-part .ensures) ∙ not-false _ (c .if2 .left)), s .pre .2, omega arith)
+
+-- below `b` is the place where a part was seen to start, and `x` says what was read of it
+spell-more-requires : tie.Need-spell-more-requires
+spell-more-requires c κs =
+    let x = c .before .read-part .ensures in
+    let b = c .before .before in
+    let s = b .before .before .before .before in
+    let a = s .args in
+    let starts = sym (b .before .starts-part .ensures) ∙ not-false _ (b .if2 .left) in
+    (s .pre .0, x .read .ahead, c .if3 .taken, s .pre .2, x .read .small, is-part (a .table .now) (a .from) (a .past) 0 _ (s .pre .2) starts x)
 
 returns-3 : tie.Need-returns-3
-returns-3 c = spelled-by (between (c .before .before .before .before .before .before .before .before .args .table .now) (c .before .before .before .before .before .before .before .before .args .from) (c .before .before .before .before .before .before .before .before .args .past)) _ (is-scanned (between (c .before .before .before .before .before .before .before .before .args .table .now) (c .before .before .before .before .before .before .before .before .args .from) (c .before .before .before .before .before .before .before .before .args .past)) _ (c .before .before .before .before .before .before .scan .ensures) (c .before .before .before .before .before .if1 .left) .0) (sym (c .before .is-reserved .ensures) ∙ c .if3 .taken)
+returns-3 c =
+    let x = c .before .before .read-part .ensures in
+    let b = c .before .before .before in
+    let s = b .before .before .before .before in
+    let a = s .args in
+    let starts = sym (b .before .starts-part .ensures) ∙ not-false _ (b .if2 .left) in
+    c .spell-more .ensures
+    ∙ sym (goes-behind (a .table .now) (a .from) (a .past) 0 _ (s .pre .2) starts x (a .most-parts) (s .pre .3) (c .before .if3 .taken))
+    ∙ by-parts (a .table .now) (a .from) (a .past) (a .most-parts) (s .pre .1) (s .pre .2) (b .before .before .if1 .left)
+
+unless-reserved-requires : tie.Need-unless-reserved-requires
+unless-reserved-requires c κs =
+    let x = c .before .read-part .ensures in
+    let b = c .before .before in
+    let s = b .before .before .before .before in
+    let a = s .args in
+    let starts = sym (b .before .starts-part .ensures) ∙ not-false _ (b .if2 .left) in
+    let e : c .before .read-part .result .end ≡ a .past = omega (arith, x .read .within, c .if3 .left) in
+    (omega (arith, x .read .ahead, x .read .within), s .pre .2, rw e at (is-part (a .table .now) (a .from) (a .past) 0 _ (s .pre .2) starts x))
 
 returns-4 : tie.Need-returns-4
 returns-4 c =
-    let is = is-scanned (between (c .before .before .before .before .before .before .before .before .args .table .now) (c .before .before .before .before .before .before .before .before .args .from) (c .before .before .before .before .before .before .before .before .args .past)) _ (c .before .before .before .before .before .before .scan .ensures) (c .before .before .before .before .before .if1 .left) in
-    is .1 ∙ spelled-by (between (c .before .before .before .before .before .before .before .before .args .table .now) (c .before .before .before .before .before .before .before .before .args .from) (c .before .before .before .before .before .before .before .before .args .past)) _ (is .0) (sym (c .before .is-reserved .ensures) ∙ c .if3 .left)
+    let x = c .before .before .read-part .ensures in
+    let b = c .before .before .before in
+    let s = b .before .before .before .before in
+    let a = s .args in
+    let starts = sym (b .before .starts-part .ensures) ∙ not-false _ (b .if2 .left) in
+    c .unless-reserved .ensures
+    ∙ sym (ends (a .table .now) (a .from) (a .past) 0 _ (s .pre .2) starts x (a .most-parts) (s .pre .3) (c .before .if3 .left))
+    ∙ by-parts (a .table .now) (a .from) (a .past) (a .most-parts) (s .pre .1) (s .pre .2) (b .before .before .if1 .left)
 
 pub spell-spec : {M : Type 1} → statement M
 spell-spec =
     tie.close
     (tie.spec
-    scan-requires
+    (λ c. search needs)
     returns
-    sub-may-be-reserved
-    sub-may-be-reserved-2
-    shared-slice-read-may-be-reserved
-    may-be-reserved-requires
+    (λ c κs. search needs)
     returns-2
-    is-reserved-requires
+    read-part-requires
+    (λ c. search needs)
+    spell-more-requires
     returns-3
+    unless-reserved-requires
     returns-4)

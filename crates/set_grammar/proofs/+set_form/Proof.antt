@@ -14,14 +14,14 @@ use Rattle.policy.specs.Grammar.{operands, setIn}
 use Rattle.items.specs.Looks.{rowEnd}
 use Rattle.items.specs.Reads.{isSome, counted}
 use Rattle.items.specs.declared.Wanted.{Wanted}
-use Rattle.items.proofs.Items.{sees, by-word, by-part, by-close, by-end, too-deep}
+use Rattle.items.proofs.Items.{reads, by-word, by-part, by-close, by-end, too-deep}
 use Rattle.items.proofs.Rows.{told, refuse, at-close, beyond}
 use Rattle.set_grammar.proofs.Sets.{starts, word-operand, part-operand, close-operand, end-operand}
 use Rattle.set_grammar.proofs.set_form.Reads as set-form
 use Rattle.set_grammar.proofs.set_form.Kinds as set-form-kinds
 use Rattle.set_grammar.proofs.+set_form.Lts-set_form as lts
 use Rattle.items.proofs.ended.Reads as ended-reads
-use Rattle.items.proofs.look.Reads as look-reads
+use Rattle.lexer.proofs.next.Reads as next-reads
 use Rattle.set_grammar.proofs.set_start.Reads as set-start-reads
 use Rattle.words.proofs.is_name.Reads as is-name-reads
 use Rattle.set_grammar.proofs.+set_form.{statement}
@@ -37,7 +37,18 @@ abbrev below : ℕ → In 1 set-form-kinds.ps
 below t = and 1 set-form-kinds.ps (falls 1 set-form-kinds.ps _<_ μ t) set-form.Pre
 
 abbrev claims : ℕ → lts.Claims
-claims t = (set-start-reads.Asked, set-start-reads.Learnt, look-reads.Asked, look-reads.Learnt, is-name-reads.Asked, is-name-reads.Learnt, below t, set-form.Post, ended-reads.Asked, ended-reads.Learnt)
+claims t = (
+  set-start-reads.Asked,
+  set-start-reads.Learnt,
+  next-reads.Asked,
+  next-reads.Learnt,
+  is-name-reads.Asked,
+  is-name-reads.Learnt,
+  below t,
+  set-form.Post,
+  ended-reads.Asked,
+  ended-reads.Learnt,
+)
 
 -- what is left of the operands, after n of them
 abbrev left : Wanted → ℕ → Forms → Bool
@@ -61,45 +72,68 @@ module _ (t : ℕ) where
       let b = starts (c .set-start .ensures) in
       (omega (arith, b .ahead), b .end, b .row _)
 
-  look-requires : lts.Need-look-requires (claims t) (at-level t) set-form.Post Inv-loop μ-loop
-  look-requires c κs = search needs
+  next-requires : lts.Need-next-requires (claims t) (at-level t) set-form.Post Inv-loop μ-loop
+  next-requires c κs = search needs
 
-  enum-known-item : lts.Need-enum-known-item (claims t) (at-level t) set-form.Post Inv-loop μ-loop
-  enum-known-item c = search needs
+  enum-known-token : lts.Need-enum-known-token (claims t) (at-level t) set-form.Post Inv-loop μ-loop
+  enum-known-token c = search needs
 
   is-name-requires : lts.Need-is-name-requires (claims t) (at-level t) set-form.Post Inv-loop μ-loop
-  is-name-requires c κs = search needs
+  is-name-requires c κs = reads (c .before .before .before .next .ensures) (c .before .token .given .1) .ahead .3
 
   returns : lts.Need-returns (claims t) (at-level t) set-form.Post Inv-loop μ-loop
   returns c =
-      let l = sees (c .before .before .before .before .before .look .ensures) (c .before .before .before .item .given .1) in
-      refuse (sym (c .before .before .before .before .before .before .loop .inv .2) ∙ by-word (left _ _) _ l ∙ word-operand _ _ _ _ _ _ false (l .ahead .2) (sym (not-true _ (c .if1 .taken)) ∙ c .before .is-name .ensures))
+      let token = c .before .before .before in
+      let at-loop = token .before .before .before in
+      let l = reads (token .before .before .next .ensures) (token .token .given .1) in
+      let no-name = sym (not-true _ (c .if1 .taken)) ∙ c .before .is-name .ensures in
+      refuse (sym (at-loop .loop .inv .2) ∙ by-word (left _ _) _ l ∙ word-operand _ _ _ _ _ false no-name)
+
+  add-i : lts.Need-add-i (claims t) (at-level t) set-form.Post Inv-loop μ-loop
+  add-i c =
+      let token = c .before .before .before in
+      let l = reads (token .before .before .next .ensures) (token .token .given .1) in
+      omega (arith, l .ahead .1)
 
   add-count : lts.Need-add-count (claims t) (at-level t) set-form.Post Inv-loop μ-loop
   add-count c =
-      let l = sees (c .before .before .before .before .before .look .ensures) (c .before .before .before .item .given .1) in
-      omega (arith, c .before .before .before .before .before .before .loop .inv .0, l .ahead .0, l .ahead .1)
+      let token = c .before .before .before in
+      let at-loop = token .before .before .before in
+      let l = reads (token .before .before .next .ensures) (token .token .given .1) in
+      omega (arith, at-loop .loop .inv .0, l .ahead .0, l .ahead .1)
 
   loop-less : lts.Need-loop-less (claims t) (at-level t) set-form.Post Inv-loop μ-loop
   loop-less c =
-      let l = sees (c .before .before .before .before .before .look .ensures) (c .before .before .before .item .given .1) in
+      let token = c .before .before .before in
+      let l = reads (token .before .before .next .ensures) (token .token .given .1) in
       omega (arith, l .ahead .0, l .ahead .1)
 
   loop-again : lts.Need-loop-again (claims t) (at-level t) set-form.Post Inv-loop μ-loop
   loop-again c =
-      let l = sees (c .before .before .before .before .before .look .ensures) (c .before .before .before .item .given .1) in (
-        omega (arith, c .before .before .before .before .before .before .loop .inv .0, l .ahead .0),
-        sym (l .end) ∙ c .before .before .before .before .before .before .loop .inv .1,
-        sym (by-word (left _ _) _ l ∙ word-operand _ _ _ _ _ _ true (l .ahead .2) (sym (not-false _ (c .if1 .left)) ∙ c .before .is-name .ensures)) ∙ c .before .before .before .before .before .before .loop .inv .2,
+      let token = c .before .before .before in
+      let at-loop = token .before .before .before in
+      let l = reads (token .before .before .next .ensures) (token .token .given .1) in
+      let named = sym (not-false _ (c .if1 .left)) ∙ c .before .is-name .ensures in (
+        omega (arith, at-loop .loop .inv .0, l .ahead .0),
+        sym (l .end) ∙ at-loop .loop .inv .1,
+        sym (by-word (left _ _) _ l ∙ word-operand _ _ _ _ _ true named) ∙ at-loop .loop .inv .2,
       )
 
-  enum-known-item-2 : lts.Need-enum-known-item-2 (claims t) (at-level t) set-form.Post Inv-loop μ-loop
-  enum-known-item-2 c = search needs
+  enum-known-token-2 : lts.Need-enum-known-token-2 (claims t) (at-level t) set-form.Post Inv-loop μ-loop
+  enum-known-token-2 c = search needs
 
   returns-2 : lts.Need-returns-2 (claims t) (at-level t) set-form.Post Inv-loop μ-loop
   returns-2 c =
-      let l = sees (c .before .before .before .before .look .ensures) (c .before .before .item2 .given .1) in
-      refuse (sym (c .before .before .before .before .before .loop .inv .2) ∙ too-deep (left _ _) _ l (c .if2 .taken) ∙ end-operand _ _)
+      let token = c .before .before in
+      let at-loop = token .before .before .before in
+      let l = reads (token .before .before .next .ensures) (token .token2 .given .1) in
+      refuse (sym (at-loop .loop .inv .2) ∙ too-deep (left _ _) _ l (c .if2 .taken) ∙ end-operand _ _)
+
+  add-set-form : lts.Need-add-set-form (claims t) (at-level t) set-form.Post Inv-loop μ-loop
+  add-set-form c =
+      let token = c .before .before in
+      let l = reads (token .before .before .next .ensures) (token .token2 .given .1) in
+      omega (arith, l .ahead .1)
 
   sub-set-form : lts.Need-sub-set-form (claims t) (at-level t) set-form.Post Inv-loop μ-loop
   sub-set-form c = search needs
@@ -112,23 +146,31 @@ module _ (t : ℕ) where
 
   add-count-2 : lts.Need-add-count-2 (claims t) (at-level t) set-form.Post Inv-loop μ-loop
   add-count-2 c =
-      let l = sees (c .before .before .before .before .before .before .before .before .look .ensures) (c .before .before .before .before .before .before .item2 .given .1) in
-      let g = told (c .before .before .before .set-form .ensures) (c .before .operand .given .1) in
-      omega (arith, c .before .before .before .before .before .before .before .before .before .loop .inv .0, l .ahead .0, g .less, g .fits)
+      let called = c .before .before .before in
+      let token = called .before .before .before in
+      let at-loop = token .before .before .before in
+      let l = reads (token .before .before .next .ensures) (token .token2 .given .1) in
+      let g = told (called .set-form .ensures) (c .before .operand .given .1) in
+      omega (arith, at-loop .loop .inv .0, l .ahead .0, g .less, g .fits)
 
   loop-less-2 : lts.Need-loop-less-2 (claims t) (at-level t) set-form.Post Inv-loop μ-loop
   loop-less-2 c =
-      let l = sees (c .before .before .before .before .before .before .before .before .look .ensures) (c .before .before .before .before .before .before .item2 .given .1) in
-      let g = told (c .before .before .before .set-form .ensures) (c .before .operand .given .1) in
+      let called = c .before .before .before in
+      let token = called .before .before .before in
+      let l = reads (token .before .before .next .ensures) (token .token2 .given .1) in
+      let g = told (called .set-form .ensures) (c .before .operand .given .1) in
       omega (arith, l .ahead .0, g .less, g .fits)
 
   loop-again-2 : lts.Need-loop-again-2 (claims t) (at-level t) set-form.Post Inv-loop μ-loop
   loop-again-2 c =
-      let l = sees (c .before .before .before .before .before .before .before .before .look .ensures) (c .before .before .before .before .before .before .item2 .given .1) in
-      let g = told (c .before .before .before .set-form .ensures) (c .before .operand .given .1) in (
-        omega (arith, c .before .before .before .before .before .before .before .before .before .loop .inv .0, l .ahead .0, g .less),
-        sym (beyond _ l (g .end)) ∙ c .before .before .before .before .before .before .before .before .before .loop .inv .1,
-        sym (by-part (left _ _) _ _ l (g .end) (c .before .before .before .before .if2 .left) ∙ part-operand _ _ _ _ _ true (g .good)) ∙ c .before .before .before .before .before .before .before .before .before .loop .inv .2,
+      let called = c .before .before .before in
+      let token = called .before .before .before in
+      let at-loop = token .before .before .before in
+      let l = reads (token .before .before .next .ensures) (token .token2 .given .1) in
+      let g = told (called .set-form .ensures) (c .before .operand .given .1) in (
+        omega (arith, at-loop .loop .inv .0, l .ahead .0, g .less),
+        sym (beyond _ l (g .end)) ∙ at-loop .loop .inv .1,
+        sym (by-part (left _ _) _ _ l (g .end) (called .before .if2 .left) ∙ part-operand _ _ _ _ _ true (g .good)) ∙ at-loop .loop .inv .2,
       )
 
   enum-told : lts.Need-enum-told (claims t) (at-level t) set-form.Post Inv-loop μ-loop
@@ -136,26 +178,40 @@ module _ (t : ℕ) where
 
   returns-3 : lts.Need-returns-3 (claims t) (at-level t) set-form.Post Inv-loop μ-loop
   returns-3 c =
-      let l = sees (c .before .before .before .before .before .before .before .look .ensures) (c .before .before .before .before .before .item2 .given .1) in
-      refuse (sym (c .before .before .before .before .before .before .before .before .loop .inv .2) ∙ by-part (left _ _) _ _ l refl (c .before .before .before .if2 .left) ∙ part-operand _ _ _ _ _ false (told (c .before .before .set-form .ensures) (c .enum-told .given .1)))
+      let called = c .before .before in
+      let token = called .before .before .before in
+      let at-loop = token .before .before .before in
+      let l = reads (token .before .before .next .ensures) (token .token2 .given .1) in
+      let bad = told (called .set-form .ensures) (c .enum-told .given .1) in
+      refuse (sym (at-loop .loop .inv .2) ∙ by-part (left _ _) _ _ l refl (called .before .if2 .left) ∙ part-operand _ _ _ _ _ false bad)
 
-  enum-known-item-3 : lts.Need-enum-known-item-3 (claims t) (at-level t) set-form.Post Inv-loop μ-loop
-  enum-known-item-3 c = search needs
+  enum-known-token-3 : lts.Need-enum-known-token-3 (claims t) (at-level t) set-form.Post Inv-loop μ-loop
+  enum-known-token-3 c = search needs
+
+  add-ended : lts.Need-add-ended (claims t) (at-level t) set-form.Post Inv-loop μ-loop
+  add-ended c =
+      omega (arith, reads (c .before .before .before .next .ensures) (c .before .token3 .given .1) .ahead .1)
 
   ended-requires : lts.Need-ended-requires (claims t) (at-level t) set-form.Post Inv-loop μ-loop
   ended-requires c κs = search needs
 
   returns-4 : lts.Need-returns-4 (claims t) (at-level t) set-form.Post Inv-loop μ-loop
   returns-4 c =
-      let l = sees (c .before .before .before .before .look .ensures) (c .before .before .item3 .given .1) in
-      at-close _ _ (c .ended .ensures) (sym (c .before .before .before .before .before .loop .inv .2) ∙ by-close (left _ _) _ l ∙ close-operand _ _) (sym (c .before .before .before .before .before .loop .inv .1) ∙ l .end) (omega (arith, c .before .before .before .before .before .loop .inv .0, l .ahead .0)) (l .ahead .1)
+      let token = c .before .before in
+      let at-loop = token .before .before .before in
+      let l = reads (token .before .before .next .ensures) (token .token3 .given .1) in
+      at-close _ _ (c .ended .ensures)
+      (sym (at-loop .loop .inv .2) ∙ by-close (left _ _) _ l ∙ close-operand _ _)
+      (sym (at-loop .loop .inv .1) ∙ l .end)
+      (omega (arith, at-loop .loop .inv .0, l .ahead .0))
+      (l .ahead .1)
 
   enum-told-2 : lts.Need-enum-told-2 (claims t) (at-level t) set-form.Post Inv-loop μ-loop
   enum-told-2 c = search needs
 
   returns-5 : lts.Need-returns-5 (claims t) (at-level t) set-form.Post Inv-loop μ-loop
   returns-5 c =
-      let l = sees (c .before .before .look .ensures) (c .enum-told2 .given .1) in
+      let l = reads (c .before .before .next .ensures) (c .enum-told2 .given .1) in
       refuse (sym (c .before .before .before .loop .inv .2) ∙ by-end (left _ _) _ l ∙ end-operand _ _)
 
 pub +set-form-spec : {M : Type 1} → statement M
@@ -164,15 +220,17 @@ pub +set-form-spec : {M : Type 1} → statement M
     (λ t. lts.spec (claims t) (at-level t) set-form.Post Inv-loop μ-loop
     (set-start-requires t)
     (loop-holds t)
-    (look-requires t)
-    (enum-known-item t)
+    (next-requires t)
+    (enum-known-token t)
     (is-name-requires t)
     (returns t)
+    (add-i t)
     (add-count t)
     (loop-less t)
     (loop-again t)
-    (enum-known-item-2 t)
+    (enum-known-token-2 t)
     (returns-2 t)
+    (add-set-form t)
     (sub-set-form t)
     (set-form-requires t)
     (enum-known-operand t)
@@ -181,7 +239,8 @@ pub +set-form-spec : {M : Type 1} → statement M
     (loop-again-2 t)
     (enum-told t)
     (returns-3 t)
-    (enum-known-item-3 t)
+    (enum-known-token-3 t)
+    (add-ended t)
     (ended-requires t)
     (returns-4 t)
     (enum-told-2 t)

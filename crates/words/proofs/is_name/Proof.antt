@@ -1,26 +1,96 @@
--- `words::is_name` meets its contract: the reserved words have the numbers 1 to 23. Assumes nothing.
-use mathlib.Core.Path.{_≡_, refl}
-use mathlib.Core.Bool.{not, _||_}
-use Prim.Native.Nat.{ℕ}
+-- `words::is_name` meets its contract: a word without dots is its only part, and one with dots is no part. Assumes nothing.
+use mathlib.Core.Path.{_≡_, sym, ap, _∙_}
+use mathlib.Core.Bool.{Bool, true, false, not}
+use mathlib.Core.List.{List}
+use Prim.Native.Nat.{ℕ, _+_, _-_}
 use native.Mathlib.Omega.{arith}
-use borrow.Author.Tests.{eq-eqb, ne-eqb, lt-ltb}
-use lib.Dec.{eqb, ltb}
-use Rattle.policy.specs.Basics.{same, any, isIn}
-use Rattle.policy.specs.Words.{reserved, isReserved}
-use Rattle.words.specs.Numbers.{keywords, words, wordOf}
-use Rattle.words.proofs.Meaning.{agreeing, agree}
+use borrow.Author.Needs.{needs}
+use denote.Ref.{now}
+use lib.ListN.{take, drop}
+use Rattle.policy.specs.Basics.{Name, isIn}
+use Rattle.policy.specs.Words.{reserved, isReserved, dotless}
+use Rattle.words.specs.Numbers.{mayBe}
+use Rattle.words.specs.declared.NameKind.{NameKind}
+use Rattle.words.proofs.Dots.{reserved-alone}
 use Rattle.words.proofs.is_name.Statement.{statement}
 use Rattle.words.proofs.is_name.Tie as tie
 
-numbers : (n : ℕ) → eqb n 0 || ltb 23 n ≡ not (isReserved (wordOf n))
-unfolding same any isIn reserved isReserved keywords words agreeing
-numbers n = agree (λ w. not (isReserved w)) (λ n. eqb n 0 || ltb 23 n) refl (λ n h. rw (ne-eqb n 0 (λ z. omega arith), lt-ltb 23 n (omega arith))) n
+-- a word without dots may be a name of either kind if it is not reserved
+alone : (k : NameKind) (w : Name) (r : Bool) → dotless w ≡ true → r ≡ isIn w reserved → not r ≡ mayBe k w
+alone NameKind.Name w r d e = ap not (e ∙ sym (reserved-alone w d))
+alone NameKind.Part w r d e = rw d (ap not (e ∙ sym (reserved-alone w d)))
+
+-- one with dots, if it has no reserved part and may have parts
+dotted : (k : NameKind) (w : Name) (r : Bool) → k ≡ NameKind.Name → r ≡ isReserved w → not r ≡ mayBe k w
+dotted k w r n e = rw n (ap not e)
+
+no-part : (k : NameKind) (w : Name) → k ≡ NameKind.Part → dotless w ≡ false → false ≡ mayBe k w
+no-part k w n d = rw (n, d)
+
+-- the bytes that are lent
+lent : (k : NameKind) (t : List ℕ) (start len : ℕ) → mayBe k (take ((start + len) - start) (drop start t)) ≡ mayBe k (take len (drop start t))
+lent k t start len =
+    let e : (start + len) - start ≡ len = omega arith in
+    ap (λ (n : ℕ). mayBe k (take n (drop start t))) e
+
+add-end : tie.Need-add-end
+add-end c = search needs
+
+sub-w : tie.Need-sub-w
+sub-w c = search needs
+
+part-w-start : tie.Need-part-w-start
+part-w-start c = search needs
+
+part-w-end : tie.Need-part-w-end
+part-w-end c = search needs
+
+is-dotless-requires : tie.Need-is-dotless-requires
+is-dotless-requires c κs = search needs
+
+is-reserved-word-requires : tie.Need-is-reserved-word-requires
+is-reserved-word-requires c κs = search needs
 
 returns : tie.Need-returns
-returns c = rw (eq-eqb _ _ (c .if1 .taken)) at (numbers (c .before .args .number))
+returns c =
+    let dots = c .before .before in
+    let a = dots .before .before .before .args in
+    alone (a .kind) _ _ (sym (dots .is-dotless .ensures) ∙ c .before .if1 .taken) (c .is-reserved-word .ensures) ∙ lent (a .kind) (now (a .text)) (a .start) (a .len)
+
+enum-told : tie.Need-enum-told
+enum-told c = search needs
+
+has-reserved-part-requires : tie.Need-has-reserved-part-requires
+has-reserved-part-requires c κs = search needs
+
+enum-told-2 : tie.Need-enum-told-2
+enum-told-2 c = search needs
 
 returns-2 : tie.Need-returns-2
-returns-2 c = rw (ne-eqb _ _ (c .if1 .left)) at (numbers (c .before .args .number))
+returns-2 c =
+    let a = c .before .before .before .before .before .before .before .args in
+    dotted (a .kind) _ _ (c .before .enum-told .given .1) (c .has-reserved-part .ensures) ∙ lent (a .kind) (now (a .text)) (a .start) (a .len)
+
+returns-3 : tie.Need-returns-3
+returns-3 c =
+    let dots = c .before .before .before in
+    let a = dots .before .before .before .args in
+    no-part (a .kind) _ (c .enum-told2 .given .1) (sym (dots .is-dotless .ensures) ∙ c .before .before .if1 .left)
+    ∙ lent (a .kind) (now (a .text)) (a .start) (a .len)
 
 pub is-name-spec : {M : Type 1} → statement M
-is-name-spec = tie.close (tie.spec returns returns-2)
+is-name-spec =
+    tie.close
+    (tie.spec
+    add-end
+    sub-w
+    part-w-start
+    part-w-end
+    is-dotless-requires
+    is-reserved-word-requires
+    returns
+    enum-told
+    has-reserved-part-requires
+    enum-told-2
+    returns-2
+    returns-3)

@@ -14,7 +14,11 @@ returns-2 c = rw (c .match .keys2)
 
 returns-3 : tie.Need-returns-3
 unfolding computing
-returns-3 c = let r = c .match .rest in rw (ne-eqb _ _ (r .0 .1), ne-eqb _ _ (r .1))
+returns-3 c = rw (c .match .keys3)
+
+returns-4 : tie.Need-returns-4
+unfolding computing
+returns-4 c = let r = c .match .rest in rw (ne-eqb _ _ (r .0 .0 .1), ne-eqb _ _ (r .0 .1), ne-eqb _ _ (r .1))
 
 pub of-five-spec : {M : Type 1} → statement M
 of-five-spec =
@@ -22,4 +26,5 @@ of-five-spec =
     (tie.spec
     returns
     returns-2
-    returns-3)
+    returns-3
+    returns-4)

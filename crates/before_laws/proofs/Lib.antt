@@ -1,0 +1,6 @@
+pub mod Dotless
+pub mod PlainWords
+pub mod ReadBefore
+pub mod ResolvedAlike
+pub mod ScanBefore
+pub mod WrittenNames

@@ -1,0 +1,112 @@
+-- Document 01's reading of a text, as it was before W-203, and what it is to say that a text is read as before: a text without dots and blocks is.
+-- Assumes nothing.
+use Prim.Native.Nat.{ℕ, _+_}
+use mathlib.Core.Path.{_≡_}
+use mathlib.Core.Bool.{Bool, true, false, not, _&&_, cond}
+use mathlib.Core.List.{List, [], _∷_, _++_}
+use mathlib.Core.Option.{Option, none, some}
+use lib.Dec.{eqb, ltb}
+use lib.ListN.{length}
+use Rattle.lexer.specs.Class.{classOf, goesOn, maxName}
+use Rattle.lexer.specs.Scan.{maxText, Mode, between, inComment, inName, State, going, stopped, commentThen, stepBetween}
+use Rattle.lexer.specs.Forms.{Forms, closed, ended, word, part, formsOf}
+use Rattle.lexer.specs.declared.ByteClass.{ByteClass}
+use Rattle.lexer.specs.declared.ByteClass.the-variants.{Blank, LineFeed, Comment, Open, Close, Letter, Digit, Dot, Wrong}
+use Rattle.lexer.specs.declared.Scanned.{Scanned}
+use Rattle.policy.specs.Basics.{Name, isIn, indexOf}
+use Rattle.policy.specs.Words.{reserved, isReserved, dotless, asName, asPart}
+use Rattle.policy.specs.Statements.{Declaration, Policy, classNames, permissions, declarations}
+use Rattle.policy.specs.Statements.{Written, Statement, declare, attributeset, gives, roletransition, constrain}
+use Rattle.policy.specs.Names.{Environment, firstFrom}
+use Rattle.policy.specs.Grammar.{written, isBlock}
+use Rattle.policy.specs.Reading as today
+use Rattle.policy.specs.Reading.{again, resolved, hasRoom, shallow, Judged, reads, opens, fault, Read, policy, refused, afterScan, readPolicy}
+
+-- ---- the scan: a dot is a wrong byte, and a name is at most 64 bytes that go on
+
+abbrev pub classBefore : ByteClass → ByteClass
+classBefore Blank = Blank
+classBefore LineFeed = LineFeed
+classBefore Comment = Comment
+classBefore Open = Open
+classBefore Close = Close
+classBefore Letter = Letter
+classBefore Digit = Digit
+classBefore Dot = Wrong
+classBefore Wrong = Wrong
+
+abbrev pub stepName : ℕ → ℕ → ℕ → ℕ → ByteClass → State
+stepName first len level at k =
+    cond (goesOn k) (cond (ltb len maxName) (going (inName first (len + 1)) level) (stopped first)) (stepBetween level at k)
+
+abbrev pub step : Mode → ℕ → ℕ → ByteClass → State
+step between level at k = stepBetween level at k
+step inComment level at k = going (commentThen k) level
+step (inName first len) level at k = stepName first len level at k
+
+unfoldable pub scanFrom : List ℕ → State → ℕ → Scanned
+scanFrom [] (stopped place) at = Scanned.Wrong place
+scanFrom [] (going mode level) at = cond (eqb level 0) Scanned.Clean (Scanned.Wrong at)
+scanFrom (b ∷ bs) (stopped place) at = Scanned.Wrong place
+scanFrom (b ∷ bs) (going mode level) at = scanFrom bs (step mode level at (classBefore (classOf b))) (at + 1)
+
+unfoldable pub scan : List ℕ → Scanned
+scan text = cond (ltb maxText (length text)) Scanned.TooLong (scanFrom text (going between 0) 0)
+
+-- ---- the reading: a row of statements, and a name is looked up as it is written
+
+unfoldable pub environmentOf : List Declaration → Environment
+environmentOf ds = record {
+  find = λ f w. firstFrom [] ds f w;
+  class = λ w. indexOf w (classNames ds);
+  permission = λ c w. indexOf w (permissions ds c);
+}
+
+-- "one of the other maxima passed": a full name is what is written, and the scan has seen to its length
+abbrev pub fits : Policy → Statement → Bool
+fits p (declare d) = hasRoom (declarations p) d
+fits p (attributeset f a s) = today.fits p (attributeset f a s)
+fits p (gives r x y) = today.fits p (gives r x y)
+fits p (roletransition r t c n) = today.fits p (roletransition r t c n)
+fits p (constrain c ps e) = today.fits p (constrain c ps e)
+
+abbrev pub resolving : Policy → Option Statement → Judged
+resolving p none = fault 5
+resolving p (some s) = cond (fits p s) (cond (shallow s) (reads s) (fault 7)) (fault 6)
+
+-- the forms of statements are those of today: on words without dots they ask what document 01 asks (`words` below)
+abbrev pub naming : Policy → Option Written → Judged
+naming p none = fault 3
+naming p (some w) = elim (again (declarations p) w) [
+  | true ↦ fault 4
+  | false ↦ resolving p (resolved (environmentOf (declarations p)) w)
+]
+
+unfoldable pub readFrom : Forms → Policy → Read
+readFrom closed p = policy p
+readFrom ended p = policy p
+readFrom (word at w after) p = readFrom after p
+readFrom (part at inner after) p = elim (naming p (written inner)) [
+  | reads s ↦ readFrom after (p ++ (record { place = at; says = s } ∷ []))
+  | opens ↦ readFrom after p
+  | fault n ↦ refused n at
+]
+
+unfoldable pub readBefore : List ℕ → Read
+readBefore text = afterScan (scan text) (readFrom (formsOf text) [])
+
+-- ---- texts without dots and blocks
+
+-- no statement of the text starts with the word `block`
+unfoldable pub blockless : Forms → Bool
+blockless closed = true
+blockless ended = true
+blockless (word at w after) = blockless after
+blockless (part at inner after) = not (isBlock inner) && blockless after
+
+-- W-203 changes nothing for them
+pub record AsBefore : Type 0 where
+  -- which words are reserved, and which may be declared
+  pub words : (w : Name) → dotless w ≡ true → (isReserved w ≡ isIn w reserved) × (asPart w ≡ asName w)
+  -- what is read of the text, or its refusal
+  pub reads : (text : List ℕ) → dotless text ≡ true → blockless (formsOf text) ≡ true → readPolicy text ≡ readBefore text

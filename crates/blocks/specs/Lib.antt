@@ -1,0 +1,3 @@
+pub mod Opened
+pub mod Names
+pub mod Worked

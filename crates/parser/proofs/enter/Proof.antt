@@ -1,0 +1,36 @@
+-- `parser::enter` meets its contract. Assumes nothing.
+use mathlib.Core.Path.{_≡_, sym, ap}
+use native.Mathlib.Omega.{arith}
+use borrow.Author.Needs.{needs}
+use Rattle.parser.proofs.Entering.{no-header, answerOf, inside-text, entered}
+use Rattle.parser.proofs.enter.Statement.{statement}
+use Rattle.parser.proofs.enter.Tie as tie
+
+returns : tie.Need-returns
+returns c = no-header (c .before .before .block-form .ensures) (c .enum-told .given .1)
+
+add-t17 : tie.Need-add-t17
+add-t17 c = omega (arith, inside-text (c .before .before .before .before .before .before .before .before .before .before .block-form .ensures) (c .before .before .before .before .before .before .before .before .header .given .1))
+
+returns-2 : tie.Need-returns-2
+returns-2 c =
+    entered (c .before .before .before .before .before .before .before .before .before .before .block-form .ensures) (c .before .before .before .before .before .before .before .before .header .given .1) (c .before .before .before .open-block .ensures) _ (ap (answerOf _) (sym (c .before .opened .given .1)))
+
+returns-3 : tie.Need-returns-3
+returns-3 c =
+    entered (c .before .before .before .before .before .before .before .before .before .before .block-form .ensures) (c .before .before .before .before .before .before .before .before .header .given .1) (c .before .before .before .open-block .ensures) _ (ap (answerOf _) (sym (c .before .opened2 .given .1)))
+
+pub enter-spec : {M : Type 1} → statement M
+enter-spec =
+    tie.close
+    (tie.spec
+    (λ c κs. search needs)
+    (λ c. search needs)
+    (λ c. search needs)
+    returns
+    (λ c κs. search needs)
+    (λ c. search needs)
+    add-t17
+    (λ c. search needs)
+    returns-2
+    returns-3)

@@ -1,0 +1,50 @@
+-- `parser::read` meets its contract: the form is judged first, and a statement of good form is read by one step. Assumes nothing.
+use mathlib.Core.Path.{_≡_, sym, ap, subst, _∙_}
+use mathlib.Core.Bool.{not, false≢true}
+use native.Mathlib.Omega.{arith}
+use borrow.Author.Needs.{needs}
+use Rattle.parser.proofs.Turning.{roomy}
+use Rattle.parser.proofs.Stating.{formless, answerOf, stated}
+use Rattle.parser.proofs.read.Statement.{statement}
+use Rattle.parser.proofs.read.Tie as tie
+
+-- the lent memory is as long as its types say
+returns : tie.Need-returns
+returns c =
+    let room = c .before .has-room .ensures
+    ∙ roomy (c .before .before .before .before .before .before .has-room-arg2 .given .0) (c .before .before .before .before .has-room-arg4 .given .0) (c .before .before .has-room-arg6 .given .0) in
+    absurd (false≢true (sym (ap not room) ∙ c .if1 .taken))
+
+returns-2 : tie.Need-returns-2
+returns-2 c = λ at e. formless (c .before .before .statement-form .ensures at e) (c .enum-told .given .1)
+
+returns-3 : tie.Need-returns-3
+returns-3 c = λ at e.
+    stated (c .before .before .before .before .before .before .before .before .before .before .before .before .statement-form .ensures at e) (c .before .before .before .before .before .before .before .before .before .before .form .given .1) (c .before .before .before .before .before .before .before .before .place-unit .ensures)
+    (c .before .before .before .statement .ensures at e)
+    (omega (arith, c .before .before .before .before .before .before .before .before .before .before .before .before .before .before .before .before .before .before .before .has-room-arg2 .given .0)) (omega (arith, c .before .before .before .before .before .before .before .before .before .before .before .before .before .before .before .before .before .has-room-arg4 .given .0)) (omega (arith, c .before .before .before .before .before .before .before .before .before .before .before .before .before .before .before .has-room-arg6 .given .0))
+    _ (ap (answerOf _) (sym (c .before .step .given .1)))
+
+returns-4 : tie.Need-returns-4
+returns-4 c = λ at e.
+    stated (c .before .before .before .before .before .before .before .before .before .before .before .before .statement-form .ensures at e) (c .before .before .before .before .before .before .before .before .before .before .form .given .1) (c .before .before .before .before .before .before .before .before .place-unit .ensures)
+    (c .before .before .before .statement .ensures at e)
+    (omega (arith, c .before .before .before .before .before .before .before .before .before .before .before .before .before .before .before .before .before .before .before .has-room-arg2 .given .0)) (omega (arith, c .before .before .before .before .before .before .before .before .before .before .before .before .before .before .before .before .before .has-room-arg4 .given .0)) (omega (arith, c .before .before .before .before .before .before .before .before .before .before .before .before .before .before .before .has-room-arg6 .given .0))
+    _ (ap (answerOf _) (sym (c .before .step2 .given .1)))
+
+pub read-spec : {M : Type 1} → statement M
+read-spec =
+    tie.close
+    (tie.spec
+    (λ c κs. search needs)
+    returns
+    (λ c κs. search needs)
+    (λ c. search needs)
+    (λ c. search needs)
+    returns-2
+    (λ c κs. search needs)
+    (λ c κs. search needs)
+    (λ c. search needs)
+    (λ c. search needs)
+    returns-3
+    returns-4)

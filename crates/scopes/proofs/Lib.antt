@@ -1,0 +1,11 @@
+pub mod PathLaws
+pub mod GoodParts
+pub mod Dots
+pub mod Unique
+pub mod Memory
+pub mod Open
+pub mod Composed
+pub mod Moving
+pub mod Trying
+pub mod Keeping
+pub mod Bounds

@@ -1,0 +1,96 @@
+-- Blocks opened and closed: what the scope is then. Assumes nothing.
+use mathlib.Core.Path.{_≡_, refl, sym, ap, subst, _∙_}
+use mathlib.Core.Bool.{true, false, false≢true}
+use mathlib.Core.List.{List}
+use Prim.Native.Nat.{ℕ, _+_, _≤_}
+use native.Mathlib.Omega.{arith}
+use lib.ListN.{length, take, set, length-set}
+use borrow.Author.Tests.{le-leb, lt-leb}
+use Rattle.bitset.specs.Parts.{part, put}
+use Rattle.bitset.proofs.PartLaws.{length-part, length-part-le, length-put, part-put-same}
+use Rattle.policy.specs.Basics.{Name, every}
+use Rattle.policy.specs.Names.{full}
+use Rattle.scopes.specs.Path.{scopeOf}
+use Rattle.scopes.specs.Scope.{longIn, scopeIn, InScope, cutAt, ComposedBy, ShortBy, Names, Starts, EntersBlock, LeavesBlock}
+use Rattle.scopes.specs.declared.FullName.{FullName}
+use Rattle.scopes.proofs.PathLaws.{cut-full, front-full, first-part, other-parts, part-more}
+use Rattle.scopes.proofs.Memory.{kept-none, kept-on, kept-set, kept-put, long-set, scope-set, scope-take, scope-none}
+
+-- at the whole-text level
+pub started : (t : List ℕ) → 188713 ≤ length t → Starts t (set t 188648 0)
+unfolding every
+started t room = record {
+  kept = kept-set t 188648 0 (omega arith) (omega arith);
+  starts = record {
+    room = omega (arith, length-set t 188648 0);
+    fits = omega (arith, long-set t 0 room);
+    stands = ap (scopeIn (set t 188648 0)) (long-set t 0 room) ∙ scope-none (set t 188648 0);
+    parts = refl;
+  };
+}
+
+-- a block closed
+module _ (t : List ℕ) (n m : ℕ) (room : 188713 ≤ length t) (short : n ≤ 64) (is : longIn t ≤ 64 → n ≡ longIn t)
+    (cut : m ≡ cutAt (scopeIn t n)) (within : m ≤ n) where
+  pub left : LeavesBlock t (set t 188648 m)
+  left = record {
+    kept = kept-set t 188648 m (omega arith) (omega arith);
+    leaves = λ b path sc.
+        let st : scopeIn t n ≡ full path b = ap (scopeIn t) (is (sc .fits)) ∙ sc .stands in
+        let length-is : m ≡ length (scopeOf path) = cut ∙ ap cutAt st ∙ cut-full path b (first-part b path (sc .parts) .1) in
+        record {
+          room = omega (arith, length-set t 188648 m);
+          fits = omega (arith, long-set t m room);
+          stands = ap (scopeIn (set t 188648 m)) (long-set t m room) ∙ scope-set t m m room ∙ sym (scope-take t n m within) ∙ ap (take m) st
+              ∙ ap (λ (k : ℕ). take k (full path b)) length-is ∙ front-full path b;
+          parts = other-parts b path (sc .parts);
+        };
+  }
+
+-- a block opened: its full name was put together in memory of its own
+module _ (t : List ℕ) (b : Name) (room : 188713 ≤ length t) {z whole : List ℕ} where
+  pub not-entered : {r : FullName} → Names t b z whole r → r ≡ FullName.TooLong → EntersBlock t t b false
+  not-entered h e = record {
+    kept = kept-none t;
+    answers = λ path sc. sym (lt-leb (length (full path b)) 64 (subst (ComposedBy (full path b) whole) e (h .is path sc)));
+    enters = λ path sc p f. absurd (false≢true f);
+    stays = λ e. refl;
+  }
+
+  module _ {r : FullName} (h : Names t b z whole r) (m : ℕ) (e : r ≡ FullName.Long m) (lent : length z ≡ 64) where
+    pub short : m ≤ 64
+    short = subst ShortBy e (h .short)
+
+    pub lent-all : length whole ≡ 64
+    lent-all = h .long ∙ lent
+
+    fits-in : 188649 + length (part whole 0 m) ≤ length t
+    fits-in = omega (arith, length-part-le whole 0 m, short)
+
+    -- the memory with the name behind the length
+    abbrev mid : List ℕ
+    mid = put t 188649 (part whole 0 m)
+
+    room-mid : 188713 ≤ length mid
+    room-mid = omega (arith, length-put t 188649 (part whole 0 m) fits-in)
+
+    scope-mid : scopeIn mid m ≡ part whole 0 m
+    unfolding scopeIn
+    scope-mid =
+        ap (part mid 188649) (sym (length-part whole 0 m (omega (arith, short, lent-all)))) ∙ part-put-same t 188649 (part whole 0 m) fits-in
+
+    composed : (path : List Name) → InScope t path → ComposedBy (full path b) whole (FullName.Long m)
+    composed path sc = subst (ComposedBy (full path b) whole) e (h .is path sc)
+
+    pub entered : {u : List ℕ} → u ≡ mid → EntersBlock t (set u 188648 m) b true
+    entered {u} q = subst (λ (l : List ℕ). EntersBlock t (set l 188648 m) b true) (sym q) (record {
+      kept = kept-on (kept-put t 188649 (part whole 0 m) (omega arith) fits-in) (kept-set mid 188648 m (omega arith) (omega (arith, room-mid)));
+      answers = λ path sc. sym (le-leb (length (full path b)) 64 (omega (arith, composed path sc .1, short)));
+      enters = λ path sc p r. record {
+        room = omega (arith, room-mid, length-set mid 188648 m);
+        fits = omega (arith, long-set mid m room-mid, short);
+        stands = ap (scopeIn (set mid 188648 m)) (long-set mid m room-mid) ∙ scope-set mid m m room-mid ∙ scope-mid ∙ composed path sc .0;
+        parts = part-more b path p (sc .parts);
+      };
+      stays = λ e. absurd (false≢true (sym e));
+    })

@@ -1,0 +1,255 @@
+// Names inside blocks (W-203). The memory of the symbols has, behind the index, the full name of the innermost open block: the scope. What is declared gets that
+// name and a dot in front. A use is tried as a full name in the innermost block, then in the blocks around it, and last at the whole-text level; the first hit of
+// the family decides.
+use name_chains::Tried;
+use symbols::Found;
+ghost use mathlib.Core.Path.{_≡_};
+ghost use mathlib.Core.Bool.{true};
+ghost use Prim.Native.Nat.{_+_, _<_, _≤_};
+ghost use lib.ListN.{length};
+ghost use Rattle.bitset.specs.Parts.{part};
+ghost use Rattle.policy.specs.Names.{hasDotInFront};
+ghost use Rattle.name_chains.specs.Chains.{Tries};
+ghost use Rattle.scopes.specs.Scope.{longIn, scopeIn, cutAt, isMissing, within, InBlock, Composes, Names, TriedOnce, Resolves, Starts, EntersBlock, LeavesBlock};
+ghost use Rattle.scopes.specs.Symbols.{Looks, LooksClass, LooksPermission};
+
+// The memory of the symbols with their index and the scope: a byte for its length, and its bytes.
+pub const SYMBOL_BYTES: usize = name_index::SYMBOL_BYTES + 1 + lexer::Name::MAX;
+
+// Where the length of the scope stands; its bytes follow.
+const SCOPE: usize = name_index::SYMBOL_BYTES;
+
+// The family of the classes.
+const CLASSES: usize = 3;
+
+// A full name that was put together: its length, or that it is longer than a name may be.
+pub enum FullName {
+    Long(usize),
+    TooLong,
+}
+
+// ---- the scope
+
+// The length of the scope.
+fn long_of(symbols: &[u8]) -> usize
+    requires { ⌜ 188713 ≤ length (now symbols) ⌝ }
+    ensures { λ r. ⌜ (r ≤ 64) × (longIn (now (symbols .entry)) ≤ 64 → r ≡ longIn (now (symbols .entry))) ⌝ }
+{
+    let long = symbols[SCOPE] as usize;
+    if lexer::Name::MAX < long {
+        return lexer::Name::MAX;
+    }
+    long
+}
+
+// Where the last dot of the first n bytes of the scope stands, or 0: block names have no dot.
+fn cut(symbols: &[u8], n: usize) -> usize
+    requires { ⌜ (n ≤ 64) × (188713 ≤ length (now symbols)) ⌝ }
+    ensures { λ r. ⌜ (r ≡ cutAt (scopeIn (now (symbols .entry)) n)) × (0 < n → r < n) × (r ≤ n) ⌝ }
+{
+    let mut i = n;
+    while 0 < i {
+        if symbols[SCOPE + i] == b'.' {
+            return i - 1;
+        }
+        i -= 1;
+    }
+    0
+}
+
+// Whether a block is open. What holds no scope is told to have one, so that nothing goes the short way in it.
+pub fn in_block(symbols: &[u8]) -> bool
+    ensures { λ r. ⌜ InBlock (now (symbols .entry)) r ⌝ }
+{
+    if symbols.len() < SYMBOL_BYTES {
+        return true;
+    }
+    symbols[SCOPE] != 0
+}
+
+// No block is open.
+pub fn start(symbols: &mut [u8])
+    requires { ⌜ 188713 ≤ length (now symbols) ⌝ }
+    ensures { λ _. ⌜ Starts (now (symbols .entry)) (now (symbols .exit)) ⌝ }
+{
+    symbols[SCOPE] = 0;
+}
+
+// A name inside the block whose full name is the first n bytes of the scope, put together in lent memory: those bytes, a dot, and the name. With n = 0 it is
+// the name alone.
+fn compose(symbols: &[u8], n: usize, name: &[u8], into: &mut [u8]) -> FullName
+    requires { ⌜ (n ≤ 64) × (188713 ≤ length (now symbols)) × (64 ≤ length (now into)) ⌝ }
+    ensures { λ r. ⌜ Composes (within (scopeIn (now (symbols .entry)) n) (now (name .entry))) (now (into .entry)) (now (into .exit)) r ⌝ }
+{
+    let long = name.len();
+    if n == 0 {
+        if lexer::Name::MAX < long {
+            return FullName::TooLong;
+        }
+        symbols::copy(into, 0, name, 0, long);
+        return FullName::Long(long);
+    }
+    if lexer::Name::MAX - n <= long {
+        return FullName::TooLong;
+    }
+    symbols::copy(into, 0, symbols, SCOPE + 1, n);
+    into[n] = b'.';
+    symbols::copy(into, n + 1, name, 0, long);
+    FullName::Long(n + 1 + long)
+}
+
+// The full name of what is declared under the len bytes of the text from a place on, in the blocks that are open.
+pub fn full_name(symbols: &[u8], text: &[u8], from: usize, len: usize, into: &mut [u8]) -> FullName
+    requires { ⌜ (188713 ≤ length (now symbols)) × (64 ≤ length (now into)) ⌝ }
+    ensures { λ r. ⌜ Names (now (symbols .entry)) (part (now (text .entry)) from len) (now (into .entry)) (now (into .exit)) r ⌝ }
+{
+    compose(
+        symbols,
+        long_of(symbols),
+        bitset::part(text, from, len),
+        into,
+    )
+}
+
+// Opens a block whose name is the len bytes of the text from a place on. Where its full name would be too long, nothing changes, and the answer is no.
+pub fn enter_block(symbols: &mut [u8], text: &[u8], from: usize, len: usize) -> bool
+    requires { ⌜ 188713 ≤ length (now symbols) ⌝ }
+    ensures { λ r. ⌜ EntersBlock (now (symbols .entry)) (now (symbols .exit)) (part (now (text .entry)) from len) r ⌝ }
+{
+    let mut whole = [0u8; lexer::Name::MAX];
+    let named = full_name(symbols, text, from, len, &mut whole);
+    let FullName::Long(long) = named else {
+        return false;
+    };
+    symbols::copy(symbols, SCOPE + 1, &whole, 0, long);
+    symbols[SCOPE] = long as u8;
+    true
+}
+
+// Closes the innermost block.
+pub fn leave_block(symbols: &mut [u8])
+    requires { ⌜ 188713 ≤ length (now symbols) ⌝ }
+    ensures { λ _. ⌜ LeavesBlock (now (symbols .entry)) (now (symbols .exit)) ⌝ }
+{
+    let n = long_of(symbols);
+    let cut_to = cut(symbols, n);
+    symbols[SCOPE] = cut_to as u8;
+}
+
+// ---- uses
+
+// One try: a use inside the block whose full name is the first n bytes of the scope. A longer name than there can be is not looked for.
+fn try_in(symbols: &[u8], n: usize, family: usize, name: &[u8]) -> Tried
+    requires { ⌜ (n ≤ 64) × (188713 ≤ length (now symbols)) ⌝ }
+    ensures { λ r. ⌜ Tries (now (symbols .entry)) family (within (scopeIn (now (symbols .entry)) n) (now (name .entry))) r ⌝ }
+{
+    let mut whole = [0u8; lexer::Name::MAX];
+    let named = compose(symbols, n, name, &mut whole);
+    match named {
+        FullName::Long(long) => name_chains::find(symbols, family, bitset::part(&whole, 0, long)),
+        FullName::TooLong => Tried {
+            found: Found::Missing,
+            compared: 0,
+        },
+    }
+}
+
+// Whether a use has a dot in front.
+fn has_dot(name: &[u8]) -> bool
+    ensures { λ r. ⌜ r ≡ hasDotInFront (now (name .entry)) ⌝ }
+{
+    if name.len() == 0 {
+        return false;
+    }
+    name[0] == b'.'
+}
+
+// Whether nothing was found.
+fn is_missing(found: Found) -> bool
+    ensures { λ r. ⌜ r ≡ isMissing found ⌝ }
+{
+    match found {
+        Found::At { .. } => false,
+        Found::Missing => true,
+    }
+}
+
+// What a use stands for in a family, and how many entries the try that decides compared.
+pub fn find(symbols: &[u8], family: usize, name: &[u8]) -> Tried
+    requires { ⌜ 188713 ≤ length (now symbols) ⌝ }
+    ensures { λ r. ⌜ Resolves (now (symbols .entry)) family (now (name .entry)) r ⌝ }
+{
+    if has_dot(name) {
+        return name_chains::find(symbols, family, bitset::part(name, 1, name.len() - 1));
+    }
+    let mut n = long_of(symbols);
+    while 0 < n {
+        let tried = try_in(symbols, n, family, name);
+        let found = tried.found;
+        if !is_missing(found) {
+            return tried;
+        }
+        n = cut(symbols, n);
+    }
+    name_chains::find(symbols, family, name)
+}
+
+// Whether a use is tried once, as it stands: no block is open, and it has no dot in front.
+fn is_plain(symbols: &[u8], name: &[u8]) -> bool
+    ensures { λ r. ⌜ TriedOnce (now (symbols .entry)) (now (name .entry)) r ⌝ }
+{
+    if in_block(symbols) {
+        return false;
+    }
+    !has_dot(name)
+}
+
+// What a use stands for by all of its tries; memory with no room for a scope has no symbols. The count is not asked.
+fn resolve(symbols: &[u8], family: usize, name: &[u8]) -> Found
+    ensures { λ r. ⌜ Looks (now (symbols .entry)) family (now (name .entry)) r ⌝ }
+{
+    if symbols.len() < SYMBOL_BYTES {
+        return Found::Missing;
+    }
+    let tried = find(symbols, family, name);
+    tried.found
+}
+
+// What the len bytes of the text from a place on stand for, where they are used: a thing or an attribute of a family, or a class. Most uses stand outside of
+// blocks, where one try decides: it is made at once, with no walk outward around it.
+pub fn lookup(symbols: &[u8], family: usize, text: &[u8], from: usize, len: usize) -> Found
+    ensures { λ r. ⌜ Looks (now (symbols .entry)) family (part (now (text .entry)) from len) r ⌝ }
+{
+    let name = bitset::part(text, from, len);
+    if is_plain(symbols, name) {
+        let once = name_chains::find(symbols, family, name);
+        return once.found;
+    }
+    resolve(symbols, family, name)
+}
+
+// The same for a class alone. It makes the one try itself and not by `lookup`, since a try in a family that is known is quicker.
+pub fn lookup_class(symbols: &[u8], text: &[u8], from: usize, len: usize) -> Found
+    ensures { λ r. ⌜ LooksClass (now (symbols .entry)) (part (now (text .entry)) from len) r ⌝ }
+{
+    let name = bitset::part(text, from, len);
+    if is_plain(symbols, name) {
+        let once = name_chains::find(symbols, CLASSES, name);
+        return once.found;
+    }
+    resolve(symbols, CLASSES, name)
+}
+
+// The same for a permission of a class, by the family of its class: permissions take no block's name.
+pub fn lookup_permission(
+    symbols: &[u8],
+    family: usize,
+    text: &[u8],
+    from: usize,
+    len: usize,
+) -> Found
+    ensures { λ r. ⌜ LooksPermission (now (symbols .entry)) family (part (now (text .entry)) from len) r ⌝ }
+{
+    let tried = name_chains::find(symbols, family, bitset::part(text, from, len));
+    tried.found
+}
