@@ -11,7 +11,7 @@ use Rattle.bitset.proofs.PartLaws.{small-part, length-part-le, length-put, part
 use Rattle.policy.specs.Basics.{le, unle}
 use Rattle.symbols.proofs.AppendLaws.{put-sets}
 use Rattle.policy.proofs.AsNumbers.{Small}
-use Rattle.symbols.proofs.PartLaws.{part-none, part-head}
+use Rattle.symbols.proofs.PartLaws.{part-none, part-whole, part-head}
 use Rattle.table_laws.proofs.LittleEndian.{le-length, unle-le}
 use Rattle.name_index.specs.Index.{wordIn, putWord}
 
@@ -34,17 +34,17 @@ module _ (t : List ℕ) (o : ℕ) where
       let none : unle (part t (o + 4) (4 - 4)) ≡ 0 = ap unle (part-none t (o + 4) (4 - 4) refl) in
       from-head 4 (omega arith) l ∙ omega (arith, none)
 
-  pub eight-is : o + 8 ≤ length t → unle (part t o 8) ≡ unle (part t o 4) + 4294967296 * unle (part t (o + 4) 4)
-  eight-is l = from-head 8 (omega arith) (omega arith) ∙ omega (arith, four-is (omega arith))
+  pub four-on : (w : ℕ) → 4 ≤ w → o + 4 ≤ length t → unle (part t o w) ≡ unle (part t o 4) + 4294967296 * unle (part t (o + 4) (w - 4))
+  four-on w h l = from-head w h l ∙ omega (arith, four-is l)
 
--- the turns of `front_of`: the bytes from a place on have been read, and one before them is read too
-pub front-starts : (w : List ℕ) → 0 ≡ unle (drop (length w) w)
+-- the turns of `number_in`: the bytes from a place on have been read, and one before them is read too
+pub number-starts : (w : List ℕ) → 0 ≡ unle (drop (length w) w)
 unfolding unle
-front-starts w = sym (ap unle (drop-of-length-le w {i = length w} (omega arith)))
+number-starts w = sym (ap unle (drop-of-length-le w {i = length w} (omega arith)))
 
-pub front-turn : (w : List ℕ) (left n : ℕ) → 0 < left → left ≤ length w → n ≡ unle (drop left w) → 256 * n + getD w (left - 1) 0 ≡ unle (drop (left - 1) w)
+pub number-turn : (w : List ℕ) (left n : ℕ) → 0 < left → left ≤ length w → n ≡ unle (drop left w) → 256 * n + getD w (left - 1) 0 ≡ unle (drop (left - 1) w)
 unfolding unle
-front-turn w left n some h e =
+number-turn w left n some h e =
     let next : suc (left - 1) ≡ left = omega arith in
     let is : unle (drop (left - 1) w) ≡ getD w (left - 1) 0 + 256 * unle (drop (suc (left - 1)) w) = ap unle (drop-cons w (left - 1) 0 (omega arith)) in
     let rest : unle (drop (suc (left - 1)) w) ≡ n = ap (λ (i : ℕ). unle (drop i w)) next ∙ sym e in
@@ -61,18 +61,32 @@ unle-fits zero (b ∷ w) s h = absurd (omega arith)
 unle-fits (suc n) [] s h = omega (arith, unle-fits n [] s (omega arith))
 unle-fits (suc n) (b ∷ w) s h = omega (arith, s 0, unle-fits n w (λ i. s (suc i)) (omega arith))
 
--- so the front does at each turn, and in the end it is that of the name
-pub front-fits : (v w : List ℕ) (left n : ℕ) → w ≡ part v 0 8 → Small v → 0 < left → left ≤ length w → n ≡ unle (drop left w)
+-- so the number does at each turn, and in the end it is that of all bytes
+pub number-fits : (w : List ℕ) (left n : ℕ) → Small w → length w ≤ 8 → 0 < left → left ≤ length w → n ≡ unle (drop left w)
     → 256 * n + getD w (left - 1) 0 < 18446744073709551616
-front-fits v w left n i s some h e =
-    let small : Small w = subst Small (sym i) (small-part v 0 8 s) in
-    let short : length w ≤ 8 = subst (λ (l : List ℕ). length l ≤ 8) (sym i) (length-part-le v 0 8) in
-    let next = front-turn w left n some h e in
-    omega (arith, next, unle-fits 8 (drop (left - 1) w) (small-drop w (left - 1) small) (omega (arith, length-drop (left - 1) w, short)))
+number-fits w left n s short some h e =
+    let next = number-turn w left n some h e in
+    omega (arith, next, unle-fits 8 (drop (left - 1) w) (small-drop w (left - 1) s) (omega (arith, length-drop (left - 1) w, short)))
 
-pub front-ends : (v w : List ℕ) (left n : ℕ) → w ≡ part v 0 8 → left ≤ 0 → n ≡ unle (drop left w) → n ≡ unle (take 8 v)
-unfolding part
-front-ends v w left n i z e = let none : left ≡ 0 = omega arith in e ∙ ap (λ (k : ℕ). unle (drop k w)) none ∙ ap unle i
+pub number-ends : (w : List ℕ) (left n : ℕ) → left ≤ 0 → n ≡ unle (drop left w) → n ≡ unle w
+number-ends w left n z e = let none : left ≡ 0 = omega arith in e ∙ ap (λ (k : ℕ). unle (drop k w)) none
+
+-- the front of a name v, whose first eight bytes are w: the number of w, or of its first four and of the at most four behind them
+module _ (v w : List ℕ) (i : w ≡ part v 0 8) where
+  pub front-short : length w ≤ 8
+  front-short = subst (λ (l : List ℕ). length l ≤ 8) (sym i) (length-part-le v 0 8)
+
+  pub front-is : unle w ≡ unle (take 8 v)
+  unfolding part
+  front-is = ap unle i
+
+  pub front-joins : 4 ≤ length w → unle (part w 0 4) + 4294967296 * unle (part w 4 (length w - 4)) ≡ unle (take 8 v)
+  front-joins h = sym (four-on w 0 (length w) h h) ∙ ap unle (part-whole w) ∙ front-is
+
+  pub front-rest-fits : Small v → unle (part w 4 (length w - 4)) < 4294967296
+  front-rest-fits s =
+      let small : Small w = subst Small (sym i) (small-part v 0 8 s) in
+      unle-fits 4 (part w 4 (length w - 4)) (small-part w 4 (length w - 4) small) (omega (arith, length-part-le w 4 (length w - 4), front-short))
 
 -- ---- a store
 

@@ -54,8 +54,25 @@ fn four(bytes: &[u8], at: usize) -> usize
         + 256 * (wide(bytes[at + 1]) + 256 * (wide(bytes[at + 2]) + 256 * wide(bytes[at + 3])))
 }
 
+// How many bytes `four` reads.
+const FOUR: usize = 4;
+
 // What a number is multiplied by if its bytes stand behind four others.
 const FOUR_ON: usize = 4_294_967_296;
+
+// The bytes, at most eight, as one number, the lowest first.
+fn number_in(bytes: &[u8]) -> usize
+    requires { ⌜ length (now bytes) ≤ 8 ⌝ }
+    ensures { λ r. ⌜ r ≡ unle (now (bytes .entry)) ⌝ }
+{
+    let mut left = bytes.len();
+    let mut n: usize = 0;
+    while 0 < left {
+        left -= 1;
+        n = 256 * n + wide(bytes[left]);
+    }
+    n
+}
 
 // The number in a word of the index.
 pub fn word(symbols: &[u8], k: usize) -> usize
@@ -63,7 +80,7 @@ pub fn word(symbols: &[u8], k: usize) -> usize
     ensures { λ r. ⌜ r ≡ wordIn (now (symbols .entry)) k ⌝ }
 {
     let at = symbols::NAME_BYTES + WORD_BYTES * k;
-    four(symbols, at) + FOUR_ON * four(symbols, at + 4)
+    four(symbols, at) + FOUR_ON * four(symbols, at + FOUR)
 }
 
 // Puts a number into a word of the index.
@@ -185,13 +202,10 @@ pub fn front_of(name: &[u8]) -> usize
     ensures { λ r. ⌜ r ≡ frontOf (now (name .entry)) ⌝ }
 {
     let first = bitset::part(name, 0, FRONT);
-    let mut left = first.len();
-    let mut front: usize = 0;
-    while 0 < left {
-        left -= 1;
-        front = 256 * front + wide(first[left]);
+    if first.len() < FOUR {
+        return number_in(first);
     }
-    front
+    four(first, 0) + FOUR_ON * number_in(&first[FOUR..])
 }
 
 // ---- an entry more

@@ -1,24 +1,23 @@
 -- The header of a block: its form is judged first, then its name. Assumes nothing.
-use Prim.Native.Nat.{ℕ, _+_, _≤_, _<_}
-use native.Mathlib.Omega.{arith}
+use Prim.Native.Nat.{ℕ, _+_, _≤_}
 use mathlib.Core.Path.{_≡_, refl, sym, ap, ap₂, subst, _∙_}
 use mathlib.Core.Bool.{true}
-use mathlib.Core.List.{List, [], _∷_, _++_}
-use mathlib.Core.Option.{Option, none, some}
+use mathlib.Core.List.{List}
+use mathlib.Core.Option.{Option, some}
 use lib.ListN.{length, take, drop}
 use Rattle.bitset.specs.Parts.{part}
 use Rattle.lexer.specs.Class.{isName}
-use Rattle.lexer.specs.Forms.{Forms, word, Frames, framesAt, namesGood}
+use Rattle.lexer.specs.Forms.{Forms, word, framesAt, namesGood}
 use Rattle.policy.specs.Basics.{Name}
 use Rattle.policy.specs.Grammar.{headerIn}
 use Rattle.policy.specs.Reading.{Judged, reads, opens, fault, opening}
 use Rattle.policy.specs.Sound.{isGoodPart}
 use Rattle.policy.proofs.Lists.{both-true}
 use Rattle.reading_laws.proofs.FullNames.{part-good}
-use Rattle.reading_laws.proofs.Resuming.{header-name}
+use Rattle.parser.proofs.Resuming.{header-name}
 use Rattle.grammar.specs.Shapes.{HeaderBy, HeaderIs}
 use Rattle.grammar.specs.declared.Header.{Header}
-use Rattle.block_reader.specs.Within.{Within, OneMore, OpensBy, OpensBlock}
+use Rattle.block_reader.specs.Within.{OneMore, OpensBy, OpensBlock}
 use Rattle.block_reader.specs.declared.Open.{Open}
 use Rattle.block_reader.specs.declared.Opened.{Opened}
 use Rattle.parser.specs.Parts.{Inside, EnteredBy, EnteredAhead, Enters}

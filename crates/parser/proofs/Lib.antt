@@ -1,3 +1,5 @@
+pub mod Resuming
 pub mod Turning
+pub mod Running
 pub mod Stating
 pub mod Entering

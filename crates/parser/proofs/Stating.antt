@@ -16,8 +16,8 @@ use Rattle.items.specs.Looks.{rowEnd}
 use Rattle.items.specs.Reads as items
 use Rattle.items.specs.Reads.{isSome}
 use Rattle.items.specs.declared.Parsed as form
-use Rattle.statement_reader.specs.Memory.{Memory, Holds}
-use Rattle.statement_reader.specs.Steps.{Stepped, RowIs, Room, StepsAt}
+use Rattle.statement_reader.specs.Memory.{Memory}
+use Rattle.statement_reader.specs.Steps.{Stepped, StepsAt}
 use Rattle.statement_reader.specs.declared.Progress.{Progress}
 use Rattle.statement_reader.specs.declared.Step.{Step}
 use Rattle.statement_reader.proofs.Filling.{now-long}

@@ -1,6 +1,6 @@
 -- The way through the parts of a text: what was read so far and what is left, of the row at hand and of the rows around it, give what the whole text gives.
 -- Assumes nothing.
-use Prim.Native.Nat.{ℕ, suc, _+_, _-_, _*_, _≤_, _<_}
+use Prim.Native.Nat.{ℕ, _+_, _-_, _≤_, _<_}
 use native.Mathlib.Omega.{arith}
 use mathlib.Core.Path.{_≡_, refl, sym, ap, subst, _∙_}
 use mathlib.Core.Bool.{Bool, true, false, _&&_, cond, false≢true}
@@ -13,10 +13,10 @@ use lib.ListN.{length, take, drop, replicate, length-drop}
 use lib.Seq.{length-take-le}
 use Rattle.lexer.specs.declared.Scanned.{Scanned}
 use Rattle.lexer.specs.declared.Token.{Token}
-use Rattle.lexer.specs.Scan.{scan, maxText, maxLevel}
+use Rattle.lexer.specs.Scan.{scan}
 use Rattle.lexer.specs.Class.{isName}
 use Rattle.lexer.specs.Token.{tokenAt}
-use Rattle.lexer.specs.Forms.{Forms, closed, ended, word, part, Frames, head, tail, out, framesAt, formsOf, trim, closes, balanced, namesGood}
+use Rattle.lexer.specs.Forms.{Forms, closed, ended, word, part, Frames, head, tail, out, framesAt, formsOf, closes, balanced, namesGood}
 use Rattle.lexer.proofs.Clean.{clean-short, clean-balanced, clean-uncut, clean-names}
 use Rattle.lexer.proofs.Seen as seen-token
 use Rattle.lexer.proofs.Seen.{token-ahead}
@@ -28,25 +28,26 @@ use Rattle.policy.specs.Grammar.{written, isBlock, headerIn, blockIn, partsAlon
 use Rattle.policy.specs.Words.{blockWord}
 use Rattle.policy.specs.Scopes.{Scoped, scoped, scopedIn, blockOf, blocksIn}
 use Rattle.policy.proofs.Lists.{both-true, gather-append, same-is}
-use Rattle.policy.specs.Reading.{Judged, reads, opens, fault, naming, opening, judge, Read, policy, refused, readFrom, readAll, rowCount}
+use Rattle.policy.specs.Reading.{Judged, reads, opens, fault, naming, opening, judge, Read, policy, refused, readFrom, rowCount}
 use Rattle.policy.specs.Sound.{goodFrom}
 use Rattle.policy.specs.Accepted.{Accepted, GoodPath}
 use Rattle.policy.specs.Encode.{headsFrom, entriesFrom, entries}
-use Rattle.items.specs.Looks.{itemOf, itemAt, rowEnd}
+use Rattle.items.specs.Looks.{itemOf, itemAt}
 use Rattle.items.specs.declared.Item.{Item}
 use Rattle.items.proofs.Item.{the-type}
 use Rattle.items.proofs.Ends.{leaves}
-use Rattle.items.proofs.Frames.{Looked, sees, seen}
+use Rattle.items.proofs.Frames.{Looked, sees}
 use Rattle.items.proofs.Items.{among}
 use Rattle.grammar.specs.Shapes.{startsBlock}
 use Rattle.grammar.proofs.BlockLaws.{block-at}
 use Rattle.reading_laws.proofs.ReadThen.{line, judgedAt, read-one}
 use Rattle.reading_laws.proofs.ReadAccepted.{statement-accepted}
-use Rattle.reading_laws.proofs.FullNames.{good-top, part-good}
+use Rattle.reading_laws.proofs.FullNames.{good-top}
 use Rattle.reading_laws.proofs.BlockOrStatement.{no-block, judge-statement, judge-block}
-use Rattle.reading_laws.proofs.Resuming as resuming
-use Rattle.reading_laws.proofs.Resuming.{resumed, RowsWhole, InPart, inside, statement-deep, after-statement, after-header, after-close, block-whole, block-left, close-whole}
-use Rattle.statement_code.specs.Code.{statementCode, codeOf}
+use Rattle.parser.specs.Left.{resumed, RowsWhole, whole, weightIn, Stands, Rest}
+use Rattle.parser.proofs.Resuming as resuming
+use Rattle.parser.proofs.Resuming.{InPart, inside, statement-deep, after-statement, after-header, after-close, block-whole, block-left, close-whole}
+use Rattle.statement_code.specs.Code.{codeOf}
 use Rattle.code_laws.specs.Weight.{weight, weightAround, weightOf}
 use Rattle.code_laws.proofs.TextWeight.{text-weight, frames-weight}
 use Rattle.code_laws.proofs.StatementShape.{statement-fits}
@@ -62,7 +63,7 @@ use Rattle.block_reader.proofs.Standing as standing
 use Rattle.block_reader.proofs.Standing.{in-scope}
 use Rattle.block_reader.specs.declared.Open.{Open}
 use Rattle.statement_reader.specs.Memory.{Memory, memory, symbolsOf, constraintsOf, rowsOf, Starts, Holds}
-use Rattle.statement_reader.specs.Steps.{Filled, nothingRead}
+use Rattle.statement_reader.specs.Steps.{nothingRead}
 use Rattle.statement_reader.specs.declared.Progress.{Progress}
 use Rattle.statement_reader.proofs.Filling.{empty}
 use Rattle.parser.specs.Parsing.{Reads, Parses, ParsesCleared}
@@ -70,32 +71,6 @@ use Rattle.parser.specs.Parts.{StatedBy, StatedAhead, States, Inside, En
 use Rattle.parser.specs.declared.Parsed.{Parsed}
 use Rattle.parser.specs.declared.Stated.{Stated}
 use Rattle.parser.specs.declared.Entered.{Entered}
-
--- what is read of the whole text
-abbrev whole : List ℕ → Read
-whole t = readAll (scopedIn [] (formsOf t))
-
--- the tokens of the rows that are left to read in the blocks of a path
-abbrev weightIn : List Name → Frames → ℕ
-weightIn [] r = weight (r .here)
-weightIn (b ∷ path) r = weight (r .here) + weightIn path (out r)
-
--- where the reading stands: the statements so far are in the memory, in the blocks of a path; the parts so far, with those that are left, are those of the text;
--- there is room for the code of what is left; and each block so far took up eight bytes, but for the closing parenthesis of those that are open
-pub record Stands (t : List ℕ) (at : ℕ) (lent now : Memory) (keys filter : List ℕ) (s : Progress) (o : Open) (sofar : Policy) (path : List Name) (before : List Scoped)
-    : Type 0 where
-  pub holds : Holds sofar path lent now s
-  pub within : Within t keys filter (now .symbols) path (blocksIn before) o
-  pub left : whole t ≡ readFrom before (resumed path (framesAt t at)) sofar
-  pub rows : RowsWhole path (framesAt t at)
-  pub room : length (codeOf sofar) + weightIn path (framesAt t at) ≤ maxText
-  pub few : 8 * o .count ≤ at + length path
-
-pub record Rest (t : List ℕ) (at : ℕ) (lent now : Memory) (keys filter : List ℕ) (s : Progress) (o : Open) : Type 0 where
-  pub sofar : Policy
-  pub path : List Name
-  pub before : List Scoped
-  pub stands : Stands t at lent now keys filter s o sofar path before
 
 -- ---- before the first part
 
@@ -571,21 +546,9 @@ parses {t} {lent} {cleared} {started} {c} {k} {r} {now} {y} a b room h = record 
 
 -- ---- what is left of the text falls
 
-pub past-item : (t : List ℕ) (at : ℕ) {q : ℕ} {i : Item} → i ≡ itemAt t at → i ≡ Item.Close q → length t - q < length t - at
-past-item t at e f = let l = sees e f .ahead in omega (arith, l)
-
 pub past-statement : {t : List ℕ} (at : ℕ) {place next past : ℕ} {before after : Memory} {s : Progress} {i : Item} {k : Stated} {q : Progress}
     → i ≡ itemAt t at → i ≡ Item.Open place next → States t next place before after s k → k ≡ Stated.Next past q → length t - past < length t - at
 past-statement {t} at {next = next} e f y h =
     let l = sees e f .ahead in
     let a = subst (StatedAhead t next) h (y .ahead) in
     omega (arith, l, a)
-
-pub past-header : {t : List ℕ} (at : ℕ) {place next place-in : ℕ} {keys keys' filter filter' sy sy' : List ℕ} {o q : Open} {i first : Item} {k : Entered}
-    → i ≡ itemAt t at → i ≡ Item.Open place next → first ≡ itemAt t next → startsBlock first ≡ true → (behind : ℕ) → behind ≡ behindOf first
-    → Enters t behind keys keys' filter filter' sy sy' o k → k ≡ Entered.Inside place-in q → length t - place-in < length t - at
-past-header {t} at {next = next} {first = first} e f g b behind d y h =
-    let l = sees e f .ahead in
-    let w = block-word t next first g b .word .far in
-    let a = subst (EnteredAhead t behind) h (y .ahead) in
-    omega (arith, l, a, d, w)

@@ -1,2 +1,4 @@
 pub mod Parsing
 pub mod Parts
+pub mod Left
+pub mod Runs

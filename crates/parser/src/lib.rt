@@ -22,6 +22,7 @@ ghost use Rattle.items.specs.Looks.{itemAt};
 ghost use Rattle.statement_reader.specs.Memory.{memory};
 ghost use Rattle.parser.specs.Parsing.{Parses, ParsesCleared};
 ghost use Rattle.parser.specs.Parts.{States, Enters, behindOf};
+ghost use Rattle.parser.specs.Runs.{Runs, ParsesAfter};
 ghost use Rattle.statement_reader.specs.Steps.{nothingRead};
 
 // The statements are read, or the number of the first fault and its place.
@@ -40,6 +41,25 @@ enum Stated {
 enum Entered {
     Inside(usize, Open),
     Fault(usize),
+}
+
+// A run of statements is read, and what comes after it: a block, by its place and the place behind the word `block`; the close of a block, by the place
+// behind it; or the end. Or the first fault, by its number and place.
+enum Run {
+    Block {
+        place: usize,
+        at: usize,
+        progress: Progress,
+    },
+    Close {
+        next: usize,
+        progress: Progress,
+    },
+    End(Progress),
+    Fault {
+        number: usize,
+        place: usize,
+    },
 }
 
 // The unit of a place: no place of a clean text is too great for one.
@@ -152,8 +172,110 @@ fn behind(first: Item) -> usize
     }
 }
 
-// The statements of a text that the scan leaves clean, with chains that are empty and no block open. In such a text only a part, the close of a block or the
-// end can come next.
+// The statements from a place on, up to the first item that begins none. In a clean text that is the header of a block, the close of one, or the end.
+fn read_statements(
+    text: &[u8],
+    start: usize,
+    symbols: &mut [u8; SYMBOL_BYTES],
+    code: &mut [u16; CODE_UNITS],
+    constraints: &mut [u8; CONSTRAINT_BYTES],
+    rows: &mut [u8; ROW_BYTES],
+    before: Progress,
+) -> Run
+    ensures { λ r. ⌜ Runs (now (text .entry)) start
+        (memory (now (symbols .entry)) (now (code .entry)) (now (constraints .entry)) (now (rows .entry)))
+        (memory (now (symbols .exit)) (now (code .exit)) (now (constraints .exit)) (now (rows .exit))) before r ⌝ }
+{
+    let mut progress = before;
+    let mut at = start;
+    loop {
+        let item = items::look(text, at);
+        match item {
+            Item::Open { place, next } => {
+                let first = items::look(text, next);
+                if grammar::starts_block(first) {
+                    return Run::Block {
+                        place,
+                        at: behind(first),
+                        progress,
+                    };
+                }
+                let stated = read(
+                    text,
+                    first,
+                    place,
+                    symbols,
+                    code,
+                    constraints,
+                    rows,
+                    progress,
+                );
+                match stated {
+                    Stated::Next(past, further) => {
+                        at = past;
+                        progress = further;
+                    }
+                    Stated::Fault(number) => return Run::Fault { number, place },
+                }
+            }
+            Item::Close { next } => return Run::Close { next, progress },
+            Item::Word { .. } | Item::End => return Run::End(progress),
+        }
+    }
+}
+
+// What comes after a first run of statements: blocks with their statements. The memory for the blocks is made here, where there are some.
+fn parse_blocks(
+    text: &[u8],
+    first: Run,
+    symbols: &mut [u8; SYMBOL_BYTES],
+    code: &mut [u16; CODE_UNITS],
+    constraints: &mut [u8; CONSTRAINT_BYTES],
+    rows: &mut [u8; ROW_BYTES],
+) -> Parsed
+    ensures { λ r. ⌜ ParsesAfter (now (text .entry)) first
+        (memory (now (symbols .entry)) (now (code .entry)) (now (constraints .entry)) (now (rows .entry)))
+        (memory (now (symbols .exit)) (now (code .exit)) (now (constraints .exit)) (now (rows .exit))) r ⌝ }
+{
+    let mut keys = [0u64; BLOCKS];
+    let mut filter = [0u64; FILTER];
+    let mut blocks = block_reader::none_open();
+    let mut run = first;
+    loop {
+        match run {
+            Run::Block {
+                place,
+                at,
+                progress,
+            } => {
+                let entered = enter(text, at, symbols, &mut keys, &mut filter, blocks);
+                match entered {
+                    Entered::Inside(inside, further) => {
+                        blocks = further;
+                        run = read_statements(
+                            text,
+                            inside,
+                            symbols,
+                            code,
+                            constraints,
+                            rows,
+                            progress,
+                        );
+                    }
+                    Entered::Fault(number) => return Parsed::Refused { number, place },
+                }
+            }
+            Run::Close { next, progress } => {
+                blocks = block_reader::close_block(symbols, &keys, blocks);
+                run = read_statements(text, next, symbols, code, constraints, rows, progress);
+            }
+            Run::End(progress) => return Parsed::Accepted(progress),
+            Run::Fault { number, place } => return Parsed::Refused { number, place },
+        }
+    }
+}
+
+// The statements of a text that the scan leaves clean, with chains that are empty and no block open.
 fn parse_cleared(
     text: &[u8],
     symbols: &mut [u8; SYMBOL_BYTES],
@@ -165,58 +287,19 @@ fn parse_cleared(
         (memory (now (symbols .entry)) (now (code .entry)) (now (constraints .entry)) (now (rows .entry)))
         (memory (now (symbols .exit)) (now (code .exit)) (now (constraints .exit)) (now (rows .exit))) r ⌝ }
 {
-    let mut keys = [0u64; BLOCKS];
-    let mut filter = [0u64; FILTER];
-    let mut stand = block_reader::none_open();
-    let mut progress = nothing_read();
-    let mut at: usize = 0;
-    loop {
-        let item = items::look(text, at);
-        match item {
-            Item::Open { place, next } => {
-                let first = items::look(text, next);
-                if grammar::starts_block(first) {
-                    let entered = enter(
-                        text,
-                        behind(first),
-                        symbols,
-                        &mut keys,
-                        &mut filter,
-                        stand,
-                    );
-                    match entered {
-                        Entered::Inside(inside, further) => {
-                            at = inside;
-                            stand = further;
-                        }
-                        Entered::Fault(number) => return Parsed::Refused { number, place },
-                    }
-                } else {
-                    let stated = read(
-                        text,
-                        first,
-                        place,
-                        symbols,
-                        code,
-                        constraints,
-                        rows,
-                        progress,
-                    );
-                    match stated {
-                        Stated::Next(past, further) => {
-                            at = past;
-                            progress = further;
-                        }
-                        Stated::Fault(number) => return Parsed::Refused { number, place },
-                    }
-                }
-            }
-            Item::Close { next } => {
-                stand = block_reader::close_block(symbols, &keys, stand);
-                at = next;
-            }
-            Item::Word { .. } | Item::End => return Parsed::Accepted(progress),
-        }
+    let nothing = nothing_read();
+    let run = read_statements(text, 0, symbols, code, constraints, rows, nothing);
+    match run {
+        Run::Block { .. } | Run::Close { .. } => parse_blocks(
+            text,
+            run,
+            symbols,
+            code,
+            constraints,
+            rows,
+        ),
+        Run::End(progress) => Parsed::Accepted(progress),
+        Run::Fault { number, place } => Parsed::Refused { number, place },
     }
 }
 

@@ -14,4 +14,3 @@ pub mod Resolving
 pub mod TextMoved
 pub mod TextThen
 pub mod Written
-pub mod Resuming

@@ -1,75 +1,64 @@
--- `name_index::front_of` meets its contract. The loop's invariant: the front so far is the number of the bytes from `left` on (Words). The measure is how
--- many are left. Assumes nothing.
-use Prim.Native.Nat.{ℕ, _+_, _*_, _≤_}
-use mathlib.Core.Path.{_≡_, ap, _∙_}
+-- `name_index::front_of` meets its contract: the number of a name's first bytes, or that of the first four and of those behind them (Words). Assumes nothing.
+use Prim.Native.Nat.{_-_, _<_}
+use mathlib.Core.Path.{_∙_}
 use native.Mathlib.Omega.{arith}
 use borrow.Author.Needs.{needs}
-use lib.ListN.{length, drop}
-use Rattle.policy.specs.Basics.{unle}
-use Rattle.name_index.proofs.Words.{front-starts, front-turn, front-fits, front-ends}
+use lib.ListN.{length}
+use Rattle.bitset.specs.Parts.{part}
+use Rattle.bitset.proofs.PartLaws.{length-part-le}
+use Rattle.name_index.proofs.Words.{front-short, front-is, front-joins, front-rest-fits}
 use Rattle.name_index.proofs.front_of.Statement.{statement}
 use Rattle.name_index.proofs.front_of.Tie as tie
 
-abbrev Inv-loop : tie.InvT-loop
-Inv-loop name first left₀ front₀ left front = (left ≤ length first) × (front ≡ unle (drop left first))
-
-abbrev μ-loop : tie.MeasureT-loop
-μ-loop name first left₀ front₀ left front = left
-
-loop-holds : tie.Need-loop-holds Inv-loop μ-loop
-loop-holds c = (omega arith, front-starts (c .part .result .now))
-
-mul-front : tie.Need-mul-front Inv-loop μ-loop
-mul-front c =
-    let l = c .before .loop in
-    let at-part = c .before .before in
-    let known = at-part .before in
-    omega (
-      arith,
-      front-fits (known .before .args .name .now) (at-part .part .result .now) (l .left) (l .front) (at-part .part .ensures)
-          (λ i. known .shared-slice-known .given i .fits) (omega (arith, c .loop-test)) (l .inv .0) (l .inv .1),
-    )
-
-add-front : tie.Need-add-front Inv-loop μ-loop
-add-front c =
-    let tested = c .before .before in
-    let l = tested .before .loop in
-    let at-part = tested .before .before in
-    let known = at-part .before in
-    omega (
-      arith,
-      front-fits (known .before .args .name .now) (at-part .part .result .now) (l .left) (l .front) (at-part .part .ensures)
-          (λ i. known .shared-slice-known .given i .fits) (omega (arith, tested .loop-test)) (l .inv .0) (l .inv .1),
-      c .wide .ensures .0,
-    )
-
-loop-again : tie.Need-loop-again Inv-loop μ-loop
-loop-again c =
-    let tested = c .before .before in
-    let l = tested .before .loop in
-    let turn = front-turn (tested .before .before .part .result .now) (l .left) (l .front) (omega (arith, tested .loop-test)) (l .inv .0) (l .inv .1) in
-    (omega (arith, l .inv .0), ap (λ (b : ℕ). 256 * l .front + b) (c .wide .ensures .0) ∙ turn)
-
-returns : tie.Need-returns Inv-loop μ-loop
+returns : tie.Need-returns
 returns c =
-    let l = c .before .loop in
     let at-part = c .before .before in
-    front-ends (at-part .before .before .args .name .now) (at-part .part .result .now) (l .left) (l .front) (at-part .part .ensures)
-    (omega (arith, c .loop-test)) (l .inv .1)
+    c .number-in .ensures ∙ front-is (at-part .before .before .args .name .now) (at-part .part .result .now) (at-part .part .ensures)
+
+number-in-requires-2 : tie.Need-number-in-requires-2
+unfolding part
+number-in-requires-2 c κs =
+    let at-part = c .before .before .before in
+    let first = at-part .part .result .now in
+    let short = front-short (at-part .before .before .args .name .now) first (at-part .part .ensures) in
+    omega (arith, length-part-le first 4 (length first - 4), short)
+
+-- the bytes behind the first four are at most four
+rest-fits : (c : tie.After-number-in2) → c .number-in2 .result < 4294967296
+unfolding part
+rest-fits c =
+    let at-part = c .before .before .before .before in
+    let known = at-part .before in
+    let fits = front-rest-fits (known .before .args .name .now) (at-part .part .result .now) (at-part .part .ensures)
+    (λ i. known .shared-slice-known .given i .fits) in
+    omega (arith, fits, c .number-in2 .ensures)
+
+mul-result : tie.Need-mul-result
+mul-result c = omega (arith, rest-fits c)
+
+add-result : tie.Need-add-result
+add-result c = omega (arith, rest-fits c, c .before .before .four .ensures .1)
+
+returns-2 : tie.Need-returns-2
+unfolding part
+returns-2 c =
+    let at-four = c .before .before in
+    let at-part = at-four .before .before in
+    let joins = front-joins (at-part .before .before .args .name .now) (at-part .part .result .now) (at-part .part .ensures) (at-four .before .if1 .left) in
+    omega (arith, joins, at-four .four .ensures .0, c .number-in2 .ensures)
 
 pub front-of-spec : {M : Type 1} → statement M
 front-of-spec =
     tie.close
     (tie.spec
-    Inv-loop
-    μ-loop
     (λ c κs. search needs)
-    loop-holds
-    (λ c. search needs)
-    mul-front
-    (λ c. search needs)
     (λ c κs. search needs)
-    add-front
+    returns
+    (λ c κs. search needs)
     (λ c. search needs)
-    loop-again
-    returns)
+    (λ c. search needs)
+    (λ c. search needs)
+    number-in-requires-2
+    mul-result
+    add-result
+    returns-2)

@@ -3,7 +3,7 @@ use Prim.Native.Nat.{_+_, _*_}
 use native.Mathlib.Omega.{arith}
 use borrow.Author.Needs.{needs}
 use Rattle.name_index.specs.Index.{wordIn}
-use Rattle.name_index.proofs.Words.{eight-is}
+use Rattle.name_index.proofs.Words.{four-on}
 use Rattle.name_index.proofs.word.Statement.{statement}
 use Rattle.name_index.proofs.word.Tie as tie
 
@@ -11,7 +11,7 @@ returns : tie.Need-returns
 unfolding wordIn
 returns c =
     let s = c .before .before .before in
-    omega (arith, eight-is (s .args .symbols .now) (137088 + 8 * s .args .k) (omega arith), c .before .four .ensures .0, c .four2 .ensures .0)
+    omega (arith, four-on (s .args .symbols .now) (137088 + 8 * s .args .k) 8 (omega arith) (omega arith), c .before .four .ensures .0, c .four2 .ensures .0)
 
 pub word-spec : {M : Type 1} → statement M
 word-spec =

@@ -1,5 +1,5 @@
 -- `parser::read` meets its contract: the form is judged first, and a statement of good form is read by one step. Assumes nothing.
-use mathlib.Core.Path.{_≡_, sym, ap, subst, _∙_}
+use mathlib.Core.Path.{sym, ap, _∙_}
 use mathlib.Core.Bool.{not, false≢true}
 use native.Mathlib.Omega.{arith}
 use borrow.Author.Needs.{needs}

@@ -3,7 +3,7 @@
 use Prim.Native.Nat.{ℕ, suc, _+_, _-_, _≤_}
 use native.Mathlib.Omega.{arith}
 use mathlib.Core.Path.{_≡_, refl, sym, ap, _∙_, subst}
-use mathlib.Core.Bool.{Bool, true, false, _&&_, cond}
+use mathlib.Core.Bool.{Bool, true, false, cond}
 use mathlib.Core.List.{List, [], _∷_, _++_, append-assoc}
 use mathlib.Core.Option.{Option, none, some}
 use lib.ListN.{length}
@@ -17,23 +17,8 @@ use Rattle.policy.specs.Words.{asPart}
 use Rattle.policy.specs.Grammar.{partsAlone, headerIn, blockIn}
 use Rattle.policy.specs.Scopes.{Scoped, scoped, scopedIn}
 use Rattle.policy.proofs.Lists.{both-true}
 use Rattle.reading_laws.proofs.ReadThen.{scoped-statement, scoped-block}
-
--- what is left to read, in the blocks of a path
-abbrev pub resumed : List Name → Frames → List Scoped
-resumed [] r = scopedIn [] (r .here)
-resumed (b ∷ path) r = scopedIn (b ∷ path) (r .here) ++ resumed path (out r)
-
--- the rows that are left have parts alone, the text's own row ends with the text and the others are closed, their words are names, and no part lies too deep
-pub record RowWhole (row : Forms) (levels : ℕ) : Type 0 where
-  pub parts : partsAlone row ≡ true
-  pub shut : closes row ≡ true
-  pub names : namesGood row ≡ true
-  pub deep : trim row levels ≡ row
-
-abbrev pub RowsWhole : List Name → Frames → Type 0
-RowsWhole [] r = (balanced (r .here) ≡ true) × (namesGood (r .here) ≡ true) × (trim (r .here) maxLevel ≡ r .here)
-RowsWhole (b ∷ path) r = RowWhole (r .here) (maxLevel - length (b ∷ path)) × RowsWhole path (out r)
+use Rattle.parser.specs.Left.{resumed, RowsWhole}
 
 -- the frames before an opening parenthesis, by those after it
 abbrev pub opening : ℕ → Frames → Frames
@@ -59,11 +44,6 @@ after-header (c ∷ path) p f b e =
 pub after-close : (b : Name) (path : List Name) (f : Frames) → resumed (b ∷ path) (record { here = closed; around = f .here ∷ f .around }) ≡ resumed path f
 unfolding scopedIn
 after-close b path f = refl
-
--- the end of the text
-pub at-end : (fs : List Forms) → resumed [] (record { here = ended; around = fs }) ≡ []
-unfolding scopedIn
-at-end fs = refl
 
 -- ---- the rows
 
