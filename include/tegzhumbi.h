@@ -3,7 +3,7 @@
  * Every function is proved to give the numbers that the library's definitions give, for every text, every table and all numbers. What C
  * adds is the caller's to keep: a pointer must be valid for the length that goes with it (a length of 0 too: pass the address of some byte), and the
  * table lent to tegzhumbi_compile must not overlap the text. No function keeps a pointer, allocates memory or writes to a const one.
- * tegzhumbi_compile runs within a stack of 384 KB, and every other function within 24 KB. That is measured, with no part in what is proved. Of
+ * tegzhumbi_compile runs within a stack of 448 KB, and every other function within 24 KB. That is measured, with no part in what is proved. Of
  * the C library only memcpy and memset are called.
  */
 #ifndef TEGZHUMBI_H

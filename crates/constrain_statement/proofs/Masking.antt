@@ -3,14 +3,13 @@ use mathlib.Core.Path.{_≡_, refl, sym, ap, subst, _∙_}
 use mathlib.Core.Bool.{not, _&&_, _||_}
 use mathlib.Core.List.{List, [], _∷_}
 use mathlib.Core.Option.{Option, none, some, Option·some-injective}
-use Prim.Native.Nat.{ℕ, _+_, _*_, _%_, _^_, _<_}
+use Prim.Native.Nat.{ℕ, _+_, _-_, _*_, _%_, _^_, _<_}
 use native.Mathlib.Omega.{arith}
 use lib.Dec.{eqb}
 use lib.ListN.{take, drop}
 use types.Run.{OneOf}
 use denote.Enum.Declared.{tagOf}
 use Rattle.bitset.specs.Sets.{bit, fromBits}
-use Rattle.bitset.specs.Parts as parts
 use Rattle.bitset.proofs.BitLaws.{fromBits-lt}
 use Rattle.lexer.specs.Forms.{Forms, word, part, framesAt}
 use Rattle.policy.specs.Basics.{Name, _>>=_, more, eachOf}
@@ -26,7 +25,7 @@ use Rattle.symbols.specs.declared.Found.{Found}
 use Rattle.scopes.proofs.Bounds.{bounded}
 use Rattle.items.specs.Looks.{itemAt, rowEnd}
 use Rattle.items.specs.declared.Item.{Item}
-use Rattle.items.proofs.Items.{Looked, alike-here}
+use Rattle.items.proofs.Items.{Looked, word-lent, alike-here}
 use Rattle.items.proofs.Item.{the-type}
 use Rattle.constraint_writer.proofs.Resolving.{never}
 use Rattle.constrain_statement.specs.Scopes.{numbersOf, Masks}
@@ -112,12 +111,15 @@ abbrev pub tag : Item → ℕ
 tag k = tagOf the-type k
 
 module _ {t : List ℕ} {at : ℕ} {table : List ℕ} {family i m : ℕ} (g : Going t at table family i m) where
-  module _ {s n k q : ℕ} (l : Looked t i (Item.Word s n k q)) {r : Found} (h : LooksPermission table family (parts.part t s n) r) where
+  module _ {s n k q : ℕ} (l : Looked t i (Item.Word s n k q)) {r : Found} (lent : LooksPermission table family (take ((s + n) - s) (drop s t)) r) where
+    h : LooksPermission table family (take n (drop s t)) r
+    h = subst (λ (w : Name). LooksPermission table family w r) (word-lent t s n) lent
+
     name-first : {env : Environment} {c : ℕ} {ps : List Name} (x : Left env c ps (framesAt t i .here) m) → FirstName (take n (drop s t)) (framesAt t q .here) (x .rest)
     name-first x = first-name s (take n (drop s t)) (framesAt t q .here) (x .rest) (sym (ap (rowOf asPart) (l .here)) ∙ x .names)
 
     pub one-more : {sort number v : ℕ} → r ≡ Found.At sort number → v ≡ fromBits 32 (λ j. bit m j || eqb j (number % 32)) → Going t at table family q v
-    unfolding parts.part eachOf
+    unfolding eachOf
     one-more {sort} {number} {v} d e = record {
       same-row = sym (l .end) ∙ g .same-row;
       small = subst (λ (x : ℕ). x < 2 ^ 32) (sym e) (fromBits-lt 32 (λ j. bit m j || eqb j (number % 32)));
@@ -139,7 +141,7 @@ module _ {t : List ℕ} {at : ℕ} {table : List ℕ} {family i m : ℕ} (g : Go
     }
 
     pub not-of-class : r ≡ Found.Missing → Masks t at table family Masked.Undeclared
-    unfolding parts.part eachOf
+    unfolding eachOf
     not-of-class d = record {
       place = tt;
       says = λ env c ps y f b.

@@ -8,7 +8,6 @@ use native.Mathlib.Nat.{zero-add}
 use native.Mathlib.Omega.{arith}
 use lib.ListN.{take, drop}
 use types.Run.{OneOf}
-use Rattle.bitset.specs.Parts as parts
 use Rattle.lexer.specs.Scan.{maxLevel}
 use Rattle.lexer.specs.Forms.{Forms, closed, ended, word, part, framesAt, trim}
 use Rattle.policy.specs.Basics.{Name, _>>=_}
@@ -24,7 +23,7 @@ use Rattle.scopes.proofs.Bounds.{bounded}
 use Rattle.items.specs.Looks.{itemAt, rowEnd}
 use Rattle.items.specs.Reads.{isClosed}
 use Rattle.items.specs.declared.Item.{Item}
-use Rattle.items.proofs.Items.{Looked, Alike, alike, by-word, by-part}
+use Rattle.items.proofs.Items.{Looked, word-lent, Alike, alike, by-word, by-part}
 use Rattle.items.proofs.Counts.{trim-names}
 use Rattle.constrain_statement.specs.Scopes.{numbersOf, maskIn, Masks, ScopeForm, Scopes}
 use Rattle.constrain_statement.specs.declared.Masked.{Masked}
@@ -124,9 +123,11 @@ module _ {t : List ℕ} {at : ℕ} {table : List ℕ} where
     says = λ env c ps y h. not-there startsWord t at levels _ (h .row) refl (1 ∷ 2 ∷ 3 ∷ []) no-word e o;
   }
 
-  module _ {s n k q : ℕ} (l : Looked t at (Item.Word s n k q)) {r : Found} (f : LooksClass table (parts.part t s n) r) where
+  module _ {s n k q : ℕ} (l : Looked t at (Item.Word s n k q)) {r : Found} (lent : LooksClass table (take ((s + n) - s) (drop s t)) r) where
+    f : LooksClass table (take n (drop s t)) r
+    f = subst (λ (w : Name). LooksClass table w r) (word-lent t s n) lent
+
     pub class-undeclared : r ≡ Found.Missing → Scopes t at table Scope.Undeclared
-    unfolding parts.part
     class-undeclared d = record {
       place = tt;
       says = λ env c ps y h.
@@ -137,11 +138,9 @@ module _ {t : List ℕ} {at : ℕ} {table : List ℕ} where
 
     module _ {sort number : ℕ} (d : r ≡ Found.At sort number) where
       class-is : {env : Environment} {c : Name} {ps : List Name} → Symbols table env → ScopeForm (trim (framesAt t at .here) levels) c ps → env .class c ≡ some number
-      unfolding parts.part
       class-is {env} y h = ap (λ (w : Name). env .class w) (sym (behind-word l h .0)) ∙ class-number y (take n (drop s t)) f d
 
       pub class-too-far : 32 ≤ number → Scopes t at table Scope.Undeclared
-      unfolding parts.part
       class-too-far g = record {
         place = tt;
         says = λ env c ps y h.

@@ -76,7 +76,9 @@ fn permission_mask(text: &[u8], at: usize, symbols: &[u8], family: usize) -> Mas
                 next,
                 ..
             } => {
-                let found = scopes::lookup_permission(symbols, family, text, start, len);
+                let end = start + len;
+                let name = &text[start..end];
+                let found = scopes::lookup_permission(symbols, family, name);
                 let Found::At { number, .. } = found else {
                     return Masked::Undeclared;
                 };
@@ -103,7 +105,9 @@ fn scope_of(text: &[u8], at: usize, symbols: &[u8]) -> Scope
     else {
         return Scope::Undeclared;
     };
-    let found = scopes::lookup_class(symbols, text, start, len);
+    let end = start + len;
+    let name = &text[start..end];
+    let found = scopes::lookup_class(symbols, name);
     let Found::At { number, .. } = found else {
         return Scope::Undeclared;
     };

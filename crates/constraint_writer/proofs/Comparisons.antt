@@ -177,7 +177,7 @@ module _ {t : List ℕ} {at s n x p r k y q j : ℕ} (l : Looked t at (Item.Word
   component-is-2 = component-number (take k (drop r t)) ∙ ap (λ (i : ℕ). componentOf (wordOf i)) (l2 .ahead .2)
 
   module _ {symbols : List ℕ} {side : ℕ} (a : side ≡ codeOf (componentOf (wordOf x))) where
-    one-row : {o : Operand} → Compares t r k y side symbols o → (env : Environment) (e : Constraint Name) → Symbols symbols env
+    one-row : {o : Operand} → Compares (take k (drop r t)) y side symbols o → (env : Environment) (e : Constraint Name) → Symbols symbols env
         → comparison w (framesAt t at .here) ≡ some e → rowsNamed env e ≡ rowBy (operatorOf (opOf w)) side o
     one-row {o} c env e h g =
         let side-is : side ≡ codeOf (componentOf (take n (drop s t))) = a ∙ ap codeOf (sym component-is) in
@@ -185,7 +185,7 @@ module _ {t : List ℕ} {at s n x p r k y q j : ℕ} (l : Looked t at (Item.Word
         (λ f i d. c .operand env f i h (side-is ∙ d) ∙ ap (λ (z : Option Component). operandOf z (refer env f (take k (drop r t)))) (sym component-is-2))
         ∙ ap (λ (i : ℕ). rowBy (operatorOf (opOf w)) i o) (sym side-is)
 
-    pub not-declared : {before : List ℕ} {first : ℕ} → Compares t r k y side symbols Operand.Undeclared → Writes t at (comparison w (framesAt t at .here)) symbols before before first RowsWritten.Undeclared
+    pub not-declared : {before : List ℕ} {first : ℕ} → Compares (take k (drop r t)) y side symbols Operand.Undeclared → Writes t at (comparison w (framesAt t at .here)) symbols before before first RowsWritten.Undeclared
     not-declared {before} {first} c = record {
       kept = all-kept before first;
       reads = tt;
@@ -193,7 +193,7 @@ module _ {t : List ℕ} {at s n x p r k y q j : ℕ} (l : Looked t at (Item.Word
       rows = λ env e h g. unsettled env e before before first (one-row c env e h g);
     }
 
-    pub compared-row : {before after : List ℕ} {first kind number operator : ℕ} → Compares t r k y side symbols (Operand.Is kind number) → operator ≡ operatorOf (opOf w)
+    pub compared-row : {before after : List ℕ} {first kind number operator : ℕ} → Compares (take k (drop r t)) y side symbols (Operand.Is kind number) → operator ≡ operatorOf (opOf w)
         → Wrote before after first (row kind side operator number ∷ [])
         → Writes t at (comparison w (framesAt t at .here)) symbols before after first (RowsWritten.Next j (first + 1) 1)
     compared-row {before} {after} {first} {kind} {number} {operator} c b u = record {

@@ -2,17 +2,19 @@
 use mathlib.Core.Path.{_≡_, refl, sym, ap, subst, _∙_}
 use mathlib.Core.List.{List}
 use mathlib.Core.Option.{Option, none, some}
-use Prim.Native.Nat.{ℕ, _/_, _≤_, _<_}
+use Prim.Native.Nat.{ℕ, _+_, _-_, _/_, _≤_, _<_}
 use native.Mathlib.Omega.{arith}
 use lib.ListN.{take, drop}
-use Rattle.bitset.specs.Parts as parts
 use Rattle.policy.specs.Statements.{Family, users, roles, types, Side, source, target, thingOf, attributeOf, Reference, thing, attribute, Sort}
 use Rattle.policy.specs.Words.{Component, componentOf}
 use Rattle.policy.specs.Names.{refer, Named, referenceOf}
 use Rattle.policy.specs.Rows.{compCode}
 use Rattle.policy.specs.Encode.{sortCode}
-use Rattle.policy.specs.Basics.{_>>=_}
+use Rattle.policy.specs.Basics.{Name, _>>=_}
 use Rattle.words.specs.Numbers.{wordOf}
+use Rattle.items.specs.declared.Item.{Item}
+use Rattle.items.proofs.Frames.{Looked}
+use Rattle.items.proofs.Items.{word-lent}
 use Rattle.scopes.specs.Symbols.{Looks}
 use Rattle.symbols.specs.Resolving.{familyCode, foundNamed}
 use Rattle.symbols.specs.declared.Found.{Found}
@@ -94,28 +96,32 @@ none-found (some d) e = absurd (let z : _≡_ {A = ℕ} 0 1 = cc in omega arith)
 
 -- ---- the answers
 
-module _ (t : List ℕ) (start len number side : ℕ) (symbols : List ℕ) (code : ℕ) (is : code ≡ codeOf (componentOf (wordOf number))) where
-  pub a-side : (code ≡ 6 → ⊥) → Compares t start len number side symbols (Operand.Is 3 0)
+module _ (w : Name) (number side : ℕ) (symbols : List ℕ) (code : ℕ) (is : code ≡ codeOf (componentOf (wordOf number))) where
+  pub a-side : (code ≡ 6 → ⊥) → Compares w number side symbols (Operand.Is 3 0)
   a-side h = record { operand = λ env f s y e. two-sides (componentOf (wordOf number)) _ (λ z. h (is ∙ z)) }
 
-  module _ (h : code ≡ 6) (r : Found) (e : Looks symbols (side / 2) (parts.part t start len) r) where
-    by-reference : (k : Found) (o : Operand) → r ≡ k → ((x : Option Named) → foundNamed x ≡ k → o ≡ operandOf none (referred x)) → Compares t start len number side symbols o
-    unfolding parts.part refer
-    by-reference k o g w = record {
+  module _ (h : code ≡ 6) (r : Found) (e : Looks symbols (side / 2) w r) where
+    by-reference : (k : Found) (o : Operand) → r ≡ k → ((x : Option Named) → foundNamed x ≡ k → o ≡ operandOf none (referred x))
+        → Compares w number side symbols o
+    unfolding refer
+    by-reference k o g q = record {
       operand = λ env f s y d.
-          let found : r ≡ foundNamed (env .find f (take len (drop start t))) = e .names env f y (sym (ap (λ (n : ℕ). n / 2) d ∙ family-code f s)) in
-          rw (no-component (componentOf (wordOf number)) (sym is ∙ h)) (w (env .find f (take len (drop start t))) (sym found ∙ g));
+          let found : r ≡ foundNamed (env .find f w) = e .names env f y (sym (ap (λ (n : ℕ). n / 2) d ∙ family-code f s)) in
+          rw (no-component (componentOf (wordOf number)) (sym is ∙ h)) (q (env .find f w) (sym found ∙ g));
     }
 
-    pub a-thing : (sort n : ℕ) → r ≡ Found.At sort n → sort < 3 → Compares t start len number side symbols (Operand.Is 4 n)
+    pub a-thing : (sort n : ℕ) → r ≡ Found.At sort n → sort < 3 → Compares w number side symbols (Operand.Is 4 n)
     a-thing sort n g l = by-reference (Found.At sort n) (Operand.Is 4 n) g (λ x d. thing-found x sort n d l)
 
-    pub an-attribute : (sort n : ℕ) → r ≡ Found.At sort n → 3 ≤ sort → Compares t start len number side symbols (Operand.Is 5 n)
+    pub an-attribute : (sort n : ℕ) → r ≡ Found.At sort n → 3 ≤ sort → Compares w number side symbols (Operand.Is 5 n)
     an-attribute sort n g l = by-reference (Found.At sort n) (Operand.Is 5 n) g (λ x d. attribute-found x sort n d l)
 
-    pub missing : r ≡ Found.Missing → Compares t start len number side symbols Operand.Undeclared
+    pub missing : r ≡ Found.Missing → Compares w number side symbols Operand.Undeclared
     missing g = by-reference Found.Missing Operand.Undeclared g none-found
 
--- what was answered
-pub compares-told : {t symbols : List ℕ} {start len number side : ℕ} {r k : Operand} → Compares t start len number side symbols r → r ≡ k → Compares t start len number side symbols k
-compares-told {t} {symbols} {start} {len} {number} {side} w e = subst (Compares t start len number side symbols) e w
+-- what was answered of the bytes that are lent is said of the word
+pub compares-told : {t : List ℕ} {at start len x next : ℕ} → Looked t at (Item.Word start len x next) → {symbols : List ℕ} {number side : ℕ} {r k : Operand}
+    → Compares (take ((start + len) - start) (drop start t)) number side symbols r → r ≡ k → Compares (take len (drop start t)) number side symbols k
+compares-told {t} {start = start} {len = len} l {symbols} {number} {side} {k = k} c e =
+    subst (λ (w : Name). Compares w number side symbols k) (word-lent t start len)
+    (subst (Compares (take ((start + len) - start) (drop start t)) number side symbols) e c)

@@ -3,7 +3,7 @@ use Prim.Native.Nat.{ℕ}
 use mathlib.Core.Path.{_≡_}
 use mathlib.Core.List.{List}
 use mathlib.Core.Option.{Option, none, some}
-use lib.ListN.{take, drop}
+use Rattle.policy.specs.Basics.{Name}
 use Rattle.policy.specs.Statements.{Family, Side, Op, Reference, thing, attribute}
 use Rattle.policy.specs.Words.{Connective, allC, notC, andC, orC, xorC, Component, componentOf}
 use Rattle.policy.specs.Names.{refer, Environment}
@@ -38,7 +38,7 @@ operandOf none none = Operand.Undeclared
 operandOf none (some (thing n)) = Operand.Is 4 n
 operandOf none (some (attribute n)) = Operand.Is 5 n
 
--- the word of len bytes at start, which has the number, is compared with a side of a family: it names a thing or an attribute of that family
-pub record Compares (t : List ℕ) (start len number side : ℕ) (symbols : List ℕ) (r : Operand) : Type 0 where
+-- the word, which has the number, is compared with a side of a family: it names a thing or an attribute of that family
+pub record Compares (word : Name) (number side : ℕ) (symbols : List ℕ) (r : Operand) : Type 0 where
   pub operand : (env : Environment) (f : Family) (s : Side) → Symbols symbols env → side ≡ compCode f s
-      → r ≡ operandOf (componentOf (wordOf number)) (refer env f (take len (drop start t)))
+      → r ≡ operandOf (componentOf (wordOf number)) (refer env f word)

@@ -166,15 +166,8 @@ fn component_of(number: usize) -> u8
 }
 
 // What a side is compared with, by the second word: the other side, or a name of the side's family.
-fn operand_of(
-    text: &[u8],
-    start: usize,
-    len: usize,
-    number: usize,
-    side: u8,
-    symbols: &[u8],
-) -> Operand
-    ensures { λ r. ⌜ Compares (now (text .entry)) start len number side (now (symbols .entry)) r ⌝ }
+fn operand_of(name: &[u8], number: usize, side: u8, symbols: &[u8]) -> Operand
+    ensures { λ r. ⌜ Compares (now (name .entry)) number side (now (symbols .entry)) r ⌝ }
 {
     if component_of(number) != Component::NONE {
         return Operand::Is {
@@ -183,7 +176,7 @@ fn operand_of(
         };
     }
     let family = (side / 2) as usize;
-    let found = scopes::lookup(symbols, family, text, start, len);
+    let found = scopes::lookup(symbols, family, name);
     match found {
         Found::At { sort, number } => {
             if sort < FIRST_ATTRIBUTE {
@@ -232,7 +225,9 @@ fn comparison(
     let Item::Close { next } = last else {
         return RowsWritten::Undeclared;
     };
-    let operand = operand_of(text, start, len, number, side, symbols);
+    let end = start + len;
+    let name = &text[start..end];
+    let operand = operand_of(name, number, side, symbols);
     let Operand::Is { kind, number } = operand else {
         return RowsWritten::Undeclared;
     };

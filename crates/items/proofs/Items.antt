@@ -79,6 +79,12 @@ unfolding itemAt
 sees {t} {i} e f =
     subst (λ (x : Item). Looked t i x) (sym e ∙ f) (by-token t i (tokenAt t i) (token.seen t i (tokenAt t i) (tokenAt t i) refl refl))
 
+-- what is lent from the start of a word to its end is the bytes of the word
+pub word-lent : (t : List ℕ) (s n : ℕ) → take ((s + n) - s) (drop s t) ≡ take n (drop s t)
+word-lent t s n =
+    let e : (s + n) - s ≡ n = omega arith in
+    ap (λ (k : ℕ). take k (drop s t)) e
+
 -- ---- what q says of the row at hand, by the item
 
 module _ {B : Type 0} (q : Forms → B) {t : List ℕ} {i : ℕ} (levels : ℕ) where

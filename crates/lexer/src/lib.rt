@@ -15,11 +15,13 @@ impl Text {
     pub const MAX: usize = 65_535;
 }
 
-// A name: how many bytes it may have, a dot in front not counted.
+// A name: how many bytes it may have, a dot in front not counted, and the byte between its parts.
 pub struct Name;
 
 impl Name {
     pub const MAX: usize = 64;
+
+    pub const DOT: u8 = b'.';
 }
 
 // A level of parentheses: how deep it may lie.

@@ -6,20 +6,23 @@ use mathlib.Core.Bool.{true, false}
 use mathlib.Core.List.{List, [], _∷_, _++_}
 use Rattle.lexer.specs.Spell.{bytes}
 use Rattle.policy.specs.Basics.{Name}
-use Rattle.policy.specs.Statements.{users, roles, thingOf, class, thing, eq, sidesE, roleallow, gives, constrain, Statement, Line, namesOf, declarations}
+use Rattle.policy.specs.Statements.{Declaration, users, roles, thingOf, class, thing, eq, sidesE, roleallow, gives, constrain, Statement, Line, namesOf, declarations}
 use Rattle.policy.specs.Names.{tries}
 use Rattle.policy.specs.Reading.{Read, policy, refused, readPolicy}
-use Rattle.policy.specs.Deciding.{asksRole}
+use Rattle.policy.specs.Deciding.{isObject, asksRole}
 use Rattle.policy.specs.Sound.{isGood, isGoodPart}
 use Rattle.policy.specs.Opened.{computing}
 
--- what is read of a text; the full names of its roles; its last statement
+-- what is read of a text; what it declares, the full names of its roles; its last statement
 abbrev of : String → Read
 of t = readPolicy (bytes t)
 
+abbrev declared : Read → List Declaration
+declared (policy p) = declarations p
+declared (refused n at) = []
+
 abbrev rolesOf : Read → List Name
-rolesOf (policy p) = namesOf (thingOf roles) (declarations p)
-rolesOf (refused n at) = []
+rolesOf r = namesOf (thingOf roles) (declared r)
 
 abbrev last : List Line → List Statement
 last [] = []
@@ -33,6 +36,10 @@ lastOf (refused n at) = []
 -- `(roleallow R R)` of two roles
 abbrev allows : ℕ → ℕ → List Statement
 allows r s = gives roleallow (thing r) (thing s) ∷ []
+
+-- each of the two words that are treated apart, in a block and at the whole-text level
+abbrev twice : List Declaration
+twice = declared (of "(block b(class process (transition))(role object_r))(class process (transition))(role object_r)")
 
 -- a name of 60 bytes
 abbrev sixty : String
@@ -61,6 +68,7 @@ pub record Blocks : Type 0 where
   pub dotted-block : of "(role a)(block .b)" ≡ refused 3 8
   pub dotted-permission : of "(class c (p.q))" ≡ refused 3 0
   -- "Permissions take no block's name"
+  pub permission-names : declared (of "(block b(class c (p q)))") ≡ class (bytes "b.c") (bytes "p" ∷ bytes "q" ∷ []) ∷ []
   pub permission : lastOf (of "(block b(class c (p))(constrain (c (p)) (eq u1 u2)))") ≡ constrain 0 (0 ∷ []) (sidesE users eq) ∷ []
   -- "A name with a reserved part counts as reserved"
   pub reserved-part : of "(user u)(userrole u b.all)" ≡ refused 3 8
@@ -76,12 +84,14 @@ pub record Blocks : Type 0 where
   -- ten parts in a use: 5
   pub ten-parts : of "(user u)(userrole u a.b.c.d.e.f.g.h.i.j)" ≡ refused 5 8
   -- "6 for a full name too long": 64 bytes and 65
-  pub full-64 : readPolicy (bytes "(block " ++ bytes sixty ++ bytes "(type abc))") ≡ readPolicy (bytes "(block " ++ bytes sixty ++ bytes "(type abc)) ")
-  pub full-65 : readPolicy (bytes "(block " ++ bytes sixty ++ bytes "(type abcd))") ≡ refused 6 67
+  pub full-64 : rolesOf (readPolicy (bytes "(block " ++ bytes sixty ++ bytes "(role abc))")) ≡ (bytes sixty ++ bytes ".abc") ∷ []
+  pub full-65 : readPolicy (bytes "(block " ++ bytes sixty ++ bytes "(role abcd))") ≡ refused 6 67
   pub block-65 : readPolicy (bytes "(block " ++ bytes sixty ++ bytes "(block yyyyy))") ≡ refused 6 67
   -- "Only the full names `process` and `object_r` are treated apart"
-  pub process-in-a-block : asksRole (class (bytes "b.process") (bytes "transition" ∷ []) ∷ []) 0 0 ≡ false
-  pub process-itself : asksRole (class (bytes "process") (bytes "transition" ∷ []) ∷ []) 0 0 ≡ true
+  pub process-in-a-block : asksRole twice 0 0 ≡ false
+  pub process-itself : asksRole twice 1 0 ≡ true
+  pub object-in-a-block : isObject twice 0 ≡ false
+  pub object-itself : isObject twice 1 ≡ true
   -- "Tables, sound ones included, hold the full dotted name without leading dot, at most 64 bytes and nine parts, a permission's one"
   pub nine-parts-sound : isGood (bytes "a.b.c.d.e.f.g.h.i") ≡ true
   pub ten-parts-unsound : isGood (bytes "a.b.c.d.e.f.g.h.i.j") ≡ false
@@ -107,6 +117,7 @@ blocks = record {
   dotted-role = refl;
   dotted-block = refl;
   dotted-permission = refl;
+  permission-names = refl;
   permission = refl;
   reserved-part = refl;
   reserved-dot = refl;
@@ -122,6 +133,8 @@ blocks = record {
   block-65 = refl;
   process-in-a-block = refl;
   process-itself = refl;
+  object-in-a-block = refl;
+  object-itself = refl;
   nine-parts-sound = refl;
   ten-parts-unsound = refl;
   reserved-unsound = refl;

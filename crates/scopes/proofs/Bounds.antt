@@ -2,7 +2,7 @@
 -- maxima. Assumes nothing.
 use Prim.Native.Nat.{ℕ}
 use native.Mathlib.Omega.{arith}
-use mathlib.Core.Path.{_≡_, refl, sym, ap, ap₂, subst, _∙_}
+use mathlib.Core.Path.{_≡_, refl, sym, ap, ap₂, _∙_}
 use mathlib.Core.List.{List, [], _∷_}
 use mathlib.Core.Option.{Option, none, some}
 use Rattle.policy.specs.Basics as basics
@@ -62,10 +62,6 @@ looks {t} {family} {w} {r} h = record {
   where
     is : (env : Environment) (y : Symbols t env) → r .found ≡ foundFirst family (tries (y .path) w) (entries (y .declared))
     is env y = h .resolves (y .end) (entries (y .declared)) (y .path) (y .chained) (y .scope) .finds
-
--- by another name for the use
-pub looks-as : {t : List ℕ} {family : ℕ} {v w : Name} {r : Found} → v ≡ w → Looks t family v r → Looks t family w r
-looks-as {t} {family} {v} {w} {r} e h = subst (λ (x : Name). Looks t family x r) e h
 
 -- a class alone
 pub looks-class : {t : List ℕ} {w : Name} {r : Found} → Looks t 3 w r → LooksClass t w r

@@ -49,7 +49,7 @@ fn cut(symbols: &[u8], n: usize) -> usize
 {
     let mut i = n;
     while 0 < i {
-        if symbols[SCOPE + i] == b'.' {
+        if symbols[SCOPE + i] == lexer::Name::DOT {
             return i - 1;
         }
         i -= 1;
@@ -93,7 +93,7 @@ fn compose(symbols: &[u8], n: usize, name: &[u8], into: &mut [u8]) -> FullName
         return FullName::TooLong;
     }
     symbols::copy(into, 0, symbols, SCOPE + 1, n);
-    into[n] = b'.';
+    into[n] = lexer::Name::DOT;
     symbols::copy(into, n + 1, name, 0, long);
     FullName::Long(n + 1 + long)
 }
@@ -161,7 +161,7 @@ fn has_dot(name: &[u8]) -> bool
     if name.len() == 0 {
         return false;
     }
-    name[0] == b'.'
+    name[0] == lexer::Name::DOT
 }
 
 // Whether nothing was found.
@@ -215,12 +215,11 @@ fn resolve(symbols: &[u8], family: usize, name: &[u8]) -> Found
     tried.found
 }
 
-// What the len bytes of the text from a place on stand for, where they are used: a thing or an attribute of a family, or a class. Most uses stand outside of
-// blocks, where one try decides: it is made at once, with no walk outward around it.
-pub fn lookup(symbols: &[u8], family: usize, text: &[u8], from: usize, len: usize) -> Found
-    ensures { λ r. ⌜ Looks (now (symbols .entry)) family (part (now (text .entry)) from len) r ⌝ }
+// What a name stands for where it is used: a thing or an attribute of a family, or a class. Most uses stand outside of blocks, where one try decides: it is
+// made at once, with no walk outward around it.
+pub fn lookup(symbols: &[u8], family: usize, name: &[u8]) -> Found
+    ensures { λ r. ⌜ Looks (now (symbols .entry)) family (now (name .entry)) r ⌝ }
 {
-    let name = bitset::part(text, from, len);
     if is_plain(symbols, name) {
         let once = name_chains::find(symbols, family, name);
         return once.found;
@@ -229,10 +228,9 @@ pub fn lookup(symbols: &[u8], family: usize, text: &[u8], from: usize, len: usiz
 }
 
 // The same for a class alone. It makes the one try itself and not by `lookup`, since a try in a family that is known is quicker.
-pub fn lookup_class(symbols: &[u8], text: &[u8], from: usize, len: usize) -> Found
-    ensures { λ r. ⌜ LooksClass (now (symbols .entry)) (part (now (text .entry)) from len) r ⌝ }
+pub fn lookup_class(symbols: &[u8], name: &[u8]) -> Found
+    ensures { λ r. ⌜ LooksClass (now (symbols .entry)) (now (name .entry)) r ⌝ }
 {
-    let name = bitset::part(text, from, len);
     if is_plain(symbols, name) {
         let once = name_chains::find(symbols, CLASSES, name);
         return once.found;
@@ -241,15 +239,9 @@ pub fn lookup_class(symbols: &[u8], text: &[u8], from: usize, len: usize) -> Fou
 }
 
 // The same for a permission of a class, by the family of its class: permissions take no block's name.
-pub fn lookup_permission(
-    symbols: &[u8],
-    family: usize,
-    text: &[u8],
-    from: usize,
-    len: usize,
-) -> Found
-    ensures { λ r. ⌜ LooksPermission (now (symbols .entry)) family (part (now (text .entry)) from len) r ⌝ }
+pub fn lookup_permission(symbols: &[u8], family: usize, name: &[u8]) -> Found
+    ensures { λ r. ⌜ LooksPermission (now (symbols .entry)) family (now (name .entry)) r ⌝ }
 {
-    let tried = name_chains::find(symbols, family, bitset::part(text, from, len));
+    let tried = name_chains::find(symbols, family, name);
     tried.found
 }

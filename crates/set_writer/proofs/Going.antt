@@ -2,10 +2,9 @@
 use mathlib.Core.Path.{_≡_, refl, sym, ap, subst, _∙_}
 use mathlib.Core.List.{List, [], _∷_}
 use mathlib.Core.Option.{Option, none, some}
-use Prim.Native.Nat.{ℕ, _-_, _≤_}
+use Prim.Native.Nat.{ℕ, _+_, _-_, _≤_}
 use native.Mathlib.Omega.{arith}
 use lib.ListN.{take, drop}
-use Rattle.bitset.specs.Parts as parts
 use Rattle.lexer.specs.Forms.{Forms, closed, ended, word, part, Frames, head, framesAt, trim}
 use Rattle.policy.specs.Basics.{Name, _>>=_}
 use Rattle.policy.specs.Statements.{Family, Reference, SetExpr, nameS}
@@ -16,6 +15,7 @@ use Rattle.symbols.specs.Resolving.{familyCode}
 use Rattle.items.proofs.Frames.{Looked}
 use Rattle.items.specs.declared.Item.{Item}
 use Rattle.items.proofs.Frames.{around-of, closes, by-word, by-part, by-close, by-end, too-deep}
+use Rattle.items.proofs.Items.{word-lent}
 use Rattle.statement_code.specs.Code.{referenceUnit, setCode, endUnit}
 use Rattle.set_writer.specs.Writing.{Wrote, Keeps, Stored}
 use Rattle.scopes.specs.Symbols.{Symbols}
@@ -89,14 +89,16 @@ module _ {t : List ℕ} {at levels : ℕ} {table : List ℕ} {family : ℕ} {bef
 
   -- ---- a word
 
-  module _ {s n k q : ℕ} (l : Looked t i (Item.Word s n k q)) {r : Referred} (m : Refers table family (parts.part t s n) r) where
+  module _ {s n k q : ℕ} (l : Looked t i (Item.Word s n k q)) {r : Referred} (lent : Refers table family (take ((s + n) - s) (drop s t)) r) where
+    m : Refers table family (take n (drop s t)) r
+    m = subst (λ (w : Name). Refers table family w r) (word-lent t s n) lent
+
     left-word : (env : Environment) (f : Family) (w : SetExpr Name) → Symbols table env → familyCode f ≡ family → setIn (trim (framesAt t at .here) levels) ≡ some w
         → Left env f w before to (word s (take n (drop s t)) (trim (framesAt t q .here) levels)) code u
     left-word env f w y e g = by-row _ _ (by-word operands levels l) (o .left env f w y e g)
 
     -- that is declared
     pub past-word : {unit v : ℕ} {after : List ℕ} → r ≡ Referred.Unit unit → Stored code u unit after v → Going t at levels table family before to q after v
-    unfolding parts.part
     past-word {unit} {v} {after} h st = record {
       low = omega (arith, o .low, l .ahead .0);
       around = sym (around-of l) ∙ o .around;
@@ -112,7 +114,6 @@ module _ {t : List ℕ} {at levels : ℕ} {table : List ℕ} {family : ℕ} {bef
 
     -- that is not
     pub stop-word : r ≡ Referred.Missing → WritesSet t at levels table family before to code SetWritten.Undeclared
-    unfolding parts.part
     stop-word h = stops (o .keeps) λ env f w y e g.
         let x = left-word env f w y e g in
         let p = split-word _ _ _ (x .each) (x .row) in

@@ -1,7 +1,6 @@
 // Set expressions with their names resolved: the part of the statement code that stands for one set expression. Its form is known to be good
 // where this is called; what is found out here is whether its names are declared, and its units are written on the way.
 ghost use mathlib.Core.Path.{_≡_};
-ghost use Rattle.bitset.specs.Parts.{part};
 ghost use Rattle.policy.specs.Words.{setWord};
 ghost use Rattle.words.specs.Numbers.{wordOf};
 ghost use Rattle.set_writer.specs.Writing.{Stored};
@@ -41,11 +40,11 @@ pub fn put_unit(code: &mut [u16], at: usize, unit: u16) -> usize
     at
 }
 
-// The unit of what the len bytes of the text from a place on name in a family.
-pub fn reference(symbols: &[u8], family: usize, text: &[u8], start: usize, len: usize) -> Referred
-    ensures { λ r. ⌜ Refers (now (symbols .entry)) family (part (now (text .entry)) start len) r ⌝ }
+// The unit of what a name names in a family.
+pub fn reference(symbols: &[u8], family: usize, name: &[u8]) -> Referred
+    ensures { λ r. ⌜ Refers (now (symbols .entry)) family (now (name .entry)) r ⌝ }
 {
-    let found = scopes::lookup(symbols, family, text, start, len);
+    let found = scopes::lookup(symbols, family, name);
     match found {
         Found::At { sort, number } => {
             if Unit::ATTRIBUTE as usize <= number {
@@ -119,8 +118,10 @@ pub fn write_set(
                 next,
                 ..
             } => {
-                let name = reference(symbols, family, text, start, len);
-                let Referred::Unit(unit) = name else {
+                let end = start + len;
+                let name = &text[start..end];
+                let referred = reference(symbols, family, name);
+                let Referred::Unit(unit) = referred else {
                     return SetWritten::Undeclared;
                 };
                 u = put_unit(code, u, unit);

@@ -2,15 +2,15 @@
 use mathlib.Core.Path.{_≡_, refl, sym, ap, subst, _∙_}
 use mathlib.Core.List.{List, [], _∷_, _++_}
 use mathlib.Core.Option.{Option, none, some}
-use Prim.Native.Nat.{ℕ}
+use Prim.Native.Nat.{ℕ, _+_, _-_}
 use native.Mathlib.Omega.{arith}
 use lib.ListN.{length, take, drop}
-use Rattle.bitset.specs.Parts as parts
 use Rattle.lexer.specs.Forms.{Forms, framesAt, trim}
-use Rattle.policy.specs.Basics.{_>>=_}
+use Rattle.policy.specs.Basics.{Name, _>>=_}
 use Rattle.policy.specs.Names.{Environment}
 use Rattle.items.specs.declared.Item.{Item}
 use Rattle.items.proofs.Frames.{Looked, by-word}
+use Rattle.items.proofs.Items.{word-lent}
 use Rattle.set_writer.specs.Writing.{Stored}
 use Rattle.set_writer.specs.declared.Referred.{Referred}
 use Rattle.set_writer.proofs.Putting.{wrote-then, keeps-then, keeps-all}
@@ -41,6 +41,11 @@ is-missing (some n) e = absurd (let z : _≡_ {A = ℕ} 0 1 = cc in omega arith)
 abbrev pub alone : Option ℕ → Option (List ℕ)
 alone o = o >>= λ u. some (u ∷ [])
 
+-- the name that is lent is the word
+of-word : (t : List ℕ) (s n : ℕ) {table : List ℕ} {k : Kind} {r : Referred} → Names table k (take ((s + n) - s) (drop s t)) r
+    → Names table k (take n (drop s t)) r
+of-word t s n {table} {k} {r} m = subst (λ (w : Name). Names table k w r) (word-lent t s n) m
+
 module _ {t : List ℕ} {at : ℕ} {k : Kind} {table : List ℕ} {before : List ℕ} {to : ℕ} where
   -- no word stands there
   pub no-word : ((env : Environment) (levels : ℕ) → firstUnit env k (trim (framesAt t at .here) levels) ≡ none)
@@ -51,29 +56,27 @@ module _ {t : List ℕ} {at : ℕ} {k : Kind} {table : List ℕ} {before : List 
     says = λ env levels y. lacking before before to (namesUnits env (k ∷ []) (trim (framesAt t at .here) levels)) (ap alone (h env levels));
   }
 
-  module _ {s n i q : ℕ} (l : Looked t at (Item.Word s n i q)) {r : Referred} (m : Names table k (parts.part t s n) r) where
+  module _ {s n i q : ℕ} (l : Looked t at (Item.Word s n i q)) {r : Referred} (m : Names table k (take ((s + n) - s) (drop s t)) r) where
     -- a name that is not declared
     pub no-name : r ≡ Referred.Missing → WritesNames t at (k ∷ []) table before to before NamesWritten.Undeclared
-    unfolding parts.part
     no-name e = record {
       keeps = keeps-all;
       moves = tt;
       says = λ env levels y.
           let is : firstUnit env k (trim (framesAt t at .here) levels) ≡ none =
-          by-word (firstUnit env k) levels l ∙ is-missing (unitIn env k (take n (drop s t))) (sym e ∙ m .resolves env y) in
+          by-word (firstUnit env k) levels l ∙ is-missing (unitIn env k (take n (drop s t))) (sym e ∙ of-word t s n m .resolves env y) in
           lacking before before to (namesUnits env (k ∷ []) (trim (framesAt t at .here) levels)) (ap alone is);
     }
 
     -- one that is
     pub one-name : {unit u : ℕ} {after : List ℕ} → r ≡ Referred.Unit unit → Stored before to unit after u
         → WritesNames t at (k ∷ []) table before to after (NamesWritten.Next q u)
-    unfolding parts.part
     one-name {unit} {u} {after} e st = record {
       keeps = st .keeps;
       moves = record { row = λ levels. sym (by-word behindFirst levels l); ahead = st .ahead };
       says = λ env levels y.
           let is : firstUnit env k (trim (framesAt t at .here) levels) ≡ some unit =
-          by-word (firstUnit env k) levels l ∙ is-unit (unitIn env k (take n (drop s t))) unit (sym e ∙ m .resolves env y) in
+          by-word (firstUnit env k) levels l ∙ is-unit (unitIn env k (take n (drop s t))) unit (sym e ∙ of-word t s n m .resolves env y) in
           subst (λ (o : Option (List ℕ)). AnswersNames before to o after (NamesWritten.Next q u)) (sym (ap alone is)) (st .wrote);
     }
 

@@ -3,7 +3,6 @@
 ghost use mathlib.Core.Path.{_≡_};
 ghost use mathlib.Core.List.{[], _∷_};
 ghost use Prim.Native.Nat.{_≤_};
-ghost use Rattle.bitset.specs.Parts.{part};
 ghost use Rattle.policy.specs.Answers.{familyOf, relationOf};
 ghost use Rattle.policy.specs.Statements.{fromOf, toOf};
 ghost use Rattle.policy.specs.Words.{setK, relationK, transitionK};
@@ -60,12 +59,12 @@ fn family_number(family: Family) -> u16
     }
 }
 
-// The number of what the len bytes of the text from a place on name in a sort of the symbol table. What has the name and another sort is missing.
-fn number_of(symbols: &[u8], sort: usize, text: &[u8], start: usize, len: usize) -> Referred
-    ensures { λ r. ⌜ Numbers (now (symbols .entry)) sort (part (now (text .entry)) start len) r ⌝ }
+// The number of what a name names in a sort of the symbol table. What has the name and another sort is missing.
+fn number_of(symbols: &[u8], sort: usize, name: &[u8]) -> Referred
+    ensures { λ r. ⌜ Numbers (now (symbols .entry)) sort (now (name .entry)) r ⌝ }
 {
     let family = symbols::family_of(sort, 0);
-    let found = scopes::lookup(symbols, family, text, start, len);
+    let found = scopes::lookup(symbols, family, name);
     match found {
         Found::At { sort: s, number } => {
             if s != sort {
@@ -80,21 +79,21 @@ fn number_of(symbols: &[u8], sort: usize, text: &[u8], start: usize, len: usize)
     }
 }
 
-// The unit of what the len bytes of the text from a place on name, as a name of a kind.
-fn name_unit(kind: Kind, symbols: &[u8], text: &[u8], start: usize, len: usize) -> Referred
-    ensures { λ r. ⌜ Names (now (symbols .entry)) kind (part (now (text .entry)) start len) r ⌝ }
+// The unit of what a name names, as a name of a kind.
+fn name_unit(kind: Kind, symbols: &[u8], name: &[u8]) -> Referred
+    ensures { λ r. ⌜ Names (now (symbols .entry)) kind (now (name .entry)) r ⌝ }
 {
     match kind {
         Kind::Reference(family) => {
             let number = family_number(family) as usize;
-            set_writer::reference(symbols, number, text, start, len)
+            set_writer::reference(symbols, number, name)
         }
         Kind::Attribute(family) => {
             let number = family_number(family) as usize;
-            number_of(symbols, FIRST_ATTRIBUTE + number, text, start, len)
+            number_of(symbols, FIRST_ATTRIBUTE + number, name)
         }
-        Kind::Class => number_of(symbols, CLASS, text, start, len),
-        Kind::Role => number_of(symbols, ROLE, text, start, len),
+        Kind::Class => number_of(symbols, CLASS, name),
+        Kind::Role => number_of(symbols, ROLE, name),
     }
 }
 
@@ -119,8 +118,10 @@ fn write_name(
     else {
         return NamesWritten::Undeclared;
     };
-    let name = name_unit(kind, symbols, text, start, len);
-    let Referred::Unit(unit) = name else {
+    let end = start + len;
+    let name = &text[start..end];
+    let referred = name_unit(kind, symbols, name);
+    let Referred::Unit(unit) = referred else {
         return NamesWritten::Undeclared;
     };
     let u = set_writer::put_unit(code, to, unit);

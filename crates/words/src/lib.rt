@@ -449,7 +449,7 @@ fn part_end(w: &[u8], at: usize) -> usize
 {
     let mut i = at;
     while i < w.len() {
-        if w[i] == b'.' {
+        if w[i] == lexer::Name::DOT {
             return i;
         }
         i += 1;

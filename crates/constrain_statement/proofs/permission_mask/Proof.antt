@@ -23,6 +23,18 @@ look-requires c κs = search needs
 enum-known-item : tie.Need-enum-known-item Inv-loop μ-loop
 enum-known-item c = search needs
 
+add-end : tie.Need-add-end Inv-loop μ-loop
+add-end c = omega (arith, sees (c .before .before .before .look .ensures) (c .before .item .given .1) .ahead .3)
+
+sub-name : tie.Need-sub-name Inv-loop μ-loop
+sub-name c = search needs
+
+part-name-start : tie.Need-part-name-start Inv-loop μ-loop
+part-name-start c = search needs
+
+part-name-end : tie.Need-part-name-end Inv-loop μ-loop
+part-name-end c = omega (arith, sees (c .before .before .before .look .ensures) (c .before .item .given .1) .ahead .3)
+
 lookup-permission-requires : tie.Need-lookup-permission-requires Inv-loop μ-loop
 lookup-permission-requires c κs = search needs
 
@@ -34,8 +46,9 @@ enum-told c = search needs
 
 returns : tie.Need-returns Inv-loop μ-loop
 returns c =
-    let looked = c .before .before .before .before .before .before in
-    let l = sees (looked .look .ensures) (c .before .before .before .before .item .given .1) in
+    let item = c .before .before .before .before .before in
+    let looked = item .before .before in
+    let l = sees (looked .look .ensures) (item .item .given .1) in
     not-of-class (looked .before .loop .inv) l (c .before .before .lookup-permission .ensures) (c .enum-told .given .1)
 
 with-permission-requires : tie.Need-with-permission-requires Inv-loop μ-loop
@@ -43,15 +56,16 @@ with-permission-requires c κs = search needs
 
 loop-less : tie.Need-loop-less Inv-loop μ-loop
 loop-less c =
-    let looked = c .before .before .before .before .before .before .before .before in
-    let l = sees (looked .look .ensures) (c .before .before .before .before .before .before .item .given .1) in
+    let item = c .before .before .before .before .before .before .before in
+    let l = sees (item .before .before .look .ensures) (item .item .given .1) in
     omega (arith, l .ahead .0, l .ahead .1)
 
 loop-again : tie.Need-loop-again Inv-loop μ-loop
 loop-again c =
     let found = c .before .before .before .before in
-    let looked = found .before .before .before .before in
-    let l = sees (looked .look .ensures) (found .before .before .item .given .1) in
+    let item = found .before .before .before in
+    let looked = item .before .before in
+    let l = sees (looked .look .ensures) (item .item .given .1) in
     one-more (looked .before .loop .inv) l (found .lookup-permission .ensures) (c .before .before .found .given .1) (c .with-permission .ensures)
 
 enum-known-item-2 : tie.Need-enum-known-item-2 Inv-loop μ-loop
@@ -72,6 +86,10 @@ permission-mask-spec =
     loop-holds
     look-requires
     enum-known-item
+    add-end
+    sub-name
+    part-name-start
+    part-name-end
     lookup-permission-requires
     enum-known-found
     enum-told

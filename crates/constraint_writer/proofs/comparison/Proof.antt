@@ -42,6 +42,22 @@ returns-3 : tie.Need-returns-3
 returns-3 c =
     no-form (all-kept _ _) (close-missing _ (sees (c .before .before .before .before .before .before .before .before .before .before .look .ensures) (c .before .before .before .before .before .before .before .before .first .given .1)) (sees (c .before .before .before .before .before .look2 .ensures) (c .before .before .before .second .given .1)) (c .before .look3 .ensures) (c .match3 .keys2))
 
+add-end : tie.Need-add-end
+add-end c =
+    let second = c .before .before .before .before .before in
+    omega (arith, sees (second .before .before .look2 .ensures) (second .second .given .1) .ahead .3)
+
+sub-name : tie.Need-sub-name
+sub-name c = search needs
+
+part-name-start : tie.Need-part-name-start
+part-name-start c = search needs
+
+part-name-end : tie.Need-part-name-end
+part-name-end c =
+    let second = c .before .before .before .before .before in
+    omega (arith, sees (second .before .before .look2 .ensures) (second .second .given .1) .ahead .3)
+
 operand-of-requires : tie.Need-operand-of-requires
 operand-of-requires c κs = search needs
 
@@ -53,10 +69,14 @@ enum-told c = search needs
 
 returns-4 : tie.Need-returns-4
 returns-4 c =
-    let l = sees (c .before .before .before .before .before .before .before .before .before .before .before .before .before .before .before .look .ensures) (c .before .before .before .before .before .before .before .before .before .before .before .before .before .first .given .1) in
-    let l2 = sees (c .before .before .before .before .before .before .before .before .before .before .look2 .ensures) (c .before .before .before .before .before .before .before .before .second .given .1) in
-    let l3 = sees (c .before .before .before .before .before .before .look3 .ensures) (c .before .before .before .before .last .given .1) in
-    not-declared l l2 l3 _ (c .before .before .before .before .before .before .before .before .before .before .before .component-of .ensures) (compares-told (c .before .before .operand-of .ensures) (c .enum-told .given .1))
+    let last = c .before .before .before .before .before in
+    let second = last .before .before .before .before in
+    let first = second .before .before .before .before .before in
+    let l = sees (first .before .before .look .ensures) (first .first .given .1) in
+    let l2 = sees (second .before .before .look2 .ensures) (second .second .given .1) in
+    let l3 = sees (last .before .before .look3 .ensures) (last .last .given .1) in
+    not-declared l l2 l3 _ (second .before .before .before .component-of .ensures)
+    (compares-told l2 (c .before .before .operand-of .ensures) (c .enum-told .given .1))
 
 operator-of-requires : tie.Need-operator-of-requires
 operator-of-requires c κs = search needs
@@ -66,20 +86,29 @@ put-row-requires c κs = search needs
 
 add-row : tie.Need-add-row
 add-row c =
-    let l = sees (c .before .before .before .before .before .before .before .before .before .before .before .before .before .before .before .before .before .before .before .before .before .look .ensures) (c .before .before .before .before .before .before .before .before .before .before .before .before .before .before .before .before .before .before .before .first .given .1) in
-    let l2 = sees (c .before .before .before .before .before .before .before .before .before .before .before .before .before .before .before .before .look2 .ensures) (c .before .before .before .before .before .before .before .before .before .before .before .before .before .before .second .given .1) in
-    let l3 = sees (c .before .before .before .before .before .before .before .before .before .before .before .before .look3 .ensures) (c .before .before .before .before .before .before .before .before .before .before .last .given .1) in
-    omega (arith, l .ahead .0, l2 .ahead .0, l3 .ahead .0, l3 .ahead .1, c .before .before .before .before .before .before .before .before .before .before .before .before .before .before .before .before .before .before .before .before .before .before .before .before .before .pre)
+    let last = c .before .before .before .before .before .before .before .before .before .before .before in
+    let second = last .before .before .before .before in
+    let first = second .before .before .before .before .before in
+    let l = sees (first .before .before .look .ensures) (first .first .given .1) in
+    let l2 = sees (second .before .before .look2 .ensures) (second .second .given .1) in
+    let l3 = sees (last .before .before .look3 .ensures) (last .last .given .1) in
+    omega (arith, l .ahead .0, l2 .ahead .0, l3 .ahead .0, l3 .ahead .1, first .before .before .before .before .before .before .pre)
 
 same-length : tie.Need-same-length
 same-length c = search needs
 
 returns-5 : tie.Need-returns-5
 returns-5 c =
-    let l = sees (c .before .before .before .before .before .before .before .before .before .before .before .before .before .before .before .before .before .before .before .before .before .look .ensures) (c .before .before .before .before .before .before .before .before .before .before .before .before .before .before .before .before .before .before .before .first .given .1) in
-    let l2 = sees (c .before .before .before .before .before .before .before .before .before .before .before .before .before .before .before .before .look2 .ensures) (c .before .before .before .before .before .before .before .before .before .before .before .before .before .before .second .given .1) in
-    let l3 = sees (c .before .before .before .before .before .before .before .before .before .before .before .before .look3 .ensures) (c .before .before .before .before .before .before .before .before .before .before .last .given .1) in
-    compared-row l l2 l3 _ (c .before .before .before .before .before .before .before .before .before .before .before .before .before .before .before .before .before .component-of .ensures) (compares-told (c .before .before .before .before .before .before .before .before .operand-of .ensures) (c .before .before .before .before .before .before .operand .given .1)) (c .before .before .before .operator-of .ensures) (c .before .before .put-row .ensures)
+    let operand = c .before .before .before .before .before .before in
+    let last = operand .before .before .before .before .before in
+    let second = last .before .before .before .before in
+    let first = second .before .before .before .before .before in
+    let l = sees (first .before .before .look .ensures) (first .first .given .1) in
+    let l2 = sees (second .before .before .look2 .ensures) (second .second .given .1) in
+    let l3 = sees (last .before .before .look3 .ensures) (last .last .given .1) in
+    compared-row l l2 l3 _ (second .before .before .before .component-of .ensures)
+    (compares-told l2 (operand .before .before .operand-of .ensures) (operand .operand .given .1))
+    (c .before .before .before .operator-of .ensures) (c .before .before .put-row .ensures)
 
 pub comparison-spec : {M : Type 1} → statement M
 comparison-spec =
@@ -95,6 +124,10 @@ comparison-spec =
     look-requires-3
     enum-known-last
     returns-3
+    add-end
+    sub-name
+    part-name-start
+    part-name-end
     operand-of-requires
     enum-known-operand
     enum-told

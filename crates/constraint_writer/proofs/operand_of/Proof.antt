@@ -8,7 +8,7 @@ component-of-requires : tie.Need-component-of-requires
 component-of-requires c κs = search needs
 
 returns : tie.Need-returns
-returns c = a-side _ _ _ _ _ _ _ (c .before .component-of .ensures) (c .if1 .taken)
+returns c = a-side _ _ _ _ _ (c .before .component-of .ensures) (c .if1 .taken)
 
 cast-family : tie.Need-cast-family
 cast-family c = search needs
@@ -20,16 +20,27 @@ enum-known-found : tie.Need-enum-known-found
 enum-known-found c = search needs
 
 returns-2 : tie.Need-returns-2
-returns-2 c = a-thing _ _ _ _ _ _ _ (c .before .before .before .before .before .before .component-of .ensures) (c .before .before .before .before .before .if1 .left) _ (c .before .before .before .before .lookup .ensures) _ _ (c .before .before .found .given .1) (c .if2 .taken)
+returns-2 c =
+    let looked-up = c .before .before .before .before in
+    let component = looked-up .before in
+    a-thing _ _ _ _ _ (component .before .component-of .ensures) (component .if1 .left) _ (looked-up .lookup .ensures) _ _
+    (c .before .before .found .given .1) (c .if2 .taken)
 
 enum-told : tie.Need-enum-told
 enum-told c = search needs
 
 returns-3 : tie.Need-returns-3
-returns-3 c = an-attribute _ _ _ _ _ _ _ (c .before .before .before .before .before .before .component-of .ensures) (c .before .before .before .before .before .if1 .left) _ (c .before .before .before .before .lookup .ensures) _ _ (c .before .before .found .given .1) (c .if2 .left)
+returns-3 c =
+    let looked-up = c .before .before .before .before in
+    let component = looked-up .before in
+    an-attribute _ _ _ _ _ (component .before .component-of .ensures) (component .if1 .left) _ (looked-up .lookup .ensures) _ _
+    (c .before .before .found .given .1) (c .if2 .left)
 
 returns-4 : tie.Need-returns-4
-returns-4 c = missing _ _ _ _ _ _ _ (c .before .before .before .before .component-of .ensures) (c .before .before .before .if1 .left) _ (c .before .before .lookup .ensures) (c .enum-told .given .1)
+returns-4 c =
+    let looked-up = c .before .before in
+    let component = looked-up .before in
+    missing _ _ _ _ _ (component .before .component-of .ensures) (component .if1 .left) _ (looked-up .lookup .ensures) (c .enum-told .given .1)
 
 pub operand-of-spec : {M : Type 1} → statement M
 operand-of-spec =

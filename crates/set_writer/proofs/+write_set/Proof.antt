@@ -56,24 +56,41 @@ module _ (t : ℕ) where
   enum-known-item : lts.Need-enum-known-item (claims t) (at-level t) write-set.Post Inv-loop μ-loop
   enum-known-item c = search needs
 
+  add-end : lts.Need-add-end (claims t) (at-level t) write-set.Post Inv-loop μ-loop
+  add-end c = omega (arith, sees (c .before .before .before .look .ensures) (c .before .item .given .1) .ahead .3)
+
+  sub-name : lts.Need-sub-name (claims t) (at-level t) write-set.Post Inv-loop μ-loop
+  sub-name c = search needs
+
+  part-name-start : lts.Need-part-name-start (claims t) (at-level t) write-set.Post Inv-loop μ-loop
+  part-name-start c = search needs
+
+  part-name-end : lts.Need-part-name-end (claims t) (at-level t) write-set.Post Inv-loop μ-loop
+  part-name-end c = omega (arith, sees (c .before .before .before .look .ensures) (c .before .item .given .1) .ahead .3)
+
   reference-requires : lts.Need-reference-requires (claims t) (at-level t) write-set.Post Inv-loop μ-loop
   reference-requires c κs = search needs
 
-  enum-known-name : lts.Need-enum-known-name (claims t) (at-level t) write-set.Post Inv-loop μ-loop
-  enum-known-name c = search needs
+  enum-known-referred : lts.Need-enum-known-referred (claims t) (at-level t) write-set.Post Inv-loop μ-loop
+  enum-known-referred c = search needs
 
   enum-told : lts.Need-enum-told (claims t) (at-level t) write-set.Post Inv-loop μ-loop
   enum-told c = search needs
 
   same-length : lts.Need-same-length (claims t) (at-level t) write-set.Post Inv-loop μ-loop
   same-length c =
-      let o = c .before .before .before .before .before .before .before .loop .inv _ (going _ _ _ (c .before .before .before .before .before .before .before .before .before .before .before .before .set-start .ensures) (c .before .before .before .before .before .before .before .before .before .before .put-unit .ensures)) in
+      let at-loop = c .before .before .before .before .before .before .before .before in
+      let operator = at-loop .before .before .before in
+      let o = at-loop .loop .inv _ (going _ _ _ (operator .before .before .set-start .ensures) (operator .put-unit .ensures)) in
       o .keeps .long
 
   returns : lts.Need-returns (claims t) (at-level t) write-set.Post Inv-loop μ-loop
   returns c =
-      let o = c .before .before .before .before .before .before .before .loop .inv _ (going _ _ _ (c .before .before .before .before .before .before .before .before .before .before .before .before .set-start .ensures) (c .before .before .before .before .before .before .before .before .before .before .put-unit .ensures)) in
-      let l = sees (c .before .before .before .before .before .before .look .ensures) (c .before .before .before .before .item .given .1) in
+      let looked = c .before .before .before .before .before .before .before in
+      let at-loop = looked .before in
+      let operator = at-loop .before .before .before in
+      let o = at-loop .loop .inv _ (going _ _ _ (operator .before .before .set-start .ensures) (operator .put-unit .ensures)) in
+      let l = sees (looked .look .ensures) (c .before .before .before .before .before .item .given .1) in
       stop-word o l (c .before .before .reference .ensures) (c .enum-told .given .1)
 
   put-unit-requires-2 : lts.Need-put-unit-requires-2 (claims t) (at-level t) write-set.Post Inv-loop μ-loop
@@ -81,13 +98,18 @@ module _ (t : ℕ) where
 
   loop-less : lts.Need-loop-less (claims t) (at-level t) write-set.Post Inv-loop μ-loop
   loop-less c =
-      let l = sees (c .before .before .before .before .before .before .before .before .before .before .before .look .ensures) (c .before .before .before .before .before .before .before .before .before .item .given .1) in
+      let item = c .before .before .before .before .before .before .before .before .before .before in
+      let l = sees (item .before .before .look .ensures) (item .item .given .1) in
       omega (arith, l .ahead .0, l .ahead .1)
 
   loop-again : lts.Need-loop-again (claims t) (at-level t) write-set.Post Inv-loop μ-loop
   loop-again c before g =
-      let l = sees (c .before .before .before .before .before .before .before .before .before .before .before .look .ensures) (c .before .before .before .before .before .before .before .before .before .item .given .1) in
-      past-word (c .before .before .before .before .before .before .before .before .before .before .before .before .loop .inv before g) l (c .before .before .before .before .before .before .before .reference .ensures) (c .before .before .before .before .before .name .given .1) (c .before .before .put-unit2 .ensures)
+      let reference = c .before .before .before .before .before .before .before in
+      let item = reference .before .before .before in
+      let looked = item .before .before in
+      let l = sees (looked .look .ensures) (item .item .given .1) in
+      past-word (looked .before .loop .inv before g) l (reference .reference .ensures) (c .before .before .before .before .before .referred .given .1)
+      (c .before .before .put-unit2 .ensures)
 
   enum-known-item-2 : lts.Need-enum-known-item-2 (claims t) (at-level t) write-set.Post Inv-loop μ-loop
   enum-known-item-2 c = search needs
@@ -177,8 +199,12 @@ pub +write-set-spec : {M : Type 1} → statement M
     (loop-holds t)
     (look-requires t)
     (enum-known-item t)
+    (add-end t)
+    (sub-name t)
+    (part-name-start t)
+    (part-name-end t)
     (reference-requires t)
-    (enum-known-name t)
+    (enum-known-referred t)
     (enum-told t)
     (same-length t)
     (returns t)

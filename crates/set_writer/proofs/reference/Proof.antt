@@ -16,17 +16,17 @@ cast-if1 c = search needs
 returns : tie.Need-returns
 returns c = refers (c .before .before .before .before .lookup .ensures) (rw (c .before .before .found .given .1) (too-large (c .before .before .found .given .0 .0) _ (c .if1 .taken)))
 
-cast-t12 : tie.Need-cast-t12
-cast-t12 c = search needs
+cast-t10 : tie.Need-cast-t10
+cast-t10 c = search needs
 
 returns-2 : tie.Need-returns-2
 returns-2 c = refers (c .before .before .before .before .before .lookup .ensures) (rw (c .before .before .before .found .given .1) (a-thing _ _ (c .before .if1 .left) (c .if2 .taken)))
 
-cast-t13 : tie.Need-cast-t13
-cast-t13 c = search needs
+cast-t11 : tie.Need-cast-t11
+cast-t11 c = search needs
 
-add-t14 : tie.Need-add-t14
-add-t14 c = search needs
+add-t12 : tie.Need-add-t12
+add-t12 c = search needs
 
 enum-told : tie.Need-enum-told
 enum-told c = search needs
@@ -45,10 +45,10 @@ reference-spec =
     enum-known-found
     cast-if1
     returns
-    cast-t12
+    cast-t10
     returns-2
-    cast-t13
-    add-t14
+    cast-t11
+    add-t12
     enum-told
     returns-3
     returns-4)

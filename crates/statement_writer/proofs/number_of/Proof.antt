@@ -22,8 +22,8 @@ cast-if2 c = search needs
 returns-2 : tie.Need-returns-2
 returns-2 c = numbers (c .before .before .before .before .before .before .family-of .ensures) (c .before .before .before .before .before .lookup .ensures) (rw (c .before .before .before .found .given .1) (too-large _ _ _ (c .before .if1 .left) (c .if2 .taken)))
 
-cast-t13 : tie.Need-cast-t13
-cast-t13 c = search needs
+cast-t11 : tie.Need-cast-t11
+cast-t11 c = search needs
 
 enum-told : tie.Need-enum-told
 enum-told c = search needs
@@ -44,7 +44,7 @@ number-of-spec =
     returns
     cast-if2
     returns-2
-    cast-t13
+    cast-t11
     enum-told
     returns-3
     returns-4)

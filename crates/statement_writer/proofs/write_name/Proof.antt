@@ -1,5 +1,6 @@
 -- `statement_writer::write_name` meets its contract: a word that names something of the kind, or not. Assumes nothing.
 use borrow.Author.Needs.{needs}
+use native.Mathlib.Omega.{arith}
 use mathlib.Core.Path.{refl}
 use mathlib.Core.List.{[], _∷_}
 use mathlib.Core.Option.{none}
@@ -19,17 +20,31 @@ enum-known-item c = search needs
 returns : tie.Need-returns
 returns c = no-word λ env levels. alike (firstUnit env _) (λ f. none) _ _ _ (1 ∷ 2 ∷ 3 ∷ []) levels (tt, λ x f g. refl, refl, refl) (c .before .look .ensures) (c .match .keys2)
 
+add-end : tie.Need-add-end
+add-end c = omega (arith, sees (c .before .before .before .look .ensures) (c .before .item .given .1) .ahead .3)
+
+sub-name : tie.Need-sub-name
+sub-name c = search needs
+
+part-name-start : tie.Need-part-name-start
+part-name-start c = search needs
+
+part-name-end : tie.Need-part-name-end
+part-name-end c = omega (arith, sees (c .before .before .before .look .ensures) (c .before .item .given .1) .ahead .3)
+
 name-unit-requires : tie.Need-name-unit-requires
 name-unit-requires c κs = search needs
 
-enum-known-name : tie.Need-enum-known-name
-enum-known-name c = search needs
+enum-known-referred : tie.Need-enum-known-referred
+enum-known-referred c = search needs
 
 enum-told : tie.Need-enum-told
 enum-told c = search needs
 
 returns-2 : tie.Need-returns-2
-returns-2 c = no-name (sees (c .before .before .before .before .before .before .look .ensures) (c .before .before .before .before .item .given .1)) (c .before .before .name-unit .ensures) (c .enum-told .given .1)
+returns-2 c =
+    let item = c .before .before .before .before .before in
+    no-name (sees (item .before .before .look .ensures) (item .item .given .1)) (c .before .before .name-unit .ensures) (c .enum-told .given .1)
 
 put-unit-requires : tie.Need-put-unit-requires
 put-unit-requires c κs = search needs
@@ -38,7 +53,11 @@ same-length : tie.Need-same-length
 same-length c = search needs
 
 returns-3 : tie.Need-returns-3
-returns-3 c = one-name (sees (c .before .before .before .before .before .before .before .before .before .before .before .look .ensures) (c .before .before .before .before .before .before .before .before .before .item .given .1)) (c .before .before .before .before .before .before .before .name-unit .ensures) (c .before .before .before .before .before .name .given .1) (c .before .before .put-unit .ensures)
+returns-3 c =
+    let unit = c .before .before .before .before .before .before .before in
+    let item = unit .before .before .before in
+    one-name (sees (item .before .before .look .ensures) (item .item .given .1)) (unit .name-unit .ensures)
+    (c .before .before .before .before .before .referred .given .1) (c .before .before .put-unit .ensures)
 
 pub write-name-spec : {M : Type 1} → statement M
 write-name-spec =
@@ -47,8 +66,12 @@ write-name-spec =
     look-requires
     enum-known-item
     returns
+    add-end
+    sub-name
+    part-name-start
+    part-name-end
     name-unit-requires
-    enum-known-name
+    enum-known-referred
     enum-told
     returns-2
     put-unit-requires
