@@ -522,3 +522,14 @@ fn damaged_policies_in_blocks() {
     }
     assert!(accepted > 100 && refusals[2..].iter().all(|&count| count > 10), "{accepted} {refusals:?}");
 }
+
+/// The sample roll of three branches: every name in full, and an inner name before an outer one.
+#[test]
+fn the_sample_branches() {
+    let text = include_str!("../../examples/branches.cil");
+    assert_eq!(names(text, 0), ["north.alder", "north.birch", "harbour.cedar", "harbour.dogwood", "harbour.night.elm", "south.fir"]);
+    assert_eq!(names(text, 1), ["clerk", "registrar", "north.cashier", "harbour.clerk", "south.registrar"]);
+    let roles = contents(text).roles_of_user;
+    assert_eq!(roles[2], set(&[3]), "cedar is a clerk of the harbour");
+    assert_eq!(roles[3], set(&[0]), "dogwood is a clerk of the office");
+}

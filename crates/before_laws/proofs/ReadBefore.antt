@@ -23,11 +23,12 @@ use Rattle.policy.specs.Reading.{Judged, reads, opens, fault, Read, refused}
 use Rattle.policy.proofs.IfAny.{IfAny, just, whatever}
 use Rattle.policy.proofs.Lists.{both-true}
 use Rattle.before_laws.specs.Before as before
-use Rattle.before_laws.specs.Before.{blockless, readBefore, AsBefore}
+use Rattle.before_laws.specs.Before.{formsBefore, blockless, readBefore, AsBefore}
 use Rattle.before_laws.proofs.Dotless.{reserved-word, part-is-name}
 use Rattle.before_laws.proofs.PlainWords.{Words, Plain, text-words}
 use Rattle.before_laws.proofs.ResolvedAlike.{resolved-same, names-as-before}
 use Rattle.before_laws.proofs.ScanBefore.{scan-as-before}
+use Rattle.before_laws.proofs.TokensBefore.{tokens-as-before, forms-as-before}
 use Rattle.before_laws.proofs.WrittenNames.{Names, written-names}
 
 -- ---- a statement
@@ -140,15 +141,18 @@ row-as-before (part at inner after) xs p h x =
 -- ---- the text
 
 -- the row is read only where the scan is clean
-text-as-before : (t : List ℕ) → dotless t ≡ true → blockless (formsOf t) ≡ true → readPolicy t ≡ readBefore t
+text-as-before : (t : List ℕ) → dotless t ≡ true → blockless (formsBefore t) ≡ true → readPolicy t ≡ readBefore t
 unfolding readPolicy readBefore
-text-as-before t e h = go (scan t) refl ∙ ap (λ (s : Scanned). afterScan s (before.readFrom (formsOf t) [])) (scan-as-before t e)
+text-as-before t e h =
+    go (scan t) refl
+    ∙ ap (λ (s : Scanned). afterScan s (before.readFrom (formsOf t) [])) (scan-as-before t e)
+    ∙ ap (λ (f : Forms). afterScan (before.scan t) (before.readFrom f [])) (forms-as-before t e)
   where
     go : (s : Scanned) → scan t ≡ s → afterScan s (readFrom [] (scopedIn [] (formsOf t)) []) ≡ afterScan s (before.readFrom (formsOf t) [])
     go Scanned.TooLong f = refl
     go (Scanned.Wrong place) f = refl
-    go Scanned.Clean f = row-as-before (formsOf t) [] [] h (text-words t e f)
+    go Scanned.Clean f = row-as-before (formsOf t) [] [] (ap blockless (forms-as-before t e) ∙ h) (text-words t e f)
 
 -- W-203 changes nothing for texts without dots and blocks
 pub as-before : AsBefore
-as-before = record { words = λ w e. (reserved-word w e, part-is-name w e); reads = text-as-before }
+as-before = record { words = λ w e. (reserved-word w e, part-is-name w e); splits = tokens-as-before; reads = text-as-before }

@@ -22,7 +22,7 @@ use Rattle.before_laws.specs.Before.{classBefore}
 use Rattle.before_laws.proofs.Dotless.{first-and-rest}
 
 -- but for the dot, the classes are those of document 01
-class-as-before : (k : ByteClass) → isDot k ≡ false → classBefore k ≡ k
+pub class-as-before : (k : ByteClass) → isDot k ≡ false → classBefore k ≡ k
 class-as-before Blank e = refl
 class-as-before LineFeed e = refl
 class-as-before Comment e = refl

@@ -9,10 +9,12 @@ use lib.Dec.{eqb, ltb}
 use lib.ListN.{length}
 use Rattle.lexer.specs.Class.{classOf, goesOn, maxName}
 use Rattle.lexer.specs.Scan.{maxText, Mode, between, inComment, inName, State, going, stopped, commentThen, stepBetween}
-use Rattle.lexer.specs.Forms.{Forms, closed, ended, word, part, formsOf}
+use Rattle.lexer.specs.Token.{betweenThen, ownToken, endingLast, tokens}
+use Rattle.lexer.specs.Forms.{Forms, closed, ended, word, part, build}
 use Rattle.lexer.specs.declared.ByteClass.{ByteClass}
 use Rattle.lexer.specs.declared.ByteClass.the-variants.{Blank, LineFeed, Comment, Open, Close, Letter, Digit, Dot, Wrong}
 use Rattle.lexer.specs.declared.Scanned.{Scanned}
+use Rattle.lexer.specs.declared.Token.{Token}
 use Rattle.policy.specs.Basics.{Name, isIn, indexOf}
 use Rattle.policy.specs.Words.{reserved, isReserved, dotless, asName, asPart}
 use Rattle.policy.specs.Statements.{Declaration, Policy, classNames, permissions, declarations}
@@ -52,6 +54,31 @@ scanFrom (b ∷ bs) (going mode level) at = scanFrom bs (step mode level at (cla
 
 unfoldable pub scan : List ℕ → Scanned
 scan text = cond (ltb maxText (length text)) Scanned.TooLong (scanFrom text (going between 0) 0)
+
+-- ---- the tokens: a word is a run of bytes that go on a name
+
+abbrev pub modeThen : Mode → ℕ → ByteClass → Mode
+modeThen between at k = betweenThen at k
+modeThen inComment at k = commentThen k
+modeThen (inName first len) at k = cond (goesOn k) (inName first (len + 1)) (betweenThen at k)
+
+abbrev pub ending : Mode → ℕ → ByteClass → List Token
+ending between at k = ownToken at k
+ending inComment at k = []
+ending (inName first len) at k = cond (goesOn k) [] (Token.Word first len ∷ ownToken at k)
+
+unfoldable pub tokensFrom : List ℕ → Mode → ℕ → List Token
+tokensFrom [] mode at = endingLast mode
+tokensFrom (b ∷ bs) mode at =
+    let k = classBefore (classOf b) in
+    ending mode at k ++ tokensFrom bs (modeThen mode at k) (at + 1)
+
+unfoldable pub tokensBefore : List ℕ → List Token
+tokensBefore text = tokensFrom text between 0
+
+-- the parts that they make are those of today
+unfoldable pub formsBefore : List ℕ → Forms
+formsBefore text = build text (tokensBefore text) .here
 
 -- ---- the reading: a row of statements, and a name is looked up as it is written
 
@@ -93,7 +120,7 @@ readFrom (part at inner after) p = elim (naming p (written inner)) [
 ]
 
 unfoldable pub readBefore : List ℕ → Read
-readBefore text = afterScan (scan text) (readFrom (formsOf text) [])
+readBefore text = afterScan (scan text) (readFrom (formsBefore text) [])
 
 -- ---- texts without dots and blocks
 
@@ -108,5 +135,7 @@ blockless (part at inner after) = not (isBlock inner) && blockless after
 pub record AsBefore : Type 0 where
   -- which words are reserved, and which may be declared
   pub words : (w : Name) → dotless w ≡ true → (isReserved w ≡ isIn w reserved) × (asPart w ≡ asName w)
+  -- the tokens of the text
+  pub splits : (text : List ℕ) → dotless text ≡ true → tokens text ≡ tokensBefore text
   -- what is read of the text, or its refusal
-  pub reads : (text : List ℕ) → dotless text ≡ true → blockless (formsOf text) ≡ true → readPolicy text ≡ readBefore text
+  pub reads : (text : List ℕ) → dotless text ≡ true → blockless (formsBefore text) ≡ true → readPolicy text ≡ readBefore text

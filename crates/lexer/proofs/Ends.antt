@@ -125,6 +125,15 @@ module _ (t : List ℕ) (at : ℕ) where
   pub counted-at-end : length t ≤ at → countedFrom (drop at t) at ≡ at
   counted-at-end h = ap (λ (l : List ℕ). countedFrom l at) (drop-of-length-le t h)
 
+-- at most one byte in front is not counted
+pub counted-most : (bs : List ℕ) (at : ℕ) → countedFrom bs at ≤ at + 1
+counted-most [] at = omega arith
+counted-most (b ∷ bs) at = go (isDot (classOf b))
+  where
+    go : (q : Bool) → cond q (at + 1) at ≤ at + 1
+    go true = omega arith
+    go false = omega arith
+
 -- ---- where a name goes on
 
 module _ (t : List ℕ) (at : ℕ) where

@@ -65,7 +65,7 @@ goesOn Digit = true
 goesOn Dot = false
 goesOn Wrong = false
 
--- a dot, which is neither
+-- a dot, which neither starts a part nor goes on one
 abbrev pub isDot : ByteClass → Bool
 isDot Blank = false
 isDot LineFeed = false

@@ -308,13 +308,13 @@ fn scan_in(classes: &[u8; 256], text: &[u8]) -> Scanned
             Step::Comment => at = comment_end(classes, text, at + 1),
             Step::Name => {
                 let start = at;
-                let from = counted_from(classes, text, start);
+                let limit = counted_from(classes, text, start) + Name::MAX;
                 if bare_dot(classes, text, start) {
                     break 'text start; // a dot in front that no part follows
                 }
                 at += 1;
                 while name_goes_on(classes, text, at) {
-                    if Name::MAX <= at - from {
+                    if limit <= at {
                         break 'text start; // the 65th byte
                     }
                     at += 1;

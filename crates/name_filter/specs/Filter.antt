@@ -18,7 +18,7 @@ unfoldable pub hashFrom : List ℕ → ℕ → ℕ
 hashFrom [] h = h
 hashFrom (b ∷ bs) h = hashFrom bs (stepped h b)
 
--- the hash of a name w of the family f
+-- the hash of a name w of the family f, or of a block's name inside the block of the number f
 unfoldable pub hashOf : ℕ → Name → ℕ
 hashOf f w = stepped (hashFrom w 0) f
 

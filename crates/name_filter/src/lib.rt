@@ -21,7 +21,7 @@ const THIRD_SHARE: usize = 8;
 
 const WORD_BITS: usize = 64;
 
-// The hash of what has a hash so far and goes on with a number: the next byte of a name, or its family behind the last.
+// The hash of what has a hash so far and goes on with a number: the next byte of a name, or behind the last its family, or the block around it.
 pub fn step(hash: usize, number: usize) -> usize
     requires { ⌜ hash < 4294967296 ⌝ }
     ensures { λ r. ⌜ (r ≡ stepped hash number) × (r < 4294967296) ⌝ }

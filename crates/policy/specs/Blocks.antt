@@ -76,7 +76,7 @@ pub record Blocks : Type 0 where
   -- "4 for a block opened twice under one full name"
   pub opened-twice : of "(block b)(block b)" ≡ refused 4 9
   pub inside-itself : of "(block a(block a))" ≡ policy []
-  pub elsewhere : of "(block a(block b))(block b)(role b)" ≡ of "(block a(block b))(block c)(role b)"
+  pub elsewhere : rolesOf (of "(block a(block b))(block b)(role b)") ≡ bytes "b" ∷ []
   -- "blocks nest to 8", "6 for .. a ninth level"
   pub eight-levels : rolesOf (of "(block a(block b(block c(block d(block e(block f(block g(block h(role i)))))))))") ≡ bytes "a.b.c.d.e.f.g.h.i" ∷ []
   pub nine-levels : of "(block a(block a(block a(block a(block a(block a(block a(block a(block a)))))))))" ≡ refused 6 64

@@ -118,12 +118,16 @@ naming path p (some w) = elim (again (declarations p) (inBlocks path w)) [
   | false ↦ resolving p (resolved (environmentOf (declarations p) path) (inBlocks path w))
 ]
 
+-- W-203: a block of a name in the blocks of a path has neither "a full name too long" nor "a ninth level"
+abbrev pub blockFits : List Name → Name → Bool
+blockFits path b = ltb (length path) maxDepth && leb (length (full path b)) maxName
+
 -- W-203: a block in the blocks of a path, by its name, where there are blocks of these full names: "3 for a dot in a .. block .. name, 4 for a block opened
 -- twice under one full name, 6 for a full name too long or a ninth level"
 abbrev pub opening : List Name → List Name → Option Name → Judged
 opening path blocks none = fault 3
 opening path blocks (some b) =
-    cond (isIn (full path b) blocks) (fault 4) (cond (ltb (length path) maxDepth && leb (length (full path b)) maxName) opens (fault 6))
+    cond (isIn (full path b) blocks) (fault 4) (cond (blockFits path b) opens (fault 6))
 
 -- a statement or block after those before it, whose statements are p
 unfoldable pub judge : List Scoped → Policy → Scoped → Judged

@@ -86,7 +86,7 @@ impl Block {
     pub const MAX_DEPTH: usize = 8;
 }
 
-// A full name: the names of the blocks around it and its own.
+// A full name, which is the names of the blocks around it and its own: how many parts it may have.
 pub struct FullName;
 
 impl FullName {

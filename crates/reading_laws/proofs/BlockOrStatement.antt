@@ -3,21 +3,17 @@
 use Prim.Native.Nat.{ℕ}
 use native.Mathlib.Omega.{arith}
 use mathlib.Core.Path.{_≡_, refl, sym, ap, _∙_}
-use mathlib.Core.Bool.{Bool, true, false, _&&_, cond}
+use mathlib.Core.Bool.{Bool, true, false, cond}
 use mathlib.Core.List.{List, []}
 use mathlib.Core.Option.{Option, none, some, Option·none-ne-some}
-use lib.Dec.{leb, ltb}
-use lib.ListN.{length}
-use Rattle.lexer.specs.Class.{maxName}
 use Rattle.lexer.specs.Forms.{Forms, closed, ended, word, part}
 use Rattle.policy.specs.Basics.{Name, same, _>>=_, lookup, isIn}
 use Rattle.policy.specs.Statements.{Statement, Written, declare, attributeset, gives, roletransition, constrain, plain, class, Policy, declarations}
 use Rattle.policy.specs.Words.{Keyword, blockWord, keywordOf}
-use Rattle.policy.specs.Maxima.{maxDepth}
 use Rattle.policy.specs.Names.{full, environmentOf}
 use Rattle.policy.specs.Grammar.{formed, written, isBlock, blockIn}
 use Rattle.policy.specs.Scopes.{Scoped, blocksIn}
-use Rattle.policy.specs.Reading.{inBlocks, again, resolved, fits, shallow, reads, opens, fault, sized, resolving, naming, opening, judge}
+use Rattle.policy.specs.Reading.{inBlocks, again, resolved, fits, shallow, reads, opens, fault, sized, resolving, naming, blockFits, opening, judge}
 use Rattle.policy.proofs.Lists.{same-is}
 
 -- ---- forms
@@ -91,7 +87,7 @@ naming-never path p (some w) h = go (again (declarations p) (inBlocks path w)) h
 -- no block is read as a statement
 opening-never : (path blocks : List Name) (o : Option Name) (s : Statement) → opening path blocks o ≡ reads s → ⊥
 opening-never path blocks none s h = let z : _≡_ {A = ℕ} 0 1 = cc in omega arith
-opening-never path blocks (some b) s h = go (isIn (full path b) blocks) (ltb (length path) maxDepth && leb (length (full path b)) maxName) h
+opening-never path blocks (some b) s h = go (isIn (full path b) blocks) (blockFits path b) h
   where
     go : (p q : Bool) → cond p (fault 4) (cond q opens (fault 6)) ≡ reads s → ⊥
     go true q e = let z : _≡_ {A = ℕ} 0 1 = cc in omega arith
@@ -103,15 +99,15 @@ pub record Opened (before : List Scoped) (x : Scoped) : Type 0 where
   pub name : Name
   pub form : blockIn (x .form) ≡ some name
   pub new : isIn (full (x .path) name) (blocksIn before) ≡ false
-  pub room : (ltb (length (x .path)) maxDepth && leb (length (full (x .path) name)) maxName) ≡ true
+  pub room : blockFits (x .path) name ≡ true
 
 -- what the opening of a block says, by its name
 opening-opens : (before : List Scoped) (x : Scoped) (o : Option Name) → blockIn (x .form) ≡ o → opening (x .path) (blocksIn before) o ≡ opens → Opened before x
 opening-opens before x none f h = let z : _≡_ {A = ℕ} 0 1 = cc in absurd (omega arith)
 opening-opens before x (some b) f h =
-    go (isIn (full (x .path) b) (blocksIn before)) (ltb (length (x .path)) maxDepth && leb (length (full (x .path) b)) maxName) refl refl h
+    go (isIn (full (x .path) b) (blocksIn before)) (blockFits (x .path) b) refl refl h
   where
-    go : (p q : Bool) → isIn (full (x .path) b) (blocksIn before) ≡ p → (ltb (length (x .path)) maxDepth && leb (length (full (x .path) b)) maxName) ≡ q
+    go : (p q : Bool) → isIn (full (x .path) b) (blocksIn before) ≡ p → blockFits (x .path) b ≡ q
         → cond p (fault 4) (cond q opens (fault 6)) ≡ opens → Opened before x
     go true q i j e = let z : _≡_ {A = ℕ} 0 1 = cc in absurd (omega arith)
     go false true i j e = record { name = b; form = f; new = i; room = j }

@@ -4,22 +4,18 @@
 use Prim.Native.Nat.{ℕ, _≤_}
 use native.Mathlib.Omega.{arith}
 use mathlib.Core.Path.{_≡_, refl, sym, ap, _∙_, subst, subst₂}
-use mathlib.Core.Bool.{Bool, true, false, _&&_, cond}
+use mathlib.Core.Bool.{Bool, true, false, cond}
 use mathlib.Core.List.{List, [], _∷_, _++_, append-assoc, append-nil}
 use mathlib.Core.Option.{Option, none, some}
-use lib.Dec.{leb, ltb}
-use lib.ListN.{length}
 use Rattle.lexer.specs.declared.Scanned.{Scanned}
 use Rattle.lexer.specs.Scan.{scan, maxText}
-use Rattle.lexer.specs.Class.{maxName}
 use Rattle.lexer.specs.Forms.{formsOf}
 use Rattle.policy.specs.Basics.{Name, isIn}
 use Rattle.policy.specs.Statements.{Statement, Written, Policy, declarations}
-use Rattle.policy.specs.Maxima.{maxDepth}
 use Rattle.policy.specs.Grammar.{written, isBlock, blockIn}
 use Rattle.policy.specs.Scopes.{Scoped, scopedIn, blocksIn}
 use Rattle.policy.specs.Reading.{inBlocks, again, resolved, fits, shallow}
-use Rattle.policy.specs.Reading.{Judged, reads, opens, fault, sized, resolving, naming, opening, judge, policy, refused, readFrom, readAll, afterScan, readPolicy}
+use Rattle.policy.specs.Reading.{Judged, reads, opens, fault, sized, resolving, naming, blockFits, opening, judge, policy, refused, readFrom, readAll, afterScan, readPolicy}
 use Rattle.policy.specs.Names.{full, environmentOf}
 use Rattle.reading_laws.proofs.BlockOrStatement.{judge-block, judge-statement}
 use Rattle.reading_laws.proofs.ReadThen.{line, judgedAt, read-one, read-reads, read-opens, stopped-row}
@@ -37,15 +33,11 @@ pub data StatementFault (path : List Name) (p : Policy) (o : Option Written) : �
   too-deep : (w : Written) (s : Statement) → o ≡ some w → again (declarations p) (inBlocks path w) ≡ false
       → resolved (environmentOf (declarations p) path) (inBlocks path w) ≡ some s → fits p s ≡ true → shallow s ≡ false → StatementFault path p o 7
 
--- "6 for a full name too long or a ninth level": a block of the name has neither
-abbrev pub hasPlace : List Name → Name → Bool
-hasPlace path b = ltb (length path) maxDepth && leb (length (full path b)) maxName
-
 -- a block's first fault in the blocks of a path, by its own name, where blocks of these full names were opened before
 pub data BlockFault (path blocks : List Name) (o : Option Name) : ℕ → Type 0 where
   no-block-form : o ≡ none → BlockFault path blocks o 3
   opened-again : (b : Name) → o ≡ some b → isIn (full path b) blocks ≡ true → BlockFault path blocks o 4
-  no-place : (b : Name) → o ≡ some b → isIn (full path b) blocks ≡ false → hasPlace path b ≡ false → BlockFault path blocks o 6
+  too-deep-or-long : (b : Name) → o ≡ some b → isIn (full path b) blocks ≡ false → blockFits path b ≡ false → BlockFault path blocks o 6
 
 -- the first fault of a statement or a block after those before it, whose statements are p
 pub data FaultIn (before : List Scoped) (p : Policy) (x : Scoped) : ℕ → Type 0 where
@@ -63,7 +55,7 @@ statement-number (too-deep w s e a r x y) = (omega arith, omega arith)
 block-number : {path blocks : List Name} {o : Option Name} {n : ℕ} → BlockFault path blocks o n → (3 ≤ n) × (n ≤ 7)
 block-number (no-block-form e) = (omega arith, omega arith)
 block-number (opened-again b e a) = (omega arith, omega arith)
-block-number (no-place b e a h) = (omega arith, omega arith)
+block-number (too-deep-or-long b e a h) = (omega arith, omega arith)
 
 pub fault-number : {before : List Scoped} {p : Policy} {x : Scoped} {n : ℕ} → FaultIn before p x n → (3 ≤ n) × (n ≤ 7)
 fault-number (of-statement e f) = statement-number f
@@ -82,7 +74,7 @@ module _ (path : List Name) (p : Policy) (o : Option Written) where
 opening-faulty : (path blocks : List Name) (o : Option Name) (n : ℕ) → BlockFault path blocks o n → opening path blocks o ≡ fault n
 opening-faulty path blocks o n (no-block-form e) = rw e
 opening-faulty path blocks o n (opened-again b e a) = rw (e, a)
-opening-faulty path blocks o n (no-place b e a h) = rw (e, a, h)
+opening-faulty path blocks o n (too-deep-or-long b e a h) = rw (e, a, h)
 
 module _ (before : List Scoped) (p : Policy) (x : Scoped) where
   pub fault-judged : (n : ℕ) → FaultIn before p x n → judge before p x ≡ fault n
@@ -130,12 +122,12 @@ module _ (path : List Name) (p : Policy) (o : Option Written) where
 
 opening-fault : (path blocks : List Name) (o v : Option Name) → o ≡ v → IfFault (BlockFault path blocks o) (opening path blocks v)
 opening-fault path blocks o none e = a-fault (no-block-form e)
-opening-fault path blocks o (some b) e = go (isIn (full path b) blocks) (hasPlace path b) refl refl
+opening-fault path blocks o (some b) e = go (isIn (full path b) blocks) (blockFits path b) refl refl
   where
-    go : (i r : Bool) → isIn (full path b) blocks ≡ i → hasPlace path b ≡ r → IfFault (BlockFault path blocks o) (cond i (fault 4) (cond r opens (fault 6)))
+    go : (i r : Bool) → isIn (full path b) blocks ≡ i → blockFits path b ≡ r → IfFault (BlockFault path blocks o) (cond i (fault 4) (cond r opens (fault 6)))
     go true r a h = a-fault (opened-again b e a)
     go false true a h = it-opens
-    go false false a h = a-fault (no-place b e a h)
+    go false false a h = a-fault (too-deep-or-long b e a h)
 
 module _ (before : List Scoped) (p : Policy) (x : Scoped) where
   pub judged-fault : (n : ℕ) → judge before p x ≡ fault n → FaultIn before p x n

@@ -57,7 +57,7 @@ fn cut(symbols: &[u8], n: usize) -> usize
     0
 }
 
-// Whether a block is open. What holds no scope is told to have one, so that nothing goes the short way in it.
+// Whether a block is open. Memory that is too short for a scope counts as inside a block, so that nobody takes the short way of the whole-text level there.
 pub fn in_block(symbols: &[u8]) -> bool
     ensures { λ r. ⌜ InBlock (now (symbols .entry)) r ⌝ }
 {
@@ -227,14 +227,10 @@ pub fn lookup(symbols: &[u8], family: usize, name: &[u8]) -> Found
     resolve(symbols, family, name)
 }
 
-// The same for a class alone. It makes the one try itself and not by `lookup`, since a try in a family that is known is quicker.
+// The same for a class alone, by all of its tries: a statement names one class, and several things or attributes.
 pub fn lookup_class(symbols: &[u8], name: &[u8]) -> Found
     ensures { λ r. ⌜ LooksClass (now (symbols .entry)) (now (name .entry)) r ⌝ }
 {
-    if is_plain(symbols, name) {
-        let once = name_chains::find(symbols, CLASSES, name);
-        return once.found;
-    }
     resolve(symbols, CLASSES, name)
 }
 

@@ -6,20 +6,20 @@ use mathlib.Core.List.{List}
 use native.Mathlib.Omega.{arith}
 use borrow.Author.Needs.{needs}
 use lib.ListN.{length, drop}
-use Rattle.lexer.specs.Class.{endsComment}
+use Rattle.lexer.specs.Class.{endsComment, maxName}
 use Rattle.lexer.specs.Scan.{between, going, scanFrom, scan}
 use Rattle.lexer.specs.Answers.{stateOf}
 use Rattle.lexer.specs.declared.Step.{Step}
-use Rattle.lexer.proofs.Ends.{ahead, within, name-there}
+use Rattle.lexer.proofs.Ends.{ahead, within, counted-most, name-there}
 use Rattle.lexer.proofs.Scans.{not-long, halted, took, last, skip, InName, overlong, no-part-behind, goes, leaves, bare-first, starts-name}
 use Rattle.lexer.proofs.scan_in.Statement.{statement}
 use Rattle.lexer.proofs.scan_in.Tie as tie
 
 abbrev Inv-loop : tie.InvT-loop
-Inv-loop classes text at₀ level start from at = InName text start from level at
+Inv-loop classes text at₀ level start limit at = (maxName ≤ limit) × InName text start (limit - maxName) level at
 
 abbrev μ-loop : tie.MeasureT-loop
-μ-loop classes text at₀ level start from at = length text - at
+μ-loop classes text at₀ level start limit at = length text - at
 
 abbrev Inv-text : tie.InvT-text
 Inv-text classes text at₀ level₀ at level = (at ≤ length text) × (scanFrom text (drop at text) (going between level) at ≡ scan text)
@@ -104,6 +104,12 @@ enum-told-2 c = search needs
 counted-from-requires : tie.Need-counted-from-requires Inv-loop μ-loop Inv-text μ-text
 counted-from-requires c κs = search needs
 
+add-limit : tie.Need-add-limit Inv-loop μ-loop Inv-text μ-text
+add-limit c =
+    let s = c .before .before .before in
+    let a = s .before .before .before .before in
+    omega (arith, c .counted-from .ensures, counted-most (drop (a .text .at) (textHere s)) (a .text .at), s .before .before .before .if1 .left)
+
 bare-dot-requires : tie.Need-bare-dot-requires Inv-loop μ-loop Inv-text μ-text
 bare-dot-requires c κs = search needs
 
@@ -116,10 +122,13 @@ loop-holds c =
     let s = f .before .before .before in
     let k = s .before in
     let a = k .before .before .before in
-    starts-name (textHere s) (a .text .at) (a .text .level) (k .before .before .if1 .left) (stepped s Step.Name (f .before .enum-told2 .given .1))
-    _ (k .class-in .result) (k .class-in .ensures)
-    (ap (stateOf (a .text .level) (a .text .at)) (sym (f .before .enum-told2 .given .1)) ∙ s .step-between .ensures (a .text .at))
-    (f .counted-from .ensures) (sym (c .before .bare-dot .ensures) ∙ c .if2 .left)
+    let from : f .counted-from .result + maxName - maxName ≡ f .counted-from .result = omega arith in (
+      omega arith,
+      starts-name (textHere s) (a .text .at) (a .text .level) (k .before .before .if1 .left) (stepped s Step.Name (f .before .enum-told2 .given .1))
+      _ (k .class-in .result) (k .class-in .ensures)
+      (ap (stateOf (a .text .level) (a .text .at)) (sym (f .before .enum-told2 .given .1)) ∙ s .step-between .ensures (a .text .at))
+      (from ∙ f .counted-from .ensures) (sym (c .before .bare-dot .ensures) ∙ c .if2 .left),
+    )
 
 name-goes-on-requires : tie.Need-name-goes-on-requires Inv-loop μ-loop Inv-text μ-text
 name-goes-on-requires c κs = search needs
@@ -127,9 +136,6 @@ name-goes-on-requires c κs = search needs
 -- a turn of the name loop: the name goes on, so that there is a byte
 there : (c : tie.Then3 Inv-loop μ-loop Inv-text μ-text) → c .before .before .loop .at < length (textThere c)
 there c = name-there (textThere c) (c .before .before .loop .at) (sym (c .before .name-goes-on .ensures) ∙ c .if3 .taken)
-
-sub-if4 : tie.Need-sub-if4 Inv-loop μ-loop Inv-text μ-text
-sub-if4 c = omega (arith, c .before .before .loop .inv .counted)
 
 add-at-3 : tie.Need-add-at-3 Inv-loop μ-loop Inv-text μ-text
 add-at-3 c = omega (arith, there (c .before))
@@ -140,20 +146,23 @@ loop-less c = omega (arith, there (c .before))
 loop-again : tie.Need-loop-again Inv-loop μ-loop Inv-text μ-text
 loop-again c =
     let n = c .before .before in
-    goes _ _ _ _ _ (n .before .loop .inv) (sym (n .name-goes-on .ensures) ∙ c .before .if3 .taken) (omega arith)
+    let l = n .before .loop .inv in (
+      l .0,
+      goes _ _ _ _ _ (l .1) (sym (n .name-goes-on .ensures) ∙ c .before .if3 .taken) (omega (arith, l .0, l .1 .counted)),
+    )
 
 bare-dot-requires-2 : tie.Need-bare-dot-requires-2 Inv-loop μ-loop Inv-text μ-text
 bare-dot-requires-2 c κs = search needs
 
 text-less-3 : tie.Need-text-less-3 Inv-loop μ-loop Inv-text μ-text
-text-less-3 c = let l = c .before .before .before .before in omega (arith, l .loop .inv .begun, l .loop .inv .inside)
+text-less-3 c = let l = c .before .before .before .before in omega (arith, l .loop .inv .1 .begun, l .loop .inv .1 .inside)
 
 text-again-3 : tie.Need-text-again-3 Inv-loop μ-loop Inv-text μ-text
 text-again-3 c =
     let n = c .before .before .before in
     let l = n .before in (
-      l .loop .inv .inside,
-      leaves _ _ _ _ _ (l .loop .inv) (sym (n .name-goes-on .ensures) ∙ c .before .before .if3 .left) (sym (c .before .bare-dot2 .ensures) ∙ c .if5 .left),
+      l .loop .inv .1 .inside,
+      leaves _ _ _ _ _ (l .loop .inv .1) (sym (n .name-goes-on .ensures) ∙ c .before .before .if3 .left) (sym (c .before .bare-dot2 .ensures) ∙ c .if5 .left),
     )
 
 enum-told-3 : tie.Need-enum-told-3 Inv-loop μ-loop Inv-text μ-text
@@ -170,12 +179,13 @@ returns-2 c =
 returns-3 : tie.Need-returns-3 Inv-loop μ-loop Inv-text μ-text
 returns-3 c =
     let n = c .before .before in
-    overlong _ _ _ _ _ (n .before .loop .inv) (sym (n .name-goes-on .ensures) ∙ c .before .if3 .taken) (omega arith)
+    let l = n .before .loop .inv in
+    overlong _ _ _ _ _ (l .1) (sym (n .name-goes-on .ensures) ∙ c .before .if3 .taken) (omega (arith, l .0, l .1 .counted))
 
 returns-4 : tie.Need-returns-4 Inv-loop μ-loop Inv-text μ-text
 returns-4 c =
     let n = c .before .before .before in
-    no-part-behind _ _ _ _ _ (n .before .loop .inv) (sym (n .name-goes-on .ensures) ∙ c .before .before .if3 .left)
+    no-part-behind _ _ _ _ _ (n .before .loop .inv .1) (sym (n .name-goes-on .ensures) ∙ c .before .before .if3 .left)
     (sym (c .before .bare-dot2 .ensures) ∙ c .if5 .taken)
 
 returns-5 : tie.Need-returns-5 Inv-loop μ-loop Inv-text μ-text
@@ -206,11 +216,11 @@ scan-in-spec =
     text-again-2
     enum-told-2
     counted-from-requires
+    add-limit
     bare-dot-requires
     add-at-2
     loop-holds
     name-goes-on-requires
-    sub-if4
     add-at-3
     loop-less
     loop-again
