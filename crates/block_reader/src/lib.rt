@@ -1,6 +1,7 @@
 // A block opened, and closed again, while a text is read (W-203): faults 4 and 6. Two parts of the lent memory know the blocks. The symbols have the full name of
 // the innermost one that is open, the scope, in which names are declared and used. The keys have every block that was opened, also those that are closed. Beside
 // them a filter has the marks of these, so that a new block is compared with those before it only where it shares all its marks with others.
+use policy::Refusal;
 use scopes::SYMBOL_BYTES;
 ghost use mathlib.Core.Path.{_≡_};
 ghost use Prim.Native.Nat.{_-_};
@@ -50,13 +51,13 @@ pub fn open_block(
     ensures { λ r. ⌜ OpensBlock (now (text .entry)) start len (now (keys .entry)) (now (keys .exit)) (now (filter .entry)) (now (filter .exit)) (now (symbols .entry)) (now (symbols .exit)) stand r ⌝ }
 {
     if !blocks::add(text, keys, filter, stand.count, stand.block, start, len) {
-        return Opened::Fault(4);
+        return Opened::Fault(Refusal::DECLARED_AGAIN);
     }
     if policy::Block::MAX_DEPTH <= stand.depth {
-        return Opened::Fault(6);
+        return Opened::Fault(Refusal::MAXIMUM_PASSED);
     }
     if !scopes::enter_block(symbols, text, start, len) {
-        return Opened::Fault(6);
+        return Opened::Fault(Refusal::MAXIMUM_PASSED);
     }
     Opened::Read(Open {
         count: stand.count + 1,

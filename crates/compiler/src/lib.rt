@@ -10,50 +10,19 @@ ghost use Rattle.policy.specs.Answers.{refusalIn};
 ghost use Rattle.compiler.specs.Passes.{Gives, Measures, Fits, ResolvesAndWrites, CompilesStatements, CompilesClean};
 ghost use Rattle.compiler.specs.Promise.{Compiles};
 use code_reader::FAMILY_BYTES;
-use constrain_statement::CONSTRAINT_BYTES;
-use constrain_statement::ROW_BYTES;
+use constrain_statement::CONSTRAINTS_BYTES;
+use constrain_statement::ROWS_BYTES;
 use declarations::SYMBOL_BYTES;
 use lexer::Scanned;
 use lexer::Text;
 use parser::Parsed;
 use policy::Compiling;
 use policy::Refusal;
+use policy::Sort;
 use resolver::Resolved;
 use statement_reader::CODE_UNITS;
 use statement_reader::Progress;
 use table_writer::Sizes;
-
-// The numbers of the sorts of names in the symbols.
-struct SortNumber;
-
-impl SortNumber {
-    const USER: usize = 0;
-
-    const ROLE: usize = 1;
-
-    const TYPE: usize = 2;
-
-    const USER_ATTRIBUTE: usize = 3;
-
-    const ROLE_ATTRIBUTE: usize = 4;
-
-    const TYPE_ATTRIBUTE: usize = 5;
-}
-
-// The numbers of the faults that are found here.
-struct Fault;
-
-impl Fault {
-    const TEXT_TOO_LONG: usize = 1;
-
-    const WRONG_BYTE: usize = 2;
-
-    const CYCLE: usize = 8;
-
-    const CLASH: usize = 9;
-
-    const TABLE_TOO_SHORT: usize = 10;
-}
 
 // What the passes come to: the length of the table that was written, or a fault's number and place.
 enum Passed {
@@ -67,14 +36,14 @@ fn sizes_of(progress: Progress, symbols: &[u8]) -> Sizes
 {
     Sizes {
         names: progress.symbols,
-        users: declarations::count(symbols, SortNumber::USER),
-        roles: declarations::count(symbols, SortNumber::ROLE),
+        users: declarations::count(symbols, Sort::USER),
+        roles: declarations::count(symbols, Sort::ROLE),
         transitions: progress.transitions,
         constraints: progress.constraints,
         rows: progress.rows,
-        user_attributes: declarations::count(symbols, SortNumber::USER_ATTRIBUTE),
-        role_attributes: declarations::count(symbols, SortNumber::ROLE_ATTRIBUTE),
-        type_attributes: declarations::count(symbols, SortNumber::TYPE_ATTRIBUTE),
+        user_attributes: declarations::count(symbols, Sort::USER_ATTRIBUTE),
+        role_attributes: declarations::count(symbols, Sort::ROLE_ATTRIBUTE),
+        type_attributes: declarations::count(symbols, Sort::TYPE_ATTRIBUTE),
     }
 }
 
@@ -112,7 +81,7 @@ fn write_fitting(
 {
     let length = table_writer::needed(sizes);
     if table.len() < length {
-        return stop(Fault::TABLE_TOO_SHORT, length);
+        return stop(Refusal::MEMORY_TOO_SHORT, length);
     }
     table_writer::write_table(
         sizes,
@@ -153,8 +122,8 @@ fn resolve_and_write(
         &mut type_sets,
     );
     match resolved {
-        Resolved::Cycle(place) => stop(Fault::CYCLE, place),
-        Resolved::Clash(place) => stop(Fault::CLASH, place),
+        Resolved::Cycle(place) => stop(Refusal::CYCLE, place),
+        Resolved::Clash(place) => stop(Refusal::CLASH, place),
         Resolved::Sound => write_fitting(
             sizes,
             symbols,
@@ -174,15 +143,15 @@ fn compile_statements(
     progress: Progress,
     symbols: &[u8; SYMBOL_BYTES],
     code: &[u16; CODE_UNITS],
-    constraints: &[u8; CONSTRAINT_BYTES],
-    rows: &[u8; ROW_BYTES],
+    constraints: &[u8; CONSTRAINTS_BYTES],
+    rows: &[u8; ROWS_BYTES],
     table: &mut [u8],
 ) -> Passed
     ensures { λ r. ⌜ CompilesStatements progress (now (symbols .entry)) (now (code .entry)) (now (constraints .entry)) (now (rows .entry))
         (now (table .entry)) (now (table .exit)) r ⌝ }
 {
     let sizes = sizes_of(progress, symbols);
-    let types = declarations::count(symbols, SortNumber::TYPE);
+    let types = declarations::count(symbols, Sort::TYPE);
     let used = units(code, progress.code);
     resolve_and_write(sizes, types, symbols, used, constraints, rows, table)
 }
@@ -193,8 +162,8 @@ fn compile_clean(text: &[u8], table: &mut [u8]) -> Passed
 {
     let mut symbols = [0u8; SYMBOL_BYTES];
     let mut code = [0u16; CODE_UNITS];
-    let mut constraints = [0u8; CONSTRAINT_BYTES];
-    let mut rows = [0u8; ROW_BYTES];
+    let mut constraints = [0u8; CONSTRAINTS_BYTES];
+    let mut rows = [0u8; ROWS_BYTES];
     let parsed = parser::parse(text, &mut symbols, &mut code, &mut constraints, &mut rows);
     match parsed {
         Parsed::Accepted(progress) => {
@@ -210,8 +179,8 @@ fn pass(text: &[u8], table: &mut [u8]) -> Passed
 {
     let scanned = lexer::scan(text);
     match scanned {
-        Scanned::TooLong => stop(Fault::TEXT_TOO_LONG, Text::MAX),
-        Scanned::Wrong(place) => stop(Fault::WRONG_BYTE, place),
+        Scanned::TooLong => stop(Refusal::TEXT_TOO_LONG, Text::MAX),
+        Scanned::Wrong(place) => stop(Refusal::WRONG_BYTE, place),
         Scanned::Clean => compile_clean(text, table),
     }
 }
@@ -220,7 +189,7 @@ fn pass(text: &[u8], table: &mut [u8]) -> Passed
 fn line_of(text: &[u8], number: usize, place: usize) -> usize
     ensures { λ r. ⌜ (((number ≡ 10 → ⊥) → place ≤ 65535) → r ≡ cond (eqb number 10) 0 (lineAt (now (text .entry)) place)) ⌝ }
 {
-    if number == Fault::TABLE_TOO_SHORT {
+    if number == Refusal::MEMORY_TOO_SHORT {
         return 0;
     }
     lines::line_of(text, place)

@@ -20,9 +20,9 @@ use policy::Row;
 use symbols::Found;
 
 // The bytes of all records that body 6 may have, and of all rows of body 7.
-pub const CONSTRAINT_BYTES: usize = Constraint::MAX * 10;
+pub const CONSTRAINTS_BYTES: usize = Constraint::MAX * Constraint::BYTES;
 
-pub const ROW_BYTES: usize = Row::MAX * 6;
+pub const ROWS_BYTES: usize = Row::MAX * Row::BYTES;
 
 // The number of the row behind the statement's rows; or the fault: a name is not declared, 5; a maximum is passed, 6; the stack need is, 7.
 pub enum Constrained {
@@ -161,7 +161,7 @@ fn put_head(
 // The record of a constraint whose names are declared and whose rows go from a row to before the next, if the maxima allow both and the stack
 // need of its expression.
 fn admit(
-    constraints: &mut [u8; CONSTRAINT_BYTES],
+    constraints: &mut [u8; CONSTRAINTS_BYTES],
     count: usize,
     class: usize,
     mask: u32,
@@ -190,9 +190,9 @@ pub fn write_constrain(
     text: &[u8],
     at: usize,
     symbols: &[u8],
-    constraints: &mut [u8; CONSTRAINT_BYTES],
+    constraints: &mut [u8; CONSTRAINTS_BYTES],
     count: usize,
-    rows: &mut [u8; ROW_BYTES],
+    rows: &mut [u8; ROWS_BYTES],
     row: usize,
 ) -> Constrained
     ensures { λ r. ⌜ WritesConstrain (now (text .entry)) at (now (symbols .entry)) (now (constraints .entry)) (now (constraints .exit)) count (now (rows .entry)) (now (rows .exit)) row r ⌝ }

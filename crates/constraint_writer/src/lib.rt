@@ -10,6 +10,10 @@ ghost use Rattle.words.specs.Numbers.{wordOf};
 ghost use Rattle.constraint_writer.specs.Writing.{Countable, Wrote, Writes};
 ghost use Rattle.constraint_writer.specs.Comparing.{kindOf, codeOf, operatorOf, Compares};
 use items::Item;
+use policy::Component;
+use policy::Operator;
+use policy::Row;
+use policy::Sort;
 use symbols::Found;
 use words::Word;
 
@@ -25,75 +29,19 @@ enum Operand {
     Undeclared,
 }
 
-// The bytes of a row.
-const ROW_BYTES: usize = 6;
+// What stands for no operator, and for no component: one more than the greatest.
+const NO_OPERATOR: u8 = Operator::COUNT_OF_ROLES;
 
-// The kinds of rows.
-struct Kind;
-
-impl Kind {
-    const NOT: u8 = 0;
-
-    const AND: u8 = 1;
-
-    const OR: u8 = 2;
-
-    const SIDES: u8 = 3;
-
-    const THING: u8 = 4;
-
-    const ATTRIBUTE: u8 = 5;
-}
-
-// The operators of comparisons.
-struct Operator;
-
-impl Operator {
-    const EQ: u8 = 0;
-
-    const NEQ: u8 = 1;
-
-    const DOM: u8 = 2;
-
-    const DOMBY: u8 = 3;
-
-    const INCOMP: u8 = 4;
-
-    // What stands for no operator.
-    const NONE: u8 = 5;
-}
-
-// The components of comparisons, two for each family.
-struct Component;
-
-impl Component {
-    const U1: u8 = 0;
-
-    const U2: u8 = 1;
-
-    const R1: u8 = 2;
-
-    const R2: u8 = 3;
-
-    const T1: u8 = 4;
-
-    const T2: u8 = 5;
-
-    // What stands for no component.
-    const NONE: u8 = 6;
-}
-
-// The first of the sorts that are attributes, in the symbol table; those before it are things.
-const FIRST_ATTRIBUTE: usize = 3;
+const NO_COMPONENT: u8 = Component::COUNT;
 
 // Writes a row, if there is room for it.
 fn put_row(rows: &mut [u8], row: usize, kind: u8, component: u8, operator: u8, number: usize)
     ensures { λ _. ⌜ Wrote (now (rows .entry)) (now (rows .exit)) row (policy.row kind component operator number ∷ []) ⌝ }
 {
-    if rows.len() / ROW_BYTES <= row {
+    if rows.len() / Row::BYTES <= row {
         return;
     }
-    let at = ROW_BYTES * row;
+    let at = Row::BYTES * row;
     rows[at] = kind;
     rows[at + 1] = component;
     rows[at + 2] = operator;
@@ -107,15 +55,15 @@ fn kind_of(number: usize) -> u8
     ensures { λ r. ⌜ r ≡ kindOf (expressionWord (wordOf number)) ⌝ }
 {
     if number == Word::NOT {
-        return Kind::NOT;
+        return Row::NOT;
     }
     if number == Word::AND {
-        return Kind::AND;
+        return Row::AND;
     }
     if number == Word::OR {
-        return Kind::OR;
+        return Row::OR;
     }
-    Kind::SIDES
+    Row::TWO_SIDES
 }
 
 // The operator of a comparison, by the number of its word.
@@ -137,7 +85,7 @@ fn operator_of(number: usize) -> u8
     if number == Word::INCOMP {
         return Operator::INCOMP;
     }
-    Operator::NONE
+    NO_OPERATOR
 }
 
 // One of u1 u2 r1 r2 t1 t2, by the number of its word.
@@ -162,16 +110,16 @@ fn component_of(number: usize) -> u8
     if number == Word::T2 {
         return Component::T2;
     }
-    Component::NONE
+    NO_COMPONENT
 }
 
 // What a side is compared with, by the second word: the other side, or a name of the side's family.
 fn operand_of(name: &[u8], number: usize, side: u8, symbols: &[u8]) -> Operand
     ensures { λ r. ⌜ Compares (now (name .entry)) number side (now (symbols .entry)) r ⌝ }
 {
-    if component_of(number) != Component::NONE {
+    if component_of(number) != NO_COMPONENT {
         return Operand::Is {
-            kind: Kind::SIDES,
+            kind: Row::TWO_SIDES,
             number: 0,
         };
     }
@@ -179,14 +127,14 @@ fn operand_of(name: &[u8], number: usize, side: u8, symbols: &[u8]) -> Operand
     let found = scopes::lookup(symbols, family, name);
     match found {
         Found::At { sort, number } => {
-            if sort < FIRST_ATTRIBUTE {
+            if sort < Sort::FIRST_ATTRIBUTE {
                 return Operand::Is {
-                    kind: Kind::THING,
+                    kind: Row::SIDE_AND_THING,
                     number,
                 };
             }
             Operand::Is {
-                kind: Kind::ATTRIBUTE,
+                kind: Row::SIDE_AND_ATTRIBUTE,
                 number,
             }
         }
@@ -268,7 +216,7 @@ pub fn write_constraint(
         return RowsWritten::Undeclared;
     };
     let kind = kind_of(number);
-    if kind == Kind::SIDES {
+    if kind == Row::TWO_SIDES {
         return comparison(text, next, number, symbols, rows, row);
     }
     let mut i = next;

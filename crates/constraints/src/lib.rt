@@ -1,8 +1,12 @@
 // The constraints of a table: rows run on a stack of five, and the first constraint that fails. Every function answers for every table,
 // sound or not, and for all numbers.
 use policy::Change;
+use policy::Constraint;
+use policy::Operator;
 use policy::Permission;
 use policy::Role;
+use policy::Row;
+use policy::Section;
 use policy::Type;
 use policy::User;
 use table_reader::ConstraintRecord;
@@ -37,10 +41,10 @@ pub fn locate(table: &[u8], userattributes: u16, roleattributes: u16) -> Bodies
     ensures { λ r. ⌜ Located (now (table .entry)) userattributes roleattributes r ⌝ }
 {
     Bodies {
-        constraints: table_reader::body_start(table, 5),
-        count: table_reader::body_length(table, 5) / ConstraintRecord::BYTES as u32,
-        rows: table_reader::body_start(table, 6),
-        sets: table_reader::body_start(table, 7),
+        constraints: table_reader::body_start(table, Section::CONSTRAINTS),
+        count: table_reader::body_length(table, Section::CONSTRAINTS) / Constraint::BYTES as u32,
+        rows: table_reader::body_start(table, Section::ROWS),
+        sets: table_reader::body_start(table, Section::ATTRIBUTE_SETS),
         userattributes: userattributes,
         roleattributes: roleattributes,
     }
@@ -185,10 +189,10 @@ fn is_same(table: &[u8], bodies: Bodies, row: RowRecord, sides: &[usize]) -> boo
     let number = row.number;
     let component = row.component as usize;
     let here = side(sides, component);
-    if kind == RowRecord::TWO_SIDES {
+    if kind == Row::TWO_SIDES {
         return here == side(sides, component + 1);
     }
-    if kind == RowRecord::SIDE_AND_THING {
+    if kind == Row::SIDE_AND_THING {
         return here == number as usize;
     }
     let start = set_start(bodies, component, number);
@@ -201,10 +205,10 @@ fn compare(table: &[u8], bodies: Bodies, row: RowRecord, sides: &[usize]) -> boo
 {
     let operator = row.operator;
     let same = is_same(table, bodies, row, sides);
-    if operator == RowRecord::NEQ {
+    if operator == Operator::NEQ {
         return !same;
     }
-    if operator == RowRecord::INCOMP {
+    if operator == Operator::INCOMP {
         return !same;
     }
     same
@@ -216,13 +220,13 @@ fn row_step(table: &[u8], bodies: Bodies, row: RowRecord, sides: &[usize], befor
         → r .bits ≡ code (boundedTurn (viewIn (now (table .entry)) bodies (now (sides .entry))) (rowOf row) s)) ⌝ }
 {
     let kind = row.kind;
-    if kind == RowRecord::NOT {
+    if kind == Row::NOT {
         return before.negate();
     }
-    if kind == RowRecord::AND {
+    if kind == Row::AND {
         return before.conjoin();
     }
-    if kind == RowRecord::OR {
+    if kind == Row::OR {
         return before.disjoin();
     }
     before.push(compare(table, bodies, row, sides))

@@ -3,8 +3,13 @@
 // table all this is what its image says, the three questions promise.
 use policy::Attribute;
 use policy::Change;
+use policy::Denial;
 use policy::NewRole;
+use policy::Refusal;
 use policy::Role;
+use policy::Section;
+use policy::Sort;
+use policy::Transition;
 use policy::Type;
 use policy::Validity;
 use table_names::Counts;
@@ -29,21 +34,6 @@ pub struct Context {
     pub role: usize,
     pub kind: usize,
 }
-
-// The refusal of a number that is not declared.
-const UNDECLARED: usize = 12;
-
-// The bodies, counted from 0: the roles of each user, the types of each role, the roles that each role may become; transitions.
-const USER_ROLES: u8 = 1;
-
-const ROLE_TYPES: u8 = 2;
-
-const ROLE_ROLES: u8 = 3;
-
-const TRANSITIONS: u8 = 4;
-
-// The number of the sort of roles in body 1.
-const ROLE: usize = 1;
 
 // Whether a context's numbers are declared.
 fn declares_context(counts: Counts, asked: Context) -> bool
@@ -80,7 +70,7 @@ fn is_given(table: &[u8], asked: Context) -> bool
 {
     if !set_has(
         table,
-        USER_ROLES,
+        Section::USER_ROLES,
         Role::SET_BYTES as u16,
         asked.user,
         asked.role,
@@ -89,7 +79,7 @@ fn is_given(table: &[u8], asked: Context) -> bool
     }
     set_has(
         table,
-        ROLE_TYPES,
+        Section::ROLE_TYPES,
         Type::SET_BYTES as u16,
         asked.role,
         asked.kind,
@@ -107,7 +97,7 @@ fn is_valid(table: &[u8], asked: Context) -> bool
         return true;
     }
     let word = OBJECT;
-    table_names::is_named(table, ROLE, asked.role, &word)
+    table_names::is_named(table, Sort::ROLE, asked.role, &word)
 }
 
 // **Valid context**: whether the role is among the user's, and the type, `kind`, among the role's, or the role is `object_r`. The table is one that `isSound`
@@ -119,7 +109,9 @@ pub fn valid_in_sound(table: &[u8], user: usize, role: usize, kind: usize) -> Va
     let asked = Context { user, role, kind };
     let counts = table_names::count_names(table);
     if !declares_context(counts, asked) {
-        return Validity::Refused { number: UNDECLARED };
+        return Validity::Refused {
+            number: Refusal::NUMBER_UNDECLARED,
+        };
     }
     if is_valid(table, asked) {
         return Validity::Valid;
@@ -129,9 +121,6 @@ pub fn valid_in_sound(table: &[u8], user: usize, role: usize, kind: usize) -> Va
 
 // ---- new role
 
-// The bytes of a transition: a set of roles, a set of types from byte 16 on, a class in byte 80, a role in byte 81.
-const TRANSITION_BYTES: usize = 82;
-
 // Whether the transition at a place is for the role, the type and the class. The place is so low that none behind it overflows.
 fn matches_at(table: &[u8], at: usize, role: usize, kind: usize, class: usize) -> bool
     requires { ⌜ at ≤ 1099511627776 ⌝ }
@@ -140,23 +129,23 @@ fn matches_at(table: &[u8], at: usize, role: usize, kind: usize, class: usize) -
     if !set_rows::contains_at(table, at, Role::SET_BYTES, role) {
         return false;
     }
-    if !set_rows::contains_at(table, at + Role::SET_BYTES, Type::SET_BYTES, kind) {
+    if !set_rows::contains_at(table, at + Transition::TYPES_AT, Type::SET_BYTES, kind) {
         return false;
     }
-    table_reader::byte_at(table, at + 80) as usize == class
+    table_reader::byte_at(table, at + Transition::CLASS_AT) as usize == class
 }
 
 // The new role of the first transition that matches; else the role given.
 fn first_transition(table: &[u8], role: usize, kind: usize, class: usize) -> usize
     ensures { λ r. ⌜ r ≡ firstTransition role kind class (transitionsIn (now (table .entry))) ⌝ }
 {
-    let start = table_reader::body_start(table, TRANSITIONS) as usize;
-    let count = table_reader::body_length(table, TRANSITIONS) / TRANSITION_BYTES as u32;
+    let start = table_reader::body_start(table, Section::TRANSITIONS) as usize;
+    let count = table_reader::body_length(table, Section::TRANSITIONS) / Transition::BYTES as u32;
     let mut left = count;
     while 0 < left {
-        let at = start + TRANSITION_BYTES * ((count - left) as usize);
+        let at = start + Transition::BYTES * ((count - left) as usize);
         if matches_at(table, at, role, kind, class) {
-            return table_reader::byte_at(table, at + 81) as usize;
+            return table_reader::byte_at(table, at + Transition::NEW_ROLE_AT) as usize;
         }
         left -= 1;
     }
@@ -171,13 +160,19 @@ pub fn new_role_in_sound(table: &[u8], role: usize, kind: usize, class: usize) -
 {
     let counts = table_names::count_names(table);
     if counts.roles <= role {
-        return NewRole::Refused { number: UNDECLARED };
+        return NewRole::Refused {
+            number: Refusal::NUMBER_UNDECLARED,
+        };
     }
     if counts.types <= kind {
-        return NewRole::Refused { number: UNDECLARED };
+        return NewRole::Refused {
+            number: Refusal::NUMBER_UNDECLARED,
+        };
     }
     if counts.classes <= class {
-        return NewRole::Refused { number: UNDECLARED };
+        return NewRole::Refused {
+            number: Refusal::NUMBER_UNDECLARED,
+        };
     }
     NewRole::Role {
         number: first_transition(table, role, kind, class),
@@ -218,7 +213,13 @@ fn role_may(table: &[u8], source: usize, target: usize, class: usize, permission
     if source == target {
         return true;
     }
-    if set_has(table, ROLE_ROLES, Role::SET_BYTES as u16, source, target) {
+    if set_has(
+        table,
+        Section::ROLE_ROLES,
+        Role::SET_BYTES as u16,
+        source,
+        target,
+    ) {
         return true;
     }
     !table_names::asks_role(table, class, permission)
@@ -278,16 +279,24 @@ pub fn change_in_counted(
     ensures { λ r. ⌜ changeOf r ≡ changeOn (now (table .entry)) (question source target class permission) ⌝ }
 {
     if !declares_question(counts, has, source, target, class) {
-        return Change::Refused { number: UNDECLARED };
+        return Change::Refused {
+            number: Refusal::NUMBER_UNDECLARED,
+        };
     }
     if !is_valid(table, source) {
-        return Change::Denied { number: 1 };
+        return Change::Denied {
+            number: Denial::SOURCE_NOT_VALID,
+        };
     }
     if !is_valid(table, target) {
-        return Change::Denied { number: 2 };
+        return Change::Denied {
+            number: Denial::TARGET_NOT_VALID,
+        };
     }
     if !role_may(table, source.role, target.role, class, permission) {
-        return Change::Denied { number: 3 };
+        return Change::Denied {
+            number: Denial::ROLE_MAY_NOT_CHANGE,
+        };
     }
     ask_constraints(table, counts, source, target, class, permission)
 }

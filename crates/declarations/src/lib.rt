@@ -1,6 +1,7 @@
 // Declarations of names and classes, put into the symbol table under their full names: faults 4 and 6. The form of a statement is known to be good where it is
 // declared here, so that a row that should be of names is one.
 use name_rows::NextWord;
+use policy::Sort;
 use scopes::FullName;
 use symbols::Found;
 ghost use mathlib.Core.Path.{_≡_};
@@ -38,17 +39,6 @@ enum Added {
     NoRoom,
 }
 
-// The sorts by their numbers; between them stand those of attributes.
-const USER: usize = 0;
-
-const ROLE: usize = 1;
-
-const TYPE: usize = 2;
-
-const CLASS: usize = 6;
-
-const PERMISSION: usize = 7;
-
 // How many entries of a sort there are.
 pub fn count(symbols: &[u8], sort: usize) -> usize
     ensures { λ r. ⌜ Counts (now (symbols .entry)) sort r ⌝ }
@@ -56,7 +46,7 @@ pub fn count(symbols: &[u8], sort: usize) -> usize
     if symbols.len() < name_index::SYMBOL_BYTES {
         return 0;
     }
-    if PERMISSION < sort {
+    if Sort::PERMISSION < sort {
         return 0;
     }
     name_chains::entered(symbols, sort)
@@ -66,13 +56,13 @@ pub fn count(symbols: &[u8], sort: usize) -> usize
 fn most(sort: usize) -> usize
     ensures { λ r. ⌜ MostIs sort r ⌝ }
 {
-    if sort == USER {
+    if sort == Sort::USER {
         return policy::User::MAX;
     }
-    if sort == ROLE {
+    if sort == Sort::ROLE {
         return policy::Role::MAX;
     }
-    if sort == TYPE {
+    if sort == Sort::TYPE {
         return policy::Type::MAX;
     }
     policy::Attribute::MAX
@@ -144,7 +134,7 @@ pub fn declare(
 ) -> Declared
     ensures { λ r. ⌜ DeclaresName (now (text .entry)) at sort (now (symbols .entry)) (now (symbols .exit)) end r ⌝ }
 {
-    if CLASS <= sort {
+    if Sort::CLASS <= sort {
         return Declared::Full;
     }
     let name = name_rows::word_at(text, at);
@@ -178,7 +168,7 @@ fn add_permissions(symbols: &mut [u8], end: usize, first: usize, text: &[u8], at
             return Added::Past(past);
         };
         let permission = bitset::part(text, start, len);
-        let added = add(symbols, past, PERMISSION, first + place, permission);
+        let added = add(symbols, past, Sort::PERMISSION, first + place, permission);
         let Added::Past(next) = added else {
             return Added::NoRoom;
         };
@@ -194,7 +184,7 @@ fn add_class(symbols: &mut [u8], end: usize, name: &[u8], text: &[u8], row: usiz
     requires { ⌜ 188648 ≤ length (now symbols) ⌝ }
     ensures { λ r. ⌜ DeclaresClass (now (name .entry)) (wordsIn (framesAt (now (text .entry)) row .here)) (now (symbols .entry)) (now (symbols .exit)) end r ⌝ }
 {
-    let known = stands(symbols, CLASS, name);
+    let known = stands(symbols, Sort::CLASS, name);
     let Standing::Free(number) = known else {
         return Declared::Again;
     };
@@ -204,7 +194,7 @@ fn add_class(symbols: &mut [u8], end: usize, name: &[u8], text: &[u8], row: usiz
     if policy::Permission::MAX < name_rows::count_names(text, row) {
         return Declared::Full;
     }
-    let added = add(symbols, end, CLASS, number, name);
+    let added = add(symbols, end, Sort::CLASS, number, name);
     let Added::Past(past) = added else {
         return Declared::Full;
     };

@@ -4,11 +4,11 @@ use image_rows::Counts;
 use policy::Constraint;
 use policy::Role;
 use policy::Row;
+use policy::Section;
+use policy::Table;
 use policy::Transition;
 use policy::Type;
 use policy::User;
-use table_reader::ConstraintRecord;
-use table_reader::RowRecord;
 ghost use mathlib.Core.Path.{_≡_};
 ghost use Prim.Native.Nat.{_+_, _*_, _<_};
 ghost use lib.ListN.{length, take, drop};
@@ -21,20 +21,13 @@ ghost use Rattle.image.specs.SoundBodies.{follow, setsWithin, setsSound,
 
 // ---- the layout
 
-// What the first four bytes say, and where the first body starts.
-const EDITION: u16 = 1;
-
-const BODIES: u8 = 8;
-
-const FIRST_BODY: usize = 68;
-
 // Whether each body starts where the one before it ends, and the last ends within the table.
 fn bodies_follow(table: &[u8]) -> bool
     ensures { λ r. ⌜ r ≡ follow 8 68 (length (now (table .entry))) (drop 4 (now (table .entry))) ⌝ }
 {
-    let mut end = FIRST_BODY;
+    let mut end = Table::HEADER_BYTES;
     let mut body = 0;
-    while body < BODIES {
+    while body < Table::SECTIONS {
         if table_reader::body_start(table, body) as usize != end {
             return false;
         }
@@ -48,13 +41,13 @@ fn bodies_follow(table: &[u8]) -> bool
 pub fn is_laid_out(table: &[u8]) -> bool
     ensures { λ r. ⌜ r ≡ isSome (bodiesIn (now (table .entry))) ⌝ }
 {
-    if table.len() < FIRST_BODY {
+    if table.len() < Table::HEADER_BYTES {
         return false;
     }
-    if table_reader::u16_at(table, 0) != EDITION {
+    if table_reader::u16_at(table, 0) != Table::EDITION {
         return false;
     }
-    if table_reader::u16_at(table, 2) != BODIES as u16 {
+    if table_reader::u16_at(table, 2) != Table::SECTIONS as u16 {
         return false;
     }
     bodies_follow(table)
@@ -109,14 +102,11 @@ fn sets_sound(table: &[u8], body: u8, count: u16, width: u16, total: u16) -> boo
 
 // ---- transitions
 
-// The bytes of a transition: a set of roles, a set of types from byte 16 on, a class in byte 80, a role in byte 81.
-const TRANSITION_BYTES: usize = 82;
-
 // Whether the transition of this number, where the transitions of 82 bytes start at `start`, names nothing undeclared.
 fn fits_transition(table: &[u8], start: u32, number: u32, counts: Counts) -> bool
     ensures { λ r. ⌜ r ≡ fitsTransition (thingsOf counts) (counts .classes) (transitionAt (take 82 (drop (start + 82 * number) (now (table .entry))))) ⌝ }
 {
-    let at = start as usize + TRANSITION_BYTES * (number as usize);
+    let at = start as usize + Transition::BYTES * (number as usize);
     if !is_within_at(table, at, Role::SET_BYTES, counts.roles as usize) {
         return false;
     }
@@ -152,15 +142,20 @@ fn transitions_fit(table: &[u8], start: u32, count: u32, counts: Counts) -> bool
 fn transitions_sound(table: &[u8], counts: Counts) -> bool
     ensures { λ r. ⌜ r ≡ transitionsSound (thingsOf counts) (counts .classes) (now (table .entry)) ⌝ }
 {
-    let length = table_reader::body_length(table, 4);
-    let count = length / TRANSITION_BYTES as u32;
-    if length != count * TRANSITION_BYTES as u32 {
+    let length = table_reader::body_length(table, Section::TRANSITIONS);
+    let count = length / Transition::BYTES as u32;
+    if length != count * Transition::BYTES as u32 {
         return false;
     }
     if (Transition::MAX as u32) < count {
         return false;
     }
-    transitions_fit(table, table_reader::body_start(table, 4), count, counts)
+    transitions_fit(
+        table,
+        table_reader::body_start(table, Section::TRANSITIONS),
+        count,
+        counts,
+    )
 }
 
 // ---- constraints
@@ -169,24 +164,24 @@ fn transitions_sound(table: &[u8], counts: Counts) -> bool
 fn constraints_sound(table: &[u8], counts: Counts, permissions: &[usize]) -> bool
     ensures { λ r. ⌜ r ≡ constraintsSound (totalsIn counts (now (permissions .entry))) (now (table .entry)) ⌝ }
 {
-    let heads = table_reader::body_length(table, 5);
-    let count = heads / ConstraintRecord::BYTES as u32;
-    if heads != count * ConstraintRecord::BYTES as u32 {
+    let heads = table_reader::body_length(table, Section::CONSTRAINTS);
+    let count = heads / Constraint::BYTES as u32;
+    if heads != count * Constraint::BYTES as u32 {
         return false;
     }
     if (Constraint::MAX as u32) < count {
         return false;
     }
-    let lines = table_reader::body_length(table, 6);
-    let rows = lines / RowRecord::BYTES as u32;
-    if lines != rows * RowRecord::BYTES as u32 {
+    let lines = table_reader::body_length(table, Section::ROWS);
+    let rows = lines / Row::BYTES as u32;
+    if lines != rows * Row::BYTES as u32 {
         return false;
     }
     if (Row::MAX as u32) < rows {
         return false;
     }
-    let first = table_reader::body_start(table, 5);
-    let start = table_reader::body_start(table, 6);
+    let first = table_reader::body_start(table, Section::CONSTRAINTS);
+    let start = table_reader::body_start(table, Section::ROWS);
     image_rows::constraints_fit(table, first, count, start, rows as u16, counts, permissions)
 }
 
@@ -199,10 +194,10 @@ fn attributes_sound(table: &[u8], counts: Counts) -> bool
     let users = User::SET_BYTES * (counts.userattributes as usize);
     let roles = Role::SET_BYTES * (counts.roleattributes as usize);
     let types = Type::SET_BYTES * (counts.typeattributes as usize);
-    if table_reader::body_length(table, 7) as usize != users + roles + types {
+    if table_reader::body_length(table, Section::ATTRIBUTE_SETS) as usize != users + roles + types {
         return false;
     }
-    let start = table_reader::body_start(table, 7) as usize;
+    let start = table_reader::body_start(table, Section::ATTRIBUTE_SETS) as usize;
     if !sets_within(
         table,
         start,
@@ -235,13 +230,31 @@ fn attributes_sound(table: &[u8], counts: Counts) -> bool
 pub fn bodies_sound(table: &[u8], counts: Counts, permissions: &[usize]) -> bool
     ensures { λ r. ⌜ r ≡ bodiesSound (totalsIn counts (now (permissions .entry))) (now (table .entry)) ⌝ }
 {
-    if !sets_sound(table, 1, counts.users, Role::SET_BYTES as u16, counts.roles) {
+    if !sets_sound(
+        table,
+        Section::USER_ROLES,
+        counts.users,
+        Role::SET_BYTES as u16,
+        counts.roles,
+    ) {
         return false;
     }
-    if !sets_sound(table, 2, counts.roles, Type::SET_BYTES as u16, counts.types) {
+    if !sets_sound(
+        table,
+        Section::ROLE_TYPES,
+        counts.roles,
+        Type::SET_BYTES as u16,
+        counts.types,
+    ) {
         return false;
     }
-    if !sets_sound(table, 3, counts.roles, Role::SET_BYTES as u16, counts.roles) {
+    if !sets_sound(
+        table,
+        Section::ROLE_ROLES,
+        counts.roles,
+        Role::SET_BYTES as u16,
+        counts.roles,
+    ) {
         return false;
     }
     if !transitions_sound(table, counts) {

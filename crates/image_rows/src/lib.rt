@@ -1,7 +1,10 @@
 // The rows and the constraints of a table: whether they are those that the forms of constraints allow, name nothing undeclared, and run the
 // stack of five as they may. Every function answers for every table, whatever its bytes are.
+use policy::Component;
 use policy::Constraint;
+use policy::Operator;
 use policy::Permission;
+use policy::Row;
 use table_reader::ConstraintRecord;
 use table_reader::RowRecord;
 ghost use mathlib.Core.Path.{_≡_};
@@ -27,21 +30,14 @@ pub struct Counts {
 
 // ---- rows
 
-// How many components there are; how many operators two roles have, and how many all other comparisons, eq and neq.
-const COMPONENTS: u8 = 6;
-
-const ROLE_OPERATORS: u8 = 5;
-
-const OPERATORS: u8 = 2;
-
 // How many things of the component's family there are.
 fn things_of(counts: Counts, component: u8) -> u16
     ensures { λ r. ⌜ r ≡ thingsOf counts (ofComp component) ⌝ }
 {
-    if component < 2 {
+    if component < Component::R1 {
         return counts.users;
     }
-    if component < 4 {
+    if component < Component::T1 {
         return counts.roles;
     }
     counts.types
@@ -51,10 +47,10 @@ fn things_of(counts: Counts, component: u8) -> u16
 fn attributes_of(counts: Counts, component: u8) -> u16
     ensures { λ r. ⌜ r ≡ attributesOf counts (ofComp component) ⌝ }
 {
-    if component < 2 {
+    if component < Component::R1 {
         return counts.userattributes;
     }
-    if component < 4 {
+    if component < Component::T1 {
         return counts.roleattributes;
     }
     counts.typeattributes
@@ -80,14 +76,14 @@ fn compares_sides(row: RowRecord) -> bool
     if row.number != 0 {
         return false;
     }
-    if row.component == 0 {
-        return row.operator < OPERATORS;
+    if row.component == Component::U1 {
+        return row.operator < Operator::COUNT;
     }
-    if row.component == 2 {
-        return row.operator < ROLE_OPERATORS;
+    if row.component == Component::R1 {
+        return row.operator < Operator::COUNT_OF_ROLES;
     }
-    if row.component == 4 {
-        return row.operator < OPERATORS;
+    if row.component == Component::T1 {
+        return row.operator < Operator::COUNT;
     }
     false
 }
@@ -96,10 +92,10 @@ fn compares_sides(row: RowRecord) -> bool
 fn names_one(row: RowRecord, declared: u16) -> bool
     ensures { λ r. ⌜ r ≡ namesOne (rowOf row) declared ⌝ }
 {
-    if COMPONENTS <= row.component {
+    if Component::COUNT <= row.component {
         return false;
     }
-    if OPERATORS <= row.operator {
+    if Operator::COUNT <= row.operator {
         return false;
     }
     row.number < declared
@@ -110,16 +106,16 @@ fn fits_row(row: RowRecord, counts: Counts) -> bool
     ensures { λ r. ⌜ r ≡ fitsRow (thingsOf counts) (attributesOf counts) (rowOf row) ⌝ }
 {
     let kind = row.kind;
-    if kind < RowRecord::TWO_SIDES {
+    if kind < Row::TWO_SIDES {
         return is_bare(row);
     }
-    if kind == RowRecord::TWO_SIDES {
+    if kind == Row::TWO_SIDES {
         return compares_sides(row);
     }
-    if kind == RowRecord::SIDE_AND_THING {
+    if kind == Row::SIDE_AND_THING {
         return names_one(row, things_of(counts, row.component));
     }
-    if kind == RowRecord::SIDE_AND_ATTRIBUTE {
+    if kind == Row::SIDE_AND_ATTRIBUTE {
         return names_one(row, attributes_of(counts, row.component));
     }
     false
@@ -140,10 +136,10 @@ fn depth_after(row: RowRecord, depth: u8) -> u8
     ensures { λ r. ⌜ r ≡ kept (after (rowOf row) depth) ⌝ }
 {
     let kind = row.kind;
-    if kind == RowRecord::NOT {
+    if kind == Row::NOT {
         return kept_depth(depth);
     }
-    if RowRecord::OR < kind {
+    if Row::OR < kind {
         if Constraint::MAX_STACK <= depth as usize {
             return 0;
         }
@@ -164,7 +160,7 @@ fn rows_fit(table: &[u8], start: u32, first: u16, count: u16, counts: Counts) ->
     let mut left = count;
     while 0 < left {
         let row = table_reader::row_at(table, start, number);
-        let place = start as usize + RowRecord::BYTES * (number as usize);
+        let place = start as usize + Row::BYTES * (number as usize);
         if table_reader::byte_at(table, place + 3) != 0 {
             return false;
         }

@@ -2,6 +2,7 @@
 // far, and a filter of the names so far: a name without its marks is new, and only of the few others are the entries before it asked.
 use name_spelling::NO_NAME;
 use policy::FullName;
+use policy::Sort;
 use symbols::Entry;
 use symbols::Found;
 ghost use mathlib.Core.Path.{_≡_};
@@ -27,11 +28,6 @@ pub enum Counted {
     },
     Unsound,
 }
-
-// The sorts of a class and of a permission.
-const CLASS: usize = 6;
-
-const PERMISSION: usize = 7;
 
 // Behind the counts of the sorts: 0, or right after a class and its permissions 1 more than these are.
 const OPEN: usize = 7;
@@ -79,7 +75,7 @@ fn most(sort: usize) -> usize
     if sort == 2 {
         return policy::Type::MAX;
     }
-    if sort < CLASS {
+    if sort < Sort::CLASS {
         return policy::Attribute::MAX;
     }
     policy::Class::MAX
@@ -89,7 +85,7 @@ fn most(sort: usize) -> usize
 fn most_parts(sort: usize) -> usize
     ensures { λ r. ⌜ r ≡ mostParts sort ⌝ }
 {
-    if sort == PERMISSION {
+    if sort == Sort::PERMISSION {
         return 1;
     }
     FullName::MAX_PARTS
@@ -100,7 +96,7 @@ fn is_allowed(counts: &[usize], sort: usize, number: usize) -> bool
     requires { ⌜ length (now counts) ≡ 8 ⌝ }
     ensures { λ r. ⌜ r ≡ allows (now (counts .entry)) sort number ⌝ }
 {
-    if sort < PERMISSION {
+    if sort < Sort::PERMISSION {
         if counts[OPEN] == 1 {
             return false;
         }
@@ -109,10 +105,10 @@ fn is_allowed(counts: &[usize], sort: usize, number: usize) -> bool
         }
         return number < most(sort);
     }
-    if sort != PERMISSION {
+    if sort != Sort::PERMISSION {
         return false;
     }
-    if number / policy::Permission::MAX + 1 != counts[CLASS] {
+    if number / policy::Permission::MAX + 1 != counts[Sort::CLASS] {
         return false;
     }
     number % policy::Permission::MAX + 1 == counts[OPEN]
@@ -123,13 +119,13 @@ fn advance(counts: &mut [usize], permissions: &mut [usize], sort: usize, number:
     requires { ⌜ Room (length (now counts)) (length (now permissions)) sort number ⌝ }
     ensures { λ _. ⌜ (now (counts .exit) ≡ counted (now (counts .entry)) sort number) × (now (permissions .exit) ≡ permitted (now (permissions .entry)) sort number) ⌝ }
 {
-    if sort == PERMISSION {
+    if sort == Sort::PERMISSION {
         counts[OPEN] = number % policy::Permission::MAX + 2;
         permissions[number / policy::Permission::MAX] = number % policy::Permission::MAX + 1;
         return;
     }
     counts[sort] = number + 1;
-    if sort == CLASS {
+    if sort == Sort::CLASS {
         counts[OPEN] = 1;
     } else {
         counts[OPEN] = 0;

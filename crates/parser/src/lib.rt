@@ -4,12 +4,13 @@ use block_reader::BLOCKS;
 use block_reader::FILTER;
 use block_reader::Open;
 use block_reader::Opened;
-use constrain_statement::CONSTRAINT_BYTES;
-use constrain_statement::ROW_BYTES;
+use constrain_statement::CONSTRAINTS_BYTES;
+use constrain_statement::ROWS_BYTES;
 use declarations::SYMBOL_BYTES;
 use grammar::Header;
 use items::Item;
 use lexer::Text;
+use policy::Refusal;
 use statement_reader::CODE_UNITS;
 use statement_reader::Progress;
 use statement_reader::Step;
@@ -80,10 +81,10 @@ fn has_room(code: &[u16], constraints: &[u8], rows: &[u8]) -> bool
     if code.len() < CODE_UNITS {
         return false;
     }
-    if constraints.len() < CONSTRAINT_BYTES {
+    if constraints.len() < CONSTRAINTS_BYTES {
         return false;
     }
-    ROW_BYTES <= rows.len()
+    ROWS_BYTES <= rows.len()
 }
 
 // The progress before the first statement.
@@ -106,8 +107,8 @@ fn read(
     place: usize,
     symbols: &mut [u8; SYMBOL_BYTES],
     code: &mut [u16; CODE_UNITS],
-    constraints: &mut [u8; CONSTRAINT_BYTES],
-    rows: &mut [u8; ROW_BYTES],
+    constraints: &mut [u8; CONSTRAINTS_BYTES],
+    rows: &mut [u8; ROWS_BYTES],
     progress: Progress,
 ) -> Stated
     ensures { λ r. ⌜ ((at : ℕ) → first ≡ itemAt (now (text .entry)) at → States (now (text .entry)) at place
@@ -115,11 +116,11 @@ fn read(
         (memory (now (symbols .exit)) (now (code .exit)) (now (constraints .exit)) (now (rows .exit))) progress r) ⌝ }
 {
     if !has_room(code, constraints, rows) {
-        return Stated::Fault(6);
+        return Stated::Fault(Refusal::MAXIMUM_PASSED);
     }
     let form = grammar::statement_form(text, first);
     let items::Parsed::Next(past) = form else {
-        return Stated::Fault(3);
+        return Stated::Fault(Refusal::NO_FORM);
     };
     let unit = place_unit(place);
     let step = statement_reader::statement(
@@ -151,7 +152,7 @@ fn enter(
 {
     let header = grammar::block_form(text, at);
     let Header::Name { start, len } = header else {
-        return Entered::Fault(3);
+        return Entered::Fault(Refusal::NO_FORM);
     };
     let opened = block_reader::open_block(text, start, len, symbols, keys, filter, stand);
     match opened {
@@ -178,8 +179,8 @@ fn read_statements(
     start: usize,
     symbols: &mut [u8; SYMBOL_BYTES],
     code: &mut [u16; CODE_UNITS],
-    constraints: &mut [u8; CONSTRAINT_BYTES],
-    rows: &mut [u8; ROW_BYTES],
+    constraints: &mut [u8; CONSTRAINTS_BYTES],
+    rows: &mut [u8; ROWS_BYTES],
     before: Progress,
 ) -> Run
     ensures { λ r. ⌜ Runs (now (text .entry)) start
@@ -230,8 +231,8 @@ fn parse_blocks(
     first: Run,
     symbols: &mut [u8; SYMBOL_BYTES],
     code: &mut [u16; CODE_UNITS],
-    constraints: &mut [u8; CONSTRAINT_BYTES],
-    rows: &mut [u8; ROW_BYTES],
+    constraints: &mut [u8; CONSTRAINTS_BYTES],
+    rows: &mut [u8; ROWS_BYTES],
 ) -> Parsed
     ensures { λ r. ⌜ ParsesAfter (now (text .entry)) first
         (memory (now (symbols .entry)) (now (code .entry)) (now (constraints .entry)) (now (rows .entry)))
@@ -280,8 +281,8 @@ fn parse_cleared(
     text: &[u8],
     symbols: &mut [u8; SYMBOL_BYTES],
     code: &mut [u16; CODE_UNITS],
-    constraints: &mut [u8; CONSTRAINT_BYTES],
-    rows: &mut [u8; ROW_BYTES],
+    constraints: &mut [u8; CONSTRAINTS_BYTES],
+    rows: &mut [u8; ROWS_BYTES],
 ) -> Parsed
     ensures { λ r. ⌜ ParsesCleared (now (text .entry))
         (memory (now (symbols .entry)) (now (code .entry)) (now (constraints .entry)) (now (rows .entry)))
@@ -308,8 +309,8 @@ pub fn parse(
     text: &[u8],
     symbols: &mut [u8; SYMBOL_BYTES],
     code: &mut [u16; CODE_UNITS],
-    constraints: &mut [u8; CONSTRAINT_BYTES],
-    rows: &mut [u8; ROW_BYTES],
+    constraints: &mut [u8; CONSTRAINTS_BYTES],
+    rows: &mut [u8; ROWS_BYTES],
 ) -> Parsed
     ensures { λ r. ⌜ Parses (now (text .entry))
         (memory (now (symbols .entry)) (now (code .entry)) (now (constraints .entry)) (now (rows .entry)))

@@ -3,15 +3,13 @@ use Prim.Native.Nat.{ℕ}
 use mathlib.Core.Bool.{Bool, true, false}
 use Rattle.policy.specs.declared.Family as theFamily
 use Rattle.policy.specs.declared.Relation as theRelation
-use Rattle.policy.specs.declared.Sort as theSort
 use Rattle.policy.specs.declared.Refusal as theRefusal
 use Rattle.policy.specs.declared.Compiling.{Compiling}
 use Rattle.policy.specs.declared.Validity.{Validity}
 use Rattle.policy.specs.declared.Change.{Change}
 use Rattle.policy.specs.declared.NewRole.{NewRole}
 use Rattle.policy.specs.declared.Place.{Place}
-use Rattle.policy.specs.Statements.{Family, users, roles, types, Sort, thingOf, attributeOf, Relation, userrole, roletype, roleallow}
-use Rattle.policy.specs.Maxima.{maxOf, maxClasses, maxPermissions}
+use Rattle.policy.specs.Statements.{Family, users, roles, types, Relation, userrole, roletype, roleallow}
 use Rattle.policy.specs.Deciding.{Answer, granted, denied, fails, refuses, unconsulted, Reply, answered, refused}
 use Rattle.policy.specs.Outcome.{Refusal, refusalAt, Outcome, accepted, rejected}
 use Rattle.policy.specs.Questions.{Part}
@@ -26,28 +24,6 @@ abbrev pub relationOf : theRelation.Relation → Relation
 relationOf theRelation.Relation.UserRole = userrole
 relationOf theRelation.Relation.RoleType = roletype
 relationOf theRelation.Relation.RoleAllow = roleallow
-
--- "0 user, 1 role, 2 type, 3 to 5 their attributes, 6 class, 7 permission"
-abbrev pub sortNumber : theSort.Sort → ℕ
-sortNumber theSort.Sort.User = 0
-sortNumber theSort.Sort.Role = 1
-sortNumber theSort.Sort.Type = 2
-sortNumber theSort.Sort.UserAttribute = 3
-sortNumber theSort.Sort.RoleAttribute = 4
-sortNumber theSort.Sort.TypeAttribute = 5
-sortNumber theSort.Sort.Class = 6
-sortNumber theSort.Sort.Permission = 7
-
--- "How many", by the sort
-abbrev pub mostOf : theSort.Sort → ℕ
-mostOf theSort.Sort.User = maxOf (thingOf users)
-mostOf theSort.Sort.Role = maxOf (thingOf roles)
-mostOf theSort.Sort.Type = maxOf (thingOf types)
-mostOf theSort.Sort.UserAttribute = maxOf (attributeOf users)
-mostOf theSort.Sort.RoleAttribute = maxOf (attributeOf roles)
-mostOf theSort.Sort.TypeAttribute = maxOf (attributeOf types)
-mostOf theSort.Sort.Class = maxClasses
-mostOf theSort.Sort.Permission = maxPermissions
 
 -- a refusal's number, place and line
 abbrev pub refusalIn : theRefusal.Refusal → Refusal

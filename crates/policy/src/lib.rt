@@ -1,7 +1,5 @@
-// What all crates share: the numbers of things with their maxima, the families and sorts of names, and the answers.
-// What document 01 says of them stands in specs/.
-ghost use mathlib.Core.Path.{_≡_};
-ghost use Rattle.policy.specs.Answers.{mostOf};
+// What all crates share: the numbers of things with their maxima, the families and sorts of names, the numbers that stand in a
+// table, and the answers. What the documents say of them stands in specs/.
 
 // The number of a user, from 0 in text order.
 pub struct User(pub u64);
@@ -60,6 +58,16 @@ pub struct Transition(pub u64);
 
 impl Transition {
     pub const MAX: usize = 128;
+
+    // The bytes of a transition in a table: a set of roles, a set of types, the class and the new role.
+    pub const BYTES: usize = Role::SET_BYTES + Type::SET_BYTES + 2;
+
+    // Where they stand in it; the roles come first.
+    pub const TYPES_AT: usize = Role::SET_BYTES;
+
+    pub const CLASS_AT: usize = Role::SET_BYTES + Type::SET_BYTES;
+
+    pub const NEW_ROLE_AT: usize = Role::SET_BYTES + Type::SET_BYTES + 1;
 }
 
 // The number of a constraint.
@@ -70,6 +78,9 @@ impl Constraint {
 
     // The most values on the stack that a constraint's rows are run on.
     pub const MAX_STACK: usize = 5;
+
+    // The bytes of a constraint in a table: its class, its permission mask, its first row and how many rows it has.
+    pub const BYTES: usize = 10;
 }
 
 // The number of a constraint row, over all constraints.
@@ -77,6 +88,62 @@ pub struct Row(pub u64);
 
 impl Row {
     pub const MAX: usize = 2_048;
+
+    // The bytes of a row in a table.
+    pub const BYTES: usize = 6;
+
+    // The kinds: three operators on the stack, and three comparisons.
+    pub const NOT: u8 = 0;
+
+    pub const AND: u8 = 1;
+
+    pub const OR: u8 = 2;
+
+    pub const TWO_SIDES: u8 = 3;
+
+    pub const SIDE_AND_THING: u8 = 4;
+
+    pub const SIDE_AND_ATTRIBUTE: u8 = 5;
+}
+
+// A component of a context, as a row has it.
+pub struct Component;
+
+impl Component {
+    pub const U1: u8 = 0;
+
+    pub const U2: u8 = 1;
+
+    pub const R1: u8 = 2;
+
+    pub const R2: u8 = 3;
+
+    pub const T1: u8 = 4;
+
+    pub const T2: u8 = 5;
+
+    // How many there are.
+    pub const COUNT: u8 = 6;
+}
+
+// The operator of a comparison, as a row has it.
+pub struct Operator;
+
+impl Operator {
+    pub const EQ: u8 = 0;
+
+    pub const NEQ: u8 = 1;
+
+    pub const DOM: u8 = 2;
+
+    pub const DOMBY: u8 = 3;
+
+    pub const INCOMP: u8 = 4;
+
+    // How many two roles can be compared by, and how many all others: eq and neq.
+    pub const COUNT_OF_ROLES: u8 = 5;
+
+    pub const COUNT: u8 = 2;
 }
 
 // A block: how deep blocks may nest.
@@ -93,16 +160,82 @@ impl FullName {
     pub const MAX_PARTS: usize = Block::MAX_DEPTH + 1;
 }
 
-// What a name is declared as, in the order of the numbers that stand in the table.
-pub enum Sort {
-    User,
-    Role,
-    Type,
-    UserAttribute,
-    RoleAttribute,
-    TypeAttribute,
-    Class,
-    Permission,
+// What a name is declared as, by the number that stands in a table.
+pub struct Sort;
+
+impl Sort {
+    pub const USER: usize = 0;
+
+    pub const ROLE: usize = 1;
+
+    pub const TYPE: usize = 2;
+
+    // From here to the classes: the attributes of users, roles and types.
+    pub const FIRST_ATTRIBUTE: usize = 3;
+
+    pub const USER_ATTRIBUTE: usize = 3;
+
+    pub const ROLE_ATTRIBUTE: usize = 4;
+
+    pub const TYPE_ATTRIBUTE: usize = 5;
+
+    pub const CLASS: usize = 6;
+
+    pub const PERMISSION: usize = 7;
+
+    // How many sorts there are.
+    pub const COUNT: usize = 8;
+}
+
+// How many names of each sort there are; those of permissions are counted by class.
+pub struct NameCounts {
+    pub users: usize,
+    pub roles: usize,
+    pub types: usize,
+    pub user_attributes: usize,
+    pub role_attributes: usize,
+    pub type_attributes: usize,
+    pub classes: usize,
+}
+
+// A table: its edition, how many sections it has, and the bytes of its header: the edition and the number of sections, and for
+// each section its offset and its length.
+pub struct Table;
+
+impl Table {
+    pub const EDITION: u16 = 1;
+
+    pub const SECTIONS: u8 = 8;
+
+    // Where the pairs of offset and length start, and the bytes of each.
+    pub const FIRST_PAIR: usize = 4;
+
+    pub const PAIR_BYTES: usize = 8;
+
+    pub const HEADER_BYTES: usize = Table::FIRST_PAIR
+        + Table::PAIR_BYTES * (Table::SECTIONS as usize);
+}
+
+// The sections of a table, counted from 0.
+pub struct Section;
+
+impl Section {
+    pub const NAMES: u8 = 0;
+
+    pub const USER_ROLES: u8 = 1;
+
+    pub const ROLE_TYPES: u8 = 2;
+
+    // The roles that each role may become.
+    pub const ROLE_ROLES: u8 = 3;
+
+    pub const TRANSITIONS: u8 = 4;
+
+    pub const CONSTRAINTS: u8 = 5;
+
+    pub const ROWS: u8 = 6;
+
+    pub const ATTRIBUTE_SETS: u8 = 7;
 }
 
 // Users with userattributes, roles with roleattributes, types with typeattributes.
@@ -119,27 +252,51 @@ pub enum Relation {
     RoleAllow,
 }
 
-// How many names of a sort a text may declare; permissions: how many a class may have.
-pub fn most(sort: Sort) -> usize
-    ensures { λ r. ⌜ r ≡ mostOf sort ⌝ }
-{
-    match sort {
-        Sort::User => User::MAX,
-        Sort::Role => Role::MAX,
-        Sort::Type => Type::MAX,
-        Sort::UserAttribute => Attribute::MAX,
-        Sort::RoleAttribute => Attribute::MAX,
-        Sort::TypeAttribute => Attribute::MAX,
-        Sort::Class => Class::MAX,
-        Sort::Permission => Permission::MAX,
-    }
-}
-
 // A refusal of a text: its number, 1 to 10, its place, and the line of a place in the text, else 0.
 pub struct Refusal {
     pub number: usize,
     pub place: usize,
     pub line: usize,
+}
+
+// The numbers of the refusals: 11 and 12 are those of questions.
+impl Refusal {
+    pub const TEXT_TOO_LONG: usize = 1;
+
+    pub const WRONG_BYTE: usize = 2;
+
+    pub const NO_FORM: usize = 3;
+
+    pub const DECLARED_AGAIN: usize = 4;
+
+    pub const NAME_UNDECLARED: usize = 5;
+
+    pub const MAXIMUM_PASSED: usize = 6;
+
+    pub const STACK_TOO_SMALL: usize = 7;
+
+    pub const CYCLE: usize = 8;
+
+    pub const CLASH: usize = 9;
+
+    pub const MEMORY_TOO_SHORT: usize = 10;
+
+    pub const NOT_SOUND: usize = 11;
+
+    pub const NUMBER_UNDECLARED: usize = 12;
+}
+
+// The numbers of the denials of a change. The last comes with the number of the constraint that fails.
+pub struct Denial;
+
+impl Denial {
+    pub const SOURCE_NOT_VALID: usize = 1;
+
+    pub const TARGET_NOT_VALID: usize = 2;
+
+    pub const ROLE_MAY_NOT_CHANGE: usize = 3;
+
+    pub const CONSTRAINT_FAILS: usize = 4;
 }
 
 // What compiling a text answers: the length of its table, or a refusal.

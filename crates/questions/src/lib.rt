@@ -6,6 +6,7 @@ use decisions::Context;
 use name_section::Counted;
 use policy::Change;
 use policy::NewRole;
+use policy::Refusal;
 use policy::Validity;
 use table_names::Counts;
 ghost use mathlib.Core.Path.{_≡_};
@@ -16,15 +17,14 @@ ghost use Rattle.policy.specs.Questions.{validOn, newRoleOn, changeOn};
 ghost use Rattle.policy.specs.Answers.{validityOf, newRoleOf, changeOf};
 ghost use Rattle.decisions.specs.Asked.{context, question};
 
-// The refusal of bytes that are no sound table.
-const NOT_SOUND: usize = 11;
-
 // **Valid context**: whether the role is among the user's, and the type, `kind`, among the role's, or the role is named `object_r`.
 pub fn valid(table: &[u8], user: usize, role: usize, kind: usize) -> Validity
     ensures { λ r. ⌜ validityOf r ≡ validOn (now (table .entry)) (context user role kind) ⌝ }
 {
     if !soundness::sound(table) {
-        return Validity::Refused { number: NOT_SOUND };
+        return Validity::Refused {
+            number: Refusal::NOT_SOUND,
+        };
     }
     decisions::valid_in_sound(table, user, role, kind)
 }
@@ -65,7 +65,9 @@ pub fn change(
         classes,
     } = counted
     else {
-        return Change::Refused { number: NOT_SOUND };
+        return Change::Refused {
+            number: Refusal::NOT_SOUND,
+        };
     };
     let counts = Counts {
         users,
@@ -84,7 +86,9 @@ pub fn new_role(table: &[u8], role: usize, kind: usize, class: usize) -> NewRole
     ensures { λ r. ⌜ newRoleOf r ≡ newRoleOn (now (table .entry)) role kind class ⌝ }
 {
     if !soundness::sound(table) {
-        return NewRole::Refused { number: NOT_SOUND };
+        return NewRole::Refused {
+            number: Refusal::NOT_SOUND,
+        };
     }
     decisions::new_role_in_sound(table, role, kind, class)
 }

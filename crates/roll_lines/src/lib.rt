@@ -1,6 +1,7 @@
 // The lines of the printed roll, written one behind the other into lent memory: those of a sound table, or the line of a refusal.
 use policy::Place;
 use policy::Refusal;
+use policy::Sort;
 ghost use mathlib.Core.Path.{_≡_};
 ghost use mathlib.Core.Bool.{true};
 ghost use Prim.Native.Nat.{_+_, _*_, _≤_, _<_};
@@ -101,11 +102,7 @@ fn put_lines(
 
 // ---- the roll
 
-// The sorts of users and roles, and the bodies where their sets stand.
-const USER: usize = 0;
-
-const ROLE: usize = 1;
-
+// The bodies of the sets of users and roles, by the numbers that entry takes.
 const USER_ROLES: usize = 2;
 
 const ROLE_TYPES: usize = 3;
@@ -116,6 +113,22 @@ pub fn put_roll(table: &[u8], bytes: usize, out: &mut [u8]) -> usize
     ensures { λ r. ⌜ PutsRoll (now (table .entry)) bytes (now (out .entry)) (now (out .exit)) r ⌝ }
 {
     let users = put_acceptance(out, bytes);
-    let roles = put_lines(table, USER, USER_ROLES, b"user ", b" roles ", out, users);
-    put_lines(table, ROLE, ROLE_TYPES, b"role ", b" types ", out, roles)
+    let roles = put_lines(
+        table,
+        Sort::USER,
+        USER_ROLES,
+        b"user ",
+        b" roles ",
+        out,
+        users,
+    );
+    put_lines(
+        table,
+        Sort::ROLE,
+        ROLE_TYPES,
+        b"role ",
+        b" types ",
+        out,
+        roles,
+    )
 }

@@ -1,13 +1,12 @@
 // Whether bytes are a sound table. The answer is given for every sequence of bytes.
 use image_rows::Counts;
 use name_section::Counted;
+use policy::Section;
+use policy::Table;
 ghost use mathlib.Core.Path.{_≡_};
 ghost use Rattle.soundness.specs.IsSound.{isSound};
 ghost use Rattle.soundness.specs.SmallCounts.{Small, Holds};
 ghost use Rattle.soundness.specs.Telling.{Tells};
-
-// Where body 1 starts.
-const FIRST_BODY: usize = 68;
 
 // The counts of the names in the form that the tests of the other bodies take.
 fn counts(
@@ -41,8 +40,8 @@ pub fn count(table: &[u8], permissions: &mut [usize; policy::Class::MAX]) -> Cou
         return Counted::Unsound;
     }
     let mut found = [0usize; policy::Class::MAX];
-    let end = FIRST_BODY + table_reader::body_length(table, 0) as usize;
-    let counted = name_section::check_names(table, FIRST_BODY, end, &mut found);
+    let end = Table::HEADER_BYTES + table_reader::body_length(table, Section::NAMES) as usize;
+    let counted = name_section::check_names(table, Table::HEADER_BYTES, end, &mut found);
     let Counted::Sound {
         users,
         roles,

@@ -1,7 +1,7 @@
 // One statement whose form is good: its names are entered or looked up, and what it says is put into the lent memory; or its fault 4 to 7.
-use constrain_statement::CONSTRAINT_BYTES;
+use constrain_statement::CONSTRAINTS_BYTES;
 use constrain_statement::Constrained;
-use constrain_statement::ROW_BYTES;
+use constrain_statement::ROWS_BYTES;
 use declarations::Declared;
 use declarations::SYMBOL_BYTES;
 use grammar::Keyword;
@@ -9,6 +9,7 @@ use items::Item;
 use lexer::Text;
 use policy::Constraint;
 use policy::Family;
+use policy::Refusal;
 use policy::Relation;
 use policy::Transition;
 use statement_writer::Coded;
@@ -83,8 +84,8 @@ fn declared_step(declared: Declared, progress: Progress) -> Step
             constraints: progress.constraints,
             rows: progress.rows,
         }),
-        Declared::Again => Step::Fault(4),
-        Declared::Full => Step::Fault(6),
+        Declared::Again => Step::Fault(Refusal::DECLARED_AGAIN),
+        Declared::Full => Step::Fault(Refusal::MAXIMUM_PASSED),
     }
 }
 
@@ -184,7 +185,7 @@ fn coded_step(kind: CodedKind, written: Coded, progress: Progress) -> Step
     ensures { λ r. ⌜ r ≡ codedStep kind written progress ⌝ }
 {
     let Coded::Next(to) = written else {
-        return Step::Fault(5);
+        return Step::Fault(Refusal::NAME_UNDECLARED);
     };
     let count = progress.transitions;
     match kind {
@@ -192,7 +193,7 @@ fn coded_step(kind: CodedKind, written: Coded, progress: Progress) -> Step
         CodedKind::Relation(_) => Step::Read(past_code(progress, to, count)),
         CodedKind::Transition => {
             if Transition::MAX <= count {
-                return Step::Fault(6);
+                return Step::Fault(Refusal::MAXIMUM_PASSED);
             }
             Step::Read(past_code(progress, to, count + 1))
         }
@@ -225,7 +226,7 @@ fn constrained_step(written: Constrained, progress: Progress) -> Step
     match written {
         Constrained::Next(row) => {
             if Constraint::MAX <= count {
-                return Step::Fault(6);
+                return Step::Fault(Refusal::MAXIMUM_PASSED);
             }
             Step::Read(Progress {
                 symbols: progress.symbols,
@@ -235,9 +236,9 @@ fn constrained_step(written: Constrained, progress: Progress) -> Step
                 rows: row,
             })
         }
-        Constrained::Undeclared => Step::Fault(5),
-        Constrained::Full => Step::Fault(6),
-        Constrained::Deep => Step::Fault(7),
+        Constrained::Undeclared => Step::Fault(Refusal::NAME_UNDECLARED),
+        Constrained::Full => Step::Fault(Refusal::MAXIMUM_PASSED),
+        Constrained::Deep => Step::Fault(Refusal::STACK_TOO_SMALL),
     }
 }
 
@@ -246,8 +247,8 @@ fn constrain(
     text: &[u8],
     at: usize,
     symbols: &[u8; SYMBOL_BYTES],
-    constraints: &mut [u8; CONSTRAINT_BYTES],
-    rows: &mut [u8; ROW_BYTES],
+    constraints: &mut [u8; CONSTRAINTS_BYTES],
+    rows: &mut [u8; ROWS_BYTES],
     progress: Progress,
 ) -> Step
     ensures { λ r. ⌜ ((place : ℕ) (co : List ℕ) → Steps (now (text .entry)) at place constrainK
@@ -273,8 +274,8 @@ pub fn statement(
     place: u16,
     symbols: &mut [u8; SYMBOL_BYTES],
     code: &mut [u16; CODE_UNITS],
-    constraints: &mut [u8; CONSTRAINT_BYTES],
-    rows: &mut [u8; ROW_BYTES],
+    constraints: &mut [u8; CONSTRAINTS_BYTES],
+    rows: &mut [u8; ROWS_BYTES],
     progress: Progress,
 ) -> Step
     ensures { λ r. ⌜ ((at : ℕ) → first ≡ itemAt (now (text .entry)) at → StepsAt (now (text .entry)) at place
@@ -282,7 +283,7 @@ pub fn statement(
         (memory (now (symbols .exit)) (now (code .exit)) (now (constraints .exit)) (now (rows .exit))) progress r) ⌝ }
 {
     let Item::Word { number, next, .. } = first else {
-        return Step::Fault(3);
+        return Step::Fault(Refusal::NO_FORM);
     };
     let keyword = grammar::keyword_of(number);
     match keyword {
@@ -311,6 +312,6 @@ pub fn statement(
             )
         }
         Keyword::Constrain => constrain(text, next, symbols, constraints, rows, progress),
-        Keyword::Unknown => Step::Fault(3),
+        Keyword::Unknown => Step::Fault(Refusal::NO_FORM),
     }
 }

@@ -13,6 +13,7 @@ use items::Item;
 use lexer::Level;
 use policy::Family;
 use policy::Relation;
+use policy::Sort;
 use set_writer::Referred;
 use set_writer::SetWritten;
 use statement_code::Unit;
@@ -38,13 +39,6 @@ enum NamesWritten {
     Next { at: usize, to: usize },
     Undeclared,
 }
-
-// The sorts of names in the symbol table: roles, the first of the attributes, classes.
-const ROLE: usize = 1;
-
-const FIRST_ATTRIBUTE: usize = 3;
-
-const CLASS: usize = 6;
 
 // ---- names
 
@@ -90,10 +84,10 @@ fn name_unit(kind: Kind, symbols: &[u8], name: &[u8]) -> Referred
         }
         Kind::Attribute(family) => {
             let number = family_number(family) as usize;
-            number_of(symbols, FIRST_ATTRIBUTE + number, name)
+            number_of(symbols, Sort::FIRST_ATTRIBUTE + number, name)
         }
-        Kind::Class => number_of(symbols, CLASS, name),
-        Kind::Role => number_of(symbols, ROLE, name),
+        Kind::Class => number_of(symbols, Sort::CLASS, name),
+        Kind::Role => number_of(symbols, Sort::ROLE, name),
     }
 }
 

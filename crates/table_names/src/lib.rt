@@ -1,6 +1,9 @@
 // What the names of a table say, whatever the bytes are: how many there are of each sort, and whether a thing has a word for its name.
 use policy::Class;
 use policy::Permission;
+use policy::Section;
+use policy::Sort;
+use policy::Table;
 use symbols::Entry;
 use symbols::NamePlace;
 ghost use mathlib.Core.Path.{_≡_};
@@ -9,24 +12,11 @@ ghost use Rattle.policy.specs.Words.{transitionWords};
 ghost use Rattle.symbols.specs.Lookup.{replyOf};
 ghost use Rattle.table_names.specs.TableNames.{namesEnd, countsIn, Tallied, isFoundName, nameAt, permissionIn, bears, bearsOne, asksRoleIn};
 
-// The body of the names: bodies are counted from 0.
-const NAMES: u8 = 0;
-
-// The numbers of sorts in body 1: 0 user, 1 role, 2 type, 3 to 5 their attributes, 6 class, 7 permission.
-const CLASS: usize = 6;
-
-const PERMISSION: usize = 7;
-
-const SORTS: usize = 8;
-
-// Where the names start.
-const FIRST_BODY: usize = 68;
-
 // Where the names end, as the header says.
 fn names_end(table: &[u8]) -> usize
     ensures { λ r. ⌜ r ≡ namesEnd (now (table .entry)) ⌝ }
 {
-    FIRST_BODY + table_reader::body_length(table, NAMES) as usize
+    Table::HEADER_BYTES + table_reader::body_length(table, Section::NAMES) as usize
 }
 
 // How many names of some sorts there are.
@@ -45,7 +35,7 @@ fn tally(table: &[u8], counts: &mut [usize])
     ensures { λ _. ⌜ Tallied (now (table .entry)) (now (counts .exit)) ⌝ }
 {
     let end = names_end(table);
-    let mut at = FIRST_BODY;
+    let mut at = Table::HEADER_BYTES;
     loop {
         let k = symbols::look(table, at, end);
         match k {
@@ -55,7 +45,7 @@ fn tally(table: &[u8], counts: &mut [usize])
                 past,
             } => {
                 at = past;
-                if SORTS <= sort {
+                if Sort::COUNT <= sort {
                     continue;
                 }
                 counts[sort] += 1;
@@ -70,15 +60,15 @@ fn tally(table: &[u8], counts: &mut [usize])
 pub fn count_names(table: &[u8]) -> Counts
     ensures { λ r. ⌜ r ≡ countsIn (now (table .entry)) ⌝ }
 {
-    let mut counts = [0usize; SORTS];
+    let mut counts = [0usize; Sort::COUNT];
     tally(table, &mut counts);
     Counts {
-        users: counts[0],
-        roles: counts[1],
-        types: counts[2],
-        userattributes: counts[3],
-        roleattributes: counts[4],
-        classes: counts[CLASS],
+        users: counts[Sort::USER],
+        roles: counts[Sort::ROLE],
+        types: counts[Sort::TYPE],
+        userattributes: counts[Sort::USER_ATTRIBUTE],
+        roleattributes: counts[Sort::ROLE_ATTRIBUTE],
+        classes: counts[Sort::CLASS],
     }
 }
 
@@ -88,7 +78,7 @@ pub fn count_names(table: &[u8]) -> Counts
 fn name_place(table: &[u8], sort: usize, number: usize) -> NamePlace
     ensures { λ r. ⌜ replyOf r ≡ nameAt (now (table .entry)) sort number ⌝ }
 {
-    symbols::name_of(table, FIRST_BODY, names_end(table), sort, number)
+    symbols::name_of(table, Table::HEADER_BYTES, names_end(table), sort, number)
 }
 
 // Whether a name is a word. Where a table ends within a part, the part is cut there, so that a longer part is compared too.
@@ -127,7 +117,7 @@ fn permission_name(table: &[u8], class: usize, permission: usize) -> NamePlace
         return NamePlace::Nowhere;
     }
     let number = class * Permission::MAX + permission;
-    name_place(table, PERMISSION, number)
+    name_place(table, Sort::PERMISSION, number)
 }
 
 // Whether a class has a permission.
@@ -171,7 +161,7 @@ pub fn asks_role(table: &[u8], class: usize, permission: usize) -> bool
     ensures { λ r. ⌜ r ≡ asksRoleIn (now (table .entry)) class permission ⌝ }
 {
     let word = PROCESS;
-    if !is_named(table, CLASS, class, &word) {
+    if !is_named(table, Sort::CLASS, class, &word) {
         return false;
     }
     is_transition(table, class, permission)

@@ -1,12 +1,17 @@
 // The questions name of and entry: where a name or an entry stands in a table, and the part of the lent table itself. The functions whose
 // names end in `in_sound` are for a caller that knows the table to be sound; the others answer for every table, 11 before 12.
+use policy::Constraint;
 use policy::Place;
+use policy::Refusal;
 use policy::Role;
+use policy::Row;
+use policy::Section;
+use policy::Sort;
+use policy::Table;
+use policy::Transition;
 use policy::Type;
 use policy::User;
 use symbols::NamePlace;
-use table_reader::ConstraintRecord;
-use table_reader::RowRecord;
 ghost use mathlib.Core.Path.{_≡_};
 ghost use mathlib.Core.Bool.{true};
 ghost use mathlib.Core.List.{[], _∷_};
@@ -17,20 +22,13 @@ ghost use Rattle.table_reader.specs.Records.{startIn, lengthIn};
 ghost use Rattle.soundness.specs.IsSound.{isSound};
 ghost use Rattle.table_parts.specs.ShownPart.{shownPart};
 
-// The refusals of a question.
-const NOT_SOUND: usize = 11;
-
-const NOT_DECLARED: usize = 12;
-
 // ---- names
-
-const FIRST_BODY: usize = 68;
 
 // Where body 1, the names, ends.
 fn names_end(table: &[u8]) -> usize
     ensures { λ r. ⌜ r ≡ 68 + lengthIn (now (table .entry)) 0 ⌝ }
 {
-    FIRST_BODY + table_reader::body_length(table, 0) as usize
+    Table::HEADER_BYTES + table_reader::body_length(table, Section::NAMES) as usize
 }
 
 // Where the name of a sort and number stands in a sound table.
@@ -38,19 +36,16 @@ pub fn name_place_in_sound(table: &[u8], sort: usize, number: usize) -> Place
     requires { ⌜ isSound (now table) ≡ true ⌝ }
     ensures { λ r. ⌜ placeOf r ≡ nameOn (now (table .entry)) sort number ⌝ }
 {
-    let found = symbols::name_of(table, FIRST_BODY, names_end(table), sort, number);
+    let found = symbols::name_of(table, Table::HEADER_BYTES, names_end(table), sort, number);
     match found {
         NamePlace::At { start, length } => Place::Part { start, length },
         NamePlace::Nowhere => Place::Refused {
-            number: NOT_DECLARED,
+            number: Refusal::NUMBER_UNDECLARED,
         },
     }
 }
 
 // ---- entries of the bodies 2 to 7
-
-// The bytes of a transition.
-const TRANSITION_BYTES: usize = 82;
 
 // The record at a place among so many of one width, the first of which starts at `start`.
 fn record_place(start: usize, count: usize, width: usize, place: usize) -> Place
@@ -59,7 +54,7 @@ fn record_place(start: usize, count: usize, width: usize, place: usize) -> Place
 {
     if count <= place {
         return Place::Refused {
-            number: NOT_DECLARED,
+            number: Refusal::NUMBER_UNDECLARED,
         };
     }
     Place::Part {
@@ -79,13 +74,6 @@ fn run_place(table: &[u8], body: u8, width: usize, place: usize) -> Place
 }
 
 // ---- entries of body 8
-
-// The sorts of attributes.
-const USER_ATTRIBUTE: usize = 3;
-
-const ROLE_ATTRIBUTE: usize = 4;
-
-const TYPE_ATTRIBUTE: usize = 5;
 
 // The set at a place among those of userattributes, then roleattributes, then typeattributes, the first of which starts at `start`.
 fn set_place(start: usize, users: usize, roles: usize, types: usize, place: usize) -> Place
@@ -114,10 +102,10 @@ fn attribute_place(table: &[u8], place: usize) -> Place
     ensures { λ r. ⌜ placeOf r ≡ entryOn (now (table .entry)) 8 place ⌝ }
 {
     let end = names_end(table);
-    let users = symbols::count(table, FIRST_BODY, end, USER_ATTRIBUTE);
-    let roles = symbols::count(table, FIRST_BODY, end, ROLE_ATTRIBUTE);
-    let types = symbols::count(table, FIRST_BODY, end, TYPE_ATTRIBUTE);
-    let start = table_reader::body_start(table, 7) as usize;
+    let users = symbols::count(table, Table::HEADER_BYTES, end, Sort::USER_ATTRIBUTE);
+    let roles = symbols::count(table, Table::HEADER_BYTES, end, Sort::ROLE_ATTRIBUTE);
+    let types = symbols::count(table, Table::HEADER_BYTES, end, Sort::TYPE_ATTRIBUTE);
+    let start = table_reader::body_start(table, Section::ATTRIBUTE_SETS) as usize;
     set_place(start, users, roles, types, place)
 }
 
@@ -129,15 +117,15 @@ pub fn entry_place_in_sound(table: &[u8], body: usize, place: usize) -> Place
     ensures { λ r. ⌜ placeOf r ≡ entryOn (now (table .entry)) body place ⌝ }
 {
     match body {
-        2 => run_place(table, 1, Role::SET_BYTES, place),
-        3 => run_place(table, 2, Type::SET_BYTES, place),
-        4 => run_place(table, 3, Role::SET_BYTES, place),
-        5 => run_place(table, 4, TRANSITION_BYTES, place),
-        6 => run_place(table, 5, ConstraintRecord::BYTES, place),
-        7 => run_place(table, 6, RowRecord::BYTES, place),
+        2 => run_place(table, Section::USER_ROLES, Role::SET_BYTES, place),
+        3 => run_place(table, Section::ROLE_TYPES, Type::SET_BYTES, place),
+        4 => run_place(table, Section::ROLE_ROLES, Role::SET_BYTES, place),
+        5 => run_place(table, Section::TRANSITIONS, Transition::BYTES, place),
+        6 => run_place(table, Section::CONSTRAINTS, Constraint::BYTES, place),
+        7 => run_place(table, Section::ROWS, Row::BYTES, place),
         8 => attribute_place(table, place),
         _ => Place::Refused {
-            number: NOT_DECLARED,
+            number: Refusal::NUMBER_UNDECLARED,
         },
     }
 }
@@ -149,7 +137,9 @@ pub fn name_place(table: &[u8], sort: usize, number: usize) -> Place
     ensures { λ r. ⌜ placeOf r ≡ nameOn (now (table .entry)) sort number ⌝ }
 {
     if !soundness::sound(table) {
-        return Place::Refused { number: NOT_SOUND };
+        return Place::Refused {
+            number: Refusal::NOT_SOUND,
+        };
     }
     name_place_in_sound(table, sort, number)
 }
@@ -159,7 +149,9 @@ pub fn entry_place(table: &[u8], body: usize, place: usize) -> Place
     ensures { λ r. ⌜ placeOf r ≡ entryOn (now (table .entry)) body place ⌝ }
 {
     if !soundness::sound(table) {
-        return Place::Refused { number: NOT_SOUND };
+        return Place::Refused {
+            number: Refusal::NOT_SOUND,
+        };
     }
     entry_place_in_sound(table, body, place)
 }

@@ -1,5 +1,7 @@
 // Numbers and records in the bytes of a table, little endian. Every function answers for every table and every place: past the end all
 // bytes read 0.
+use policy::Constraint;
+use policy::Row;
 ghost use mathlib.Core.Path.{_≡_};
 ghost use Prim.Native.Nat.{_+_, _*_};
 ghost use lib.ListN.{getD, take, drop};
@@ -15,44 +17,12 @@ pub struct ConstraintRecord {
     pub rows: u16,
 }
 
-impl ConstraintRecord {
-    pub const BYTES: usize = 10;
-}
-
 // A row of body 7.
 pub struct RowRecord {
     pub kind: u8,
     pub component: u8,
     pub operator: u8,
     pub number: u16,
-}
-
-impl RowRecord {
-    pub const BYTES: usize = 6;
-
-    // The kinds: three operators on the stack, and three comparisons.
-    pub const NOT: u8 = 0;
-
-    pub const AND: u8 = 1;
-
-    pub const OR: u8 = 2;
-
-    pub const TWO_SIDES: u8 = 3;
-
-    pub const SIDE_AND_THING: u8 = 4;
-
-    pub const SIDE_AND_ATTRIBUTE: u8 = 5;
-
-    // The operators of a comparison.
-    pub const EQ: u8 = 0;
-
-    pub const NEQ: u8 = 1;
-
-    pub const DOM: u8 = 2;
-
-    pub const DOMBY: u8 = 3;
-
-    pub const INCOMP: u8 = 4;
 }
 
 // The byte at a place.
@@ -89,7 +59,7 @@ pub fn u32_at(table: &[u8], at: usize) -> u32
 pub fn constraint_at(table: &[u8], start: u32, number: u32) -> ConstraintRecord
     ensures { λ r. ⌜ headOf r ≡ headAt (drop (start + 10 * number) (now (table .entry))) ⌝ }
 {
-    let at = start as usize + ConstraintRecord::BYTES * (number as usize);
+    let at = start as usize + Constraint::BYTES * (number as usize);
     ConstraintRecord {
         class: u16_at(table, at),
         mask: u32_at(table, at + 2),
@@ -102,7 +72,7 @@ pub fn constraint_at(table: &[u8], start: u32, number: u32) -> ConstraintRecord
 pub fn row_at(table: &[u8], start: u32, number: u32) -> RowRecord
     ensures { λ r. ⌜ rowOf r ≡ rowAt (drop (start + 6 * number) (now (table .entry))) ⌝ }
 {
-    let at = start as usize + RowRecord::BYTES * (number as usize);
+    let at = start as usize + Row::BYTES * (number as usize);
     RowRecord {
         kind: byte_at(table, at),
         component: byte_at(table, at + 1),

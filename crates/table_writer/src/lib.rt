@@ -6,8 +6,12 @@ ghost use Rattle.table_writer.specs.Putting.{Puts, pair};
 ghost use Rattle.table_writer.specs.Sizing.{Few, Spaced, Needs, WritesPairs, WritesHeader};
 ghost use Rattle.table_writer.specs.Assembling.{WritesRoleRelations, WritesRelations, WritesRules, WritesAttributes, WritesTable};
 use code_reader::FAMILY_BYTES;
+use policy::Constraint;
 use policy::Relation;
 use policy::Role;
+use policy::Row;
+use policy::Table;
+use policy::Transition;
 use policy::Type;
 use policy::User;
 
@@ -38,21 +42,8 @@ struct Starts {
     end: usize,
 }
 
-// The first two numbers of a table, of two bytes each.
-const EDITION: usize = 1;
-
-const BODIES: usize = 8;
-
-// Where the first body starts.
-const FIRST_BODY: usize = 68;
-
-// The bytes of an entry of body 5: a set of roles, a set of types, the class and the new role.
-const TRANSITION_BYTES: usize = Role::SET_BYTES + Type::SET_BYTES + 2;
-
-// The bytes of an entry of body 6, and of body 7.
-const CONSTRAINT_BYTES: usize = 10;
-
-const ROW_BYTES: usize = 6;
+// The edition and the number of sections, two bytes each, as one number.
+const EDITION_AND_SECTIONS: usize = Table::EDITION as usize + 65_536 * (Table::SECTIONS as usize);
 
 // No place of a table and no number of its entries comes near this.
 const FAR: usize = 100_000_000;
@@ -79,13 +70,13 @@ fn past(start: usize, many: usize, width: usize) -> usize
 fn body_starts(sizes: Sizes) -> Starts
     ensures { λ r. ⌜ (Few sizes → Spaced sizes r) ⌝ }
 {
-    let user_roles = past(FIRST_BODY, sizes.names, 1);
+    let user_roles = past(Table::HEADER_BYTES, sizes.names, 1);
     let role_types = past(user_roles, sizes.users, Role::SET_BYTES);
     let role_roles = past(role_types, sizes.roles, Type::SET_BYTES);
     let transitions = past(role_roles, sizes.roles, Role::SET_BYTES);
-    let constraints = past(transitions, sizes.transitions, TRANSITION_BYTES);
-    let rows = past(constraints, sizes.constraints, CONSTRAINT_BYTES);
-    let user_sets = past(rows, sizes.rows, ROW_BYTES);
+    let constraints = past(transitions, sizes.transitions, Transition::BYTES);
+    let rows = past(constraints, sizes.constraints, Constraint::BYTES);
+    let user_sets = past(rows, sizes.rows, Row::BYTES);
     let role_sets = past(user_sets, sizes.user_attributes, User::SET_BYTES);
     let type_sets = past(role_sets, sizes.role_attributes, Role::SET_BYTES);
     let end = past(type_sets, sizes.type_attributes, Type::SET_BYTES);
@@ -147,7 +138,7 @@ fn put_pair(table: &mut [u8], at: usize, start: usize, end: usize)
 fn write_pairs(places: Starts, table: &mut [u8])
     ensures { λ _. ⌜ WritesPairs places (now (table .entry)) (now (table .exit)) ⌝ }
 {
-    put_pair(table, 4, FIRST_BODY, places.user_roles);
+    put_pair(table, 4, Table::HEADER_BYTES, places.user_roles);
     put_pair(table, 12, places.user_roles, places.role_types);
     put_pair(table, 20, places.role_types, places.role_roles);
     put_pair(table, 28, places.role_roles, places.transitions);
@@ -157,11 +148,11 @@ fn write_pairs(places: Starts, table: &mut [u8])
     put_pair(table, 60, places.user_sets, places.end);
 }
 
-// Writes all that stands before the first body. The edition and the number of bodies are written as one number.
+// Writes all that stands before the first body.
 fn write_header(places: Starts, table: &mut [u8])
     ensures { λ _. ⌜ WritesHeader places (now (table .entry)) (now (table .exit)) ⌝ }
 {
-    put_u32(table, 0, EDITION + 65_536 * BODIES);
+    put_u32(table, 0, EDITION_AND_SECTIONS);
     write_pairs(places, table);
 }
 
@@ -214,7 +205,7 @@ fn write_relations(
     ensures { λ _. ⌜ WritesRelations places sizes (now (symbols .entry)) (now (code .entry)) (now («user_sets» .entry)) (now («role_sets» .entry)) (now («type_sets» .entry))
         (now (table .entry)) (now (table .exit)) ⌝ }
 {
-    body_writer::copy(symbols, sizes.names, table, FIRST_BODY);
+    body_writer::copy(symbols, sizes.names, table, Table::HEADER_BYTES);
     body_writer::write_relation(
         code,
         Relation::UserRole,
@@ -243,9 +234,9 @@ fn write_rules(
         (now (table .entry)) (now (table .exit)) ⌝ }
 {
     body_writer::write_transitions(code, role_sets, type_sets, table, places.transitions);
-    let heads = past(0, sizes.constraints, CONSTRAINT_BYTES);
+    let heads = past(0, sizes.constraints, Constraint::BYTES);
     body_writer::copy(constraints, heads, table, places.constraints);
-    let tails = past(0, sizes.rows, ROW_BYTES);
+    let tails = past(0, sizes.rows, Row::BYTES);
     body_writer::copy(rows, tails, table, places.rows);
 }
 

@@ -125,9 +125,9 @@ loop-holds c =
     let from : f .counted-from .result + maxName - maxName ≡ f .counted-from .result = omega arith in (
       omega arith,
       starts-name (textHere s) (a .text .at) (a .text .level) (k .before .before .if1 .left) (stepped s Step.Name (f .before .enum-told2 .given .1))
-      _ (k .class-in .result) (k .class-in .ensures)
-      (ap (stateOf (a .text .level) (a .text .at)) (sym (f .before .enum-told2 .given .1)) ∙ s .step-between .ensures (a .text .at))
-      (from ∙ f .counted-from .ensures) (sym (c .before .bare-dot .ensures) ∙ c .if2 .left),
+          _ (k .class-in .result) (k .class-in .ensures)
+          (ap (stateOf (a .text .level) (a .text .at)) (sym (f .before .enum-told2 .given .1)) ∙ s .step-between .ensures (a .text .at))
+          (from ∙ f .counted-from .ensures) (sym (c .before .bare-dot .ensures) ∙ c .if2 .left),
     )
 
 name-goes-on-requires : tie.Need-name-goes-on-requires Inv-loop μ-loop Inv-text μ-text

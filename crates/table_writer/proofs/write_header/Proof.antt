@@ -11,6 +11,4 @@ unfolding le
 returns c = record { says = λ p at. puts-then (c .before .before .before .before .before .before .put-u32 .ensures) (c .before .before .write-pairs .ensures .says p at) refl }
 
 pub write-header-spec : {M : Type 1} → statement M
-write-header-spec =
-    tie.close
-    (tie.spec (λ c. search needs) (λ c. search needs) (λ c κs. search needs) (λ c κs. search needs) (λ c. search needs) returns)
+write-header-spec = tie.close (tie.spec (λ c κs. search needs) (λ c κs. search needs) (λ c. search needs) returns)
