@@ -56,6 +56,9 @@ const MOST_BYTES: usize = 100_000;
 /// The greatest text and table that are written out.
 const MOST_TEXT: usize = 160;
 const MOST_TABLE: usize = 400;
+/// The most columns of a line, and the most bytes between two quotes.
+const MOST_COLUMNS: usize = 150;
+const MOST_QUOTED: usize = 120;
 
 /// What the theorems of one crate are about: texts and what becomes of them, or tables and questions about them.
 #[derive(Clone, Copy)]
@@ -103,7 +106,50 @@ fn files_of(chapter: &Chapter) -> Vec<File> {
         let last = files.len() - 1;
         files[last].text.push_str(&written(&format!("{}-{number}", chapter.name.to_lowercase()), item));
     }
+    for file in &mut files {
+        if file.text.contains(" ++ ") {
+            file.text = file.text.replacen("{List, [], _∷_}", "{List, [], _∷_, _++_}", 1);
+        }
+        file.text = file.text.lines().map(folded).collect();
+    }
     files
+}
+
+/// A line of at most `MOST_COLUMNS`, or several: it goes on after a blank that is in no quotes and no braces.
+fn folded(line: &str) -> String {
+    if line.starts_with("use ") || line.starts_with("--") {
+        return format!("{line}\n");
+    }
+    let letters: Vec<char> = line.chars().collect();
+    let (mut text, mut start, mut blank, mut quotes, mut braces) = (String::new(), 0, None, false, 0);
+    for at in 0..letters.len() {
+        match letters[at] {
+            '"' if letters[at - 1] != '\\' => quotes = !quotes,
+            '{' if !quotes => braces += 1,
+            '}' if !quotes => braces -= 1,
+            ' ' if !quotes && braces == 0 && at > start + 4 => {
+                if at - start > MOST_COLUMNS - 4 {
+                    if let Some(end) = blank {
+                        text.extend(&letters[start..end]);
+                        text.push_str("\n    ");
+                        start = end + 1;
+                    }
+                }
+                blank = Some(at);
+            }
+            _ => {}
+        }
+    }
+    if letters.len() - start > MOST_COLUMNS - 4 {
+        if let Some(end) = blank.filter(|end| *end > start) {
+            text.extend(&letters[start..end]);
+            text.push_str("\n    ");
+            start = end + 1;
+        }
+    }
+    text.extend(&letters[start..]);
+    text.push('\n');
+    text
 }
 
 fn opening(chapter: &Chapter) -> String {
@@ -136,10 +182,14 @@ fn is_plain(text: &[u8]) -> bool {
     text.is_ascii()
 }
 
-/// A text in quotes; the prover escapes as Rust does.
+/// A text in quotes; the prover escapes as Rust does. A long one is put together from several.
 fn quoted(text: &[u8]) -> String {
     assert!(is_plain(text));
-    format!("bytes {:?}", String::from_utf8_lossy(text))
+    if text.is_empty() {
+        return "bytes \"\"".to_string();
+    }
+    let pieces = text.chunks(MOST_QUOTED).map(|piece| format!("bytes {:?}", String::from_utf8_lossy(piece)));
+    pieces.collect::<Vec<String>>().join(" ++ ")
 }
 
 /// Bytes one by one.
@@ -537,8 +587,9 @@ mod tests {
 
     const SUBJECTS: [Subject; 2] = [Subject::Texts, Subject::Tables];
 
+    /// All theorems, each in one line again.
     fn all() -> String {
-        SUBJECTS.iter().flat_map(|subject| definitions(1, *subject)).map(|file| file.text).collect()
+        SUBJECTS.iter().flat_map(|subject| definitions(1, *subject)).map(|file| file.text.replace("\n    ", " ")).collect()
     }
 
     /// The lines of all claimed refusals of one number.

@@ -10,8 +10,6 @@ ghost use lib.ListN.{length, take};
 ghost use Rattle.bitset.specs.Sets.{setOf};
 ghost use Rattle.bitset.specs.Parts.{part, put};
 ghost use Rattle.bitset.specs.Relations.{granted};
-ghost use Rattle.policy.specs.Answers.{relationOf};
-ghost use Rattle.statement_code.specs.Code.{relationNumber};
 ghost use Rattle.set_code.specs.Evaluation.{valueOf};
 ghost use Rattle.body_writer.specs.Writing.{Appended, Copies};
 ghost use Rattle.body_writer.specs.Bodies.{WritesRelation, WritesTransition, WritesTransitions, WritesSets};
@@ -77,17 +75,6 @@ pub fn write_sets(sets: &[u8; FAMILY_BYTES], many: usize, width: usize, table: &
 }
 
 // ---- relations
-
-// What is added to a tag for its relation.
-fn relation_number(relation: Relation) -> u16
-    ensures { λ r. ⌜ (r ≡ relationNumber (relationOf relation)) × (r ≤ 2) ⌝ }
-{
-    match relation {
-        Relation::UserRole => 0,
-        Relation::RoleType => 1,
-        Relation::RoleAllow => 2,
-    }
-}
 
 // In the body of rows of width bytes that stands in the size bytes at a place, the row of one thing gains what a reference stands for.
 // A row that starts past the body's end gains nothing, and one that the end cuts gains as far as it reaches.
@@ -170,7 +157,7 @@ pub fn write_relation(
     }
     let size = width * many;
     bitset::clear_at(table, at, size);
-    let tag = Unit::RELATION + relation_number(relation);
+    let tag = Unit::RELATION + statement_code::relation_number(relation);
     let mut place = 0;
     while place < code.len() {
         if code[place] == tag {

@@ -2,14 +2,11 @@
 //
 // A family has at most 64 attributes. What is kept of each is a set of 64 bytes, one after the other, 4,096 bytes for a family.
 use policy::Attribute;
-use policy::Family;
 use policy::Type;
 use statement_code::Unit;
 ghost use mathlib.Core.Path.{_≡_};
-ghost use Prim.Native.Nat.{_+_, _*_, _<_, _≤_};
+ghost use Prim.Native.Nat.{_+_, _*_, _<_};
 ghost use lib.ListN.{length, getD, drop};
-ghost use Rattle.policy.specs.Answers.{familyOf};
-ghost use Rattle.statement_code.specs.Code.{familyNumber};
 ghost use Rattle.code_reader.specs.Reading.{operandsOf, isRelation, stepOf};
 ghost use Rattle.code_reader.specs.AttributeSets.{added};
 
@@ -74,17 +71,6 @@ pub fn next_statement(code: &[u16], at: usize) -> usize
         return at + 6;
     }
     statement_end(code, at + 2)
-}
-
-// What is added to a tag for its family.
-pub fn family_number(family: Family) -> u16
-    ensures { λ r. ⌜ (r ≡ familyNumber (familyOf family)) × (r ≤ 2) ⌝ }
-{
-    match family {
-        Family::Users => 0,
-        Family::Roles => 1,
-        Family::Types => 2,
-    }
 }
 
 // ---- the sets of a family's attributes

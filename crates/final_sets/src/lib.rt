@@ -49,7 +49,7 @@ pub fn round(
         → now (after .exit) ≡ relation 64 64 (meaning.unionOf p (familyOf family) (setsIn (now (before .entry))))) ⌝ }
 {
     bitset::clear(after);
-    let tag = Unit::ATTRIBUTE_SET + code_reader::family_number(family);
+    let tag = Unit::ATTRIBUTE_SET + statement_code::family_number(family);
     let mut at = 0;
     while at < code.len() {
         let next = code_reader::next_statement(code, at);

@@ -56,7 +56,7 @@ pub fn mentions(code: &[u16], family: Family, rows: &mut [u8; FAMILY_BYTES])
         → now (rows .exit) ≡ relation 64 64 (λ a b. isAmong b (faults.mentions p (familyOf family) a))) ⌝ }
 {
     bitset::clear(rows);
-    let tag = Unit::ATTRIBUTE_SET + code_reader::family_number(family);
+    let tag = Unit::ATTRIBUTE_SET + statement_code::family_number(family);
     let mut at = 0;
     while at < code.len() {
         let next = code_reader::next_statement(code, at);
@@ -145,7 +145,7 @@ fn first_cycle(code: &[u16], family: Family, rows: &[u8; FAMILY_BYTES]) -> Found
         → ((a : ℕ) → (ltb a 64 && setsIn (now (rows .entry)) a a) ≡ faults.onCycle p (familyOf family) a)
         → foundOf r ≡ faults.familyCycle p (familyOf family)) ⌝ }
 {
-    let tag = Unit::DECLARE_ATTRIBUTE + code_reader::family_number(family);
+    let tag = Unit::DECLARE_ATTRIBUTE + statement_code::family_number(family);
     let mut a = 0;
     let mut at = 0;
     while at < code.len() {

@@ -1,14 +1,15 @@
 -- Texts and what the independent second program says of them, held to the definitions by computation. Written by reference/regenerate.
 -- Assumes nothing.
 use mathlib.Core.Path.{_≡_, refl}
-use mathlib.Core.List.{List, [], _∷_}
+use mathlib.Core.List.{List, [], _∷_, _++_}
 use Rattle.lexer.specs.Spell.{bytes}
 use Rattle.policy.specs.Outcome.{ofText}
 use Rattle.policy.specs.Roll.{printed}
 use Rattle.policy.specs.Opened.{computing}
 
 -- the roll of document 01
-printed-0 : printed (ofText (bytes "(user u)(role a)(role b)(type t)(userrole u a)(roletype a t)")) ≡ bytes "accepted 264 bytes\nuser u roles 1\nrole a types 1\nrole b types 0\n"
+printed-0 : printed (ofText (bytes "(user u)(role a)(role b)(type t)(userrole u a)(roletype a t)")) ≡ bytes
+    "accepted 264 bytes\nuser u roles 1\nrole a types 1\nrole b types 0\n"
 unfolding computing
 printed-0 = refl
 
@@ -48,31 +49,38 @@ unfolding computing
 printed-7 = refl
 
 -- users first
-printed-8 : printed (ofText (bytes "(role b)(user v)(role a)(user u)(userrole u b)")) ≡ bytes "accepted 280 bytes\nuser v roles 0\nuser u roles 1\nrole b types 0\nrole a types 0\n"
+printed-8 : printed (ofText (bytes "(role b)(user v)(role a)(user u)(userrole u b)")) ≡ bytes
+    "accepted 280 bytes\nuser v roles 0\nuser u roles 1\nrole b types 0\nrole a types 0\n"
 unfolding computing
 printed-8 = refl
 
 -- by number, not by name
-printed-9 : printed (ofText (bytes "(user z)(user a)(role r)(userrole a r)")) ≡ bytes "accepted 195 bytes\nuser z roles 0\nuser a roles 1\nrole r types 0\n"
+printed-9 : printed (ofText (bytes "(user z)(user a)(role r)(userrole a r)")) ≡ bytes
+    "accepted 195 bytes\nuser z roles 0\nuser a roles 1\nrole r types 0\n"
 unfolding computing
 printed-9 = refl
 
 -- sets through attributes
-printed-10 : printed (ofText (bytes "(user u)(role a)(role b)(roleattribute x)(userrole u x)(roleattributeset x(all))")) ≡ bytes "accepted 280 bytes\nuser u roles 2\nrole a types 0\nrole b types 0\n"
+printed-10 : printed (ofText (bytes "(user u)(role a)(role b)(roleattribute x)(userrole u x)(roleattributeset x(all))")) ≡ bytes
+    "accepted 280 bytes\nuser u roles 2\nrole a types 0\nrole b types 0\n"
 unfolding computing
 printed-10 = refl
 
 -- more than nine members
-printed-11 : printed (ofText (bytes "(role a)(type a)(type b)(type c)(type d)(type e)(type f)(type g)(type h)(type i)(type j)(typeattribute x)(typeattributeset x(all))(roletype a x)")) ≡ bytes "accepted 272 bytes\nrole a types 10\n"
+printed-11 : printed (ofText (bytes
+    "(role a)(type a)(type b)(type c)(type d)(type e)(type f)(type g)(type h)(type i)(type j)(typeattribute x)(typeattributes" ++ bytes
+    "et x(all))(roletype a x)")) ≡ bytes "accepted 272 bytes\nrole a types 10\n"
 unfolding computing
 printed-11 = refl
 
 -- W-203: full names
-printed-12 : printed (ofText (bytes "(block b(role a)(block c(user u)(userrole u a)))")) ≡ bytes "accepted 180 bytes\nuser b.c.u roles 1\nrole b.a types 0\n"
+printed-12 : printed (ofText (bytes "(block b(role a)(block c(user u)(userrole u a)))")) ≡ bytes
+    "accepted 180 bytes\nuser b.c.u roles 1\nrole b.a types 0\n"
 unfolding computing
 printed-12 = refl
 
 -- attributes and classes print nothing
-printed-13 : printed (ofText (bytes "(userattribute x)(class c(p))(type t)(role long-name_1)")) ≡ bytes "accepted 199 bytes\nrole long-name_1 types 0\n"
+printed-13 : printed (ofText (bytes "(userattribute x)(class c(p))(type t)(role long-name_1)")) ≡ bytes
+    "accepted 199 bytes\nrole long-name_1 types 0\n"
 unfolding computing
 printed-13 = refl

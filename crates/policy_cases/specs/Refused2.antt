@@ -97,7 +97,8 @@ unfolding computing
 refused-137 = refl
 
 -- reading 18
-refused-138 : outcome (ofText (bytes "(class c (p))(constrain (c (p)) (and (eq u1 u2) (eq u1 u2) (eq u1 u2)))")) 65536 ≡ rejected (refusalAt 3 13 1)
+refused-138 : outcome (ofText (bytes "(class c (p))(constrain (c (p)) (and (eq u1 u2) (eq u1 u2) (eq u1 u2)))")) 65536 ≡ rejected (refusalAt 3 13
+    1)
 unfolding computing
 refused-138 = refl
 
@@ -297,7 +298,8 @@ unfolding computing
 refused-177 = refl
 
 -- reading 22: the new role is an attribute
-refused-178 : outcome (ofText (bytes "(role a)(roleattribute x)(type t)(class c (p))(roletransition a t c x)")) 65536 ≡ rejected (refusalAt 5 46 1)
+refused-178 : outcome (ofText (bytes "(role a)(roleattribute x)(type t)(class c (p))(roletransition a t c x)")) 65536 ≡ rejected (refusalAt 5 46
+    1)
 unfolding computing
 refused-178 = refl
 

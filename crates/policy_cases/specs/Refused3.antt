@@ -1,7 +1,7 @@
 -- Texts and what the independent second program says of them, held to the definitions by computation. Written by reference/regenerate.
 -- Assumes nothing.
 use mathlib.Core.Path.{_≡_, refl}
-use mathlib.Core.List.{List, [], _∷_}
+use mathlib.Core.List.{List, [], _∷_, _++_}
 use Rattle.lexer.specs.Spell.{bytes}
 use Rattle.policy.specs.Outcome.{ofText, refusalAt, rejected, outcome}
 use Rattle.policy.specs.Opened.{computing}
@@ -52,7 +52,8 @@ unfolding computing
 refused-188 = refl
 
 -- name of the wrong family, in E
-refused-189 : outcome (ofText (bytes "(user a)(class c (p))(constrain (c (p)) (or (eq u1 a) (not (eq r1 a))))")) 65536 ≡ rejected (refusalAt 5 21 1)
+refused-189 : outcome (ofText (bytes "(user a)(class c (p))(constrain (c (p)) (or (eq u1 a) (not (eq r1 a))))")) 65536 ≡ rejected (refusalAt 5 21
+    1)
 unfolding computing
 refused-189 = refl
 
@@ -72,37 +73,45 @@ unfolding computing
 refused-192 = refl
 
 -- fault 8 of types, second statement
-refused-193 : outcome (ofText (bytes "(typeattribute x)(type t)(typeattributeset x (t))(typeattributeset x (t (x)))")) 65536 ≡ rejected (refusalAt 8 0 1)
+refused-193 : outcome (ofText (bytes "(typeattribute x)(type t)(typeattributeset x (t))(typeattributeset x (t (x)))")) 65536 ≡ rejected (refusalAt
+    8 0 1)
 unfolding computing
 refused-193 = refl
 
 -- through others, lowest number
-refused-194 : outcome (ofText (bytes "(typeattribute x)(typeattribute y)(typeattributeset y (x))(typeattributeset x (y))")) 65536 ≡ rejected (refusalAt 8 0 1)
+refused-194 : outcome (ofText (bytes "(typeattribute x)(typeattribute y)(typeattributeset y (x))(typeattributeset x (y))")) 65536 ≡ rejected
+    (refusalAt 8 0 1)
 unfolding computing
 refused-194 = refl
 
 -- reading 25: x only leads to a cycle
-refused-195 : outcome (ofText (bytes "(roleattribute x)(roleattribute y)(roleattributeset x (y))(roleattributeset y (y))")) 65536 ≡ rejected (refusalAt 8 17 1)
+refused-195 : outcome (ofText (bytes "(roleattribute x)(roleattribute y)(roleattributeset x (y))(roleattributeset y (y))")) 65536 ≡ rejected
+    (refusalAt 8 17 1)
 unfolding computing
 refused-195 = refl
 
 -- reading 25: users before roles
-refused-196 : outcome (ofText (bytes "(roleattribute x)(roleattributeset x (x))(userattribute y)(userattributeset y (y))")) 65536 ≡ rejected (refusalAt 8 41 1)
+refused-196 : outcome (ofText (bytes "(roleattribute x)(roleattributeset x (x))(userattribute y)(userattributeset y (y))")) 65536 ≡ rejected
+    (refusalAt 8 41 1)
 unfolding computing
 refused-196 = refl
 
 -- reading 25: roles before types
-refused-197 : outcome (ofText (bytes "(typeattribute x)(typeattributeset x (x))(roleattribute y)(roleattributeset y (y))")) 65536 ≡ rejected (refusalAt 8 41 1)
+refused-197 : outcome (ofText (bytes "(typeattribute x)(typeattributeset x (x))(roleattribute y)(roleattributeset y (y))")) 65536 ≡ rejected
+    (refusalAt 8 41 1)
 unfolding computing
 refused-197 = refl
 
 -- reading 25: users before types
-refused-198 : outcome (ofText (bytes "(typeattribute x)(typeattributeset x (x))(userattribute y)(userattributeset y (y))")) 65536 ≡ rejected (refusalAt 8 41 1)
+refused-198 : outcome (ofText (bytes "(typeattribute x)(typeattributeset x (x))(userattribute y)(userattributeset y (y))")) 65536 ≡ rejected
+    (refusalAt 8 41 1)
 unfolding computing
 refused-198 = refl
 
 -- through others, lowest number
-refused-199 : outcome (ofText (bytes "(userattribute a)(userattribute b)(userattribute c)(userattributeset b (c))(userattributeset c (a))(userattributeset a (b))")) 65536 ≡ rejected (refusalAt 8 0 1)
+refused-199 : outcome (ofText (bytes
+    "(userattribute a)(userattribute b)(userattribute c)(userattributeset b (c))(userattributeset c (a))(userattributeset a (" ++ bytes "b))")) 65536
+    ≡ rejected (refusalAt 8 0 1)
 unfolding computing
 refused-199 = refl
 
@@ -122,62 +131,79 @@ unfolding computing
 refused-202 = refl
 
 -- fault 9
-refused-203 : outcome (ofText (bytes "(role a)(role b)(type t)(class c (p))(roletransition a t c a)(roletransition a t c b)")) 65536 ≡ rejected (refusalAt 9 61 1)
+refused-203 : outcome (ofText (bytes "(role a)(role b)(type t)(class c (p))(roletransition a t c a)(roletransition a t c b)")) 65536 ≡ rejected
+    (refusalAt 9 61 1)
 unfolding computing
 refused-203 = refl
 
 -- reading 26: the first later statement that clashes
-refused-204 : outcome (ofText (bytes "(role a)(role b)(type t)(class c(p))(roletransition a t c a)(roletransition a t c a)(roletransition a t c b)(roletransition a t c b)")) 65536 ≡ rejected (refusalAt 9 84 1)
+refused-204 : outcome (ofText (bytes
+    "(role a)(role b)(type t)(class c(p))(roletransition a t c a)(roletransition a t c a)(roletransition a t c b)(roletransit" ++ bytes
+    "ion a t c b)")) 65536 ≡ rejected (refusalAt 9 84 1)
 unfolding computing
 refused-204 = refl
 
 -- reading 26: by final sets
-refused-205 : outcome (ofText (bytes "(role a)(role b)(roleattribute x)(type t)(class c(p))(roletransition x t c a)(roletransition a t c b)(roleattributeset x(all))")) 65536 ≡ rejected (refusalAt 9 77 1)
+refused-205 : outcome (ofText (bytes
+    "(role a)(role b)(roleattribute x)(type t)(class c(p))(roletransition x t c a)(roletransition a t c b)(roleattributeset x" ++ bytes "(all))"))
+    65536 ≡ rejected (refusalAt 9 77 1)
 unfolding computing
 refused-205 = refl
 
 -- reading 26: by final sets
-refused-206 : outcome (ofText (bytes "(role a)(role b)(type t)(typeattribute y)(typeattributeset y(t))(class c(p))(roletransition a y c a)(roletransition a t c b)")) 65536 ≡ rejected (refusalAt 9 100 1)
+refused-206 : outcome (ofText (bytes
+    "(role a)(role b)(type t)(typeattribute y)(typeattributeset y(t))(class c(p))(roletransition a y c a)(roletransition a t " ++ bytes "c b)")) 65536
+    ≡ rejected (refusalAt 9 100 1)
 unfolding computing
 refused-206 = refl
 
 -- reading 26: with any earlier one
-refused-207 : outcome (ofText (bytes "(role a)(role b)(type t)(type s)(class c(p))(roletransition a t c a)(roletransition a s c b)(roletransition a t c b)")) 65536 ≡ rejected (refusalAt 9 92 1)
+refused-207 : outcome (ofText (bytes
+    "(role a)(role b)(type t)(type s)(class c(p))(roletransition a t c a)(roletransition a s c b)(roletransition a t c b)")) 65536 ≡ rejected
+    (refusalAt 9 92 1)
 unfolding computing
 refused-207 = refl
 
 -- 8 before 9
-refused-208 : outcome (ofText (bytes "(role a)(role b)(type t)(class c(p))(roletransition a t c a)(roletransition a t c b)(userattribute x)(userattributeset x(x))")) 65536 ≡ rejected (refusalAt 8 84 1)
+refused-208 : outcome (ofText (bytes
+    "(role a)(role b)(type t)(class c(p))(roletransition a t c a)(roletransition a t c b)(userattribute x)(userattributeset x" ++ bytes "(x))")) 65536
+    ≡ rejected (refusalAt 8 84 1)
 unfolding computing
 refused-208 = refl
 
 -- 5 before 9
-refused-209 : outcome (ofText (bytes "(role a)(role b)(type t)(class c(p))(roletransition a t c a)(roletransition a t c b)(roletype a s)")) 65536 ≡ rejected (refusalAt 5 84 1)
+refused-209 : outcome (ofText (bytes "(role a)(role b)(type t)(class c(p))(roletransition a t c a)(roletransition a t c b)(roletype a s)")) 65536
+    ≡ rejected (refusalAt 5 84 1)
 unfolding computing
 refused-209 = refl
 
 -- a name of 65 bytes
-refused-210 : outcome (ofText (bytes "(role nnnnnnnnnnnnnnnnnnnnnnnnnnnnnnnnnnnnnnnnnnnnnnnnnnnnnnnnnnnnnnnnn)")) 65536 ≡ rejected (refusalAt 2 6 1)
+refused-210 : outcome (ofText (bytes "(role nnnnnnnnnnnnnnnnnnnnnnnnnnnnnnnnnnnnnnnnnnnnnnnnnnnnnnnnnnnnnnnnn)")) 65536 ≡ rejected (refusalAt 2 6
+    1)
 unfolding computing
 refused-210 = refl
 
 -- reading 4: long name and then a wrong byte
-refused-211 : outcome (ofText (bytes "(role nnnnnnnnnnnnnnnnnnnnnnnnnnnnnnnnnnnnnnnnnnnnnnnnnnnnnnnnnnnnnnnnn!)")) 65536 ≡ rejected (refusalAt 2 6 1)
+refused-211 : outcome (ofText (bytes "(role nnnnnnnnnnnnnnnnnnnnnnnnnnnnnnnnnnnnnnnnnnnnnnnnnnnnnnnnnnnnnnnnn!)")) 65536 ≡ rejected (refusalAt 2 6
+    1)
 unfolding computing
 refused-211 = refl
 
 -- reading 4: 64 and then a wrong byte
-refused-212 : outcome (ofText (bytes "(role nnnnnnnnnnnnnnnnnnnnnnnnnnnnnnnnnnnnnnnnnnnnnnnnnnnnnnnnnnnnnnnn!)")) 65536 ≡ rejected (refusalAt 2 70 1)
+refused-212 : outcome (ofText (bytes "(role nnnnnnnnnnnnnnnnnnnnnnnnnnnnnnnnnnnnnnnnnnnnnnnnnnnnnnnnnnnnnnnn!)")) 65536 ≡ rejected (refusalAt 2 70
+    1)
 unfolding computing
 refused-212 = refl
 
 -- reading 4: a long name that the text ends inside
-refused-213 : outcome (ofText (bytes "(role nnnnnnnnnnnnnnnnnnnnnnnnnnnnnnnnnnnnnnnnnnnnnnnnnnnnnnnnnnnnnnnnn")) 65536 ≡ rejected (refusalAt 2 6 1)
+refused-213 : outcome (ofText (bytes "(role nnnnnnnnnnnnnnnnnnnnnnnnnnnnnnnnnnnnnnnnnnnnnnnnnnnnnnnnnnnnnnnnn")) 65536 ≡ rejected (refusalAt 2 6
+    1)
 unfolding computing
 refused-213 = refl
 
 -- unclosed at end behind a name of 64 bytes
-refused-214 : outcome (ofText (bytes "(role nnnnnnnnnnnnnnnnnnnnnnnnnnnnnnnnnnnnnnnnnnnnnnnnnnnnnnnnnnnnnnnn")) 65536 ≡ rejected (refusalAt 2 70 1)
+refused-214 : outcome (ofText (bytes "(role nnnnnnnnnnnnnnnnnnnnnnnnnnnnnnnnnnnnnnnnnnnnnnnnnnnnnnnnnnnnnnnn")) 65536 ≡ rejected (refusalAt 2 70
+    1)
 unfolding computing
 refused-214 = refl
 
@@ -187,7 +213,8 @@ unfolding computing
 refused-215 = refl
 
 -- reading 2: bad and long
-refused-216 : outcome (ofText (bytes "(role 9nnnnnnnnnnnnnnnnnnnnnnnnnnnnnnnnnnnnnnnnnnnnnnnnnnnnnnnnnnnnnnnnnnnnnn)")) 65536 ≡ rejected (refusalAt 2 6 1)
+refused-216 : outcome (ofText (bytes "(role 9nnnnnnnnnnnnnnnnnnnnnnnnnnnnnnnnnnnnnnnnnnnnnnnnnnnnnnnnnnnnnnnnnnnnnn)")) 65536 ≡ rejected
+    (refusalAt 2 6 1)
 unfolding computing
 refused-216 = refl
 
@@ -212,42 +239,55 @@ unfolding computing
 refused-220 = refl
 
 -- P10 six to the right need 6
-refused-221 : outcome (ofText (bytes "(class c(p))(constrain(c(p))(and(eq t1 t2)(and(eq t1 t2)(and(eq t1 t2)(and(eq t1 t2)(and(eq t1 t2)(eq t1 t2)))))))")) 65536 ≡ rejected (refusalAt 7 12 1)
+refused-221 : outcome (ofText (bytes
+    "(class c(p))(constrain(c(p))(and(eq t1 t2)(and(eq t1 t2)(and(eq t1 t2)(and(eq t1 t2)(and(eq t1 t2)(eq t1 t2)))))))")) 65536 ≡ rejected (refusalAt
+    7 12 1)
 unfolding computing
 refused-221 = refl
 
 -- stack need of or
-refused-222 : outcome (ofText (bytes "(class c(p))(constrain(c(p))(or(eq t1 t2)(or(eq t1 t2)(or(eq t1 t2)(or(eq t1 t2)(or(eq t1 t2)(eq t1 t2)))))))")) 65536 ≡ rejected (refusalAt 7 12 1)
+refused-222 : outcome (ofText (bytes
+    "(class c(p))(constrain(c(p))(or(eq t1 t2)(or(eq t1 t2)(or(eq t1 t2)(or(eq t1 t2)(or(eq t1 t2)(eq t1 t2)))))))")) 65536 ≡ rejected (refusalAt 7 12
+    1)
 unfolding computing
 refused-222 = refl
 
 -- stack need of not
-refused-223 : outcome (ofText (bytes "(class c(p))(constrain(c(p))(or(not(eq t1 t2))(and(eq t1 t2)(and(eq t1 t2)(and(eq t1 t2)(and(eq t1 t2)(eq t1 t2)))))))")) 65536 ≡ rejected (refusalAt 7 12 1)
+refused-223 : outcome (ofText (bytes
+    "(class c(p))(constrain(c(p))(or(not(eq t1 t2))(and(eq t1 t2)(and(eq t1 t2)(and(eq t1 t2)(and(eq t1 t2)(eq t1 t2)))))))")) 65536 ≡ rejected
+    (refusalAt 7 12 1)
 unfolding computing
 refused-223 = refl
 
 -- reading 23: 5 before 7
-refused-224 : outcome (ofText (bytes "(class c(p))(constrain(c(p))(and(eq t1 nope)(and(eq t1 t2)(and(eq t1 t2)(and(eq t1 t2)(and(eq t1 t2)(eq t1 t2)))))))")) 65536 ≡ rejected (refusalAt 5 12 1)
+refused-224 : outcome (ofText (bytes
+    "(class c(p))(constrain(c(p))(and(eq t1 nope)(and(eq t1 t2)(and(eq t1 t2)(and(eq t1 t2)(and(eq t1 t2)(eq t1 t2)))))))")) 65536 ≡ rejected
+    (refusalAt 5 12 1)
 unfolding computing
 refused-224 = refl
 
 -- reading 23: 5 before 7
-refused-225 : outcome (ofText (bytes "(class c(p))(constrain(c(q))(or(eq t1 t2)(or(eq t1 t2)(or(eq t1 t2)(or(eq t1 t2)(or(eq t1 t2)(eq t1 t2)))))))")) 65536 ≡ rejected (refusalAt 5 12 1)
+refused-225 : outcome (ofText (bytes
+    "(class c(p))(constrain(c(q))(or(eq t1 t2)(or(eq t1 t2)(or(eq t1 t2)(or(eq t1 t2)(or(eq t1 t2)(eq t1 t2)))))))")) 65536 ≡ rejected (refusalAt 5 12
+    1)
 unfolding computing
 refused-225 = refl
 
 -- 33 permissions
-refused-226 : outcome (ofText (bytes "(class c(A B C D E F G H I J K L M N O P Q R S T U V W X Y Z a b c d e f g))")) 65536 ≡ rejected (refusalAt 6 0 1)
+refused-226 : outcome (ofText (bytes "(class c(A B C D E F G H I J K L M N O P Q R S T U V W X Y Z a b c d e f g))")) 65536 ≡ rejected (refusalAt
+    6 0 1)
 unfolding computing
 refused-226 = refl
 
 -- reading 23: 33 permissions with a repeat
-refused-227 : outcome (ofText (bytes "(class c(A B C D E F G H I J K L M N O P Q R S T U V W X Y Z a b c d e f A))")) 65536 ≡ rejected (refusalAt 4 0 1)
+refused-227 : outcome (ofText (bytes "(class c(A B C D E F G H I J K L M N O P Q R S T U V W X Y Z a b c d e f A))")) 65536 ≡ rejected (refusalAt
+    4 0 1)
 unfolding computing
 refused-227 = refl
 
 -- reading 11: 33 permissions and a reserved word
-refused-228 : outcome (ofText (bytes "(class c(A B C D E F G H I J K L M N O P Q R S T U V W X Y Z a b c d e f g all))")) 65536 ≡ rejected (refusalAt 3 0 1)
+refused-228 : outcome (ofText (bytes "(class c(A B C D E F G H I J K L M N O P Q R S T U V W X Y Z a b c d e f g all))")) 65536 ≡ rejected
+    (refusalAt 3 0 1)
 unfolding computing
 refused-228 = refl
 

@@ -1,7 +1,7 @@
 -- Texts and what the independent second program says of them, held to the definitions by computation. Written by reference/regenerate.
 -- Assumes nothing.
 use mathlib.Core.Path.{_≡_, refl}
-use mathlib.Core.List.{List, [], _∷_}
+use mathlib.Core.List.{List, [], _∷_, _++_}
 use Rattle.lexer.specs.Spell.{bytes}
 use Rattle.policy.specs.Outcome.{ofText, refusalAt, rejected, outcome}
 use Rattle.policy.specs.Opened.{computing}
@@ -267,22 +267,27 @@ unfolding computing
 refused-291 = refl
 
 -- W-202, reading 24: the line of the declaration
-refused-292 : outcome (ofText (bytes "(roleattribute x)\n(roleattribute y)\n(roleattributeset x(y))\n(roleattributeset y(y))")) 65536 ≡ rejected (refusalAt 8 18 2)
+refused-292 : outcome (ofText (bytes "(roleattribute x)\n(roleattribute y)\n(roleattributeset x(y))\n(roleattributeset y(y))")) 65536 ≡ rejected
+    (refusalAt 8 18 2)
 unfolding computing
 refused-292 = refl
 
 -- W-202, reading 24: users before roles
-refused-293 : outcome (ofText (bytes "(roleattribute x)\n(roleattributeset x(x))\n(userattribute y)\n(userattributeset y(y))")) 65536 ≡ rejected (refusalAt 8 42 3)
+refused-293 : outcome (ofText (bytes "(roleattribute x)\n(roleattributeset x(x))\n(userattribute y)\n(userattributeset y(y))")) 65536 ≡ rejected
+    (refusalAt 8 42 3)
 unfolding computing
 refused-293 = refl
 
 -- W-202, reading 24: the line of the later transition
-refused-294 : outcome (ofText (bytes "(role a)\n(role b)\n(type t)\n(class c(p))\n(roletransition a t c a)\n(roletransition\na t c b)\n")) 65536 ≡ rejected (refusalAt 9 65 6)
+refused-294 : outcome (ofText (bytes "(role a)\n(role b)\n(type t)\n(class c(p))\n(roletransition a t c a)\n(roletransition\na t c b)\n")) 65536 ≡
+    rejected (refusalAt 9 65 6)
 unfolding computing
 refused-294 = refl
 
 -- W-202, reading 24: the first later transition that clashes
-refused-295 : outcome (ofText (bytes "(role a)(role b)(type t)(class c(p))\n(roletransition a t c a)\n(roletransition a t c a)\n(roletransition a t c b)\n(roletransition a t c b)")) 65536 ≡ rejected (refusalAt 9 87 4)
+refused-295 : outcome (ofText (bytes
+    "(role a)(role b)(type t)(class c(p))\n(roletransition a t c a)\n(roletransition a t c a)\n(roletransition a t c b)\n(roletra" ++ bytes
+    "nsition a t c b)")) 65536 ≡ rejected (refusalAt 9 87 4)
 unfolding computing
 refused-295 = refl
 

@@ -1,4 +1,10 @@
 // The units of the statement code that the parser writes and the resolver reads; what they stand for is in specs/.
+use policy::Family;
+use policy::Relation;
+ghost use mathlib.Core.Path.{_≡_};
+ghost use Prim.Native.Nat.{_≤_};
+ghost use Rattle.policy.specs.Answers.{familyOf, relationOf};
+ghost use Rattle.statement_code.specs.Code.{familyNumber, relationNumber};
 
 // A unit of the code.
 pub struct Unit(pub u16);
@@ -30,4 +36,26 @@ impl Unit {
     pub const RELATION: u16 = 4_102;
 
     pub const TRANSITION: u16 = 4_105;
+}
+
+// The number of a family, in the symbol table and in tags.
+pub fn family_number(family: Family) -> u16
+    ensures { λ r. ⌜ (r ≡ familyNumber (familyOf family)) × (r ≤ 2) ⌝ }
+{
+    match family {
+        Family::Users => 0,
+        Family::Roles => 1,
+        Family::Types => 2,
+    }
+}
+
+// The number of a relation, in tags.
+pub fn relation_number(relation: Relation) -> u16
+    ensures { λ r. ⌜ (r ≡ relationNumber (relationOf relation)) × (r ≤ 2) ⌝ }
+{
+    match relation {
+        Relation::UserRole => 0,
+        Relation::RoleType => 1,
+        Relation::RoleAllow => 2,
+    }
 }

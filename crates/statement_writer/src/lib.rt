@@ -2,11 +2,10 @@
 // to be good where these functions are called; what is found out here is whether its names are declared, and its units are written on the way.
 ghost use mathlib.Core.Path.{_≡_};
 ghost use mathlib.Core.List.{[], _∷_};
-ghost use Prim.Native.Nat.{_≤_};
 ghost use Rattle.policy.specs.Answers.{familyOf, relationOf};
 ghost use Rattle.policy.specs.Statements.{fromOf, toOf};
 ghost use Rattle.policy.specs.Words.{setK, relationK, transitionK};
-ghost use Rattle.statement_code.specs.Code.{familyNumber, relationNumber, attributeTag};
+ghost use Rattle.statement_code.specs.Code.{attributeTag};
 ghost use Rattle.statement_writer.specs.Naming.{Numbers, Names, WritesNames};
 ghost use Rattle.statement_writer.specs.Coding.{Stores, WritesStatement};
 use items::Item;
@@ -42,17 +41,6 @@ enum NamesWritten {
 
 // ---- names
 
-// The number of a family, in the symbol table and in tags.
-fn family_number(family: Family) -> u16
-    ensures { λ r. ⌜ (r ≡ familyNumber (familyOf family)) × (r ≤ 2) ⌝ }
-{
-    match family {
-        Family::Users => 0,
-        Family::Roles => 1,
-        Family::Types => 2,
-    }
-}
-
 // The number of what a name names in a sort of the symbol table. What has the name and another sort is missing.
 fn number_of(symbols: &[u8], sort: usize, name: &[u8]) -> Referred
     ensures { λ r. ⌜ Numbers (now (symbols .entry)) sort (now (name .entry)) r ⌝ }
@@ -79,11 +67,11 @@ fn name_unit(kind: Kind, symbols: &[u8], name: &[u8]) -> Referred
 {
     match kind {
         Kind::Reference(family) => {
-            let number = family_number(family) as usize;
+            let number = statement_code::family_number(family) as usize;
             set_writer::reference(symbols, number, name)
         }
         Kind::Attribute(family) => {
-            let number = family_number(family) as usize;
+            let number = statement_code::family_number(family) as usize;
             number_of(symbols, Sort::FIRST_ATTRIBUTE + number, name)
         }
         Kind::Class => number_of(symbols, Sort::CLASS, name),
@@ -155,19 +143,8 @@ fn write_head(tag: u16, place: u16, code: &mut [u16], to: usize) -> usize
 pub fn write_attribute(family: Family, place: u16, code: &mut [u16], to: usize) -> usize
     ensures { λ r. ⌜ Stores (now (code .entry)) to (attributeTag (familyOf family) ∷ place ∷ []) (now (code .exit)) r ⌝ }
 {
-    let tag = Unit::DECLARE_ATTRIBUTE + family_number(family);
+    let tag = Unit::DECLARE_ATTRIBUTE + statement_code::family_number(family);
     write_head(tag, place, code, to)
-}
-
-// What is added to the tag for a relation.
-fn relation_number(relation: Relation) -> u16
-    ensures { λ r. ⌜ (r ≡ relationNumber (relationOf relation)) × (r ≤ 2) ⌝ }
-{
-    match relation {
-        Relation::UserRole => 0,
-        Relation::RoleType => 1,
-        Relation::RoleAllow => 2,
-    }
 }
 
 // The family of the first name of a relation.
@@ -203,7 +180,7 @@ pub fn write_relation(
 ) -> Coded
     ensures { λ r. ⌜ WritesStatement (now (text .entry)) at (relationK (relationOf relation)) place (now (symbols .entry)) (now (code .entry)) to (now (code .exit)) r ⌝ }
 {
-    let tag = Unit::RELATION + relation_number(relation);
+    let tag = Unit::RELATION + statement_code::relation_number(relation);
     let u = write_head(tag, place, code, to);
     let first = Kind::Reference(first_family(relation));
     let second = Kind::Reference(second_family(relation));
@@ -252,7 +229,7 @@ pub fn write_attribute_set(
 ) -> Coded
     ensures { λ r. ⌜ WritesStatement (now (text .entry)) at (setK (familyOf family)) place (now (symbols .entry)) (now (code .entry)) to (now (code .exit)) r ⌝ }
 {
-    let number = family_number(family);
+    let number = statement_code::family_number(family);
     let u = write_head(Unit::ATTRIBUTE_SET + number, place, code, to);
     let name = write_name(text, at, Kind::Attribute(family), symbols, code, u);
     let NamesWritten::Next { at: next, to: v } = name else {
