@@ -1,19 +1,18 @@
 -- The statements grant exactly when document 00's third demand says, and the number consulted is the number of constraints that name what is
 -- asked, up to and including the first that fails. By cases on the tests of `decide`, and by induction on the constraints. Assumes nothing.
-use Prim.Native.Nat.{ℕ, zero, suc, _+_, _<_}
+use Prim.Native.Nat.{ℕ, suc, _+_}
 use native.Mathlib.Omega.{arith}
-use native.Mathlib.Numerals.{add-one}
 use mathlib.Core.Path.{_≡_, refl, sym, ap, _∙_}
 use mathlib.Core.Logic.{_⊎_, inl, inr}
-use mathlib.Core.Bool.{Bool, true, false, not, _||_, cond, false≢true, or-true}
+use mathlib.Core.Bool.{Bool, true, false, _||_, cond, false≢true, or-true}
 use mathlib.Core.List.{List, [], _∷_}
 use mathlib.Core.Option.{some}
 use lib.Dec.{eqb}
-use lib.ListN.{length, take, getElem?}
+use lib.ListN.{take}
 use borrow.Author.Tests.{eqb-true, eq-eqb}
-use Rattle.policy.specs.Statements.{Policy, declarations, Constrain, constrains, roleallow}
-use Rattle.policy.specs.Meaning.{stands, related, holds}
-use Rattle.policy.specs.Deciding.{validBy, mayBecome, ruledBy, Question, Verdict, granted, denied, fails, refuses, Answer, unconsulted, oneMore, ruling, firstFailing, decide, declaredQuestion, asksRole, roleMay}
+use Rattle.policy.specs.Statements.{Policy, declarations, constrains}
+use Rattle.policy.specs.Meaning.{holds}
+use Rattle.policy.specs.Deciding.{validBy, mayBecome, ruledBy, Question, Verdict, granted, denied, fails, refuses, Answer, ruling, firstFailing, decide, declaredQuestion, roleMay}
 use Rattle.policy.specs.Answer.{givenBy, namesAsked, answer}
 use Rattle.policy.specs.Basics.{All}
 use Rattle.answer_laws.specs.Granting.{Grants, howMany, FirstFailing}

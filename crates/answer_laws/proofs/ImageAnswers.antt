@@ -1,24 +1,24 @@
 -- What the image of a policy answers to a change is what its statements answer. Assumes nothing.
-use Prim.Native.Nat.{ℕ, zero, suc, _+_, _*_, _<_, _≤_}
+use Prim.Native.Nat.{ℕ, _+_, _*_, _<_}
 use native.Mathlib.Omega.{arith}
 use mathlib.Core.Path.{_≡_, refl, sym, ap, _∙_}
 use mathlib.Core.Bool.{Bool, true, _&&_}
 use mathlib.Core.List.{List, [], _∷_, _++_, append-assoc, append-nil}
 use lib.Dec.{eqb}
-use lib.ListN.{getD}
 use Rattle.policy.specs.Basics.{each, isAmong, All}
 use Rattle.policy.specs.Statements.{Family, users, roles, types, thingOf, attributeOf, Reference, thing, attribute, Side, source, target, Op, eq, neq, dom, domby, incomp, Constraint, sidesE, nameE, notE, andE, orE, Policy, Constrain, constrains, declarations, count, Relation, userrole, roletype, roleallow, fromOf, toOf}
 use Rattle.policy.specs.Meaning.{Set, Contexts, countIn, final, stands, related, part, compares, holds}
 use Rattle.policy.specs.Faults.{attributesIn}
 use Rattle.policy.specs.Deciding.{Question, contextsOf, firstFailing, declaredQuestion}
 use Rattle.policy.specs.Answer.{givenBy, namesAsked, answer}
-use Rattle.bitset.specs.Sets.{setOf, member, bit, fromBits, tabulate}
-use Rattle.policy.specs.Rows.{Row, row, rowsOf, opCode, compCode, opTest, View, run, turn, top}
-use Rattle.policy.specs.Image.{Image, imageOf, setsOf, width, maskOf, constraintEntry, ConstraintEntry}
+use Rattle.bitset.specs.Sets.{setOf, member, bit}
+use Rattle.policy.specs.Rows.{Row, row, rowsOf, opCode, compCode, opTest, View, run, top}
+use Rattle.policy.specs.Image.{imageOf, setsOf, width, maskOf, constraintEntry}
 use Rattle.policy.specs.Sound.{ofComp}
 use Rattle.policy.specs.Questions.{inSet, givenSets, givenIn, sideOf, setsIn, viewOf, entryNames, entryHolds, change}
-use Rattle.image_laws.proofs.Fits.{KnownR, Known, Fits}
+use Rattle.image_laws.proofs.Fits.{Known, Fits}
 use Rattle.policy.proofs.Gathered.{all-map}
+use Rattle.policy.proofs.Sorts.{comp-family}
 use Rattle.bitset.proofs.BitLaws.{bit-fromBits}
 use Rattle.bitset.proofs.SetLaws.{getD-tabulate, member-setOf}
 use Rattle.answer_laws.proofs.Agreement.{InRange, in-range, Declared, declared-parts, Agree, agree-rules}
@@ -46,14 +46,6 @@ same-sides on users = refl
 same-sides on roles = refl
 same-sides on types = refl
 
-same-family : (f : Family) (x : Side) → ofComp (compCode f x) ≡ f
-same-family users source = refl
-same-family users target = refl
-same-family roles source = refl
-same-family roles target = refl
-same-family types source = refl
-same-family types target = refl
-
 module _ (p : Policy) (ok : Fits p) (on : Contexts) (known : (x : Side) → InRange (declarations p) (on x)) where
   small : (f : Family) (x : Side) → part f (on x) < 8 * width f
   unfolding countIn
@@ -70,7 +62,7 @@ module _ (p : Policy) (ok : Fits p) (on : Contexts) (known : (x : Side) → InRa
 
   set-law : (f : Family) (x : Side) (a : ℕ) → a < attributesIn p f
       → inSet (setsIn (imageOf p) (ofComp (compCode f x))) a (sideOf on (compCode f x)) ≡ final p f a (part f (on x))
-  set-law f x a h = rw (same-family f x, same-side on f x) (attribute-law f a (part f (on x)) h (small f x))
+  set-law f x a h = rw (comp-family f x, same-side on f x) (attribute-law f a (part f (on x)) h (small f x))
 
   -- the rows of E leave the truth of E on the stack
   rows-law : (e : Constraint Reference) (rest : List Row) (st : List Bool) → Known p e

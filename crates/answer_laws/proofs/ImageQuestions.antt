@@ -1,18 +1,17 @@
 -- The image of a policy answers valid context and new role as the statements do. Declared numbers fit the bytes of their sets, so that a set's
 -- bytes say what its rule says. Assumes nothing.
-use Prim.Native.Nat.{ℕ, _*_, _<_}
+use Prim.Native.Nat.{ℕ, _<_}
 use native.Mathlib.Omega.{arith}
-use mathlib.Core.Path.{_≡_, refl, sym, ap, ap₂, _∙_}
+use mathlib.Core.Path.{_≡_, refl, ap, ap₂}
 use mathlib.Core.Bool.{Bool, true, false, _&&_, cond}
 use mathlib.Core.List.{List, [], _∷_}
 use lib.Dec.{eqb, ltb}
 use lib.ListN.{length}
 use borrow.Author.Tests.{ltb-true}
-use Rattle.bitset.specs.Sets.{member}
 use Rattle.policy.specs.Basics.{each}
-use Rattle.policy.specs.Statements.{users, roles, types, thingOf, Policy, count, classNames, declarations, Transition, transitions}
+use Rattle.policy.specs.Statements.{roles, types, thingOf, Policy, count, classNames, declarations, Transition, transitions}
 use Rattle.policy.specs.Meaning.{Context, countIn, stands}
-use Rattle.policy.specs.Deciding.{declaredContext, Reply, answered, refused, validReply}
+use Rattle.policy.specs.Deciding.{declaredContext, answered, refused, validReply}
 use Rattle.policy.specs.Answer.{givenBy}
 use Rattle.policy.specs.Image.{imageOf, transitionEntry, width}
 use Rattle.policy.specs.Questions.{givenIn, valid, matches, firstTransition, newRole}

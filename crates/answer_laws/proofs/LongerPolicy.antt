@@ -7,7 +7,7 @@ use Rattle.policy.specs.Basics.{each}
 use Rattle.policy.proofs.Lists.{gather-over, gather-last, any-over, each-append}
 use Rattle.policy.specs.Statements.{Reference, constrain, Constraint, Statement, Line, Policy, declared, declarations, setFor, setsFor, Constrain, constrained, constrains}
 use Rattle.policy.specs.Meaning.{lineGives, stands, holds}
-use Rattle.policy.specs.Deciding.{Given, ruledBy, contextsOf, Question, Verdict, granted, denied, fails, refuses, Answer, unconsulted, oneMore, ruling, firstFailing, decide}
+use Rattle.policy.specs.Deciding.{Given, ruledBy, contextsOf, Question, Answer, oneMore, ruling, firstFailing, decide}
 use Rattle.policy.specs.Answer.{givenBy, namesAsked, answer}
 use Rattle.answer_laws.specs.Longer.{said, OneConstrainMore, isDenied}
 use Rattle.answer_laws.proofs.SameSets.{SameSets, answerWith, answer-same-sets, answer-with}

@@ -3,21 +3,21 @@
 use Prim.Native.Nat.{ℕ, zero, suc, _+_}
 use native.Mathlib.Omega.{arith}
 use mathlib.Core.Path.{_≡_, refl, ap, _∙_}
-use mathlib.Core.Bool.{Bool, true, false, _&&_, _||_, or-true, cond}
+use mathlib.Core.Bool.{Bool, true, false, _||_, or-true}
 use mathlib.Core.List.{List, [], _∷_}
 use mathlib.Core.Option.{Option, none, some, Option·some-injective}
 use lib.ListN.{getD, getElem?}
 use Rattle.policy.specs.Basics.{Name, same}
 use Rattle.policy.specs.Words.{objectR}
-use Rattle.policy.specs.Statements.{roles, thingOf, Declaration, namesOf, Policy, declarations, constrains, userrole, roletype}
+use Rattle.policy.specs.Statements.{roles, thingOf, Declaration, namesOf, Policy, declarations, constrains}
 use Rattle.policy.specs.Meaning.{Context}
-use Rattle.policy.specs.Deciding.{Given, isObject, validBy, answered, refused, Question, Verdict, granted, denied, fails, refuses, Answer, ruling, firstFailing, decide, declaredContext, ruledBy}
+use Rattle.policy.specs.Deciding.{Given, isObject, validBy, Question, Verdict, granted, denied, fails, refuses, Answer, ruling, firstFailing, decide, ruledBy}
 use Rattle.policy.specs.Answer.{givenBy, answer}
 use Rattle.policy.specs.Image.{Image}
-use Rattle.policy.specs.Questions.{givenIn, valid, change}
+use Rattle.policy.specs.Questions.{givenIn, change}
 use Rattle.policy.proofs.Lists.{same-is}
 use Rattle.answer_laws.specs.Granting.{RoleNamed}
-use Rattle.answer_laws.specs.Before.{NoRoleNamed, validBefore, ruledBefore, answerBefore, validInBefore, changeBefore}
+use Rattle.answer_laws.specs.Before.{NoRoleNamed, validBefore, ruledBefore, answerBefore, changeBefore}
 
 -- THE NAME
 
@@ -89,10 +89,6 @@ module _ (i : Image) (no-such : NoRoleNamed (i .names) objectR) where
   pub change-before : (q : Question) → change i q ≡ changeBefore i q
   unfolding change
   change-before q = ruled-before (givenIn i) no-such q _
-
-  pub valid-in-before : (c : Context) → valid i c ≡ validInBefore i c
-  unfolding valid
-  valid-in-before c = ap (λ (b : Bool). cond (declaredContext (i .names) c) (answered b) (refused 12 0)) (valid-before (givenIn i) no-such c)
 
 -- THE DENIALS
 

@@ -1,13 +1,12 @@
 -- The statements answer by what they say, wherever they stand: two policies that say the same, blanks and comments aside, give the same answers.
 -- Assumes nothing.
-use Prim.Native.Nat.{ℕ}
 use mathlib.Core.Path.{_≡_, refl, sym, ap, _∙_}
-use mathlib.Core.Bool.{Bool, _||_}
+use mathlib.Core.Bool.{Bool}
 use mathlib.Core.List.{List, [], _∷_}
 use mathlib.Core.Option.{Option}
-use Rattle.policy.specs.Basics.{any, keep, each, gather}
-use Rattle.policy.specs.Statements.{Family, Statement, Line, Policy, declared, declarations, setFor, setsFor, constrained, constrains, Constrain, Relation}
-use Rattle.policy.specs.Meaning.{Standing, lineGives}
+use Rattle.policy.specs.Basics.{any, each, gather}
+use Rattle.policy.specs.Statements.{Statement, Line, Policy, declared, declarations, setFor, setsFor, constrained, constrains, Constrain}
+use Rattle.policy.specs.Meaning.{lineGives}
 use Rattle.policy.specs.Deciding.{Question}
 use Rattle.policy.specs.Answer.{answer}
 use Rattle.answer_laws.specs.Longer.{said}

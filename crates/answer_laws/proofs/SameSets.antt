@@ -2,10 +2,9 @@
 -- same, and the answers differ at most by the constrains. Assumes nothing.
 use Prim.Native.Nat.{ℕ, zero, suc}
 use mathlib.Core.Path.{_≡_, refl, ap, ap₂, _∙_, fun-ext}
-use mathlib.Core.Bool.{Bool}
 use mathlib.Core.List.{List}
 use Rattle.policy.specs.Basics.{any}
-use Rattle.policy.specs.Statements.{Family, Reference, SetExpr, Policy, Declaration, declarations, setsFor, count, thingOf, Constrain, constrains, Relation}
+use Rattle.policy.specs.Statements.{Family, Policy, Declaration, declarations, setsFor, count, thingOf, Constrain, constrains, Relation}
 use Rattle.policy.specs.Meaning.{Set, countIn, unionOf, nested, final, stands, standsIn, Standing, lineGives, related, holds}
 use Rattle.policy.specs.Deciding.{Question, Answer, firstFailing, contextsOf, ruledBy}
 use Rattle.policy.specs.Answer.{givenBy, namesAsked, answer}

@@ -15,16 +15,18 @@ use Rattle.policy.specs.Basics.{Name, eachOf}
 use Rattle.policy.specs.Words.{dotless}
 use Rattle.policy.specs.Statements.{roles, types, thingOf, attributeOf, fromOf, toOf, plain, class}
 use Rattle.policy.specs.Statements.{declare, attributeset, gives, roletransition, constrain, Written, Statement, Policy, declarations}
-use Rattle.policy.specs.Names.{full, Environment, environmentOf, refer, numberIn}
-use Rattle.policy.specs.Grammar.{written, isBlock, blockIn}
+use Rattle.policy.specs.Names.{Environment, environmentOf, refer, numberIn}
+use Rattle.policy.specs.Grammar.{written, isBlock}
 use Rattle.policy.specs.Scopes.{Scoped, scoped, scopedIn}
-use Rattle.policy.specs.Reading.{inBlocks, again, referS, referE, resolved, isShort, hasRoom, resolving, naming, judge, readFrom, afterScan, readPolicy}
+use Rattle.policy.specs.Reading.{again, referS, referE, resolved, isShort, hasRoom, resolving, naming, judge, readFrom, afterScan, readPolicy}
 use Rattle.policy.specs.Reading.{Judged, reads, opens, fault, Read, refused}
 use Rattle.policy.proofs.IfAny.{IfAny, just, whatever}
 use Rattle.policy.proofs.Lists.{both-true}
+use Rattle.policy.proofs.Dotless.{reserved-alone}
+use Rattle.policy.proofs.BlockLaws.{no-block, in-no-blocks}
 use Rattle.before_laws.specs.Before as before
 use Rattle.before_laws.specs.Before.{formsBefore, blockless, readBefore, AsBefore}
-use Rattle.before_laws.proofs.Dotless.{reserved-word, part-is-name}
+use Rattle.before_laws.proofs.Dotless.{part-is-name}
 use Rattle.before_laws.proofs.PlainWords.{Words, Plain, text-words}
 use Rattle.before_laws.proofs.ResolvedAlike.{resolved-same, names-as-before}
 use Rattle.before_laws.proofs.ScanBefore.{scan-as-before}
@@ -64,16 +66,6 @@ resolving-as-before p (some (gives r x y)) h = refl
 resolving-as-before p (some (roletransition r t c n)) h = refl
 resolving-as-before p (some (constrain c ps e)) h = refl
 
--- in no block a name is its full name
-in-no-block : (w : Written) → inBlocks [] w ≡ w
-unfolding full
-in-no-block (declare (plain s w)) = refl
-in-no-block (declare (class w ps)) = refl
-in-no-block (attributeset f a s) = refl
-in-no-block (gives r x y) = refl
-in-no-block (roletransition r t c n) = refl
-in-no-block (constrain c ps e) = refl
-
 -- a statement by its form: tried for faults 4 to 7 as before
 naming-as-before : (p : Policy) (o : Option Written) → IfAny (Names Plain) o → naming [] p o ≡ before.naming p o
 naming-as-before p none h = refl
@@ -81,26 +73,19 @@ naming-as-before p (some w) h =
     let ds = declarations p in
     let env = environmentOf ds [] in
     let x : Names Plain w = h .has w refl in
-    ap (λ (v : Written). elim (again ds v) [ true ↦ fault 4 | false ↦ resolving p (resolved env v) ]) (in-no-block w)
+    ap (λ (v : Written). elim (again ds v) [ true ↦ fault 4 | false ↦ resolving p (resolved env v) ]) (in-no-blocks w)
     ∙ ap (λ (j : Judged). elim (again ds w) [ true ↦ fault 4 | false ↦ j ])
     (resolving-as-before p (resolved env w) (resolved-short env w x)
     ∙ ap (before.resolving p) (resolved-same Plain env (before.environmentOf ds) (names-as-before ds) w x))
 
 -- ---- a row of statements
 
--- what is no block has no header
-no-header : (f : Forms) → isBlock f ≡ false → blockIn f ≡ none
-no-header closed e = refl
-no-header ended e = refl
-no-header (part at inner after) e = refl
-no-header (word at w after) e = rw e
-
 module _ (at : ℕ) (inner : Forms) (e : isBlock inner ≡ false) where
   -- so nothing in it is a statement of its own
   one-scoped : (after : Forms) → scopedIn [] (part at inner after) ≡ scoped at [] inner ∷ scopedIn [] after
   unfolding scopedIn
   one-scoped after =
-      ap (λ (o : Option Name). scoped at [] inner ∷ (elim o [ none ↦ [] | some b ↦ scopedIn (b ∷ []) inner ] ++ scopedIn [] after)) (no-header inner e)
+      ap (λ (o : Option Name). scoped at [] inner ∷ (elim o [ none ↦ [] | some b ↦ scopedIn (b ∷ []) inner ] ++ scopedIn [] after)) (no-block inner e)
 
   -- and it is tried as a statement
   judged-as-before : (xs : List Scoped) (p : Policy) → Words Plain inner → judge xs p (scoped at [] inner) ≡ before.naming p (written inner)
@@ -155,4 +140,4 @@ text-as-before t e h =
 
 -- W-203 changes nothing for texts without dots and blocks
 pub as-before : AsBefore
-as-before = record { words = λ w e. (reserved-word w e, part-is-name w e); splits = tokens-as-before; reads = text-as-before }
+as-before = record { words = λ w e. (reserved-alone w e, part-is-name w e); splits = tokens-as-before; reads = text-as-before }

@@ -7,14 +7,16 @@ use mathlib.Core.List.{List, [], _∷_}
 use mathlib.Core.Option.{Option, none, some}
 use borrow.Author.Tests.{not-true}
 use Rattle.lexer.specs.Class.{is}
-use Rattle.policy.specs.Basics.{Name, _>>=_, orElse, eachOf, indexOf}
+use Rattle.policy.specs.Basics.{Name, _>>=_, eachOf, indexOf}
 use Rattle.policy.specs.Words.{dotless}
 use Rattle.policy.specs.Statements.{Family, roles, types, Sort, thingOf, attributeOf, familyOf, Declaration, classNames, fromOf, toOf}
 use Rattle.policy.specs.Statements.{SetExpr, nameS, allS, notS, andS, orS, xorS, unionS, emptyS, Constraint, sidesE, nameE, notE, andE, orE}
 use Rattle.policy.specs.Statements.{declare, attributeset, gives, roletransition, constrain, Written}
-use Rattle.policy.specs.Names.{Environment, hasDotInFront, outward, tries, firstHit, firstFrom, environmentOf, refer, numberIn}
+use Rattle.policy.specs.Names.{Environment, hasDotInFront, tries, firstHit, firstFrom, environmentOf, refer, numberIn}
 use Rattle.policy.specs.Reading.{referS, referE, resolved}
 use Rattle.policy.proofs.Lists.{both-true}
+use Rattle.policy.proofs.Options.{or-none}
+use Rattle.policy.proofs.Environments.{tried-once}
 use Rattle.before_laws.specs.Before as before
 use Rattle.before_laws.proofs.PlainWords.{Plain}
 use Rattle.before_laws.proofs.WrittenNames.{NamesS, NamesE, Names}
@@ -84,20 +86,10 @@ unfolding dotless
 none-in-front [] e = refl
 none-in-front (b ∷ bs) e = not-true (is "." b) (both-true (not (is "." b)) (dotless bs) e .0)
 
--- so it is tried as it is written
-one-try : (w : Name) → dotless w ≡ true → tries [] w ≡ w ∷ []
-unfolding tries outward
-one-try w e = rw (none-in-front w e)
-
--- nothing is left to be tried after it
-or-none : {A : Type 0} (o : Option A) → orElse o none ≡ o
-or-none none = refl
-or-none (some a) = refl
-
 -- and what is found is what is found under it
 one-hit : {A : Type 0} (find : Name → Option A) (w : Name) → dotless w ≡ true → firstHit find (tries [] w) ≡ find w
 unfolding firstHit
-one-hit find w e = ap (firstHit find) (one-try w e) ∙ or-none (find w)
+one-hit find w e = ap (firstHit find) (tried-once w (none-in-front w e)) ∙ or-none (find w)
 
 -- permissions are looked up as before in any case
 pub names-as-before : (ds : List Declaration) → Agree Plain (environmentOf ds []) (before.environmentOf ds)

@@ -2,24 +2,25 @@
 -- end and then finds it to be too long: the fault is at its first byte in both. Assumes nothing.
 use Prim.Native.Nat.{ℕ, _+_, _-_, _≤_}
 use mathlib.Core.Path.{_≡_, refl, sym, ap, _∙_}
-use mathlib.Core.Bool.{Bool, true, false, cond}
+use mathlib.Core.Bool.{Bool, true, false, cond, false≢true}
 use mathlib.Core.List.{List, [], _∷_, _++_, append-assoc, append-nil}
 use native.Mathlib.Omega.{arith}
 use borrow.Author.Tests.{ltb-true, ltb-false}
 use lib.Dec.{eqb, ltb}
 use lib.ListN.{length, length-append, take, drop}
-use lib.Seq.{take-append-seam, drop-drop}
+use lib.Seq.{take-append-seam}
 use Rattle.lexer.specs.Class.{classOf, starts, goesOn, isDot, inWord, endsComment, maxName, isName}
 use Rattle.lexer.specs.Scan.{maxText, maxLevel, between, inComment, inName, State, going, stopped, commentThen, stepBetween, step, scanFrom, scan}
 use Rattle.lexer.specs.declared.ByteClass.{ByteClass}
 use Rattle.lexer.specs.declared.ByteClass.the-variants.{Blank, LineFeed, Comment, Open, Close, Letter, Digit, Dot, Wrong}
 use Rattle.lexer.specs.declared.Scanned.{Scanned}
-use Rattle.lexer.proofs.Names.{clash, part-in-word, part-byte, SoFar, letter-first, grown, one-too-many, finished}
+use Rattle.lexer.proofs.Names.{part-in-word, part-byte, SoFar, letter-first, grown, one-too-many, finished}
 use Rattle.lexer.proofs.Scans.{halted}
+use Rattle.lexer.proofs.Ends.{rest}
 use Rattle.policy.specs.Words.{dotless}
+use Rattle.policy.proofs.Dotless.{first-and-rest}
 use Rattle.before_laws.specs.Before as before
 use Rattle.before_laws.specs.Before.{classBefore}
-use Rattle.before_laws.proofs.Dotless.{first-and-rest}
 
 -- but for the dot, the classes are those of document 01
 pub class-as-before : (k : ByteClass) → isDot k ≡ false → classBefore k ≡ k
@@ -30,7 +31,7 @@ class-as-before Open e = refl
 class-as-before Close e = refl
 class-as-before Letter e = refl
 class-as-before Digit e = refl
-class-as-before Dot e = absurd (clash (sym e))
+class-as-before Dot e = absurd (false≢true (sym e))
 class-as-before Wrong e = refl
 
 -- ---- a run of bytes that a name is made of
@@ -99,10 +100,6 @@ comment-known t bs level k = go (endsComment k)
     go false = tt
 
 module _ (t bs : List ℕ) (b at : ℕ) (h : drop at t ≡ b ∷ bs) where
-  -- the bytes that are left stand at the place that is next
-  next-place : drop (at + 1) t ≡ bs
-  next-place = sym (drop-drop 1 at t) ∙ ap (drop 1) h
-
   -- a letter begins a run
   begun : starts (classOf b) ≡ true → Underway t bs at 1
   begun e = record { bytes = b ∷ []; run = record { placed = h; long = refl }; so-far = letter-first b e; short = omega arith }
@@ -116,7 +113,7 @@ module _ (t bs : List ℕ) (b at : ℕ) (h : drop at t ≡ b ∷ bs) where
   between-known level Close e d = either t bs (eqb level 0) (stopped at) (going between (level - 1)) tt tt
   between-known level Letter e d = either t bs (eqb level 0) (stopped at) (going (inName at 1) level) tt (begun (ap starts e))
   between-known level Digit e d = tt
-  between-known level Dot e d = absurd (clash (sym d))
+  between-known level Dot e d = absurd (false≢true (sym d))
   between-known level Wrong e d = tt
 
   -- the byte b, which is no dot, in a run, where both scans agree on the bytes after it
@@ -164,15 +161,15 @@ agree t (b ∷ bs) (stopped place) at e h x = refl
 agree t (b ∷ bs) (going between level) at e h x =
     let p = first-and-rest b bs e in
     rw (class-as-before (classOf b) (p .0))
-    (agree t bs (stepBetween level at (classOf b)) (at + 1) (p .1) (next-place t bs b at h) (between-known t bs b at h level (classOf b) refl (p .0)))
+    (agree t bs (stepBetween level at (classOf b)) (at + 1) (p .1) (rest t bs b at h) (between-known t bs b at h level (classOf b) refl (p .0)))
 agree t (b ∷ bs) (going inComment level) at e h x =
     let p = first-and-rest b bs e in
     rw (class-as-before (classOf b) (p .0))
-    (agree t bs (going (commentThen (classOf b)) level) (at + 1) (p .1) (next-place t bs b at h) (comment-known t bs level (classOf b)))
+    (agree t bs (going (commentThen (classOf b)) level) (at + 1) (p .1) (rest t bs b at h) (comment-known t bs level (classOf b)))
 agree t (b ∷ bs) (going (inName first len) level) at e h x =
     let p = first-and-rest b bs e in
     rw (class-as-before (classOf b) (p .0))
-    (in-run t bs b at h (λ s y. agree t bs s (at + 1) (p .1) (next-place t bs b at h) y) (p .0) first len level x (goesOn (classOf b)) refl)
+    (in-run t bs b at h (λ s y. agree t bs s (at + 1) (p .1) (rest t bs b at h) y) (p .0) first len level x (goesOn (classOf b)) refl)
 
 -- the whole text
 pub scan-as-before : (t : List ℕ) → dotless t ≡ true → scan t ≡ before.scan t

@@ -9,10 +9,10 @@ use Rattle.policy.specs.Words.{isReserved, dotless, asName, asPart, Keyword, de
 use Rattle.policy.specs.Words.{Connective, allC, notC, andC, orC, xorC, setWord, expressionWord, opOf, isPlain, Component, componentOf}
 use Rattle.policy.specs.Statements.{plain, class, declare, attributeset, gives, roletransition, constrain, Written}
 use Rattle.policy.specs.Statements.{SetExpr, nameS, allS, notS, andS, orS, xorS, unionS, emptyS, Op, Constraint, sidesE, nameE, notE, andE, orE}
-use Rattle.policy.specs.Grammar.{atClose, wordThen, partThen, twoWords, wordAndPart, rowOf, oneOrMore, classIn, ofFour, formed, written}
+use Rattle.policy.specs.Grammar.{wordThen, partThen, twoWords, wordAndPart, rowOf, oneOrMore, classIn, ofFour, formed, written}
 use Rattle.policy.specs.Grammar.{operandRow, unionOf, formS, headed, operands, setIn}
 use Rattle.policy.specs.Grammar.{areSides, isRoles, compared, comparison, formE, connected, expressions, expressionIn}
-use Rattle.policy.proofs.IfAny.{IfAny, nothing, just, and-then, whatever, if-given, if-one, if-two, if-more}
+use Rattle.policy.proofs.IfAny.{IfAny, nothing, just, and-then, whatever, if-given, if-one, if-two, if-more, at-close}
 use Rattle.before_laws.proofs.PlainWords.{Words}
 
 -- ---- what it is for every name to have a property
@@ -66,12 +66,6 @@ module _ (P : Name → Type 0) where
 
   module _ {A : Type 0} {Q : A → Type 0} where
     -- the ends and beginnings of rows
-    at-close : (f : Forms) (o : Option A) → IfAny Q o → IfAny Q (atClose f o)
-    at-close closed o h = h
-    at-close ended o h = nothing
-    at-close (word at w after) o h = nothing
-    at-close (part at inner after) o h = nothing
-
     word-then : (f : Forms) (g : Name → Forms → Option A) → Words P f → ((w : Name) (r : Forms) → P w → Words P r → IfAny Q (g w r))
         → IfAny Q (wordThen f g)
     word-then closed g x k = nothing

@@ -1,20 +1,20 @@
 -- What is true of every number below a bound, and loops that test it a byte at a time: one law for all of them, since each gathers in a byte
 -- the bits of the numbers of which the rule is false. Assumes nothing.
 use mathlib.Core.Path.{_≡_, refl, sym, ap, ap₂, _∙_}
-use mathlib.Core.Bool.{Bool, true, false, not, _&&_, _||_, xor, Bool·beq, or-true, and-true}
+use mathlib.Core.Bool.{Bool, true, false, not, _&&_, _||_, or-true, and-true}
 use mathlib.Core.List.{List}
 use mathlib.Core.Logic.{⊎-elim}
-use Prim.Native.Nat.{ℕ, zero, suc, _+_, _-_, _*_, _≤_, _<_, max}
+use Prim.Native.Nat.{ℕ, zero, suc, _+_, _-_, _*_, _≤_, _<_}
 use native.Mathlib.Nat.{add-zero, add-suc, not-suc-le-zero, le-of-suc-le-suc, eq-or-lt-of-le}
 use native.Mathlib.Decide.{decLt}
 use native.Mathlib.Omega.{arith}
-use lib.Bits.{bitAnd, bitOr, bitXor, or-zero-l, or-add-and, and-le-r}
+use lib.Bits.{bitAnd, bitOr, or-zero-l, or-add-and, and-le-r}
 use lib.Dec.{eqb, ltb}
 use lib.ListN.{length, getD}
 use borrow.Author.Tests.{le-ltb, lt-ltb, ne-eqb}
-use Rattle.bitset.specs.Sets.{bit, member, fromBits, setOf, maskOf, allBelow, meet, within, meets, equal}
-use Rattle.bitset.proofs.BitLaws.{bit-and, bit-xor, bit-fromBits, fromBits-lt}
-use Rattle.bitset.proofs.SetLaws.{member-at, member-past, member-setOf, length-setOf, setOf-ext, setOf-member}
+use Rattle.bitset.specs.Sets.{bit, member, fromBits, setOf, maskOf, allBelow, meet, within}
+use Rattle.bitset.proofs.BitLaws.{bit-and, bit-fromBits, fromBits-lt}
+use Rattle.bitset.proofs.SetLaws.{member-at, member-past, member-setOf, length-setOf}
 use Rattle.bitset.proofs.Tests.{agree2, bit-not}
 
 -- a Bool is true or false, with the equation
@@ -22,14 +22,8 @@ pub either {ℓ} : {P : Type ℓ} (b : Bool) → (b ≡ true → P) → (b ≡ f
 either true f g = f refl
 either false f g = g refl
 
-clash : (b : Bool) → b ≡ true → b ≡ false → ⊥
+pub clash : (b : Bool) → b ≡ true → b ≡ false → ⊥
 clash b p q = let z : _≡_ {A = ℕ} 0 1 = cc in omega arith
-
-beq-true : (a b : Bool) → Bool·beq a b ≡ true → a ≡ b
-beq-true true true e = refl
-beq-true true false e = sym e
-beq-true false true e = e
-beq-true false false e = refl
 
 pub allBelow-of : (n : ℕ) (f : ℕ → Bool) → ((k : ℕ) → k < n → f k ≡ true) → allBelow n f ≡ true
 unfolding allBelow
@@ -90,16 +84,10 @@ all-more f i found x small bits h =
     or-none found x ∙ ap₂ _&&_ h (no-bits x small ∙ sym (allBelow-ext 8 (λ k. f (8 * i + k)) (λ k. not (bit x k)) bits))
     ∙ sym (allBelow-add (8 * i) 8 f) ∙ ap (λ (n : ℕ). allBelow n f) next
 
--- ---- the three tests of a byte
+-- ---- the test of a byte
 
 abbrev pub withinRule : ℕ → List ℕ → ℕ → Bool
 withinRule total s n = not (member s n) || ltb n total
-
-abbrev pub apartRule : List ℕ → List ℕ → ℕ → Bool
-apartRule a b n = not (member a n && member b n)
-
-abbrev pub sameRule : List ℕ → List ℕ → ℕ → Bool
-sameRule a b n = Bool·beq (member a n) (member b n)
 
 -- a byte without the mask has the numbers that reach the total
 pub within-bits : (total : ℕ) (s : List ℕ) (i k : ℕ) → k < 8
@@ -116,23 +104,7 @@ within-bits total s i k l =
     implies true false = refl
     implies false y = refl
 
--- two bytes have those bits in common whose numbers are in both
-pub apart-bits : (a b : List ℕ) (i k : ℕ) → k < 8 → apartRule a b (8 * i + k) ≡ not (bit (bitAnd (getD a i 0) (getD b i 0)) k)
-apart-bits a b i k l = ap not (ap₂ _&&_ (member-at a i k l) (member-at b i k l) ∙ sym (bit-and (getD a i 0) (getD b i 0) k))
-
--- and differ in those whose numbers are in one of them alone
-pub same-bits : (a b : List ℕ) (i k : ℕ) → k < 8 → sameRule a b (8 * i + k) ≡ not (bit (bitXor (getD a i 0) (getD b i 0)) k)
-unfolding xor
-same-bits a b i k l =
-    ap₂ Bool·beq (member-at a i k l) (member-at b i k l) ∙ same (bit (getD a i 0) k) (bit (getD b i 0) k) ∙ ap not (sym (bit-xor (getD a i 0) (getD b i 0) k))
-  where
-    same : (x y : Bool) → Bool·beq x y ≡ not (xor x y)
-    same true true = refl
-    same true false = refl
-    same false true = refl
-    same false false = refl
-
--- ---- what the tests say, for callers
+-- ---- what the test says, for callers
 
 -- every number in the set is below the total, and the other way round
 pub within-below : (total : ℕ) (s : List ℕ) → within total s ≡ true → (n : ℕ) → total ≤ n → member s n ≡ false
@@ -163,21 +135,6 @@ within-setOf total w f =
     ∙ allBelow-ext (8 * w) (withinRule total (setOf w f)) (λ n. not (f n) || ltb n total)
     (λ n l. ap (λ (b : Bool). not b || ltb n total) (member-setOf w f n l))
 
--- the same members, whatever the number
-pub equal-members : (a b : List ℕ) → equal a b ≡ true → (n : ℕ) → member a n ≡ member b n
-unfolding equal
-equal-members a b e n = at (decLt n (8 * max (length a) (length b)))
-  where
-    at : Dec (n < 8 * max (length a) (length b)) → member a n ≡ member b n
-    at (yes l) = beq-true (member a n) (member b n) (allBelow-at (8 * max (length a) (length b)) (sameRule a b) e n l)
-    at (no l) = member-past a n (omega arith) ∙ sym (member-past b n (omega arith))
-
--- sets of one width are equal where their bytes are the same
-pub equal-bytes : (a b : List ℕ) → length a ≡ length b → ((i : ℕ) → getD a i 0 < 256) → ((i : ℕ) → getD b i 0 < 256) → equal a b ≡ true → a ≡ b
-equal-bytes a b l p q e =
-    sym (setOf-member a p) ∙ ap (λ (v : ℕ). setOf v (member a)) l
-    ∙ setOf-ext (length b) (member a) (member b) (λ n m. equal-members a b e n) ∙ setOf-member b q
-
 -- ---- a number of which two rules are both true
 
 -- there is none where at every number one of the two is false
@@ -189,50 +146,3 @@ meet-apart (suc n) f g = ap (λ (b : Bool). f n && g n || b) (meet-apart n f g) 
     or-not : (a b : Bool) → (a || not b) ≡ not (not a && b)
     or-not true b = refl
     or-not false b = refl
-
-pub meet-ext : (n : ℕ) (f g h k : ℕ → Bool) → ((i : ℕ) → i < n → f i ≡ h i) → ((i : ℕ) → i < n → g i ≡ k i) → meet n f g ≡ meet n h k
-unfolding meet
-meet-ext zero f g h k p q = refl
-meet-ext (suc n) f g h k p q =
-    ap₂ _||_ (ap₂ _&&_ (p n (omega arith)) (q n (omega arith))) (meet-ext n f g h k (λ i l. p i (omega arith)) (λ i l. q i (omega arith)))
-
-pub meet-at : (n : ℕ) (f g : ℕ → Bool) (k : ℕ) → k < n → f k ≡ true → g k ≡ true → meet n f g ≡ true
-meet-at n f g k l p q =
-    meet-apart n f g
-    ∙ either (allBelow n (λ i. not (f i && g i)))
-    (λ t. absurd (clash (not (f k && g k)) (allBelow-at n (λ i. not (f i && g i)) t k l) (ap₂ (λ (x y : Bool). not (x && y)) p q)))
-    (ap not)
-
-pub meet-none : (n : ℕ) (f g : ℕ → Bool) → ((k : ℕ) → k < n → (f k && g k) ≡ false) → meet n f g ≡ false
-meet-none n f g h = meet-apart n f g ∙ ap not (allBelow-of n (λ k. not (f k && g k)) (λ k l. ap not (h k l)))
-
--- where one of them is false from a total on, only the numbers below it count
-pub meet-bounded : (total n : ℕ) (f g : ℕ → Bool) → total ≤ n → ((k : ℕ) → total ≤ k → k < n → f k ≡ false) → meet n f g ≡ meet total f g
-meet-bounded total n f g l h =
-    meet-apart n f g
-    ∙ ap not (either (allBelow n rule) (λ t. t ∙ sym (allBelow-of total rule (λ k m. allBelow-at n rule t k (omega arith)))) (λ e. e ∙ sym (fails e)))
-    ∙ sym (meet-apart total f g)
-  where
-    rule : ℕ → Bool
-    rule k = not (f k && g k)
-
-    fails : allBelow n rule ≡ false → allBelow total rule ≡ false
-    fails e =
-        either (allBelow total rule)
-        (λ t. absurd (clash (allBelow n rule) (allBelow-of n rule (λ k m. at k m t (decLt k total))) e))
-        (λ b. b)
-      where
-        at : (k : ℕ) → k < n → allBelow total rule ≡ true → Dec (k < total) → rule k ≡ true
-        at k m t (yes q) = allBelow-at total rule t k q
-        at k m t (no q) = ap (λ (b : Bool). not (b && g k)) (h k (omega arith) m)
-
-pub meets-setOf : (w : ℕ) (f g : ℕ → Bool) → meets (setOf w f) (setOf w g) ≡ meet (8 * w) f g
-unfolding meets
-meets-setOf w f g =
-    ap (λ (v : ℕ). meet (8 * v) (member (setOf w f)) (member (setOf w g))) (length-setOf w f)
-    ∙ meet-ext (8 * w) (member (setOf w f)) (member (setOf w g)) f g (member-setOf w f) (member-setOf w g)
-
--- for the loop
-pub meets-apart : (a b : List ℕ) → meets a b ≡ not (allBelow (8 * length a) (apartRule a b))
-unfolding meets
-meets-apart a b = meet-apart (8 * length a) (member a) (member b)

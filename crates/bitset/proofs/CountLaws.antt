@@ -1,17 +1,16 @@
 -- How many numbers a rule is true of, and that the count of ones of each byte adds up to it. Assumes nothing.
 use mathlib.Core.Path.{_≡_, refl, sym, ap, ap₂, _∙_}
-use mathlib.Core.Bool.{Bool, true, false}
+use mathlib.Core.Bool.{Bool, false}
 use mathlib.Core.List.{List}
-use Prim.Native.Nat.{ℕ, zero, suc, _+_, _-_, _*_, _/_, _%_, _^_, _≤_, _<_}
+use Prim.Native.Nat.{ℕ, zero, suc, _+_, _*_, _/_, _%_, _^_, _≤_, _<_}
 use native.Mathlib.Nat.{mod-lt, add-zero, add-suc}
 use native.Mathlib.Omega.{arith}
 use lib.Arith.{lt-one}
 use lib.Count.{ones, ones-step}
-use lib.ListN.{length, getD}
-use Rattle.bitset.specs.Sets.{bit, member, one, setOf, countBelow, count, within}
-use Rattle.bitset.proofs.AllLaws.{within-below}
+use lib.ListN.{getD}
+use Rattle.bitset.specs.Sets.{bit, member, one, countBelow}
 use Rattle.bitset.proofs.BitLaws.{bit-low, bit-high, one-lt, eqb-one, two-pos, half-lt}
-use Rattle.bitset.proofs.SetLaws.{member-at, member-setOf, length-setOf}
+use Rattle.bitset.proofs.SetLaws.{member-at}
 
 pub countBelow-ext : (n : ℕ) (f g : ℕ → Bool) → ((k : ℕ) → k < n → f k ≡ g k) → countBelow n f ≡ countBelow n g
 unfolding countBelow
@@ -57,23 +56,3 @@ nothing : (m : ℕ) → countBelow m (λ k. false) ≡ 0
 unfolding countBelow
 nothing zero = refl
 nothing (suc m) = add-zero (countBelow m (λ k. false)) ∙ nothing m
-
--- a rule that is false from a total on is counted below that total
-pub count-bounded : (total n : ℕ) (f : ℕ → Bool) → total ≤ n → ((k : ℕ) → total ≤ k → k < n → f k ≡ false) → countBelow n f ≡ countBelow total f
-count-bounded total n f l h =
-    let e : n ≡ total + (n - total) = omega arith in
-    ap (λ (m : ℕ). countBelow m f) e ∙ countBelow-add total (n - total) f
-    ∙ ap (λ (m : ℕ). countBelow total f + m) (countBelow-ext (n - total) (λ k. f (total + k)) (λ k. false) (λ k q. h (total + k) (omega arith) (omega arith)) ∙ nothing (n - total)) ∙ add-zero (countBelow total f)
-
-pub count-setOf : (w : ℕ) (f : ℕ → Bool) → count (setOf w f) ≡ countBelow (8 * w) f
-unfolding count
-count-setOf w f = rw (length-setOf w f) (countBelow-ext (8 * w) (member (setOf w f)) f (member-setOf w f))
-
-pub count-le : (s : List ℕ) → count s ≤ 8 * length s
-unfolding count
-count-le s = countBelow-le (8 * length s) (member s)
-
--- a set whose numbers are all below a total is counted there
-pub count-within : (total : ℕ) (s : List ℕ) → total ≤ 8 * length s → within total s ≡ true → count s ≡ countBelow total (member s)
-unfolding count
-count-within total s l e = count-bounded total (8 * length s) (member s) l (λ k p q. within-below total s e k p)

@@ -8,7 +8,7 @@ use lib.Bits.{bitAnd, and-lt}
 use lib.Dec.{ltb}
 use lib.ListN.{length, getD, set}
 use borrow.Author.Tests.{lt-ltb, le-ltb}
-use Rattle.bitset.specs.Sets.{bit, member, setOf, emptied, complementOf, maskOf}
+use Rattle.bitset.specs.Sets.{member, setOf, emptied, complementOf, maskOf}
 use Rattle.bitset.specs.Complements.{flipped, keptBelow}
 use Rattle.bitset.specs.Parts.{part, put}
 use Rattle.bitset.proofs.BitLaws.{bit-and, bit-fromBits, fromBits-lt}

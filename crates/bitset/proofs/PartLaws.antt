@@ -1,14 +1,14 @@
 -- The bytes of a table at an offset: what is lent is the part, what comes back is put, and a part that lies apart is as it was.
 -- Assumes nothing.
 use mathlib.Core.Path.{_≡_, sym, ap, ap₂, _∙_, subst}
-use mathlib.Core.List.{List, [], _++_, append-assoc}
+use mathlib.Core.List.{List, [], _++_, append-assoc, _∷_}
 use mathlib.Core.Bool.{Bool}
-use Prim.Native.Nat.{ℕ, _+_, _-_, _*_, _/_, _%_, _≤_, _<_, min}
-use native.Mathlib.Nat.{add-zero}
+use Prim.Native.Nat.{ℕ, _+_, _-_, _*_, _/_, _%_, _≤_, _<_, min, suc}
+use native.Mathlib.Nat.{add-zero, add-suc, suc-add}
 use native.Mathlib.Decide.{decLt}
 use native.Mathlib.Omega.{arith}
-use lib.ListN.{length, getD, take, drop, length-append, length-take, length-drop, take-append-drop, List·getD-append, List·getD-eq-default}
-use lib.Seq.{ext-getD, length-take-le, getD-take, getD-drop, getD-append-add, drop-append-seam, take-append-seam, take-take, take-add, drop-drop, drop-append-le}
+use lib.ListN.{length, getD, take, drop, length-append, length-take, length-drop, take-append-drop, List·getD-append, List·getD-eq-default, set}
+use lib.Seq.{ext-getD, length-take-le, getD-take, getD-drop, getD-append-add, take-take, take-add, drop-drop, drop-append-le, take-at, drop-append-add, sets, sets-eq}
 use borrow.Rule.Slice.PartMut.{putMid, post-is}
 use Rattle.bitset.specs.Sets.{member, bit, setOf}
 use Rattle.bitset.specs.Parts.{part, put}
@@ -40,7 +40,7 @@ small-part t o w small i = at (decLt i w)
     at (no h) = let e : getD (part t o w) i 0 ≡ 0 = List·getD-eq-default (part t o w) 0 (omega (arith, length-part-le t o w)) in omega arith
 
 -- a list is cut at its end anyway
-take-cut : (n : ℕ) (l : List ℕ) → take (min n (length l)) l ≡ take n l
+pub take-cut : (n : ℕ) (l : List ℕ) → take (min n (length l)) l ≡ take n l
 take-cut n l =
     ext-getD 0 (take (min n (length l)) l) (take n l) (simp length-take (omega arith))
     (λ i h.
@@ -89,11 +89,6 @@ unfolding part
 part-rest t o w =
     ap (λ (l : List ℕ). part t o w ++ l) (drop-same (o + length (part t o w)) (o + w) t (omega (arith, length-part-min t o w)) ∙ sym (drop-drop w o t))
     ∙ take-append-drop w (drop o t)
-
--- what stands between other bytes
-pub part-middle : (a b c : List ℕ) → part (a ++ (b ++ c)) (length a) (length b) ≡ b
-unfolding part
-part-middle a b c = rw (drop-append-seam a (b ++ c)) (take-append-seam b c)
 
 -- ---- and what is put there
 
@@ -176,6 +171,31 @@ put-part t o w p s h =
   where
     regroup : (n : ℕ) → o + (p + n) ≡ o + p + n
     regroup n = omega arith
+
+-- what is put behind what was put is put with it
+pub put-put : (t : List ℕ) (o : ℕ) (us vs : List ℕ) → o + length us ≤ length t → put (put t o us) (o + length us) vs ≡ put t o (us ++ vs)
+unfolding put
+put-put t o us vs h =
+    let p = take o t ++ us in
+    let long : length p ≡ o + length us = length-append (take o t) us ∙ ap (λ (n : ℕ). n + length us) (length-take-le o t (omega arith)) in
+    let whole : take o t ++ (us ++ drop (o + length us) t) ≡ p ++ drop (o + length us) t = sym (append-assoc (take o t) us (drop (o + length us) t)) in
+    let first : take (o + length us) (take o t ++ (us ++ drop (o + length us) t)) ≡ p =
+    ap (take (o + length us)) whole ∙ take-at p (drop (o + length us) t) (o + length us) long in
+    let rest : drop (o + length us + length vs) (take o t ++ (us ++ drop (o + length us) t)) ≡ drop (o + length (us ++ vs)) t =
+    ap₂ drop (ap (λ (n : ℕ). n + length vs) (sym long)) whole ∙ drop-append-add p (drop (o + length us) t) (length vs)
+    ∙ drop-drop (length vs) (o + length us) t ∙ ap (λ (n : ℕ). drop n t) (let d : o + length us + length vs ≡ o + length (us ++ vs) = omega (arith, length-append us vs) in d) in
+    ap₂ (λ (a b : List ℕ). a ++ (vs ++ b)) first rest
+    ∙ append-assoc (take o t) us (vs ++ drop (o + length (us ++ vs)) t)
+    ∙ ap (λ (l : List ℕ). take o t ++ l) (sym (append-assoc us vs (drop (o + length (us ++ vs)) t)))
+
+-- bytes stored one after the other are bytes put
+pub sets-put : (t : List ℕ) (o : ℕ) (s : List ℕ) → o + length s ≤ length t → sets t o s ≡ put t o s
+unfolding put
+sets-put t o s h = sets-eq s t o h ∙ append-assoc (take o t) s (drop (o + length s) t)
+
+pub sets-append : (l : List ℕ) (i : ℕ) (vs ws : List ℕ) → sets (sets l i vs) (i + length vs) ws ≡ sets l i (vs ++ ws)
+sets-append l i [] ws = rw add-zero
+sets-append l i (a ∷ vs) ws = rw (add-suc i (length vs), ← suc-add i (length vs)) (sets-append (set l i a) (suc i) vs ws)
 
 -- what was lent from the cut start to the cut end comes back as what F makes of the part
 pub put-back : (t : List ℕ) (o w start end : ℕ) (F : List ℕ → List ℕ) (s : List ℕ)

@@ -1,7 +1,7 @@
 -- The laws of sets in bytes, each once over the width: what is in a set that is written by its rule, and that bytes are told by what is in them.
 -- Assumes nothing.
 use mathlib.Core.Path.{_≡_, refl, sym, ap, ap₂, _∙_, subst}
-use mathlib.Core.Bool.{Bool, false, not, _&&_, _||_, xor}
+use mathlib.Core.Bool.{Bool, false, not, _&&_, _||_}
 use mathlib.Core.List.{List, _∷_}
 use Prim.Native.Nat.{ℕ, zero, suc, _+_, _*_, _/_, _%_, _≤_, _<_}
 use native.Mathlib.Nat.{not-suc-le-zero, le-of-suc-le-suc}
@@ -11,7 +11,7 @@ use lib.Dec.{eqb, ltb}
 use lib.ListN.{length, getD, List·getD-eq-default}
 use lib.Seq.{ext-getD}
 use borrow.Author.Tests.{ne-eqb}
-use Rattle.bitset.specs.Sets.{bit, member, fromBits, tabulate, setOf, inserted, removed, unionOf, intersectionOf, symmetricDifferenceOf, differenceOf, copyOf, emptied, complementOf}
+use Rattle.bitset.specs.Sets.{bit, member, fromBits, tabulate, setOf, inserted, removed, unionOf, emptied, complementOf}
 use Rattle.bitset.proofs.BitLaws.{bit-zero, bit-fromBits, fromBits-ext, fromBits-lt, bits-eq}
 
 -- ---- lists by their rule
@@ -127,38 +127,9 @@ pub union-setOf : (w : ℕ) (a b : ℕ → Bool) → unionOf (setOf w a) (setOf 
 unfolding unionOf
 union-setOf = operator-setOf _||_
 
-pub intersection-setOf : (w : ℕ) (a b : ℕ → Bool) → intersectionOf (setOf w a) (setOf w b) ≡ setOf w (λ n. a n && b n)
-unfolding intersectionOf
-intersection-setOf = operator-setOf _&&_
-
-pub symmetric-difference-setOf : (w : ℕ) (a b : ℕ → Bool) → symmetricDifferenceOf (setOf w a) (setOf w b) ≡ setOf w (λ n. xor (a n) (b n))
-unfolding symmetricDifferenceOf
-symmetric-difference-setOf = operator-setOf xor
-
-pub difference-setOf : (w : ℕ) (a b : ℕ → Bool) → differenceOf (setOf w a) (setOf w b) ≡ setOf w (λ n. a n && not (b n))
-unfolding differenceOf
-difference-setOf = operator-setOf (λ x y. x && not y)
-
-pub copy-setOf : (w : ℕ) (a b : ℕ → Bool) → copyOf (setOf w a) (setOf w b) ≡ setOf w b
-unfolding copyOf
-copy-setOf = operator-setOf (λ x y. y)
-
--- a copy into any bytes, where the rule is false of the numbers that only the copy has room for
-pub copied-setOf : (d : List ℕ) (w : ℕ) (f : ℕ → Bool) → ((n : ℕ) → 8 * w ≤ n → n < 8 * length d → f n ≡ false) → copyOf d (setOf w f) ≡ setOf (length d) f
-unfolding copyOf
-copied-setOf d w f h = setOf-ext (length d) (member (setOf w f)) f (λ n l. member-setOf-within w f n (λ p. h n p l))
-
-pub emptied-setOf : (w : ℕ) (a : ℕ → Bool) → emptied (setOf w a) ≡ setOf w (λ n. false)
-unfolding emptied
-emptied-setOf = map-setOf (λ n x. false)
-
 pub inserted-setOf : (w : ℕ) (a : ℕ → Bool) (m : ℕ) → inserted (setOf w a) m ≡ setOf w (λ n. a n || eqb n m)
 unfolding inserted
 inserted-setOf w a m = map-setOf (λ n x. x || eqb n m) w a
-
-pub removed-setOf : (w : ℕ) (a : ℕ → Bool) (m : ℕ) → removed (setOf w a) m ≡ setOf w (λ n. a n && not (eqb n m))
-unfolding removed
-removed-setOf w a m = map-setOf (λ n x. x && not (eqb n m)) w a
 
 pub complement-setOf : (total w : ℕ) (a : ℕ → Bool) → complementOf total (setOf w a) ≡ setOf w (λ n. ltb n total && not (a n))
 unfolding complementOf
@@ -189,22 +160,6 @@ length-removed s n = length-setOf (length s) _
 pub length-union : (a b : List ℕ) → length (unionOf a b) ≡ length a
 unfolding unionOf
 length-union a b = length-setOf (length a) _
-
-pub length-intersection : (a b : List ℕ) → length (intersectionOf a b) ≡ length a
-unfolding intersectionOf
-length-intersection a b = length-setOf (length a) _
-
-pub length-symmetric-difference : (a b : List ℕ) → length (symmetricDifferenceOf a b) ≡ length a
-unfolding symmetricDifferenceOf
-length-symmetric-difference a b = length-setOf (length a) _
-
-pub length-difference : (a b : List ℕ) → length (differenceOf a b) ≡ length a
-unfolding differenceOf
-length-difference a b = length-setOf (length a) _
-
-pub length-copy : (a b : List ℕ) → length (copyOf a b) ≡ length a
-unfolding copyOf
-length-copy a b = length-setOf (length a) _
 
 pub length-emptied : (s : List ℕ) → length (emptied s) ≡ length s
 unfolding emptied

@@ -126,7 +126,7 @@ abbrev first-of : List Name → Name
 first-of [] = []
 first-of (w ∷ ws) = w
 
-abbrev rest-of : List Name → List Name
+abbrev pub rest-of : List Name → List Name
 rest-of [] = []
 rest-of (w ∷ ws) = ws
 

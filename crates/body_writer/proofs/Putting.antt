@@ -1,35 +1,20 @@
 -- Bytes put into a table: one run behind the other, a copy, a single byte, and again over what was put. Assumes nothing.
 use mathlib.Core.Path.{_≡_, refl, sym, ap, ap₂, _∙_}
-use mathlib.Core.List.{List, [], _∷_, _++_, append-assoc}
-use Prim.Native.Nat.{ℕ, suc, _+_, _%_, _≤_, _<_}
-use native.Mathlib.Nat.{add-zero, add-suc, suc-add, mod-eq-of-lt}
+use mathlib.Core.List.{List, [], _∷_, _++_}
+use Prim.Native.Nat.{ℕ, _+_, _%_, _≤_, _<_}
+use native.Mathlib.Nat.{mod-eq-of-lt}
 use native.Mathlib.Numerals.{add-one}
 use native.Mathlib.Omega.{arith}
 use lib.ListN.{length, getD, take, drop, set, length-append}
-use lib.Seq.{sets, sets-eq, length-sets, length-take-le, take-at, drop-append-add, drop-append-seam, set-split}
+use lib.Seq.{length-take-le, take-at, drop-append-add, drop-append-seam, set-split}
 use Rattle.bitset.specs.Sets.{member, setOf, copyOf}
 use Rattle.bitset.specs.Parts.{part, put}
 use Rattle.bitset.proofs.SetLaws.{setOf-ext, setOf-member}
-use Rattle.bitset.proofs.PartLaws.{length-part, small-part, length-put, put-none}
+use Rattle.bitset.proofs.PartLaws.{length-part, small-part, length-put, put-none, put-put}
 use Rattle.set_rows.proofs.GrantLaws.{member-take}
 use Rattle.body_writer.specs.Writing.{Appended, Copies}
 
 -- ---- one run behind the other
-
-sets-put : (t : List ℕ) (o : ℕ) (s : List ℕ) → o + length s ≤ length t → sets t o s ≡ put t o s
-unfolding put
-sets-put t o s h = sets-eq s t o h ∙ append-assoc (take o t) s (drop (o + length s) t)
-
-sets-append : (l : List ℕ) (i : ℕ) (vs ws : List ℕ) → sets (sets l i vs) (i + length vs) ws ≡ sets l i (vs ++ ws)
-sets-append l i [] ws = rw add-zero
-sets-append l i (a ∷ vs) ws = rw (add-suc i (length vs), ← suc-add i (length vs)) (sets-append (set l i a) (suc i) vs ws)
-
-pub put-put : (t : List ℕ) (o : ℕ) (us vs : List ℕ) → o + length (us ++ vs) ≤ length t → put (put t o us) (o + length us) vs ≡ put t o (us ++ vs)
-put-put t o us vs h =
-    let n = length-append us vs in
-    ap (λ (x : List ℕ). put x (o + length us) vs) (sym (sets-put t o us (omega arith)))
-    ∙ sym (sets-put (sets t o us) (o + length us) vs (omega (arith, length-sets t o us)))
-    ∙ sets-append t o us vs ∙ sets-put t o (us ++ vs) h
 
 pub appended-then : {a b c : List ℕ} {i j k : ℕ} {us vs : List ℕ} → Appended us a i b j → Appended vs b j c k → Appended (us ++ vs) a i c k
 appended-then {a} {b} {c} {i} {j} {k} {us} {vs} g h = record { written = λ l. both l .0; past = λ l. both l .1 }
@@ -43,7 +28,7 @@ appended-then {a} {b} {c} {i} {j} {k} {us} {vs} g h = record { written = λ l. b
         let e : length b ≡ length a = ap length q ∙ length-put a i us r in
         let m : j + length vs ≤ length b = omega arith in
         let z : k ≡ j + length vs = h .past m in
-        (h .written m ∙ ap₂ (λ (x : List ℕ) (y : ℕ). put x y vs) q p ∙ put-put a i us vs l, omega arith)
+        (h .written m ∙ ap₂ (λ (x : List ℕ) (y : ℕ). put x y vs) q p ∙ put-put a i us vs r, omega arith)
 
 -- nothing is written
 pub appended-none : (t : List ℕ) (at : ℕ) → Appended [] t at t at

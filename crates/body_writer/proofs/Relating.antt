@@ -12,24 +12,26 @@ use Rattle.bitset.specs.Relations.{joined, relation, granted}
 use Rattle.bitset.proofs.PartLaws.{length-part, part-put-same}
 use Rattle.set_rows.proofs.RelationLaws.{relation-ext, length-relation, emptied-relation, granted-sets}
 use Rattle.policy.specs.Basics.{any, gather, keep}
-use Rattle.policy.specs.Statements.{Family, users, roles, types, thingOf, attributeOf, plain, class, Reference, Relation, userrole, roletype, roleallow, fromOf, toOf, Statement, declare, attributeset, gives, roletransition, constrain, Policy, declarations}
+use Rattle.policy.specs.Statements.{thingOf, attributeOf, plain, class, Reference, Relation, userrole, roletype, roleallow, fromOf, toOf, Statement, declare, attributeset, gives, roletransition, constrain, Policy, declarations}
 use Rattle.policy.specs.Meaning.{Standing, sameRelation, lineGives, stands, related}
 use Rattle.policy.specs.Image as image
 use Rattle.policy.specs.Image.{setsOf}
 use Rattle.policy.specs.Accepted.{Accepted}
 use Rattle.policy.proofs.Lists.{any-append, any-over}
 use Rattle.policy.proofs.Sameness.{relation-same}
-use Rattle.statement_code.specs.Code.{referenceUnit, familyNumber, relationNumber, relationTag, codeOf}
+use Rattle.statement_code.specs.Code.{referenceUnit, relationNumber, relationTag, codeOf}
+use Rattle.statement_code.proofs.Numbers.{family-few, relation-few}
 use Rattle.set_code.specs.Evaluation.{valueOf}
 use Rattle.meaning_laws.proofs.ListLaws.{decided}
 use Rattle.code_reader.specs.AttributeSets.{finalSets}
 use Rattle.code_reader.specs.Reading.{stepOf}
-use Rattle.code_reader.proofs.Items.{Item, declares, fills, relates, moves, family-few, relation-few, tagOf, unitsOf, itemsCode, itemIn, items, ItemIn}
+use Rattle.code_reader.proofs.Items.{Item, declares, fills, relates, moves, tagOf, unitsOf, itemsCode, itemIn, items, ItemIn}
 use Rattle.code_reader.proofs.Numbers.{items-declared}
 use Rattle.code_reader.proofs.Passes.{Through, Met, meet, onward, onward-past, finish}
+use Rattle.code_reader.proofs.RowLaws.{value-stands}
 use Rattle.body_writer.proofs.Putting.{put-over}
 use Rattle.body_writer.proofs.Filling.{narrow}
-use Rattle.body_writer.proofs.Standing.{value-stands, operand-at}
+use Rattle.body_writer.proofs.Standing.{operand-at}
 
 -- ---- what the items give
 

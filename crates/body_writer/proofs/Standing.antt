@@ -1,33 +1,24 @@
 -- A reference of the code stands, by the final sets of its family, for what it stands for in the policy. Assumes nothing.
 use mathlib.Core.Path.{_≡_, sym, ap, _∙_}
 use mathlib.Core.List.{List}
-use Prim.Native.Nat.{ℕ, _+_, _≤_, _<_}
+use Prim.Native.Nat.{ℕ, _+_, _≤_}
 use native.Mathlib.Omega.{arith}
 use lib.ListN.{getD, drop}
 use lib.Seq.{getD-drop}
 use Rattle.bitset.specs.Sets.{setOf}
 use Rattle.bitset.proofs.SetLaws.{setOf-ext}
-use Rattle.policy.specs.Statements.{Family, Reference, thing, attribute, Policy, declarations}
-use Rattle.policy.specs.Meaning.{final, stands}
+use Rattle.policy.specs.Statements.{Family, Reference, Policy, declarations}
+use Rattle.policy.specs.Meaning.{stands}
 use Rattle.policy.specs.Accepted.{ReferenceIn, Accepted}
 use Rattle.statement_code.specs.Code.{referenceUnit}
-use Rattle.set_code.specs.Evaluation.{setsIn, valueOf}
-use Rattle.set_code.proofs.Leaves.{value-of-reference}
+use Rattle.set_code.specs.Evaluation.{valueOf}
 use Rattle.code_reader.specs.AttributeSets.{finalSets}
-use Rattle.code_reader.proofs.Numbers.{few-attributes, numbered-R}
-use Rattle.code_reader.proofs.RowLaws.{sets-in}
+use Rattle.code_reader.proofs.RowLaws.{value-stands}
 
 module _ (p : Policy) (ok : Accepted p) (f : Family) (rows : List ℕ) (h : rows ≡ finalSets p f) where
-  pub value-stands : (r : Reference) → ReferenceIn (declarations p) f r → (n : ℕ) → n < 512 → valueOf rows (referenceUnit r) n ≡ stands p f r n
-  unfolding stands
-  value-stands (thing m) d n l = value-of-reference rows (thing m) (numbered-R p ok f (thing m) d) n
-  value-stands (attribute a) d n l =
-      value-of-reference rows (attribute a) (numbered-R p ok f (attribute a) d) n
-      ∙ ap (λ (t : List ℕ). setsIn t a n) h ∙ sets-in (final p f) a n (omega (arith, d, few-attributes p ok f)) l
-
   -- as a set
   pub set-stands : (r : Reference) → ReferenceIn (declarations p) f r → (w : ℕ) → w ≤ 64 → setOf w (valueOf rows (referenceUnit r)) ≡ setOf w (stands p f r)
-  set-stands r d w l = setOf-ext w (valueOf rows (referenceUnit r)) (stands p f r) (λ n k. value-stands r d n (omega arith))
+  set-stands r d w l = setOf-ext w (valueOf rows (referenceUnit r)) (stands p f r) (λ n k. value-stands p ok f rows h r d n (omega arith))
 
 -- operand k of the statement that stands at a place
 pub operand-at : (code : List ℕ) (at : ℕ) (us : List ℕ) (k n : ℕ) → drop (at + 2) code ≡ us → n ≡ at + 2 + k → getD code n 0 ≡ getD us k 0

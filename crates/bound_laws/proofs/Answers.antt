@@ -1,9 +1,9 @@
 -- THE NUMBERS OF THE QUESTIONS' ANSWERS ARE SMALL, for every list of bytes and all numbers: a denial is 4 at most, a refusal 11 or 12, a constraint or a role
 -- below 128, the number consulted 128 at most, and a part lies within the first 179,652 bytes. Assumes nothing.
-use Prim.Native.Nat.{ℕ, zero, suc, _+_, _-_, _*_, _/_, _<_, _≤_}
+use Prim.Native.Nat.{ℕ, zero, suc, _+_, _-_, _*_, _<_, _≤_}
 use native.Mathlib.Nat.{mul-le-mul-right, suc-mul}
 use native.Mathlib.Omega.{arith}
-use mathlib.Core.Path.{_≡_, refl, sym, ap, subst, _∙_}
+use mathlib.Core.Path.{_≡_, refl}
 use mathlib.Core.Bool.{Bool, true, false, cond, _&&_}
 use mathlib.Core.List.{List, [], _∷_, _++_}
 use mathlib.Core.Option.{Option, none, some}
@@ -13,10 +13,10 @@ use borrow.Author.Tests.{ltb-true}
 use Rattle.bitset.specs.Relations.{joined}
 use Rattle.policy.specs.Basics.{each, All}
 use Rattle.policy.specs.Statements.{roles, types, thingOf, count, classNames}
-use Rattle.policy.specs.Deciding.{Question, Verdict, granted, denied, fails, refuses, Answer, unconsulted, ruling, firstFailing, decide, ruledBy, Reply, answered, refused}
-use Rattle.policy.specs.Image.{Image, TransitionEntry, ConstraintEntry}
+use Rattle.policy.specs.Deciding.{Question, Verdict, granted, denied, fails, refuses, Answer, ruling, firstFailing, decide, ruledBy, Reply, answered, refused}
+use Rattle.policy.specs.Image.{Image, TransitionEntry}
 use Rattle.policy.specs.Encode.{NameEntry, entries, entryBytes, transitionBytes, headBytes, headsFrom, bodies, firstBody}
-use Rattle.policy.specs.Sound.{wellFormed, bodiesIn, imageFrom, imageIn, goodTransition}
+use Rattle.policy.specs.Sound.{wellFormed, imageIn, goodTransition}
 use Rattle.policy.specs.Questions.{change, changed, changeOn, matches, firstTransition, newRole, newRoleOn, asked, Part, nameFrom, nameOf, nameOn, Run, recordFrom, records, entryOf, entryOn}
 use Rattle.policy.proofs.Lists.{both-true, each-length}
 use Rattle.policy.proofs.Counts.{few-of}
@@ -26,18 +26,10 @@ use Rattle.table_laws.proofs.Pieces.{wide-length}
 use Rattle.table_laws.proofs.Records.{head-wide}
 use Rattle.table_laws.proofs.ImageReadBack.{every-wide, transitions-wide}
 use Rattle.table_laws.proofs.Lengths.{bodies-length, heads-length}
-use Rattle.table_laws.proofs.ListLaws.{bound-then, given-some}
+use Rattle.table_laws.proofs.ListLaws.{joined-room}
 use Rattle.table_laws.proofs.WellFormed.{formed, good-transition}
 use Rattle.table_laws.proofs.WellFormedLaid.{widths, table-short}
-
--- what a sound table holds is well-formed
-image-formed : (t : List ℕ) (i : Image) → imageIn t ≡ some i → wellFormed i ≡ true
-unfolding imageIn
-image-formed t i h =
-    bound-then (bodiesIn t) _ i h λ bs cut h.
-    bound-then (imageFrom bs) _ i h λ im read h.
-    let g = given-some (wellFormed im) im i h in
-    subst (λ (i : Image). wellFormed i ≡ true) (g .1) (g .0)
+use Rattle.table_laws.proofs.ImageOnly.{image-formed}
 
 -- CHANGE
 
@@ -182,14 +174,6 @@ record-in k o (r ∷ rs) = by (ltb k (r .many)) refl (record-in (k - r .many) (o
     by true e h = omega (arith, mul-le-mul-right {m = suc k} {n = r .many} (r .wide) (ltb-true k (r .many) e), suc-mul k (r .wide))
     by false e h = part-wider _ _ (recordFrom (k - r .many) (o + r .many * r .wide) rs) (omega arith) h
 
--- body k and those before it are within all bodies
-body-in : (bs : List (List ℕ)) (k : ℕ) → length (joined (take k bs)) + length (getD bs k []) ≤ length (joined bs)
-unfolding joined
-body-in [] zero = omega arith
-body-in [] (suc k) = omega arith
-body-in (b ∷ bs) zero = omega (arith, length-append b (joined bs))
-body-in (b ∷ bs) (suc k) = omega (arith, length-append b (joined bs), length-append b (joined (take k bs)), body-in bs k)
-
 module _ (i : Image) (h : wellFormed i ≡ true) where
   table-bound : firstBody + length (joined (bodies i)) ≤ 179652
   table-bound = omega (arith, bodies-length i (widths i h), table-short i h)
@@ -198,11 +182,11 @@ module _ (i : Image) (h : wellFormed i ≡ true) where
   unfolding nameOf bodies joined
   name-small s n =
       part-wider _ _ (nameFrom s n firstBody (entries (i .names)))
-      (omega (arith, table-bound, body-in (bodies i) 0))
+      (omega (arith, table-bound, joined-room (bodies i) 0))
       (name-in s n firstBody (entries (i .names)))
 
   body-small : (b k : ℕ) (rs : List Run) → total rs ≤ length (getD (bodies i) b []) → SmallPart (recordFrom k (firstBody + length (joined (take b (bodies i)))) rs)
-  body-small b k rs l = part-wider _ _ (recordFrom k (firstBody + length (joined (take b (bodies i)))) rs) (omega (arith, table-bound, body-in (bodies i) b)) (record-in k _ rs)
+  body-small b k rs l = part-wider _ _ (recordFrom k (firstBody + length (joined (take b (bodies i)))) rs) (omega (arith, table-bound, joined-room (bodies i) b)) (record-in k _ rs)
 
   entry-small : (b k : ℕ) → SmallPart (entryOf i b k)
   unfolding entryOf recordFrom bodies

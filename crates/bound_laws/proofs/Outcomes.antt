@@ -2,7 +2,7 @@
 -- the longest table, its line at most 65,536. Assumes nothing.
 use Prim.Native.Nat.{ℕ, _≤_}
 use native.Mathlib.Omega.{arith}
-use mathlib.Core.Path.{_≡_, refl, ap, subst}
+use mathlib.Core.Path.{_≡_, refl}
 use mathlib.Core.Bool.{Bool, true, false, cond}
 use mathlib.Core.List.{[]}
 use mathlib.Core.Option.{Option, none, some}
@@ -14,7 +14,7 @@ use Rattle.policy.specs.Reading.{Read, policy, refused, readPolicy}
 use Rattle.policy.specs.Faults.{cycle, clash}
 use Rattle.policy.specs.Image.{Image, imageOf}
 use Rattle.policy.specs.Encode.{encode}
-use Rattle.policy.specs.Outcome.{Input, accept, policyOf, Compiled, compiles, refuses, compiled, fitted, lineAt, refusalOf, Outcome, accepted, rejected, outcomeOf, outcome}
+use Rattle.policy.specs.Outcome.{Input, accept, policyOf, compiles, refuses, compiled, fitted, lineAt, refusalOf, Outcome, accepted, rejected, outcomeOf, outcome}
 use Rattle.policy.proofs.LineFeeds.{feeds-few}
 use Rattle.reading_laws.proofs.FaultOrder.{fault-order, refusal-number}
 use Rattle.table_laws.proofs.WellFormedLaid.{length-encode, table-short}

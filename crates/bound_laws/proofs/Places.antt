@@ -1,12 +1,12 @@
 -- THE PLACE OF A REFUSAL 1 TO 9 IS AT MOST 65,535: it lies in the text, or at its end. Assumes nothing.
-use Prim.Native.Nat.{ℕ, zero, suc, _+_, _<_, _≤_}
+use Prim.Native.Nat.{ℕ, _+_, _≤_}
 use native.Mathlib.Omega.{arith}
 use mathlib.Core.Path.{_≡_, refl, sym, ap, subst}
 use mathlib.Core.Bool.{Bool, true, false, cond}
 use mathlib.Core.List.{List, [], _∷_, _++_}
 use mathlib.Core.Option.{Option, none, some}
 use lib.Dec.{eqb, ltb}
-use lib.ListN.{length, getD, take, drop}
+use lib.ListN.{length, take, drop}
 use borrow.Author.Tests.{ltb-false}
 use Rattle.lexer.specs.declared.Scanned.{Scanned}
 use Rattle.lexer.specs.declared.ByteClass.{ByteClass}
@@ -26,8 +26,8 @@ use Rattle.policy.proofs.Gathered.{OfValue, all-gather}
 use Rattle.policy.proofs.IfAny.{IfAny, nothing, just, or-else}
 use Rattle.reading_laws.proofs.ReadThen.{statementAt, linePlaces, read-places}
 use Rattle.reading_laws.proofs.FaultOrder.{RefusedFor, too-long, wrong-byte, at-statement, fault-order, fault-number}
-use Rattle.reading_laws.proofs.OpensAt.{OpensAt, forms-open, ScopedOpens, scoped-open, fault-place}
-use Rattle.code_laws.proofs.CodeFits.{read-clean}
+use Rattle.reading_laws.proofs.OpensAt.{OpensAt, forms-open, ScopedOpens, scoped-open, fault-place, opens-within}
+use Rattle.reading_laws.proofs.LongerText.{read-clean}
 
 -- FAULT 2
 
@@ -103,14 +103,8 @@ wrong-in text at e = by (ltb maxText (length text)) refl e
 
 -- FAULTS 3 TO 7
 
--- an opening parenthesis stands in the text
-opens-in : (text : List ℕ) (at : ℕ) → getD text at 0 ≡ 40 → at < length text
-opens-in [] at h = absurd (omega (arith, h))
-opens-in (b ∷ bs) zero h = omega arith
-opens-in (b ∷ bs) (suc at) h = omega (arith, opens-in bs at h)
-
 clean-in : (text : List ℕ) (at : ℕ) → scan text ≡ Scanned.Clean → OpensAt text at → at ≤ maxText
-clean-in text at e o = omega (arith, opens-in text at o, clean-short text e)
+clean-in text at e o = omega (arith, opens-within text at o, clean-short text e)
 
 pub read-place : (text : List ℕ) (n at : ℕ) → readPolicy text ≡ refused n at → at ≤ maxText
 read-place text n at e = by (fault-order text n at e)

@@ -11,17 +11,15 @@ use lib.Dec.{eqb}
 use lib.ListN.{length, getD, take, drop}
 use lib.Seq.{take-at}
 use Rattle.bitset.specs.Relations.{relation}
-use Rattle.bitset.proofs.AllLaws.{meets-setOf, meet-ext, meet-bounded}
 use Rattle.policy.specs.Basics.{any, gather, keep}
-use Rattle.policy.specs.Statements.{Family, roles, types, Reference, thing, attribute, Policy, declarations, Transition, transitions}
+use Rattle.policy.specs.Statements.{Family, roles, types, Reference, Policy, declarations, Transition, transitions}
 use Rattle.policy.specs.Meaning.{countIn, final, stands}
 use Rattle.bitset.specs.Sets.{meet}
 use Rattle.policy.specs.Faults.{clashes, firstClash}
 use Rattle.policy.specs.Accepted.{ReferenceIn, Accepted}
 use Rattle.policy.proofs.Lists.{any-append, gather-append, gather-over, gather-last}
 use Rattle.statement_code.specs.Code.{referenceUnit, transitionTag, codeOf}
-use Rattle.set_code.specs.Evaluation.{setsIn, valueOf}
-use Rattle.set_code.proofs.Leaves.{value-of-reference}
+use Rattle.set_code.specs.Evaluation.{valueOf}
 use Rattle.set_code.proofs.Places.{here}
 use Rattle.meaning_laws.proofs.ListLaws.{decided, chosen}
 use Rattle.meaning_laws.proofs.WithinDeclared.{stands-within}
@@ -30,9 +28,10 @@ use Rattle.clashes.specs.Clashes.{sharesOf, clashesOf, Codes, Segment}
 use Rattle.code_reader.specs.declared.Move.{Move}
 use Rattle.code_reader.specs.Reading.{stepOf}
 use Rattle.code_reader.proofs.Items.{Item, moves, standsAt, unitsOf, itemsCode, itemOf, items, code-items, ItemIn, moveIn, transitions-items, tag-moves, tag-no-move}
-use Rattle.code_reader.proofs.Numbers.{few-things, few-attributes, numbered-R}
-use Rattle.code_reader.proofs.RowLaws.{sets-in}
+use Rattle.code_reader.proofs.Numbers.{few-things}
+use Rattle.code_reader.proofs.RowLaws.{value-stands}
 use Rattle.clashes.proofs.SegmentLaws.{part-declared, segment-left, code-append}
+use Rattle.clashes.proofs.MeetLaws.{meet-ext, meet-bounded, meets-setOf}
 use Rattle.code_reader.proofs.Passes as passes
 use Rattle.code_reader.proofs.Passes.{Through, begin, Met, onward}
 
@@ -40,13 +39,6 @@ use Rattle.code_reader.proofs.Passes.{Through, begin, Met, onward}
 
 module _ (p : Policy) (ok : Accepted p) where
   module _ (f : Family) (rows : List ℕ) (h : rows ≡ relation 64 64 (final p f)) where
-    value-stands : (r : Reference) → ReferenceIn (declarations p) f r → (n : ℕ) → n < 512 → valueOf rows (referenceUnit r) n ≡ stands p f r n
-    unfolding stands
-    value-stands (thing m) d n l = value-of-reference rows (thing m) (numbered-R p ok f (thing m) d) n
-    value-stands (attribute a) d n l =
-        value-of-reference rows (attribute a) (numbered-R p ok f (attribute a) d) n
-        ∙ ap (λ (t : List ℕ). setsIn t a n) h ∙ sets-in (final p f) a n (omega (arith, d, few-attributes p ok f)) l
-
     stands-not : (r : Reference) → ReferenceIn (declarations p) f r → (n : ℕ) → countIn p f ≤ n → stands p f r n ≡ false
     stands-not r d n l = by (decided (stands p f r n))
       where
@@ -59,7 +51,7 @@ module _ (p : Policy) (ok : Accepted p) where
     unfolding sharesOf countIn
     shares-meet x y dx dy =
         meets-setOf 64 (valueOf rows (referenceUnit x)) (valueOf rows (referenceUnit y))
-        ∙ meet-ext 512 (valueOf rows (referenceUnit x)) (valueOf rows (referenceUnit y)) (stands p f x) (stands p f y) (value-stands x dx) (value-stands y dy)
+        ∙ meet-ext 512 (valueOf rows (referenceUnit x)) (valueOf rows (referenceUnit y)) (stands p f x) (stands p f y) (value-stands p ok f rows h x dx) (value-stands p ok f rows h y dy)
         ∙ meet-bounded (countIn p f) 512 (stands p f x) (stands p f y) (few-things p ok f) (λ k l m. stands-not x dx k l)
 
   pub clash-same : (rs ts : List ℕ) → rs ≡ relation 64 64 (final p roles) → ts ≡ relation 64 64 (final p types)

@@ -1,3 +1,4 @@
 pub mod SegmentLaws
 pub mod SharingLaws
 pub mod ClashLaws
+pub mod MeetLaws

@@ -13,10 +13,11 @@ use Rattle.bitset.specs.Sets.{member, meet, meets}
 use Rattle.bitset.specs.Parts.{part}
 use Rattle.bitset.proofs.SetLaws.{member-past}
 use Rattle.bitset.proofs.PartLaws.{length-part-le}
-use Rattle.bitset.proofs.AllLaws.{meet-ext, meet-at, meet-none, meet-bounded, meets-setOf}
 use Rattle.set_code.specs.Evaluation.{setsIn, valueOf}
 use Rattle.meaning_laws.proofs.ListLaws.{decided}
+use Rattle.meaning_laws.proofs.ClashTest.{meet-there}
 use Rattle.clashes.specs.Clashes.{sharesOf}
+use Rattle.clashes.proofs.MeetLaws.{meet-ext, meet-none, meet-bounded, meets-setOf}
 
 -- where f is true of x alone, both are true of a number below n where x is such a number
 meet-one : (n x : ℕ) (f g : ℕ → Bool) → ((k : ℕ) → k < n → f k ≡ eqb k x) → meet n f g ≡ (ltb x n && g x)
@@ -27,7 +28,7 @@ meet-one n x f g h = by (decided (ltb x n)) (decided (g x))
     other e k m (inr q) = ap (λ (b : Bool). b && g k) (h k m ∙ q)
 
     by : (ltb x n ≡ true) ⊎ (ltb x n ≡ false) → (g x ≡ true) ⊎ (g x ≡ false) → meet n f g ≡ (ltb x n && g x)
-    by (inl l) (inl e) = meet-at n f g x (ltb-true x n l) (h x (ltb-true x n l) ∙ eq-eqb x x refl) e ∙ sym (ap₂ _&&_ l e)
+    by (inl l) (inl e) = meet-there n f g x (ltb-true x n l) (h x (ltb-true x n l) ∙ eq-eqb x x refl) e ∙ sym (ap₂ _&&_ l e)
     by (inl l) (inr e) = meet-none n f g (λ k m. other e k m (decided (eqb k x))) ∙ sym (ap₂ _&&_ l e)
     by (inr l) e =
         meet-none n f g (λ k m. ap (λ (b : Bool). b && g k) (h k m ∙ ne-eqb k x (λ q. omega (arith, m, q, ltb-false x n l))))

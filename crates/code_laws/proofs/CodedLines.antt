@@ -15,13 +15,13 @@ use Rattle.policy.proofs.Lists.{all-append}
 use Rattle.policy.proofs.Gathered.{OfValue, all-gather}
 use Rattle.reading_laws.proofs.ReadThen.{line, judgedAt, read-one}
 use Rattle.reading_laws.proofs.ReadAccepted.{read-accepted}
+use Rattle.reading_laws.proofs.LongerText.{read-clean}
 use Rattle.statement_code.specs.Code.{declarationCode, statementCode, lineCode, codeOf}
 use Rattle.code_laws.specs.Shape.{StatementRowed}
 use Rattle.statement_code.specs.Numbered.{StatementNumbered}
 use Rattle.code_laws.specs.Kinds.{tagOf}
 use Rattle.code_laws.specs.Coded.{Coded, codedDeclaration, coded, codedIn, unitsOf, CodedReadable, PartsC}
 use Rattle.code_laws.proofs.StatementShape.{judge-shaped}
-use Rattle.code_laws.proofs.CodeFits.{read-clean}
 use Rattle.code_laws.proofs.Numbers.{LineNumbered, accepted-numbered}
 use Rattle.code_laws.proofs.FirstUnits.{readable, coded-parts}
 use Rattle.code_laws.proofs.Determined.{statements-determined}

@@ -10,9 +10,9 @@ use Rattle.policy.specs.Statements.{Family, users, roles, types, Reference, thi
 use Rattle.statement_code.specs.Code.{referenceUnit, allUnit, notUnit, andUnit, orUnit, xorUnit, unionUnit, endUnit, setCode, rowCode, attributeTag, setTag, relationTag, transitionTag}
 use Rattle.code_laws.specs.Shape.{IsRow, Rowed}
 use Rattle.statement_code.specs.Numbered.{NumberedR, Numbered}
+use Rattle.statement_code.proofs.Numbers.{family-few, relation-few, reference-below}
 use Rattle.code_laws.specs.Kinds.{Readable, referenceOf, nameK, kindOf, Two, PartsS, StartsS, PartsRow, StartsRow, attributeT, setT, relationT, tagOf}
 use Rattle.code_laws.specs.Coded.{Coded, attributeAt, setAt, relationAt, transitionAt, codedUnits, CodedReadable, PartsC, StartsC}
-use Rattle.code_laws.proofs.Units.{reference-below, family-few, relation-few}
 
 -- REFERENCES
 pub reference-back : (r : Reference) → NumberedR r → referenceOf (referenceUnit r) ≡ r

@@ -165,11 +165,3 @@ module _ (env : Environment) (f : Family) where
   set-shape (unionS x y) = two-shape x y _ unionS (set-shape x) (set-shape y) λ a b i j.
       record { as-many = omega arith; rowed = λ h. (i .rowed (h .0), j .row (h .1), j .rowed (h .2)); row = λ h. h }
   set-shape emptyS = just (record { as-many = refl; rowed = λ h. h; row = λ h. h })
-
--- the S whose parentheses hold i: no more units than tokens
-pub set-fits : (env : Environment) (f : Family) (i : Forms) (w : SetExpr Name) (s : SetExpr Reference) → setIn i ≡ some w → referS env f w ≡ some s
-    → length (setCode s) ≤ weight i + 1
-set-fits env f i w s h k =
-    let a = set-within i .has w h in
-    let b = set-shape env f w .has s k in
-    omega (arith, set-length s (b .rowed (a .rowed)))

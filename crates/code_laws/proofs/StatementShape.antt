@@ -92,10 +92,10 @@ module _ {A : Type 0} {P : A → Type 0} where
   at-close (word at w r) o h = nothing
   at-close (part p i r) o h = nothing
 
-  word-and-part : (f : Forms) (g : Name → Forms → Option A) → ((w : Name) (i : Forms) → weight f ≡ weight i + 3 → IfAny P (g w i)) → IfAny P (wordAndPart f g)
+  pub word-and-part : (f : Forms) (g : Name → Forms → Option A) → ((w : Name) (i : Forms) → weight f ≡ weight i + 3 → IfAny P (g w i)) → IfAny P (wordAndPart f g)
   word-and-part f g k = word-then f _ λ w r a. part-then r _ λ i q b. at-close q _ λ c. k w i (omega arith)
 
-  class-in : (taken : Name → Option Name) (f : Forms) (g : Name → List Name → Option A) → ((c : Name) (ps : List Name) → IfAny P (g c ps)) → IfAny P (classIn taken f g)
+  pub class-in : (taken : Name → Option Name) (f : Forms) (g : Name → List Name → Option A) → ((c : Name) (ps : List Name) → IfAny P (g c ps)) → IfAny P (classIn taken f g)
   class-in taken f g k = word-and-part f _ λ c i _. whatever (taken c) _ λ c. whatever (rowOf asPart i) _ λ ps. whatever (oneOrMore ps) _ λ ps. k c ps
 
 formed-shaped : (k : Keyword) (f : Forms) (n : ℕ) → weight f + 1 < n → IfAny (WrittenShaped n) (formed k f)

@@ -55,14 +55,14 @@ tokens-few (b ∷ bs) m at =
     rw (length-append (ending m at k) (tokensFrom bs (modeThen m at k) (at + 1))) (omega (arith, by-byte m at k, tokens-few bs (modeThen m at k) (at + 1)))
 
 -- each token is one token of the rows
-around : (fs : List Forms) → weight (head fs) + weightAround (tail fs) ≤ weightAround fs
+pub around-weight : (fs : List Forms) → weight (head fs) + weightAround (tail fs) ≤ weightAround fs
 unfolding weight weightAround
-around [] = omega arith
-around (f ∷ fs) = omega arith
+around-weight [] = omega arith
+around-weight (f ∷ fs) = omega arith
 
 by-token : (t : List ℕ) (k : Token) (r : Frames) → weightOf (step t k r) ≤ weightOf r + 1
 unfolding weight weightAround
-by-token t (Token.Open p) r = omega (arith, around (r .around))
+by-token t (Token.Open p) r = omega (arith, around-weight (r .around))
 by-token t (Token.Close p) r = omega arith
 by-token t (Token.Word s n) r = omega arith
 by-token t Token.End r = omega arith

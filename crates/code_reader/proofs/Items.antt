@@ -10,15 +10,16 @@ use mathlib.Core.Option.{Option, none, some, Option·none-ne-some, Option·some-
 use lib.Dec.{eqb}
 use lib.ListN.{length}
 use Rattle.bitset.specs.Relations.{joined}
-use Rattle.policy.specs.Basics.{any, each, gather, keep, given, isAmong}
-use Rattle.policy.specs.Statements.{Family, users, roles, types, thingOf, attributeOf, Declaration, plain, class, Reference, SetExpr, Relation, userrole, roletype, roleallow, fromOf, toOf, Statement, declare, attributeset, gives, roletransition, constrain, sameFamily, Line, Policy, count, classNames, setFor, setsFor, Transition, transition, transitions}
-use Rattle.policy.specs.Faults.{mentionsS, mentions, placeOf, places}
+use Rattle.policy.specs.Basics.{any, each, gather, keep, given}
+use Rattle.policy.specs.Statements.{Family, users, roles, types, thingOf, attributeOf, Declaration, plain, class, Reference, SetExpr, Relation, fromOf, toOf, Statement, declare, attributeset, gives, roletransition, constrain, sameFamily, Line, Policy, count, classNames, setFor, setsFor, Transition, transition, transitions}
+use Rattle.policy.specs.Faults.{placeOf, places}
 use Rattle.policy.specs.Accepted.{ReferenceIn, SetIn, StatementIn}
-use Rattle.policy.proofs.Lists.{any-append}
-use Rattle.statement_code.specs.Code.{referenceUnit, setCode, familyNumber, relationNumber, attributeTag, setTag, relationTag, transitionTag, statementCode, codeOf}
+use Rattle.statement_code.specs.Code.{referenceUnit, setCode, familyNumber, attributeTag, setTag, relationTag, transitionTag, statementCode, codeOf}
+use Rattle.statement_code.proofs.Numbers.{family-few, relation-few}
 use Rattle.meaning_laws.proofs.ListLaws.{decided}
 use Rattle.meaning_laws.proofs.ClashTest.{says}
 use Rattle.policy.proofs.Sameness.{family-same, family-self}
+use Rattle.policy.proofs.Lists.{any-ext}
 
 -- an attribute is declared, is given a set; a relation is given; a role transition
 pub data Item : Type 0 where
@@ -122,16 +123,6 @@ module _ {A B : Type 0} where
       go none q = q
       go (some b) q = ap (keep (h b)) q
 
-any-ext : {A : Type 0} (f g : A → Bool) (xs : List A) → ((x : A) → f x ≡ g x) → any f xs ≡ any g xs
-unfolding any
-any-ext f g [] h = refl
-any-ext f g (x ∷ xs) h = rw (h x, any-ext f g xs h)
-
-any-joined : {A : Type 0} (c : ℕ → Bool) (g : A → List ℕ) (xs : List A) → any c (joined (each g xs)) ≡ any (λ x. any c (g x)) xs
-unfolding any joined each
-any-joined c g [] = refl
-any-joined c g (x ∷ xs) = any-append c (g x) (joined (each g xs)) ∙ ap (λ (t : Bool). any c (g x) || t) (any-joined c g xs)
-
 -- ---- what the items say
 
 -- an item gives attribute a of the family an S that v says of m
@@ -162,10 +153,6 @@ sets-items f v a m p =
     by-line at (gives k x y) = refl
     by-line at (roletransition r t c n) = refl
     by-line at (constrain c ps e) = refl
-
-pub mentions-items : (p : Policy) (f : Family) (a b : ℕ) → isAmong b (mentions p f a) ≡ any (gain f (λ s x. isAmong x (mentionsS s)) a b) (items p)
-unfolding mentions isAmong
-mentions-items p f a b = any-joined (eqb b) mentionsS (setsFor f a p) ∙ sets-items f (λ s x. isAmong x (mentionsS s)) a b p
 
 -- THE PLACES of a family's attributes
 abbrev pub placeIn : Family → Item → Option ℕ
@@ -208,16 +195,6 @@ transitions-items p = sym (gather-gather itemOf moveIn transition (λ l. by-line
     by-line at (constrain c ps e) = refl
 
 -- ---- the tag tells the item
-
-pub family-few : (f : Family) → familyNumber f < 3
-family-few users = omega arith
-family-few roles = omega arith
-family-few types = omega arith
-
-pub relation-few : (k : Relation) → relationNumber k < 3
-relation-few userrole = omega arith
-relation-few roletype = omega arith
-relation-few roleallow = omega arith
 
 family-number : (f g : Family) → familyNumber f ≡ familyNumber g → f ≡ g
 family-number users users h = refl

@@ -12,9 +12,10 @@ use Rattle.policy.specs.Basics.{All}
 use Rattle.policy.specs.Accepted.{Accepted}
 use Rattle.policy.proofs.Lists.{all-right}
 use Rattle.set_code.proofs.Places.{here, behind}
+use Rattle.statement_code.proofs.Numbers.{family-few, relation-few}
 use Rattle.code_reader.specs.Reading.{operandsOf, stepOf}
 use Rattle.code_reader.proofs.OperandLaws.{Tagged, operands-of}
-use Rattle.code_reader.proofs.Items.{Item, declares, fills, relates, moves, family-few, relation-few, tagOf, standsAt, unitsOf, itemsCode, ItemIn, tag-past}
+use Rattle.code_reader.proofs.Items.{Item, declares, fills, relates, moves, tagOf, standsAt, unitsOf, itemsCode, ItemIn, tag-past}
 use Rattle.code_reader.proofs.Numbers.{small-units}
 
 -- where the next item stands

@@ -15,11 +15,16 @@ use Rattle.bitset.proofs.PartLaws.{put-setOf}
 use Rattle.set_rows.proofs.GrantLaws.{row-of, place-of}
 use Rattle.set_rows.proofs.RelationLaws.{relation-ext, relation-setOf, relation-empty, row-relation, member-relation}
 use Rattle.policy.specs.Basics.{any}
-use Rattle.policy.specs.Statements.{Family, Reference, SetExpr}
+use Rattle.policy.specs.Statements.{Family, Reference, SetExpr, thing, attribute, Policy, declarations}
 use Rattle.policy.proofs.Lists.{any-append, any-over}
-use Rattle.statement_code.specs.Code.{setTag}
-use Rattle.set_code.specs.Evaluation.{setsIn}
+use Rattle.policy.specs.Meaning.{final, stands}
+use Rattle.policy.specs.Accepted.{ReferenceIn, Accepted}
+use Rattle.statement_code.specs.Code.{setTag, referenceUnit}
+use Rattle.set_code.specs.Evaluation.{setsIn, valueOf}
+use Rattle.set_code.proofs.Leaves.{value-of-reference}
 use Rattle.code_reader.proofs.Items.{Item, fills, tagOf, gain, gain-here, tag-no-gain}
+use Rattle.code_reader.specs.AttributeSets.{finalSets}
+use Rattle.code_reader.proofs.Numbers.{few-attributes, numbered-R}
 
 -- a number of a row is read back
 pub sets-in : (R : ℕ → ℕ → Bool) (a n : ℕ) → a < 64 → n < 512 → setsIn (relation 64 64 R) a n ≡ R a n
@@ -67,3 +72,12 @@ module _ (f : Family) (v : SetExpr Reference → ℕ → Bool) where
   rows-over is i rows h e =
       e ∙ relation-ext 64 64 (λ a m. any (gain f v a m) is) (λ a m. any (gain f v a m) (is ++ (i ∷ [])))
       (λ a m k j. sym (any-over (gain f v a m) is i (tag-no-gain f v a m i h)))
+
+-- a reference of the code stands, by the final sets of its family, for what it stands for in the policy
+module _ (p : Policy) (ok : Accepted p) (f : Family) (rows : List ℕ) (h : rows ≡ finalSets p f) where
+  pub value-stands : (r : Reference) → ReferenceIn (declarations p) f r → (n : ℕ) → n < 512 → valueOf rows (referenceUnit r) n ≡ stands p f r n
+  unfolding stands
+  value-stands (thing m) d n l = value-of-reference rows (thing m) (numbered-R p ok f (thing m) d) n
+  value-stands (attribute a) d n l =
+      value-of-reference rows (attribute a) (numbered-R p ok f (attribute a) d) n
+      ∙ ap (λ (t : List ℕ). setsIn t a n) h ∙ sets-in (final p f) a n (omega (arith, d, few-attributes p ok f)) l

@@ -13,6 +13,7 @@ use Rattle.bitset.specs.Parts.{put}
 use Rattle.bitset.specs.Relations.{joined}
 use Rattle.lexer.specs.Scan.{maxLevel}
 use Rattle.lexer.specs.Forms.{Forms, closed, part, framesAt, trim}
+use Rattle.lexer.proofs.Trim.{startsPart}
 use Rattle.policy.specs.Basics.{Name, _>>=_, each}
 use Rattle.policy.specs.Statements.{Reference, Constraint, sidesE, nameE, notE, andE, orE, Written, Statement, constrain, size, need}
 use Rattle.policy.specs.Maxima.{maxConstraints, maxRows, maxStack}
@@ -38,7 +39,7 @@ use Rattle.constrain_statement.specs.declared.Constrained.{Constrained}
 use Rattle.constrain_statement.specs.declared.Scope.{Scope}
 use Rattle.constrain_statement.proofs.Masking.{tag}
 use Rattle.constrain_statement.proofs.Shapes.{Shape, shape}
-use Rattle.constrain_statement.proofs.Scoping.{startsPart, not-there, no-part, same-parts}
+use Rattle.constrain_statement.proofs.Scoping.{not-there, no-part, same-parts}
 
 -- ---- the stack need of an expression does not change where its names are resolved
 

@@ -6,9 +6,9 @@ use native.Mathlib.Omega.{arith}
 use lib.ListN.{length, set}
 use lib.Seq.{sets}
 use Rattle.bitset.specs.Parts.{put}
+use Rattle.bitset.proofs.PartLaws.{sets-put}
 use Rattle.policy.specs.Basics.{le}
 use Rattle.policy.specs.Encode.{headBytes}
-use Rattle.symbols.proofs.AppendLaws.{put-sets}
 use Rattle.table_laws.proofs.Records.{head-wide}
 use Rattle.constrain_statement.specs.Constraining.{headWith}
 
@@ -33,4 +33,4 @@ pub stored : (t : List ℕ) (o c m first rows : ℕ) → o + 10 ≤ length t
 unfolding le
 stored t o c m first rows h =
     ten-stores t o (c % 256) (c / 256 % 256) (m % 256) (m / 256 % 256) (m / 256 / 256 % 256) (m / 256 / 256 / 256 % 256) (first % 256) (first / 256 % 256) (rows % 256) (rows / 256 % 256)
-    ∙ put-sets t o (headBytes (headWith c m first rows)) (omega (arith, head-wide (headWith c m first rows)))
+    ∙ sets-put t o (headBytes (headWith c m first rows)) (omega (arith, head-wide (headWith c m first rows)))

@@ -11,14 +11,15 @@ use types.Run.{OneOf}
 use denote.Enum.Declared.{tagOf}
 use Rattle.bitset.specs.Sets.{bit, fromBits}
 use Rattle.bitset.proofs.BitLaws.{fromBits-lt}
-use Rattle.lexer.specs.Forms.{Forms, word, part, framesAt}
+use Rattle.lexer.specs.Forms.{Forms, word, framesAt}
 use Rattle.policy.specs.Basics.{Name, _>>=_, more, eachOf}
 use Rattle.policy.specs.Words.{isReserved, dotless, asPart}
 use Rattle.policy.specs.Statements.{permissions}
 use Rattle.policy.specs.Grammar.{rowOf}
 use Rattle.policy.specs.Image.{maskOf}
-use Rattle.table_laws.proofs.ListLaws.{given-some, more-some}
+use Rattle.table_laws.proofs.ListLaws.{more-some}
 use Rattle.policy.specs.Names.{Environment}
+use Rattle.policy.proofs.Options.{given-some}
 use Rattle.symbols.specs.Resolving.{foundPermission}
 use Rattle.scopes.specs.Symbols.{Symbols, LooksPermission}
 use Rattle.symbols.specs.declared.Found.{Found}

@@ -10,6 +10,7 @@ use lib.ListN.{take, drop}
 use types.Run.{OneOf}
 use Rattle.lexer.specs.Scan.{maxLevel}
 use Rattle.lexer.specs.Forms.{Forms, closed, ended, word, part, framesAt, trim}
+use Rattle.lexer.proofs.Trim.{same-words, startsPart}
 use Rattle.policy.specs.Basics.{Name, _>>=_}
 use Rattle.policy.specs.Words.{asPart}
 use Rattle.policy.specs.Grammar.{rowOf}
@@ -38,12 +39,6 @@ startsWord ended = false
 startsWord (word s w f) = true
 startsWord (part p f g) = false
 
-abbrev pub startsPart : Forms → Bool
-startsPart closed = false
-startsPart ended = false
-startsPart (word s w f) = false
-startsPart (part p f g) = true
-
 -- a row of which q is true does not start with an item of which q is false
 pub not-there : {X : Type 0} (q : Forms → Bool) (t : List ℕ) (i levels : ℕ) (f : Forms) → trim (framesAt t i .here) levels ≡ f → q f ≡ true
     → (ks : List ℕ) → Alike q (λ f. false) ks → {k : Item} → k ≡ itemAt t i → OneOf ks (tag k) → X
@@ -67,9 +62,6 @@ abbrev levels : ℕ
 levels = maxLevel - 2
 
 -- the parts of two rows that are the same
-pub same-words : {s r : ℕ} {v w : Name} {f g : Forms} → word s v f ≡ word r w g → (v ≡ w) × (f ≡ g)
-same-words e = (cc, cc)
-
 pub same-parts : {p q : ℕ} {f g h k : Forms} → part p f g ≡ part q h k → (f ≡ h) × (g ≡ k)
 same-parts e = (cc, cc)
 

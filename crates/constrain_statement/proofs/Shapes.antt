@@ -9,7 +9,8 @@ use Rattle.policy.specs.Basics.{Name, _>>=_}
 use Rattle.policy.specs.Words.{isReserved, asName, asPart, constrainK}
 use Rattle.policy.specs.Statements.{Constraint, Written, constrain}
 use Rattle.policy.specs.Grammar.{rowOf, oneOrMore, classIn, expressionIn, formed}
-use Rattle.table_laws.proofs.ListLaws.{bound-then, given-some}
+use Rattle.policy.proofs.Options.{given-some}
+use Rattle.table_laws.proofs.ListLaws.{bound-then}
 use Rattle.constraint_writer.proofs.Resolving.{never}
 use Rattle.constrain_statement.specs.Scopes.{ScopeForm}
 

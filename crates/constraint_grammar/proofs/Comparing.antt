@@ -1,6 +1,6 @@
 -- Which three words a comparison may have, by their numbers and whether the last is a name. Assumes nothing.
 use mathlib.Core.Path.{_≡_, refl, sym, ap, _∙_}
-use mathlib.Core.Bool.{Bool, true, false, not, _&&_, _||_, and-false}
+use mathlib.Core.Bool.{Bool, true, false, not, _&&_, _||_, and-false, and-true}
 use mathlib.Core.List.{[]}
 use mathlib.Core.Option.{Option, none, some}
 use Prim.Native.Nat.{ℕ, _<_, _≤_}
@@ -10,10 +10,11 @@ use lib.Dec.{eqb, leb}
 use Rattle.lexer.specs.Class.{classOf, parts}
 use Rattle.lexer.specs.Forms.{Forms, closed, ended, word, part, trim}
 use Rattle.lexer.proofs.Trim.{cut-or-whole}
-use Rattle.policy.specs.Basics.{Name, same, any, every, isIn, lookup, _>>=_, given}
+use Rattle.policy.specs.Basics.{Name, same, any, every, isIn, lookup, _>>=_}
 use Rattle.policy.specs.Words.{reserved, isReserved, isPlain, opOf, Component, component, componentOf}
 use Rattle.policy.specs.Statements.{Family, roles, Side, source, target, Op, eq, neq, dom, domby, incomp, Constraint, sidesE, nameE}
 use Rattle.policy.specs.Grammar.{areSides, isRoles, compared, comparison}
+use Rattle.policy.proofs.Options.{given-passes}
 use Rattle.words.specs.Numbers.{keywords, words, numberOf, wordOf}
 use Rattle.words.proofs.Meaning.{numbered, agreeing, agree, missing, op-number, component-number}
 use Rattle.items.specs.Reads.{isSome}
@@ -22,14 +23,6 @@ use Rattle.constraint_grammar.specs.Comparisons.{plainOp, sidesOf, compa
 
 never : {X : Type 0} → true ≡ false → X
 never e = absurd (let z : _≡_ {A = ℕ} 0 1 = cc in omega arith)
-
-pub none-of : {A : Type 0} (o : Option A) → isSome o ≡ false → o ≡ none
-none-of none e = refl
-none-of (some a) e = never e
-
-given-some : {A : Type 0} (b : Bool) (a : A) → isSome (given b a) ≡ b
-given-some true a = refl
-given-some false a = refl
 
 -- ---- the last word is a name, or a reserved word
 
@@ -42,7 +35,7 @@ by-name : (o : Option Op) (v : Option Component) (w : Name) → isReserved w ≡
 by-name none none w e = refl
 by-name none (some x) w e = refl
 by-name (some o) none w e = refl
-by-name (some o) (some x) w e = rw (named w e, e) (given-some (isPlain o) (nameE (x .family) (x .side) o w))
+by-name (some o) (some x) w e = rw (named w e, e) (given-passes isSome (isPlain o) (nameE (x .family) (x .side) o w) refl refl)
 
 -- "op: `eq neq`; rop: also `dom domby incomp`"
 abbrev anyOp : Option Op → Option Component → Bool
@@ -57,7 +50,7 @@ by-sides (some o) (some x) w e = go (componentOf w) refl
   where
     go : (y : Option Component) → componentOf w ≡ y → isSome (compared o x w (componentOf w)) ≡ sidesOf (some x) (componentOf w) && (isPlain o || isRoles (x .family))
     go none d = rw (d, e)
-    go (some y) d = rw d (given-some (areSides x y && (isPlain o || isRoles (x .family))) (sidesE (x .family) o))
+    go (some y) d = rw d (given-passes isSome (areSides x y && (isPlain o || isRoles (x .family))) (sidesE (x .family) o) refl refl)
 
 -- ---- what numbers say
 
@@ -221,10 +214,6 @@ by-numbers o v w =
 wrong : (o : Option Op) → isSome {A = Constraint Name} (o >>= λ x. none) ≡ false
 wrong none = refl
 wrong (some o) = refl
-
-and-true : (b : Bool) → b && true ≡ b
-and-true true = refl
-and-true false = refl
 
 -- a comparison by the number of its first word
 pub compare-is : (w : Name) (f : Forms) → isSome (comparison w f) ≡ bothSides (numberOf w) f

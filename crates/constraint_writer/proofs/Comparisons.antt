@@ -2,7 +2,7 @@
 use mathlib.Core.Path.{_≡_, refl, sym, ap, _∙_}
 use mathlib.Core.Bool.{Bool, true, false, not, _&&_, _||_}
 use mathlib.Core.List.{List, [], _∷_}
-use mathlib.Core.Option.{Option, none, some, Option·some-injective}
+use mathlib.Core.Option.{Option, none, some}
 use Prim.Native.Nat.{ℕ, _+_, _-_}
 use native.Mathlib.Omega.{arith}
 use lib.Dec.{eqb}
@@ -17,9 +17,10 @@ use Rattle.policy.specs.Grammar.{areSides, isRoles, compared, comparison}
 use Rattle.policy.specs.Names.{refer, Environment}
 use Rattle.policy.specs.Reading.{referE}
 use Rattle.policy.specs.Rows.{Row, row, compCode, opCode, rowsOf}
+use Rattle.policy.proofs.Options.{given-some}
 use Rattle.words.specs.Numbers.{wordOf}
 use Rattle.words.proofs.Meaning.{component-number}
-use Rattle.items.proofs.Frames.{Looked}
+use Rattle.items.proofs.Frames.{FramesSeen}
 use Rattle.items.specs.Looks.{itemAt}
 use Rattle.items.specs.declared.Item.{Item}
 use Rattle.items.proofs.Frames.{here-of, around-of, closes}
@@ -43,10 +44,6 @@ rowBy o c Operand.Undeclared = none
 abbrev byWords : Option Op → Option Component → Name → Option Component → Option (Constraint Name)
 byWords o x u y = o >>= λ o. x >>= λ x. compared o x u y
 
-given-is : {A : Type 0} (b : Bool) (a c : A) → given b a ≡ some c → (b ≡ true) × (a ≡ c)
-given-is true a c e = (refl, Option·some-injective a c e)
-given-is false a c e = never e
-
 side-first : (x y : Component) (b : Bool) → areSides x y && b ≡ true → x .side ≡ source
 side-first x y b e = go (x .side) refl
   where
@@ -61,7 +58,7 @@ module _ (env : Environment) (u : Name) where
   of-sides : (o : Op) (x y : Component) (e : Constraint Name) → compared o x u (some y) ≡ some e → rowsNamed env e ≡ rowBy (opCode o) (compCode (x .family) (x .side)) (Operand.Is 3 0)
   unfolding referE rowsOf
   of-sides o x y e h =
-      let b = given-is (areSides x y && (isPlain o || isRoles (x .family))) (sidesE (x .family) o) e h in
+      let b = given-some (areSides x y && (isPlain o || isRoles (x .family))) (sidesE (x .family) o) e h in
       rw (side-first x y (isPlain o || isRoles (x .family)) (b .0)) (ap (rowsNamed env) (sym (b .1)))
 
   of-name : (o : Op) (x : Component) (e : Constraint Name) → compared o x u none ≡ some e
@@ -79,7 +76,7 @@ module _ (env : Environment) (u : Name) where
           → rowsNamed env e ≡ rowBy (opCode o) (compCode (x .family) (x .side)) (operandOf none (refer env (x .family) u))
       go false g = never g
       go true g =
-          ap (rowsNamed env) (sym (given-is (isPlain o) (nameE (x .family) (x .side) o u) e g .1)) ∙ by-reference (refer env (x .family) u) refl
+          ap (rowsNamed env) (sym (given-some (isPlain o) (nameE (x .family) (x .side) o u) e g .1)) ∙ by-reference (refer env (x .family) u) refl
 
   row-of : (o : Option Op) (x y : Option Component) (e : Constraint Name) → byWords o x u y ≡ some e
       → (k : Operand) → ((f : Family) (s : Side) → codeOf x ≡ compCode f s → k ≡ operandOf y (refer env f u))
@@ -94,12 +91,12 @@ need-of : (o : Option Op) (x : Option Component) (u : Name) (y : Option Componen
 unfolding need
 need-of none x u y e h = never h
 need-of (some o) none u y e h = never h
-need-of (some o) (some x) u (some y) e h = ap need (given-is (areSides x y && (isPlain o || isRoles (x .family))) (sidesE (x .family) o) e h .1)
+need-of (some o) (some x) u (some y) e h = ap need (given-some (areSides x y && (isPlain o || isRoles (x .family))) (sidesE (x .family) o) e h .1)
 need-of (some o) (some x) u none e h = go (not (isReserved u)) h
   where
     go : (b : Bool) → (given b u >>= λ n. given (isPlain o) (nameE (x .family) (x .side) o n)) ≡ some e → 1 ≡ need e
     go false g = never g
-    go true g = ap need (given-is (isPlain o) (nameE (x .family) (x .side) o u) e g .1)
+    go true g = ap need (given-some (isPlain o) (nameE (x .family) (x .side) o u) e g .1)
 
 -- ---- rows that are no comparison
 
@@ -127,13 +124,13 @@ pub first-missing : (t : List ℕ) (at : ℕ) (w : Name) {i : Item} → i ≡ it
 first-missing t at w {i} d h = alike-here (comparison w) (λ f. none) t at i (1 ∷ 2 ∷ 3 ∷ []) (no-first w) d h
 
 module _ {t : List ℕ} {at : ℕ} (w : Name) where
-  module _ {s n x p : ℕ} (l : Looked t at (Item.Word s n x p)) where
+  module _ {s n x p : ℕ} (l : FramesSeen t at (Item.Word s n x p)) where
     pub second-missing : {i : Item} → i ≡ itemAt t p → OneOf (1 ∷ 2 ∷ 3 ∷ []) (tag i) → comparison w (framesAt t at .here) ≡ none
     second-missing {i} d h =
         let v = take n (drop s t) in
         ap (comparison w) (here-of l) ∙ alike-here (λ f. comparison w (word s v f)) (λ f. none) t p i (1 ∷ 2 ∷ 3 ∷ []) (no-second w s v) d h
 
-    pub close-missing : {r k y q : ℕ} → Looked t p (Item.Word r k y q) → {i : Item} → i ≡ itemAt t q → OneOf (0 ∷ 1 ∷ 3 ∷ []) (tag i) → comparison w (framesAt t at .here) ≡ none
+    pub close-missing : {r k y q : ℕ} → FramesSeen t p (Item.Word r k y q) → {i : Item} → i ≡ itemAt t q → OneOf (0 ∷ 1 ∷ 3 ∷ []) (tag i) → comparison w (framesAt t at .here) ≡ none
     close-missing {r} {k} {y} {q} l2 {i} d h =
         let v = take n (drop s t) in
         let u = take k (drop r t) in
@@ -166,7 +163,7 @@ cut-comparison w (word s v (word r u (part x f g))) n =
 
 -- ---- two words and a close
 
-module _ {t : List ℕ} {at s n x p r k y q j : ℕ} (l : Looked t at (Item.Word s n x p)) (l2 : Looked t p (Item.Word r k y q)) (l3 : Looked t q (Item.Close j)) (w : Name) where
+module _ {t : List ℕ} {at s n x p r k y q j : ℕ} (l : FramesSeen t at (Item.Word s n x p)) (l2 : FramesSeen t p (Item.Word r k y q)) (l3 : FramesSeen t q (Item.Close j)) (w : Name) where
   in-words : comparison w (framesAt t at .here) ≡ byWords (opOf w) (componentOf (take n (drop s t))) (take k (drop r t)) (componentOf (take k (drop r t)))
   in-words = ap (comparison w) (here-of l ∙ ap (word s (take n (drop s t))) (here-of l2 ∙ ap (word r (take k (drop r t))) (here-of l3)))
 

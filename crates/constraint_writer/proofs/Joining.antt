@@ -16,7 +16,7 @@ use Rattle.policy.specs.Rows.{Row, row, rowsOf}
 use Rattle.policy.specs.Names.{Environment}
 use Rattle.words.specs.Numbers.{wordOf}
 use Rattle.words.proofs.Meaning.{expression-number, op-number}
-use Rattle.items.proofs.Frames.{Looked}
+use Rattle.items.proofs.Frames.{FramesSeen}
 use Rattle.items.specs.declared.Item.{Item}
 use Rattle.items.proofs.Frames.{around-of, closes, by-word, by-part, by-close}
 use Rattle.items.proofs.Items.{Alike}
@@ -112,7 +112,7 @@ pub no-word : Alike expressionIn (λ f. none) (1 ∷ 2 ∷ 3 ∷ [])
 unfolding expressionIn
 no-word = (tt, λ x f g. refl, refl, refl)
 
-module _ {t : List ℕ} {at s k number q : ℕ} (l : Looked t at (Item.Word s k number q)) where
+module _ {t : List ℕ} {at s k number q : ℕ} (l : FramesSeen t at (Item.Word s k number q)) where
   number-is : expressionWord (take k (drop s t)) ≡ expressionWord (wordOf number)
   number-is = expression-number (take k (drop s t)) ∙ ap (λ (n : ℕ). expressionWord (wordOf n)) (l .ahead .2)
 
@@ -249,7 +249,7 @@ module _ {t symbols before now : List ℕ} {at levels kind first i n count d : �
       → Writes t at (expressionIn (trim (framesAt t at .here) levels)) symbols before now first RowsWritten.Undeclared
   no-operand o = record { kept = g .kept; reads = tt; needs = λ e h. tt; rows = λ env e y h. never (sym o ∙ g .so-far env e y h .reads) }
 
-  module _ {p q : ℕ} {new : List ℕ} (l : Looked t i (Item.Open p q)) (deep : levels ≡ 0 → ⊥) where
+  module _ {p q : ℕ} {new : List ℕ} (l : FramesSeen t i (Item.Open p q)) (deep : levels ≡ 0 → ⊥) where
     pub operand-done : {past m a b : ℕ} → Writes t q (expressionIn (trim (framesAt t q .here) (levels - 1))) symbols now new n (RowsWritten.Next past m a)
         → b ≡ max d (count + a) → Loop t at levels symbols kind first before past m (count + 1) b new
     operand-done {past} {m} {a} {b} w f = record {
@@ -280,7 +280,7 @@ module _ {t symbols before now : List ℕ} {at levels kind first i n count d : �
           (none-more (g .so-far env e y h) p _ _ (by-part expressions levels l deep) (λ x d. unsettles env x now new n (w .rows env x y d)));
     }
 
-  pub finished : {j : ℕ} {new : List ℕ} → Looked t i (Item.Close j) → Wrote now new n (row kind 0 0 0 ∷ [])
+  pub finished : {j : ℕ} {new : List ℕ} → FramesSeen t i (Item.Close j) → Wrote now new n (row kind 0 0 0 ∷ [])
       → Writes t at (expressionIn (trim (framesAt t at .here) levels)) symbols before new first (RowsWritten.Next j (n + 1) d)
   finished {j} {new} l w = record {
     kept = kept-on (g .rises) (g .kept) (w .kept);

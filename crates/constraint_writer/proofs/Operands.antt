@@ -11,9 +11,10 @@ use Rattle.policy.specs.Names.{refer, Named, referenceOf}
 use Rattle.policy.specs.Rows.{compCode}
 use Rattle.policy.specs.Encode.{sortCode}
 use Rattle.policy.specs.Basics.{Name, _>>=_}
+use Rattle.policy.proofs.Sorts.{thing-sort, attribute-sort}
 use Rattle.words.specs.Numbers.{wordOf}
 use Rattle.items.specs.declared.Item.{Item}
-use Rattle.items.proofs.Frames.{Looked}
+use Rattle.items.proofs.Frames.{FramesSeen}
 use Rattle.items.proofs.Items.{word-lent}
 use Rattle.scopes.specs.Symbols.{Looks}
 use Rattle.symbols.specs.Resolving.{familyCode, foundNamed}
@@ -50,16 +51,6 @@ two-sides (some x) r h = refl
 
 -- ---- what is found
 
-below-three : (f : Family) → sortCode (thingOf f) < 3
-below-three users = omega arith
-below-three roles = omega arith
-below-three types = omega arith
-
-three-up : (f : Family) → 3 ≤ sortCode (attributeOf f)
-three-up users = omega arith
-three-up roles = omega arith
-three-up types = omega arith
-
 -- what stands for a name, as a thing or an attribute
 abbrev referred : Option Named → Option Reference
 referred o = o >>= λ d. some (referenceOf d)
@@ -76,11 +67,11 @@ module _ (d : Named) (sort n : ℕ) (e : Found.At (sortCode (d .sort)) (d .numbe
 
   as-thing : sort < 3 → (s : Sort) → d .sort ≡ s → Operand.Is 4 n ≡ by-sort s
   as-thing h (thingOf f) q = rw same-number
-  as-thing h (attributeOf f) q = absurd (omega (arith, three-up f, same-sort, ap sortCode q))
+  as-thing h (attributeOf f) q = absurd (omega (arith, attribute-sort f, same-sort, ap sortCode q))
 
   as-attribute : 3 ≤ sort → (s : Sort) → d .sort ≡ s → Operand.Is 5 n ≡ by-sort s
   as-attribute h (attributeOf f) q = rw same-number
-  as-attribute h (thingOf f) q = absurd (omega (arith, below-three f, same-sort, ap sortCode q))
+  as-attribute h (thingOf f) q = absurd (omega (arith, thing-sort f, same-sort, ap sortCode q))
 
 thing-found : (o : Option Named) (sort n : ℕ) → foundNamed o ≡ Found.At sort n → sort < 3 → Operand.Is 4 n ≡ operandOf none (referred o)
 thing-found none sort n e h = absurd (let z : _≡_ {A = ℕ} 0 1 = cc in omega arith)
@@ -120,7 +111,7 @@ module _ (w : Name) (number side : ℕ) (symbols : List ℕ) (code : ℕ) (is : 
     missing g = by-reference Found.Missing Operand.Undeclared g none-found
 
 -- what was answered of the bytes that are lent is said of the word
-pub compares-told : {t : List ℕ} {at start len x next : ℕ} → Looked t at (Item.Word start len x next) → {symbols : List ℕ} {number side : ℕ} {r k : Operand}
+pub compares-told : {t : List ℕ} {at start len x next : ℕ} → FramesSeen t at (Item.Word start len x next) → {symbols : List ℕ} {number side : ℕ} {r k : Operand}
     → Compares (take ((start + len) - start) (drop start t)) number side symbols r → r ≡ k → Compares (take len (drop start t)) number side symbols k
 compares-told {t} {start = start} {len = len} l {symbols} {number} {side} {k = k} c e =
     subst (λ (w : Name). Compares w number side symbols k) (word-lent t start len)

@@ -2,18 +2,16 @@
 use mathlib.Core.Path.{_≡_, refl, sym, ap, _∙_}
 use mathlib.Core.List.{List, [], _∷_, _++_}
 use Prim.Native.Nat.{ℕ, suc, _+_, _*_, _/_, _%_, _≤_, _<_}
-use native.Mathlib.Nat.{add-zero, add-suc, suc-add}
 use native.Mathlib.Omega.{arith}
 use lib.ListN.{length, take, set, length-append}
 use lib.Seq.{sets, length-sets, take-set-le, take-take}
 use Rattle.bitset.specs.Parts.{put}
 use Rattle.bitset.specs.Relations.{joined}
-use Rattle.bitset.proofs.PartLaws.{put-none}
+use Rattle.bitset.proofs.PartLaws.{put-none, put-put, sets-put}
 use Rattle.policy.specs.Basics.{each, le}
 use Rattle.policy.specs.Rows.{Row, row}
 use Rattle.policy.specs.Encode.{rowBytes}
 use Rattle.policy.proofs.Lists.{joined-append, each-append}
-use Rattle.symbols.proofs.AppendLaws.{put-sets, length-put}
 use Rattle.constraint_writer.specs.Writing.{Kept, Wrote}
 
 -- the bytes of some rows
@@ -60,24 +58,13 @@ pub stored : (t : List ℕ) (n k c p i : ℕ) → n < length t / 6
 unfolding joined each le
 stored t n k c p i h = rw (six-stores t (6 * n) k c p (i % 256) (i / 256 % 256)) (record {
   kept = record { long = length-sets t (6 * n) (bytesOf (row k c p i ∷ [])); front = take-sets (6 * n) t (6 * n) (bytesOf (row k c p i ∷ [])) (omega arith) };
-  put-there = λ g. put-sets t (6 * n) (bytesOf (row k c p i ∷ [])) (omega arith);
+  put-there = λ g. sets-put t (6 * n) (bytesOf (row k c p i ∷ [])) (omega arith);
 })
 
 pub no-room : (t : List ℕ) (n : ℕ) (r : Row) → length t / 6 ≤ n → Wrote t t n (r ∷ [])
 no-room t n r h = record { kept = all-kept t n; put-there = λ g. absurd (omega arith) }
 
 -- ---- rows behind rows
-
-sets-append : (l : List ℕ) (i : ℕ) (vs ws : List ℕ) → sets (sets l i vs) (i + length vs) ws ≡ sets l i (vs ++ ws)
-sets-append l i [] ws = rw add-zero
-sets-append l i (a ∷ vs) ws = rw (add-suc i (length vs), ← suc-add i (length vs)) (sets-append (set l i a) (suc i) vs ws)
-
-put-append : (t : List ℕ) (o : ℕ) (a b : List ℕ) → o + (length a + length b) ≤ length t → put (put t o a) (o + length a) b ≡ put t o (a ++ b)
-put-append t o a b h =
-    sym (put-sets (put t o a) (o + length a) b (omega (arith, length-put t o a (omega arith))))
-    ∙ ap (λ (x : List ℕ). sets x (o + length a) b) (sym (put-sets t o a (omega arith)))
-    ∙ sets-append t o a b
-    ∙ put-sets t o (a ++ b) (omega (arith, length-append a b))
 
 pub none-wrote : (t : List ℕ) (n : ℕ) → Wrote t t n []
 unfolding joined each
@@ -95,6 +82,6 @@ wrote-on {a} {b} {c} {n} m rs qs e u v = record {
       v .put-there (omega arith)
       ∙ ap (λ (o : ℕ). put b o (bytesOf qs)) place
       ∙ ap (λ (x : List ℕ). put x (6 * n + length (bytesOf rs)) (bytesOf qs)) (u .put-there (omega arith))
-      ∙ put-append a (6 * n) (bytesOf rs) (bytesOf qs) (omega arith)
+      ∙ put-put a (6 * n) (bytesOf rs) (bytesOf qs) (omega arith)
       ∙ ap (put a (6 * n)) (sym (ap joined (each-append rowBytes rs qs) ∙ joined-append (each rowBytes rs) (each rowBytes qs)));
 }

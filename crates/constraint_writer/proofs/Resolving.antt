@@ -4,24 +4,16 @@ use mathlib.Core.List.{List}
 use mathlib.Core.Option.{Option, none, some, Option·some-injective}
 use Prim.Native.Nat.{ℕ, _+_, _<_}
 use native.Mathlib.Omega.{arith}
-use lib.ListN.{length, length-append}
+use lib.ListN.{length}
 use Rattle.lexer.specs.Forms.{Forms, head, tail, framesAt}
 use Rattle.policy.specs.Basics.{Name, _>>=_}
-use Rattle.policy.specs.Statements.{Reference, Constraint, sidesE, nameE, notE, andE, orE, size}
+use Rattle.policy.specs.Statements.{Reference, Constraint, size}
 use Rattle.policy.specs.Reading.{referE}
 use Rattle.policy.specs.Rows.{Row, rowsOf}
 use Rattle.policy.specs.Names.{Environment}
+use Rattle.policy.proofs.RowCounts.{rows-count}
 use Rattle.constraint_writer.specs.Writing.{Kept, Wrote, Resolves, Reads, Writes}
 use Rattle.constraint_writer.specs.declared.RowsWritten.{RowsWritten}
-
--- "one per operator and comparison"
-pub rows-count : (e : Constraint Reference) → length (rowsOf e) ≡ size e
-unfolding rowsOf size
-rows-count (sidesE f o) = refl
-rows-count (nameE f s o r) = refl
-rows-count (notE a) = simp (length-append, rows-count a) (omega arith)
-rows-count (andE a b) = simp (length-append, rows-count a, rows-count b) (omega arith)
-rows-count (orE a b) = simp (length-append, rows-count a, rows-count b) (omega arith)
 
 -- the rows of an expression; none where a name of it is not declared
 abbrev pub rowsNamed : Environment → Constraint Name → Option (List Row)

@@ -1,8 +1,8 @@
 -- What a word means that is none of some numbers' words: nothing, if all words that mean something have those numbers. Assumes nothing.
 use mathlib.Core.Path.{_≡_, refl, sym, _∙_}
-use mathlib.Core.Bool.{Bool, true, false}
+use mathlib.Core.Bool.{true, false}
 use mathlib.Core.List.{List, [], _∷_}
-use mathlib.Core.Option.{Option, none, some}
+use mathlib.Core.Option.{Option, none}
 use Prim.Native.Nat.{ℕ, _<_}
 use native.Mathlib.Omega.{arith}
 use borrow.Author.Tests.{ne-eqb, leb-true}
@@ -11,14 +11,8 @@ use Rattle.policy.specs.Basics.{Name, any, every, isAmong}
 use Rattle.policy.proofs.Lists.{both-true}
 use Rattle.words.specs.Numbers.{wordOf}
 use Rattle.words.proofs.Meaning.{numbered, agreeing, agree}
-
-abbrev pub isSome : {A : Type 0} → Option A → Bool
-isSome none = false
-isSome (some a) = true
-
-none-of : {A : Type 0} (o : Option A) → isSome o ≡ false → o ≡ none
-none-of none e = refl
-none-of (some a) e = absurd (let z : _≡_ {A = ℕ} 0 1 = cc in omega arith)
+use Rattle.items.proofs.Counts.{none-of}
+use Rattle.items.specs.Reads.{isSome}
 
 beyond : (ks : List ℕ) (n : ℕ) → every (λ k. leb k 39) ks ≡ true → 39 < n → isAmong n ks ≡ false
 unfolding every isAmong any

@@ -7,9 +7,10 @@ use Rattle.policy.specs.Meaning.{Context}
 use Rattle.policy.specs.Deciding.{validBy, declaredContext, answered, refused}
 use Rattle.policy.specs.Questions.{givenIn, valid, validOn}
 use Rattle.table_laws.specs.SoundTable.{Sound}
+use Rattle.table_laws.proofs.QuestionLaws.{asked-sound}
 use Rattle.decisions.specs.TableAnswers.{declaresContext, isGivenIn, isValidIn}
 use Rattle.table_names.specs.TableNames.{countsIn}
-use Rattle.decisions.proofs.SoundLaws.{asked-image, declares-context, declared-numbers, user-role, role-type}
+use Rattle.decisions.proofs.SoundLaws.{declares-context, declared-numbers, user-role, role-type}
 use Rattle.decisions.proofs.NameLaws.{object-of}
 
 module _ (t : List ℕ) (s : Sound t) where
@@ -25,7 +26,7 @@ module _ (t : List ℕ) (s : Sound t) where
   pub valid-of : (c : Context) → validOn t c ≡ cond (declaresContext (countsIn t) c) (answered (isValidIn t c)) (refused 12 0)
   unfolding validOn valid
   valid-of c =
-      asked-image t s (λ i. valid i c) ∙ by (declaredContext (s .image .names) c) refl
+      asked-sound (λ i. valid i c) t s ∙ by (declaredContext (s .image .names) c) refl
       ∙ ap (λ (b : Bool). cond b (answered (isValidIn t c)) (refused 12 0)) (sym (declares-context t s c))
     where
       by : (b : Bool) → declaredContext (s .image .names) c ≡ b

@@ -1,7 +1,7 @@
 -- What the count of a table's names tells is what a question asks of its names. Assumes nothing.
 use Prim.Native.Nat.{ℕ, _<_}
 use native.Mathlib.Omega.{arith}
-use mathlib.Core.Path.{_≡_, refl, sym, ap, _∙_}
+use mathlib.Core.Path.{_≡_, sym, ap, _∙_}
 use mathlib.Core.Bool.{true}
 use mathlib.Core.List.{List, []}
 use mathlib.Core.Option.{Option, some, Option·some-injective}
@@ -20,8 +20,7 @@ use Rattle.table_laws.proofs.SoundLaws.{sound-read}
 use Rattle.soundness.specs.IsSound.{isSound}
 use Rattle.soundness.specs.Telling.{Tells}
 use Rattle.soundness.proofs.Deciding.{sound-by}
-use Rattle.table_names.specs.declared.Counts.{Counts}
-use Rattle.table_names.specs.TableNames.{countIn, countsIn, permissionIn, isFoundName}
+use Rattle.table_names.specs.TableNames.{countsIn, permissionIn, isFoundName}
 use Rattle.decisions.proofs.SoundLaws.{sound-table, things-of, classes-of}
 use Rattle.decisions.proofs.NameLaws.{permission-found, class-below}
 

@@ -2,20 +2,20 @@
 use Prim.Native.Nat.{ℕ, zero, suc, _+_, _*_, _/_, _%_, _<_, _≤_}
 use native.Mathlib.Omega.{arith}
 use mathlib.Core.Path.{_≡_, refl, sym, ap, ap₂, _∙_}
-use mathlib.Core.Bool.{Bool, true, false, _&&_, _||_, cond}
+use mathlib.Core.Bool.{Bool, true, false, _&&_, cond}
 use mathlib.Core.List.{List, [], _∷_}
 use mathlib.Core.Option.{Option, none, some}
 use lib.Dec.{ltb}
 use lib.ListN.{length, getD, getElem?, take, drop}
 use borrow.Author.Tests.{lt-ltb, le-ltb, ltb-true, ltb-false}
 use Rattle.bitset.specs.Parts.{part}
-use Rattle.policy.specs.Basics.{Name, same, any, isIn}
+use Rattle.policy.specs.Basics.{Name, same, isIn}
 use Rattle.policy.specs.Statements.{roles, thingOf, namesOf, count, classNames, permissions}
 use Rattle.policy.specs.Words.{process, transitionWords, objectR}
 use Rattle.policy.specs.Encode.{NameEntry, firstBody}
 use Rattle.policy.specs.Deciding.{isObject, Question, declaredContext, declaredQuestion, asksRole, Reply, answered, refused}
 use Rattle.policy.specs.Questions.{Part, nameFrom, nameOf}
-use Rattle.policy.proofs.Lists.{both-true, at-place}
+use Rattle.policy.proofs.Lists.{both-true, at-place, under, any-ext}
 use Rattle.policy.proofs.Counts.{few-permissions-of, few-classes}
 use Rattle.image_rows.specs.SoundRows.{isSome}
 use Rattle.table_laws.specs.SoundTable.{Sound}
@@ -23,7 +23,7 @@ use Rattle.table_laws.specs.Shown.{shown, orTwelve, nameIn}
 use Rattle.table_laws.proofs.NameShown.{name-shown}
 use Rattle.table_laws.proofs.WellFormed.{formed}
 use Rattle.decisions.specs.TableAnswers.{declaresQuestion}
-use Rattle.table_names.specs.TableNames.{namesIn, countsIn, nameAt, permissionIn, isFoundName, bears, asksRoleIn}
+use Rattle.table_names.specs.TableNames.{countsIn, nameAt, permissionIn, isFoundName, bears, asksRoleIn}
 use Rattle.decisions.proofs.SoundLaws.{names-of, classes-of, declares-context}
 
 -- WHAT IS SHOWN
@@ -59,16 +59,6 @@ module _ {A : Type 0} where
       by : (b : Bool) → ltb k (length xs) ≡ b → ltb k (length xs) ≡ ltb (suc k) (length (x ∷ xs))
       by true q = q ∙ sym (lt-ltb (suc k) (length (x ∷ xs)) (omega (arith, ltb-true k (length xs) q)))
       by false q = q ∙ sym (le-ltb (suc k) (length (x ∷ xs)) (omega (arith, ltb-false k (length xs) q)))
-
-  any-same : (f g : A → Bool) → ((x : A) → f x ≡ g x) → (xs : List A) → any f xs ≡ any g xs
-  unfolding any
-  any-same f g e [] = refl
-  any-same f g e (x ∷ xs) = ap₂ _||_ (e x) (any-same f g e xs)
-
--- the last of two tests, where the first passes
-and-last : (a b c : Bool) → (a ≡ true → b ≡ c) → (a && b) ≡ (a && c)
-and-last true b c h = h refl
-and-last false b c h = refl
 
 -- ON A SOUND TABLE
 
@@ -129,7 +119,7 @@ module _ (t : List ℕ) (s : Sound t) where
       let contexts = declaredContext ds (q .source) && declaredContext ds (q .target) in
       let class = ltb (q .class) (length (classNames ds)) in
       rw (declares-context t s (q .source), declares-context t s (q .target), classes-of t s)
-      (and-last (contexts && class) (isFoundName (permissionIn t (q .class) (q .perm))) (ltb (q .perm) (length (permissions ds (q .class))))
+      (under (contexts && class)
       (λ h. permission-found (q .class) (q .perm) (ltb-true (q .class) (length (classNames ds)) (both-true contexts class h .1))))
 
   -- "class `process`, permission `transition` or `dyntransition`"
@@ -139,9 +129,9 @@ module _ (t : List ℕ) (s : Sound t) where
       let ds = s .image .names in
       ap₂ _&&_
       (bears-by t (nameAt t 6 c) (getElem? (classNames ds) c) (class-at c) process ∙ ap (λ (o : Option Name). isNamed o process) (at-place (classNames ds) c [] h))
-      (any-same (bears t (permissionIn t c k)) (same (getD (permissions ds c) k []))
+      (any-ext (bears t (permissionIn t c k)) (same (getD (permissions ds c) k [])) transitionWords
       (λ w. bears-by t (permissionIn t c k) (getElem? (permissions ds c) k) (permission-at c k (class-below c h) (omega (arith, few-in-class c))) w
-      ∙ ap (λ (o : Option Name). isNamed o w) (at-place (permissions ds c) k [] l)) transitionWords)
+      ∙ ap (λ (o : Option Name). isNamed o w) (at-place (permissions ds c) k [] l)))
 
   -- "role is named `object_r`"
   pub object-of : (r : ℕ) → r < count (thingOf roles) (s .image .names) → bears t (nameAt t 1 r) objectR ≡ isObject (s .image .names) r

@@ -1,8 +1,8 @@
 -- On a sound table the bytes say of contexts what the image says. Assumes nothing.
 use Prim.Native.Nat.{ℕ, _-_, _<_, _≤_}
 use native.Mathlib.Omega.{arith}
-use mathlib.Core.Path.{_≡_, refl, sym, ap, ap₂, _∙_, subst}
-use mathlib.Core.Bool.{Bool, true, false, _&&_, cond, false≢true}
+use mathlib.Core.Path.{_≡_, refl, sym, ap, _∙_, subst}
+use mathlib.Core.Bool.{true, _&&_, false≢true}
 use mathlib.Core.List.{List, []}
 use mathlib.Core.Option.{Option, none, some}
 use lib.Dec.{ltb}
@@ -18,20 +18,20 @@ use Rattle.policy.specs.Meaning.{Context}
 use Rattle.policy.specs.Image.{Image}
 use Rattle.policy.specs.Encode.{sortCode, entryBytes, entries, bodies, firstBody}
 use Rattle.policy.specs.Sound.{imageIn}
-use Rattle.policy.specs.Deciding.{declaredContext, Reply}
-use Rattle.policy.specs.Questions.{inSet, asked}
+use Rattle.policy.specs.Deciding.{declaredContext}
+use Rattle.policy.specs.Questions.{inSet}
 use Rattle.policy.proofs.Lists.{both-true}
 use Rattle.policy.proofs.Counts.{few-of}
+use Rattle.policy.proofs.Sorts.{max-small}
 use Rattle.symbols.specs.Section.{between}
 use Rattle.symbols.proofs.Written.{entries-written}
 use Rattle.image_rows.specs.SoundRows.{isSome}
 use Rattle.table_laws.specs.SoundTable.{Bytes, Sound}
 use Rattle.table_laws.proofs.Pieces.{Wide}
 use Rattle.table_laws.proofs.ImageReadBack.{Laid}
-use Rattle.table_laws.proofs.NamesFit.{most}
 use Rattle.table_laws.proofs.WellFormed.{formed}
 use Rattle.table_laws.proofs.WellFormedLaid.{well-formed-laid}
-use Rattle.table_laws.proofs.SoundLaws.{sound-read, read-sound}
+use Rattle.table_laws.proofs.SoundLaws.{read-sound}
 use Rattle.table_reader.specs.Records.{bodyPlace, startIn, lengthIn}
 use Rattle.table_reader.proofs.RecordLaws.{Stands, set-part}
 use Rattle.table_reader.proofs.BodyPlaces.{body-stands, start-part, length-part}
@@ -49,10 +49,6 @@ sound-table t b h = by (imageIn t) refl h
     by : (o : Option Image) → imageIn t ≡ o → isSome o ≡ true → Sound t
     by none e h = absurd (false≢true h)
     by (some i) e h = read-sound t b i e .0
-
--- a question on a sound table is one on its image
-pub asked-image : {A : Type 0} (t : List ℕ) (s : Sound t) (f : Image → Reply A) → asked f (imageIn t) ≡ f (s .image)
-asked-image t s f = ap (asked f) (sound-read t s)
 
 module _ (t : List ℕ) (s : Sound t) where
   -- THE BODIES
@@ -98,7 +94,7 @@ module _ (t : List ℕ) (s : Sound t) where
   classes-of = ap (countSort 6) names-of ∙ count-classes (s .image .names)
 
   pub few : (x : Sort) → count x (s .image .names) ≤ 512
-  few x = omega (arith, few-of x (s .image .names) (formed (s .image) (s .formed) .names), most x)
+  few x = omega (arith, few-of x (s .image .names) (formed (s .image) (s .formed) .names), max-small x)
 
   -- CONTEXTS
 

@@ -21,12 +21,13 @@ use Rattle.table_laws.specs.SoundTable.{Sound}
 use Rattle.table_laws.proofs.Pieces.{wide-length}
 use Rattle.table_laws.proofs.ImageReadBack.{transitions-wide}
 use Rattle.table_laws.proofs.WellFormedLaid.{well-formed-laid}
+use Rattle.table_laws.proofs.QuestionLaws.{asked-sound}
 use Rattle.table_reader.specs.Records.{records, startIn, lengthIn}
 use Rattle.table_reader.proofs.RecordLaws.{records-step, records-none}
 use Rattle.table_reader.proofs.BodyRecords.{transitions-part}
 use Rattle.decisions.specs.TableAnswers.{transitionsIn}
 use Rattle.table_names.specs.TableNames.{countIn}
-use Rattle.decisions.proofs.SoundLaws.{asked-image, length-of, stands-of, things-of, classes-of}
+use Rattle.decisions.proofs.SoundLaws.{length-of, stands-of, things-of, classes-of}
 
 -- ONE BY ONE
 
@@ -91,5 +92,5 @@ module _ (t : List ℕ) (s : Sound t) where
       ≡ cond (ltb r (countIn t 1) && ltb y (countIn t 2) && ltb c (countIn t 6)) (answered (firstTransition r y c (transitionsIn t))) (refused 12 0)
   unfolding newRoleOn newRole
   new-role-of r y c =
-      asked-image t s (λ i. newRole i r y c)
+      asked-sound (λ i. newRole i r y c) t s
       ∙ sym (rw (things-of t s (thingOf roles), things-of t s (thingOf types), classes-of t s, transitions-of))

@@ -2,19 +2,19 @@
 use mathlib.Core.Path.{_≡_, refl, sym, ap, ap₂, subst, _∙_}
 use mathlib.Core.List.{List, [], _∷_, _++_, append-nil, append-assoc}
 use Prim.Native.Nat.{ℕ, suc, _+_, _-_, _<_, _≤_}
-use native.Mathlib.Nat.{add-zero, add-suc, suc-add}
+use native.Mathlib.Nat.{add-zero}
 use native.Mathlib.Omega.{arith}
-use lib.ListN.{length, take, set, length-append}
-use lib.Seq.{sets, length-take-le}
+use lib.ListN.{length, take, length-append}
+use lib.Seq.{length-take-le}
 use Rattle.bitset.specs.Parts.{part, put}
 use Rattle.bitset.specs.Relations.{joined}
-use Rattle.bitset.proofs.PartLaws.{put-none}
+use Rattle.bitset.proofs.PartLaws.{put-none, put-put}
 use Rattle.policy.specs.Basics.{Name, each, All}
 use Rattle.policy.specs.Encode.{NameEntry, nameEntry, entryBytes, permissionEntries}
 use Rattle.policy.proofs.Lists.{each-append, joined-append, all-right}
 use Rattle.name_chains.specs.Entered as symbol
 use Rattle.name_chains.specs.Chains.{Chained}
-use Rattle.symbols.proofs.AppendLaws.{entry-length, put-sets, length-put}
+use Rattle.symbols.proofs.AppendLaws.{entry-length}
 use Rattle.symbols.proofs.PartLaws.{part-whole}
 use Rattle.symbols.proofs.Declaring.{permission-more}
 use Rattle.scopes.proofs.Keeping.{scope-kept}
@@ -34,20 +34,6 @@ bytes-one e = append-nil (entryBytes e)
 
 long-one : (e : NameEntry) → length (bytesOf (e ∷ [])) ≡ 4 + length (e .name)
 long-one e = ap length (bytes-one e) ∙ entry-length e
-
--- what is put behind what was put is put with it
-sets-append : (l : List ℕ) (i : ℕ) (vs ws : List ℕ) → sets (sets l i vs) (i + length vs) ws ≡ sets l i (vs ++ ws)
-sets-append l i [] ws = rw add-zero
-sets-append l i (a ∷ vs) ws = rw (add-suc i (length vs), ← suc-add i (length vs)) (sets-append (set l i a) (suc i) vs ws)
-
-put-put : (t : List ℕ) (o : ℕ) (us vs : List ℕ) → o + length us + length vs ≤ length t → put (put t o us) (o + length us) vs ≡ put t o (us ++ vs)
-put-put t o us vs h =
-    let first : put t o us ≡ sets t o us = sym (put-sets t o us (omega arith)) in
-    let long : length (put t o us) ≡ length t = length-put t o us (omega arith) in
-    let all = length-append us vs in
-    sym (put-sets (put t o us) (o + length us) vs (omega arith))
-    ∙ ap (λ (l : List ℕ). sets l (o + length us) vs) first
-    ∙ sets-append t o us vs ∙ put-sets t o (us ++ vs) (omega arith)
 
 -- ---- some entries
 

@@ -8,14 +8,16 @@ use native.Mathlib.Omega.{arith}
 use Rattle.bitset.specs.Parts as parts
 use Rattle.lexer.specs.Class.{isName}
 use Rattle.lexer.specs.Forms.{Forms, closed, ended, word, part, framesAt, namesGood}
+use Rattle.lexer.proofs.Trim.{same-words}
 use Rattle.policy.specs.Basics.{Name, every, _>>=_, ofOne}
 use Rattle.policy.specs.Words.{isReserved, dotless, asPart, declareK, classK}
 use Rattle.policy.specs.Statements.{Sort, Declaration, plain, class, declare, Written}
 use Rattle.policy.specs.Grammar.{rowOf, oneOrMore, formed}
 use Rattle.policy.specs.Sound.{isGoodPart, goodPermissions}
 use Rattle.policy.proofs.Lists.{both-true, true-both}
+use Rattle.policy.proofs.Options.{given-some}
 use Rattle.reading_laws.proofs.FullNames.{goodParts, part-good}
-use Rattle.table_laws.proofs.ListLaws.{bound-then, given-some, more-some}
+use Rattle.table_laws.proofs.ListLaws.{bound-then, more-some}
 use Rattle.name_rows.specs.WordRows.{wordsIn, WordHere, WordIs, Inside}
 use Rattle.name_rows.specs.declared.NextWord.{NextWord}
 use Rattle.name_rows.proofs.Rows.{words-here}
@@ -142,15 +144,12 @@ class-has-word {t} {at} d h f =
     no-first : (w : Name) (ws : List Name) → [] ≡ w ∷ ws → ⊥
     no-first w ws e = let z : _≡_ {A = ℕ} 0 1 = cc in omega arith
 
-word-parts : (p q : ℕ) (v w : Name) (f g : Forms) → word p v f ≡ word q w g → (v ≡ w) × (f ≡ g)
-word-parts p q v w f g h = (cc, cc)
-
 pub class-here : {t : List ℕ} {at start len row : ℕ} → WordHere t at start len → Inside t (start + len) row → (d : Declaration) → namesGood (framesAt t at .here) ≡ true
     → formed classK (framesAt t at .here) ≡ some (declare d)
     → (d ≡ class (parts.part t start len) (wordsIn (framesAt t row .here))) × (goodParts (class (parts.part t start len) (wordsIn (framesAt t row .here))) ≡ true)
 class-here {t} {at} {start} {len} {row} h i d g f =
     let c = class-row (framesAt t at .here) d f in
-    let same = word-parts (c .place) start (c .name) (parts.part t start len) (part (c .opening) (c .row) closed) (framesAt t (start + len) .here) (sym (c .form) ∙ h .here) in
+    let same = same-words (sym (c .form) ∙ h .here) in
     let inner : framesAt t row .here ≡ c .row = i .row (c .opening) (c .row) closed (sym (same .1)) in
     let perms : c .perms ≡ wordsIn (framesAt t row .here) = sym (ap wordsIn inner ∙ names-words (c .row) (c .perms) (c .names)) in
     let is : class (c .name) (c .perms) ≡ class (parts.part t start len) (wordsIn (framesAt t row .here)) = ap₂ class (same .0) perms in

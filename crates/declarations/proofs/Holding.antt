@@ -1,21 +1,19 @@
 -- The memory holds the symbols of declarations: they are the symbol table, one more declaration's entries behind them are the symbols with it, and
 -- for a declaration that the maxima allow there is room. Assumes nothing.
-use mathlib.Core.Path.{_≡_, refl, sym, ap, subst, _∙_}
+use mathlib.Core.Path.{_≡_, refl, sym, ap, _∙_}
 use mathlib.Core.Bool.{true}
-use mathlib.Core.List.{List, [], _∷_, _++_, append-assoc, append-nil}
-use Prim.Native.Nat.{ℕ, _+_, _-_, _<_, _≤_}
+use mathlib.Core.List.{List, [], _∷_, _++_}
+use Prim.Native.Nat.{ℕ, _+_, _<_, _≤_}
 use native.Mathlib.Omega.{arith}
-use lib.ListN.{length, take, drop, length-append}
-use lib.Seq.{length-take-le, take-at, take-take}
-use Rattle.bitset.specs.Parts.{put}
+use lib.ListN.{length, length-append}
+use lib.Seq.{length-take-le}
 use Rattle.bitset.specs.Relations.{joined}
 use Rattle.policy.specs.Basics.{Name, each}
 use Rattle.policy.specs.Statements.{Declaration}
-use Rattle.policy.specs.Reading.{isNew, hasRoom, isShort}
+use Rattle.policy.specs.Reading.{isNew, hasRoom}
 use Rattle.policy.specs.Encode.{NameEntry, entryBytes, entriesOf, entries}
 use Rattle.policy.specs.Sound.{goodNames, goodFrom}
-use Rattle.policy.proofs.Lists.{both-true}
-use Rattle.policy.proofs.Good.{GoodFirst, good-first, good-rest}
+use Rattle.policy.proofs.Good.{good-more}
 use Rattle.policy.specs.Names.{environmentOf}
 use Rattle.scopes.specs.Scope.{InScope}
 use Rattle.scopes.specs.Symbols.{Symbols}
@@ -24,7 +22,7 @@ use Rattle.symbols.specs.Lookup.{firstNamed}
 use Rattle.symbols.specs.declared.Found.{Found}
 use Rattle.symbols.proofs.Declaring.{entries-more}
 use Rattle.table_laws.proofs.NamesRoom.{names-length, names-room}
-use Rattle.declarations.specs.Declaring.{sectionOf, Holds, Adds}
+use Rattle.declarations.specs.Declaring.{sectionOf, Holds}
 use Rattle.declarations.proofs.EnteringLaws.{bytes-append}
 
 pub holds-symbols : {table : List ℕ} {end : ℕ} {ds : List Declaration} {path : List Name} → Holds table end ds → InScope table path
@@ -37,19 +35,6 @@ pub long-missing : {table : List ℕ} {end : ℕ} {ds : List Declaration} (f : �
 long-missing {table} {end} {ds} f w h l = sym (too-long-tries {t = table} {f = f} {w = w} l .tries end (entries ds) (h .chained) .finds)
 
 -- ---- one more declaration
-
-good-from-more : (e ds : List Declaration) (d : Declaration) → goodFrom e ds ≡ true → GoodFirst (e ++ ds) d → goodFrom e (ds ++ (d ∷ [])) ≡ true
-unfolding goodFrom
-good-from-more e [] d h g =
-    let f : GoodFirst e d = subst (λ (x : List Declaration). GoodFirst x d) (append-nil e) g in
-    rw (f .names, f .new, f .room)
-good-from-more e (x ∷ ds) d h g =
-    let f = good-first e x ds h in
-    rw (f .names, f .new, f .room)
-    (good-from-more (e ++ (x ∷ [])) ds d (good-rest e x ds h) (subst (λ (y : List Declaration). GoodFirst y d) (sym (append-assoc e (x ∷ []) ds)) g))
-
-good-more : (ds : List Declaration) (d : Declaration) → goodFrom [] ds ≡ true → GoodFirst ds d → goodFrom [] (ds ++ (d ∷ [])) ≡ true
-good-more ds d h g = good-from-more [] ds d h g
 
 section-more : (ds : List Declaration) (d : Declaration) → sectionOf (ds ++ (d ∷ [])) ≡ sectionOf ds ++ joined (each entryBytes (entriesOf ds d))
 unfolding sectionOf
@@ -71,22 +56,3 @@ module _ {table : List ℕ} {end : ℕ} {ds : List Declaration} (h : Holds table
       let more = length-append (sectionOf ds) (joined (each entryBytes (entriesOf ds d))) in
       let whole : length (sectionOf (ds ++ (d ∷ []))) ≡ length (sectionOf ds ++ joined (each entryBytes (entriesOf ds d))) = ap length (section-more ds d) in
       omega (arith, section-short (ds ++ (d ∷ [])) (good-more ds d (h .good) (record { names = g; new = n; room = r })), section-long)
-
-pub adds-holds : {before after : List ℕ} {end past : ℕ} {ds : List Declaration} {d : Declaration}
-    → Holds before end ds → goodNames d ≡ true → Adds before after end past ds d → Holds after past (ds ++ (d ∷ []))
-unfolding put
-adds-holds {before} {after} {end} {past} {ds} {d} h g a =
-    let new = joined (each entryBytes (entriesOf ds d)) in
-    let names = take 137088 before in
-    let names-end : take end names ≡ take end before = take-take end 137088 before (h .chained .below) in
-    let front : length (take end names ++ new) ≡ past =
-    length-append (take end names) new ∙ omega (arith, ap length names-end, length-take-le end before (h .inside), a .moved) in
-    let is : take 137088 after ≡ (take end names ++ new) ++ drop (end + length new) names = a .written ∙ sym (append-assoc (take end names) new (drop (end + length new) names)) in
-    record {
-      front =
-          sym (take-take past 137088 after (a .fits)) ∙ ap (take past) is ∙ take-at (take end names ++ new) (drop (end + length new) names) past front
-          ∙ ap (λ (l : List ℕ). l ++ new) (names-end ∙ h .front) ∙ sym (section-more ds d);
-      inside = omega (arith, a .fits, a .long, h .chained .room);
-      chained = a .chained;
-      good = good-more ds d (h .good) (record { names = g; new = a .new; room = both-true (hasRoom ds d) (isShort d) (a .room) .0 });
-    }

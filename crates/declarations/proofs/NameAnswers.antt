@@ -17,8 +17,8 @@ use Rattle.policy.specs.Encode.{NameEntry, nameEntry, sortCode, entriesOf, entr
 use Rattle.policy.specs.Sound.{isGood}
 use Rattle.policy.proofs.Lists.{true-both}
 use Rattle.policy.proofs.Counts.{few-classes}
+use Rattle.policy.proofs.Sorts.{max-small, code-below}
 use Rattle.reading_laws.proofs.FullNames.{full-good}
-use Rattle.table_laws.proofs.NamesFit as fit
 use Rattle.table_laws.proofs.NamesRoom.{name-short, entries-room}
 use Rattle.symbols.specs.Lookup.{familyNumber, firstNamed}
 use Rattle.symbols.specs.Resolving.{isFound, familyCode}
@@ -93,7 +93,7 @@ module _ (sort : ℕ) (v : Name) (before : List ℕ) (end : ℕ) where
       entry-indexable s e {ds} y =
           let family : familyNumber sort number ≡ familyCode (familyOf s) = ap (λ (x : ℕ). familyNumber x number) e ∙ code-of s number in (
             omega (arith, entries-room ds (y .good), few-classes ds (y .good)),
-            omega (arith, l, m .is s e, fit.most s),
+            omega (arith, l, m .is s e, max-small s),
             omega (arith, family, family-below (familyOf s)),
             tt,
           )
@@ -126,7 +126,7 @@ module _ (sort : ℕ) (v : Name) (before : List ℕ) (end : ℕ) where
 module _ (t : List ℕ) (at sort : ℕ) (before : List ℕ) (end : ℕ) where
   -- no sort of things or attributes has such a number; no name stands there
   pub no-sort : (after : List ℕ) (r : Declared) → 6 ≤ sort → DeclaresName t at sort before after end r
-  no-sort after r h = record { of = λ s e. absurd (omega (arith, fit.code-below s)) }
+  no-sort after r h = record { of = λ s e. absurd (omega (arith, code-below s)) }
 
   pub no-name : (after : List ℕ) (r : Declared) → WordIs t at NextWord.Missing → DeclaresName t at sort before after end r
   no-name after r h = record { of = λ s e. record { says = λ ds path d y sc gp g f. absurd (plain-has-word s d h f) } }

@@ -1,20 +1,20 @@
 -- What the chains say of a sort and of a name: how many entries the sort has, and whether the name's family has it. Assumes nothing.
 use mathlib.Core.Path.{_≡_, sym, ap, subst, _∙_}
 use mathlib.Core.List.{List}
-use Prim.Native.Nat.{ℕ, _+_, _-_, _<_}
+use Prim.Native.Nat.{ℕ, _+_, _<_}
 use native.Mathlib.Omega.{arith}
 use lib.ListN.{length}
 use Rattle.policy.specs.Basics.{Name}
 use Rattle.policy.specs.Statements.{Declaration, classNames}
 use Rattle.policy.specs.Statements as statements
 use Rattle.policy.specs.Encode.{entries}
+use Rattle.policy.proofs.Sorts.{code-below}
 use Rattle.symbols.specs.Lookup.{familyNumber, firstNamed, countSort}
 use Rattle.name_index.specs.Index.{wordIn}
 use Rattle.name_chains.specs.Chains.{Tries}
 use Rattle.name_chains.specs.declared.Tried.{Tried}
 use Rattle.symbols.specs.declared.Found.{Found}
 use Rattle.symbols.proofs.CountLaws.{count-things, count-classes}
-use Rattle.table_laws.proofs.NamesFit.{code-below}
 use Rattle.declarations.specs.Counting.{standing, Counts, Stands}
 use Rattle.declarations.specs.declared.Standing.{Standing}
 use Rattle.declarations.specs.Declaring.{Holds}

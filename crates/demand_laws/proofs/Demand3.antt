@@ -19,10 +19,11 @@ use Rattle.policy.specs.Image.{Image, imageOf}
 use Rattle.policy.specs.Encode.{encode}
 use Rattle.policy.specs.Sound.{wellFormed, imageIn}
 use Rattle.policy.specs.Outcome as outcomes
-use Rattle.policy.specs.Outcome.{Input, ofText, policyOf, Compiled, compiles, compiled, fitted, Outcome, accepted, rejected, outcomeOf, afterOf, outcome, after}
+use Rattle.policy.specs.Outcome.{Input, ofText, policyOf, Compiled, compiles, compiled, fitted, accepted, outcomeOf, afterOf, outcome, after}
 use Rattle.policy.specs.Questions.{changed, changeOn, validOn, newRoleOn}
 use Rattle.policy.proofs.Lists.{each-append}
 use Rattle.policy.specs.Names.{environmentOf}
+use Rattle.policy.proofs.Outcomes.{isAccepted, lengthIn, compiledBy}
 use Rattle.reading_laws.proofs.ReadAccepted.{policy-accepted, policy-read}
 use Rattle.reading_laws.proofs.ReadThen.{line}
 use Rattle.reading_laws.proofs.LongerText.{one-statement-more, resolved-constrain}
@@ -123,21 +124,8 @@ front : (xs ys : List ℕ) → take (length xs) (xs ++ ys) ≡ xs
 front [] ys = refl
 front (x ∷ xs) ys = ap {B = List ℕ} (λ r. x ∷ r) (front xs ys)
 
--- an acceptance is no refusal, and has one length
-abbrev isAccepted : Outcome → Bool
-isAccepted (accepted n) = true
-isAccepted (rejected r) = false
-
-abbrev lengthIn : Outcome → ℕ
-lengthIn (accepted n) = n
-lengthIn (rejected r) = 0
-
--- what compiling gives, by what reading gives
-compiledBy : Read → ℕ → Compiled
-compiledBy r lent = elim r [ refused n at ↦ outcomes.refuses n at | policy p ↦ fitted lent (imageOf p) ]
-
 compiled-by : (x : Input) (lent : ℕ) (r : Read) → policyOf x ≡ r → compiled x lent ≡ compiledBy r lent
-unfolding compiled compiledBy
+unfolding compiled
 compiled-by x lent r e = ap (λ (s : Read). compiledBy s lent) e
 
 -- accepted, so it fits: the length is the table's, and the table stands in front
@@ -157,7 +145,7 @@ pub record Accepts (x : Input) (lent : List ℕ) (n : ℕ) : Type 0 where
   pub table : take n (after x lent) ≡ encode (imageOf statements)
 
 pub accepted-table : (x : Input) (lent : List ℕ) (n : ℕ) → outcome x (length lent) ≡ accepted n → Accepts x lent n
-unfolding outcome after compiledBy
+unfolding outcome after
 accepted-table x lent n h = by (policyOf x) refl
   where
     by : (r : Read) → policyOf x ≡ r → Accepts x lent n

@@ -1,8 +1,7 @@
 -- DEMAND 3 FROM THE PROMISE OF COMPILE: whoever has the promise has the demand, with no other fact about the compiler. Assumes nothing.
 use Prim.Native.Nat.{ℕ}
 use mathlib.Core.Path.{_≡_, refl, sym, ap, subst, _∙_}
-use mathlib.Core.Bool.{true}
-use mathlib.Core.List.{List, [], _∷_, _++_}
+use mathlib.Core.List.{List, [], _++_}
 use lib.ListN.{take}
 use Rattle.lexer.specs.Spell.{bytes}
 use Rattle.policy.specs.declared.Compiling.{Compiling}
@@ -13,7 +12,7 @@ use Rattle.policy.specs.Answer.{answer}
 use Rattle.policy.specs.Image.{imageOf}
 use Rattle.policy.specs.Encode.{encode}
 use Rattle.policy.specs.Sound.{imageIn}
-use Rattle.policy.specs.Outcome.{ofText, policyOf}
+use Rattle.policy.specs.Outcome.{ofText}
 use Rattle.policy.specs.Questions.{validOn, newRoleOn, changeOn}
 use Rattle.policy.specs.Opened.{computing}
 use Rattle.answer_laws.specs.Longer.{OneConstrainMore, ConstrainText, KeepsDenials}

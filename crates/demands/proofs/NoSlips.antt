@@ -2,15 +2,13 @@
 -- nothing.
 use Prim.Native.Nat.{ℕ}
 use mathlib.Core.Path.{_≡_, refl, sym, ap, _∙_}
-use mathlib.Core.List.{List, [], _++_}
-use lib.ListN.{length, take}
-use Rattle.policy.specs.declared.Compiling.{Compiling}
+use mathlib.Core.List.{List}
+use lib.ListN.{length}
 use Rattle.policy.specs.Reading.{Read, policy, refused}
 use Rattle.policy.specs.Deciding.{Question, Answer, refuses, unconsulted}
 use Rattle.policy.specs.Answer.{answer}
 use Rattle.policy.specs.Outcome.{ofText, policyOf, refusalAt, rejected, outcome}
 use Rattle.policy.specs.Opened.{computing}
-use Rattle.compiler.specs.Promise.{Compiles}
 use Rattle.demands.specs.Slips.{Answers, NoSlip, sixDeep}
 use Rattle.demands.proofs.Demands.{demand-3}
 

@@ -1,20 +1,20 @@
 -- W-201 of every sound table and of the statements. Assumes nothing.
 use Prim.Native.Nat.{ℕ}
-use mathlib.Core.Path.{_≡_, refl, sym, ap, _∙_}
+use mathlib.Core.Path.{_≡_, sym, ap, _∙_}
 use mathlib.Core.Bool.{Bool, true, cond}
 use mathlib.Core.List.{List}
-use mathlib.Core.Option.{Option, some}
+use mathlib.Core.Option.{some}
 use Rattle.policy.specs.Words.{objectR}
 use Rattle.policy.specs.Meaning.{Context}
-use Rattle.policy.specs.Deciding.{answered, refused, Question, Verdict, Answer, denied, declaredContext}
+use Rattle.policy.specs.Deciding.{answered, refused, Question, Answer, denied, declaredContext}
 use Rattle.policy.specs.Answer.{givenBy}
 use Rattle.policy.specs.Image.{Image}
 use Rattle.policy.specs.Sound.{imageIn}
 use Rattle.policy.specs.Questions.{givenIn, asked, valid, validOn, changed, changeOn}
 use Rattle.answer_laws.specs.Granting.{RoleNamed}
-use Rattle.answer_laws.specs.Before.{validInBefore, validOnBefore, changedBefore, changeOnBefore}
+use Rattle.answer_laws.specs.Before.{validInBefore, changedBefore}
 use Rattle.answer_laws.proofs.ObjectRole.{object-valid, other-valid, answer-before, change-before, denialOf, object-source, object-target, object-source-in, object-target-in}
-use Rattle.demands.specs.ObjectRole.{OnTable, ByStatements, ObjectRole}
+use Rattle.demands.specs.ObjectRole.{OnTable, ObjectRole}
 
 module _ (t : List ℕ) (i : Image) (sound : imageIn t ≡ some i) where
   valid-there : (c : Context) → validOn t c ≡ valid i c

@@ -6,7 +6,6 @@ use native.Mathlib.Numerals.{add-one}
 use native.Mathlib.Omega.{arith}
 use mathlib.Core.Path.{_≡_, refl, sym, ap, _∙_}
 use mathlib.Core.Bool.{Bool, true, false, false≢true}
-use mathlib.Core.Logic.{⊎-elim}
 use mathlib.Core.List.{List, [], _∷_}
 use lib.Dec.{eqb}
 use lib.ListN.{length}
@@ -21,10 +20,10 @@ use Rattle.policy.specs.Faults.{mentions, attributesIn, onCycle}
 use Rattle.policy.specs.Accepted.{Accepted}
 use Rattle.set_code.specs.Evaluation.{setsIn}
 use Rattle.meaning_laws.specs.Mentioning.{MentionsDirectly, Mentions, directly, through}
-use Rattle.meaning_laws.proofs.ListLaws.{or-left, or-right, decided}
-use Rattle.meaning_laws.proofs.Reaching.{on-cycle-exactly}
+use Rattle.meaning_laws.proofs.ListLaws.{or-left, or-right}
 use Rattle.meaning_laws.proofs.FinalSets.{same-union}
 use Rattle.meaning_laws.proofs.DirectMention.{mentions-exactly, direct-declared}
+use Rattle.meaning_laws.proofs.FamilyCycle as family
 use Rattle.code_reader.proofs.Items.{items, sets-items}
 use Rattle.code_reader.proofs.Numbers.{few-attributes}
 use Rattle.code_reader.proofs.RowLaws.{rowsOf, sets-in}
@@ -117,7 +116,7 @@ module _ (p : Policy) (ok : Accepted p) (f : Family) where
     none-through (through m n) = none-through m
 
     pub off-cycle : (a : ℕ) → onCycle p f a ≡ false
-    off-cycle a = ⊎-elim (λ e. absurd (none-through (on-cycle-exactly p f ok a .0 e))) (λ e. e) (decided (onCycle p f a))
+    off-cycle a = family.off-cycle p f ok a none-through
 
     -- the sets do not depend on those before, so one round is all
     pub one-round : (rows sets : List ℕ) → rows ≡ after 0 → sets ≡ turned rows → sets ≡ relation 64 64 (final p f)

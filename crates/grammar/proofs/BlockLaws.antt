@@ -6,9 +6,9 @@ use mathlib.Core.Option.{none}
 use Prim.Native.Nat.{ℕ, _+_}
 use lib.Dec.{eqb}
 use lib.ListN.{take, drop}
-use Rattle.lexer.specs.Forms.{Forms, closed, ended, word, part, framesAt}
+use Rattle.lexer.specs.Forms.{word, framesAt}
 use Rattle.policy.specs.Basics.{Name}
-use Rattle.policy.specs.Grammar.{partsAlone, isBlock, headerIn, blockIn}
+use Rattle.policy.specs.Grammar.{partsAlone, isBlock, headerIn}
 use Rattle.words.specs.Numbers.{mayBe}
 use Rattle.words.specs.declared.NameKind.{NameKind}
 use Rattle.words.proofs.Meaning.{block-number}
@@ -36,30 +36,12 @@ block-at t at {first} e = by-item first (sees e refl)
 
 -- ---- its header
 
--- a row that starts with the word `block` is the block whose header follows
-pub block-row : (s : ℕ) (w : Name) (f : Forms) → isBlock (word s w f) ≡ true → blockIn (word s w f) ≡ headerIn f
-block-row s w f e = rw e
-
-pub block-behind : (t : List ℕ) (at : ℕ) {s n k q : ℕ} {first : Item} → first ≡ itemAt t at → first ≡ Item.Word s n k q → startsBlock first ≡ true
-    → blockIn (framesAt t at .here) ≡ headerIn (framesAt t q .here)
-block-behind t at {s} {n} {k} {q} e f g =
-    let l : Looked t at (Item.Word s n k q) = sees e f in
-    let w = take n (drop s t) in
-    ap blockIn (l .here) ∙ block-row s w (framesAt t q .here) (sym (ap isBlock (l .here)) ∙ sym (block-at t at e) ∙ g)
-
--- a row that starts with any other item, or another word, is no block
-pub no-block : (f : Forms) → isBlock f ≡ false → blockIn f ≡ none
-no-block closed e = refl
-no-block ended e = refl
-no-block (part p i g) e = refl
-no-block (word s w f) e = rw e
-
 -- the header of a block by the first word behind `block`
 module _ (t : List ℕ) (at : ℕ) {s n k q : ℕ} {first : Item} (e : first ≡ itemAt t at) (f : first ≡ Item.Word s n k q) where
   abbrev name : Name
   name = take n (drop s t)
 
-  looked : frames.Looked t at (Item.Word s n k q)
+  looked : frames.FramesSeen t at (Item.Word s n k q)
   looked = frames.sees e f
 
   pub unnamed : false ≡ mayBe NameKind.Part name → HeaderIs t at Header.Bad

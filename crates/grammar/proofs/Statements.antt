@@ -1,16 +1,14 @@
 -- The law that ties the reader's shapes to policy's forms: there is something `written` exactly if the row is of the shape that its keyword asks for.
 -- Assumes nothing.
 use mathlib.Core.Path.{_≡_, refl, sym, ap, _∙_}
-use mathlib.Core.Bool.{Bool, true, false, not, _&&_, and-false}
+use mathlib.Core.Bool.{Bool, true, false, not, _&&_, and-false, and-true}
 use mathlib.Core.List.{List, [], _∷_}
 use mathlib.Core.Option.{Option, none, some}
-use Prim.Native.Nat.{ℕ, suc, _+_, _-_}
+use Prim.Native.Nat.{ℕ, suc, _+_}
 use native.Mathlib.Omega.{arith}
 use borrow.Author.Tests.{lt-ltb, ne-eqb}
 use lib.ListN.{length, take, drop}
 use Rattle.lexer.specs.Forms.{Forms, closed, ended, word, part, framesAt, trim}
-use Rattle.lexer.specs.Scan.{maxLevel}
-use Rattle.lexer.proofs.Trim.{whole}
 use Rattle.policy.specs.Basics.{Name, _>>=_}
 use Rattle.policy.specs.Words.{isReserved, asName, asPart, Keyword, declareK, classK, setK, relationK, transitionK, constrainK, keywordOf}
 use Rattle.policy.specs.Statements.{SetExpr, plain, class, declare, attributeset, gives, constrain}
@@ -28,10 +26,6 @@ use Rattle.grammar.specs.declared.Content.{Content}
 use Rattle.grammar.specs.declared.Shape.{Shape}
 
 -- ---- what is written
-
-and-true : (b : Bool) → b && true ≡ b
-and-true true = refl
-and-true false = refl
 
 -- a word, a part and a close, of which g asks what is asked of a name of a kind and a part, and b besides
 module _ {A : Type 0} (g : Name → Forms → Option A) (n : NameKind) (k : Content) (b : Bool)
@@ -142,9 +136,3 @@ statement-row {t} {i} {s} {n} {k} {j} levels l r e =
     ∙ by-word isStatement levels l
     ∙ ap (λ (x : Option Keyword). byShape (shapeOf x) (trim (framesAt t j .here) levels)) (keyword-number w ∙ ap (λ (m : ℕ). keywordOf (wordOf m)) (l .ahead .2))
     ∙ ap (λ (x : Shape). byShape x (trim (framesAt t j .here) levels)) (sym e)
-
--- where no part of a text lies deeper than the levels, the reader cuts nothing off
-pub uncut : (p : ℕ) (f g : Forms) → trim (part p f g) maxLevel ≡ part p f g → (trim f (maxLevel - 1) ≡ f) × (trim g maxLevel ≡ g)
-uncut p f g e =
-    let h = sym (whole p f g maxLevel (λ z. omega arith)) ∙ e in
-    (cc, cc)

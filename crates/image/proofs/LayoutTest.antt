@@ -14,7 +14,8 @@ use Rattle.bitset.specs.Relations.{joined}
 use Rattle.policy.specs.Basics.{_>>=_, more, unle}
 use Rattle.policy.specs.Encode.{firstBody}
 use Rattle.policy.specs.Sound.{bodyLengths, splitBodies, bodiesIn}
-use Rattle.table_laws.proofs.ListLaws.{bound, if-some, more-after}
+use Rattle.policy.proofs.Options.{if-some}
+use Rattle.table_laws.proofs.ListLaws.{bound, more-after}
 use Rattle.table_reader.specs.Records.{startIn, lengthIn}
 use Rattle.image_rows.specs.SoundRows.{isSome}
 use Rattle.image.specs.SoundBodies.{follow}

@@ -18,7 +18,7 @@ use Rattle.policy.specs.Rows.{Row}
 use Rattle.policy.specs.Image.{ConstraintEntry, width}
 use Rattle.policy.specs.Encode.{ConstraintHead}
 use Rattle.policy.specs.Sound.{goodSet, goodSets, goodTransition, goodConstraint, pieces, transitionAt, headAt, rowAt, assignRows}
-use Rattle.policy.proofs.Lists.{each-length}
+use Rattle.policy.proofs.Lists.{each-length, under}
 use Rattle.table_laws.proofs.Pieces.{Wide, exactly-only}
 use Rattle.table_laws.proofs.Constraints.{rowsIn, assign-only}
 use Rattle.table_laws.proofs.Lengths.{heads-length}
@@ -31,11 +31,6 @@ use Rattle.image.specs.SoundBodies.{setsWithin, setsSound, fitsTransitio
 use Rattle.image.proofs.LayoutTest.{BodyAt}
 
 -- TESTS
-
--- where a test passes, what follows may be exchanged
-pub under : (b : Bool) {x y : Bool} → (b ≡ true → x ≡ y) → (b && x) ≡ (b && y)
-under false h = refl
-under true h = h refl
 
 module _ {A : Type 0} (f g : A → Bool) (P : A → Type 0) (same : (x : A) → P x → f x ≡ g x) where
   pub every-same : (xs : List A) → All P xs → every f xs ≡ every g xs

@@ -17,9 +17,10 @@ use Rattle.policy.specs.Maxima.{maxTransitions, maxConstraints, maxRows}
 use Rattle.policy.specs.Rows.{balanced}
 use Rattle.policy.specs.Image.{Image, ConstraintEntry}
 use Rattle.policy.specs.Sound.{goodFrom, goodSets, goodTransition, goodConstraint, pieces, exactly, transitionAt, headAt, rowAt, assignRows, namesAt, wellFormed, bodiesIn, imageFrom, imageIn}
-use Rattle.policy.proofs.Lists.{both-true, true-both}
+use Rattle.policy.proofs.Lists.{both-true, true-both, same-tests}
+use Rattle.policy.proofs.Options.{given-some, given-passes}
 use Rattle.table_laws.proofs.Constraints.{rowsIn}
-use Rattle.table_laws.proofs.ListLaws.{bound-then, given-some}
+use Rattle.table_laws.proofs.ListLaws.{bound-then}
 use Rattle.table_laws.proofs.WellFormed.{formed}
 use Rattle.table_reader.specs.Records.{startIn, lengthIn}
 use Rattle.image_rows.specs.declared.Counts.{Counts}
@@ -48,16 +49,7 @@ module _ {A B C : Type 0} (G : B → Option C) where
       by none = refl
       by (some a) = e a
 
-given-passes : {A : Type 0} (b : Bool) (x : A) → isSome (given b x) ≡ b
-given-passes true x = refl
-given-passes false x = refl
-
 -- THE ORDER OF THE TESTS
-
-same-tests : (a b : Bool) → (a ≡ true → b ≡ true) → (b ≡ true → a ≡ true) → a ≡ b
-same-tests true b f g = sym (f refl)
-same-tests false true f g = g refl
-same-tests false false f g = refl
 
 split : {R : Type 0} (a b : Bool) → (a && b) ≡ true → (a ≡ true → b ≡ true → R) → R
 split a b h k = let p = both-true a b h in k (p .0) (p .1)
@@ -117,7 +109,7 @@ module _ (t : List ℕ) (bs : List (List ℕ)) (at : (k : ℕ) → k < 8 → Bod
       step wellFormedImage (eqb (length first) (ua * 16)) (pieces ua 16 first) _
       (step wellFormedImage (eqb (length second) (ra * 16)) (pieces ra 16 second) _
       (step wellFormedImage (eqb (length third) (ta * 64)) (pieces ta 64 third) _
-      (given-passes _ _))))))))))
+      (given-passes isSome _ _ refl refl))))))))))
       ∙ in-order (eachOf rowAt ts >>= λ rs. assignRows 0 (each headAt hs) rs) (λ cs. leb (length cs) maxConstraints && every (goodConstraint ds) cs) (λ cs. leb (length (rowsIn cs)) maxRows)
       (eqb (length (body 1)) (us * 16)) (eqb (length (body 2)) (rs * 64)) (eqb (length (body 3)) (rs * 16)) (eqb (length (body 4)) (length (body 4) / 82 * 82))
       (eqb (length (body 5)) (length (body 5) / 10 * 10)) (eqb (length (body 6)) (length (body 6) / 6 * 6))

@@ -1,15 +1,10 @@
 -- What reading leaves of the statements, gathered by their kind: the sets of each attribute, the transitions, the constrains. Assumes nothing.
 use Prim.Native.Nat.{ℕ}
-use mathlib.Core.Path.{_≡_, refl, sym, subst}
-use mathlib.Core.Bool.{Bool, true, false, _&&_, cond}
-use mathlib.Core.Option.{Option, none, some}
-use lib.Dec.{eqb}
+use mathlib.Core.Option.{Option}
 use Rattle.policy.specs.Basics.{gather, All}
-use Rattle.policy.specs.Statements.{Family, sameFamily, Statement, declare, attributeset, gives, roletransition, constrain, Line, Policy, declarations, setFor, setsFor, Transition, transition, transitions, Constrain, constrained, constrains}
-use Rattle.policy.specs.Accepted.{SetIn, StatementIn, Accepted}
-use Rattle.policy.proofs.Lists.{both-true}
+use Rattle.policy.specs.Statements.{Statement, declare, attributeset, gives, roletransition, constrain, Line, Policy, declarations, Transition, transition, transitions, Constrain, constrained, constrains}
+use Rattle.policy.specs.Accepted.{StatementIn, Accepted}
 use Rattle.policy.proofs.Gathered.{OfValue, all-gather}
-use Rattle.policy.proofs.Sameness.{family-same}
 
 -- a transition and a constrain as their statements are left
 abbrev pub TransitionIn : Policy → Transition → Type 0
@@ -19,18 +14,6 @@ abbrev pub ConstrainIn : Policy → Constrain → Type 0
 ConstrainIn p c = StatementIn (declarations p) (constrain (c .class) (c .perms) (c .body))
 
 module _ (p : Policy) where
-  set-in : (f : Family) (a at : ℕ) (s : Statement) → StatementIn (declarations p) s
-      → OfValue (SetIn (declarations p) f) (setFor f a (record { place = at; says = s }))
-  set-in f a at (declare d) h = tt
-  set-in f a at (attributeset g b s) h = by (sameFamily f g && eqb a b) refl
-    where
-      by : (c : Bool) → (sameFamily f g && eqb a b) ≡ c → OfValue (SetIn (declarations p) f) (cond c (some s) none)
-      by true q = subst (λ (k : Family). SetIn (declarations p) k s) (sym (family-same f g (both-true (sameFamily f g) (eqb a b) q .0))) (h .1)
-      by false q = tt
-  set-in f a at (gives k x y) h = tt
-  set-in f a at (roletransition r t c n) h = tt
-  set-in f a at (constrain c ps e) h = tt
-
   transition-in : (at : ℕ) (s : Statement) → StatementIn (declarations p) s → OfValue (TransitionIn p) (transition (record { place = at; says = s }))
   transition-in at (declare d) h = tt
   transition-in at (attributeset f a s) h = tt
@@ -49,10 +32,6 @@ module _ (p : Policy) where
     -- once over what is gathered
     gathered : {B : Type 0} (Q : B → Type 0) (f : Line → Option B) → ((l : Line) → StatementIn (declarations p) (l .says) → OfValue Q (f l)) → All Q (gather f p)
     gathered Q f g = all-gather Q (λ (l : Line). StatementIn (declarations p) (l .says)) f g p (ok .statements)
-
-    pub sets-in : (f : Family) (a : ℕ) → All (SetIn (declarations p) f) (setsFor f a p)
-    unfolding setsFor
-    sets-in f a = gathered (SetIn (declarations p) f) (setFor f a) (λ l h. set-in f a (l .place) (l .says) h)
 
     pub transitions-in : All (TransitionIn p) (transitions p)
     unfolding transitions

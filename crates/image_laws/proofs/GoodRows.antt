@@ -10,17 +10,10 @@ use Rattle.policy.specs.Statements.{Family, users, roles, types, thingOf, attri
 use Rattle.policy.specs.Words.{isPlain}
 use Rattle.policy.specs.Grammar.{isRoles}
 use Rattle.policy.specs.Rows.{Row, row, compCode, opCode, nameRow, rowsOf}
-use Rattle.policy.specs.Sound.{ofComp, goodRow}
+use Rattle.policy.specs.Sound.{goodRow}
 use Rattle.policy.specs.Accepted.{ReferenceIn, ConstraintIn}
 use Rattle.policy.proofs.Lists.{every-append}
-
-comp-family : (f : Family) (s : Side) → ofComp (compCode f s) ≡ f
-comp-family users source = refl
-comp-family users target = refl
-comp-family roles source = refl
-comp-family roles target = refl
-comp-family types source = refl
-comp-family types target = refl
+use Rattle.policy.proofs.Sorts.{comp-family}
 
 comp-small : (f : Family) (s : Side) → ltb (compCode f s) 6 ≡ true
 comp-small users source = refl

@@ -1,24 +1,16 @@
--- The rows of E are as many as E's size, "one per operator and comparison"; so all rows of an image are as many as the statements count.
+-- The rows of E are as many as E's size, so all rows of an image are as many as the statements count.
 -- Assumes nothing.
 use Prim.Native.Nat.{_+_}
-use native.Mathlib.Omega.{arith}
 use mathlib.Core.Path.{_≡_, refl, ap₂, _∙_}
 use mathlib.Core.List.{List, [], _∷_}
 use lib.ListN.{length, length-append}
 use Rattle.bitset.specs.Relations.{joined}
 use Rattle.policy.specs.Basics.{each}
-use Rattle.policy.specs.Statements.{Reference, Constraint, sidesE, nameE, notE, andE, orE, Constrain, size}
+use Rattle.policy.specs.Statements.{Constrain}
 use Rattle.policy.specs.Reading.{rowCount}
 use Rattle.policy.specs.Rows.{rowsOf}
 use Rattle.policy.specs.Image.{ConstraintEntry, constraintEntry}
-
-pub rows-count : (e : Constraint Reference) → length (rowsOf e) ≡ size e
-unfolding rowsOf size
-rows-count (sidesE f o) = refl
-rows-count (nameE f s o r) = refl
-rows-count (notE a) = simp (length-append, rows-count a) (omega arith)
-rows-count (andE a b) = simp (length-append, rows-count a, rows-count b) (omega arith)
-rows-count (orE a b) = simp (length-append, rows-count a, rows-count b) (omega arith)
+use Rattle.policy.proofs.RowCounts.{rows-count}
 
 pub rows-in-all : (cs : List Constrain) → length (joined (each (λ (c : ConstraintEntry). c .rows) (each constraintEntry cs))) ≡ rowCount cs
 unfolding joined each rowCount

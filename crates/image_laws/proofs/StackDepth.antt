@@ -4,14 +4,11 @@
 use Prim.Native.Nat.{ℕ, suc, max, _+_, _≤_}
 use native.Mathlib.Omega.{arith}
 use mathlib.Core.Path.{_≡_, refl, sym, ap, _∙_}
-use mathlib.Core.Bool.{Bool, true, false, _&&_}
+use mathlib.Core.Bool.{true}
 use mathlib.Core.List.{List, [], _∷_, _++_, append-assoc, append-nil}
-use lib.Dec.{leb}
-use borrow.Author.Tests.{le-leb, leb-true, leb-false}
+use borrow.Author.Tests.{le-leb}
 use Rattle.policy.specs.Statements.{Reference, thing, attribute, Constraint, sidesE, nameE, notE, andE, orE, need}
-use Rattle.policy.specs.Maxima.{maxStack}
 use Rattle.policy.specs.Rows.{Row, row, rowsOf, after, balanced}
-use Rattle.policy.proofs.Lists.{both-true}
 use Rattle.image_laws.specs.Depth.{deepest}
 
 pub need-positive : {R : Type 0} (e : Constraint R) → 1 ≤ need e
@@ -96,23 +93,3 @@ pub deepest-rows : (e : Constraint Reference) (d : ℕ) → deepest (rowsOf e) d
 unfolding deepest
 deepest-rows e d =
     ap (λ (rs : List Row). deepest rs d) (sym (append-nil (rowsOf e))) ∙ (deepest-over e [] d ∙ omega (arith, need-positive e))
-
--- balanced rows stay within 5
-balanced-deepest : (rs : List Row) (d : ℕ) → d ≤ 5 → balanced rs d ≡ true → deepest rs d ≤ 5
-unfolding balanced deepest
-balanced-deepest [] d l h = l
-balanced-deepest (r ∷ rs) d l h =
-    let parts = both-true (leb 1 (after r d) && leb (after r d) maxStack) (balanced rs (after r d)) h in
-    let high : after r d ≤ 5 = leb-true (after r d) maxStack (both-true (leb 1 (after r d)) (leb (after r d) maxStack) (parts .0) .1) in
-    omega (arith, balanced-deepest rs (after r d) high (parts .1))
-
--- "At most 5": a stack of 5 is enough for E exactly when E needs at most 5
-pub balanced-exactly : (e : Constraint Reference) → balanced (rowsOf e) 0 ≡ leb (need e) maxStack
-balanced-exactly e = by (leb (need e) maxStack) refl (balanced (rowsOf e) 0) refl
-  where
-    by : (b : Bool) → leb (need e) maxStack ≡ b → (c : Bool) → balanced (rowsOf e) 0 ≡ c → balanced (rowsOf e) 0 ≡ leb (need e) maxStack
-    by true h c k = balanced-whole e (leb-true (need e) maxStack h) ∙ sym h
-    by false h false k = k ∙ sym h
-    by false h true k =
-        absurd (let low : deepest (rowsOf e) 0 ≤ 5 = balanced-deepest (rowsOf e) 0 (omega arith) k in
-        omega (arith, deepest-rows e 0, leb-false (need e) maxStack h))

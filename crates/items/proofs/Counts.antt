@@ -1,6 +1,6 @@
 -- How operands and names are counted, and how a row of names goes on by an item. Assumes nothing.
 use mathlib.Core.Path.{_≡_, refl, sym, ap}
-use mathlib.Core.Bool.{Bool, true, false, _&&_}
+use mathlib.Core.Bool.{Bool, true, false, _&&_, false≢true}
 use mathlib.Core.List.{List, [], _∷_}
 use mathlib.Core.Option.{Option, none, some}
 use Prim.Native.Nat.{ℕ, suc, _+_, _-_}
@@ -16,6 +16,11 @@ use Rattle.words.specs.Numbers.{mayBe, takenAs}
 use Rattle.words.specs.declared.NameKind.{NameKind}
 use Rattle.items.specs.Reads.{isSome, enough, counted}
 use Rattle.items.specs.declared.Wanted.{Wanted}
+
+-- what does not pass is not there
+pub none-of : {A : Type 0} (o : Option A) → isSome o ≡ false → o ≡ none
+none-of none e = refl
+none-of (some a) e = absurd (false≢true (sym e))
 
 -- one more that is there; one that is not
 pub one-more : {A : Type 0} (w : Wanted) (n : ℕ) (o : Option A) (r : Option (List A)) → isSome o ≡ true → counted w n (more o r) ≡ counted w (n + 1) r

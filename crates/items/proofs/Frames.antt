@@ -22,7 +22,7 @@ seen t (Item.Open p q) = record { here = part p (framesAt t q .here) (head (fram
 seen t (Item.Close q) = record { here = closed; around = framesAt t q .here ∷ framesAt t q .around }
 seen t Item.End = record { here = ended; around = [] }
 
-pub record Looked (t : List ℕ) (at : ℕ) (r : Item) : Type 0 where
+pub record FramesSeen (t : List ℕ) (at : ℕ) (r : Item) : Type 0 where
   pub frames : framesAt t at ≡ seen t r
   pub item : items.Looked t at r
   pub ahead : Ahead t at r
@@ -34,7 +34,7 @@ frames-of t at (Token.Word p n) s = s .frames
 frames-of t at Token.End s = s .frames
 
 -- what a caller of `look` knows of the item k that it answered
-pub sees : {t : List ℕ} {i : ℕ} {r k : Item} → r ≡ itemAt t i → r ≡ k → Looked t i k
+pub sees : {t : List ℕ} {i : ℕ} {r k : Item} → r ≡ itemAt t i → r ≡ k → FramesSeen t i k
 unfolding itemAt
 sees {t} {i} e f =
     let l = items.sees e f in
@@ -59,7 +59,7 @@ word-next t i {s} {n} {k} {q} e f = go (tokenAt t i) (sym f ∙ e)
         omega arith
     go Token.End h = absurd (let z : _≡_ {A = ℕ} 0 1 = cc in omega arith)
 
-module _ {t : List ℕ} {i : ℕ} {k : Item} (l : Looked t i k) where
+module _ {t : List ℕ} {i : ℕ} {k : Item} (l : FramesSeen t i k) where
   pub here-of : framesAt t i .here ≡ seen t k .here
   here-of = ap (λ (f : Frames). f .here) (l .frames)
 
@@ -67,25 +67,25 @@ module _ {t : List ℕ} {i : ℕ} {k : Item} (l : Looked t i k) where
   around-of = ap (λ (f : Frames). f .around) (l .frames)
 
 -- a close ends the row that was at hand at the place at
-pub closes : {t : List ℕ} {i q : ℕ} (at : ℕ) → Looked t i (Item.Close q) → framesAt t i .around ≡ framesAt t at .around
+pub closes : {t : List ℕ} {i q : ℕ} (at : ℕ) → FramesSeen t i (Item.Close q) → framesAt t i .around ≡ framesAt t at .around
     → out (framesAt t at) ≡ framesAt t q
 closes at l e = ap (λ (a : List Forms). record { here = head a; around = tail a }) (sym e ∙ around-of l)
 
 -- what q says of the row at hand, by the item
 module _ {B : Type 0} (q : Forms → B) {t : List ℕ} {i : ℕ} (levels : ℕ) where
-  pub by-close : {j : ℕ} → Looked t i (Item.Close j) → q (trim (framesAt t i .here) levels) ≡ q closed
+  pub by-close : {j : ℕ} → FramesSeen t i (Item.Close j) → q (trim (framesAt t i .here) levels) ≡ q closed
   by-close l = items.by-close q levels (l .item)
 
-  pub by-end : Looked t i Item.End → q (trim (framesAt t i .here) levels) ≡ q ended
+  pub by-end : FramesSeen t i Item.End → q (trim (framesAt t i .here) levels) ≡ q ended
   by-end l = items.by-end q levels (l .item)
 
-  pub by-word : {s n k j : ℕ} → Looked t i (Item.Word s n k j)
+  pub by-word : {s n k j : ℕ} → FramesSeen t i (Item.Word s n k j)
       → q (trim (framesAt t i .here) levels) ≡ q (word s (take n (drop s t)) (trim (framesAt t j .here) levels))
   by-word l = items.by-word q levels (l .item)
 
-  pub by-part : {p j : ℕ} → Looked t i (Item.Open p j) → (levels ≡ 0 → ⊥)
+  pub by-part : {p j : ℕ} → FramesSeen t i (Item.Open p j) → (levels ≡ 0 → ⊥)
       → q (trim (framesAt t i .here) levels) ≡ q (part p (trim (framesAt t j .here) (levels - 1)) (trim (head (framesAt t j .around)) levels))
   by-part {p} l h = ap (λ (f : Forms). q (trim f levels)) (here-of l) ∙ ap q (whole p _ _ levels h)
 
-  pub too-deep : {p j : ℕ} → Looked t i (Item.Open p j) → levels ≡ 0 → q (trim (framesAt t i .here) levels) ≡ q ended
+  pub too-deep : {p j : ℕ} → FramesSeen t i (Item.Open p j) → levels ≡ 0 → q (trim (framesAt t i .here) levels) ≡ q ended
   too-deep l h = items.too-deep q levels (l .item) h

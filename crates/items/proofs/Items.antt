@@ -1,14 +1,14 @@
 -- What an item that `look` answered says: where it lies, where the row at hand ends, and what any test of that row says by it. The row is cut
 -- where no level is left. Assumes nothing.
-use mathlib.Core.Path.{_≡_, refl, sym, ap, subst, subst⁻¹, _∙_}
-use mathlib.Core.Bool.{Bool, true, false, not}
+use mathlib.Core.Path.{_≡_, refl, sym, ap, subst, _∙_}
+use mathlib.Core.Bool.{Bool, true, false}
 use mathlib.Core.List.{List}
 use Prim.Native.Nat.{ℕ, _+_, _-_, _<_, _≤_}
 use native.Mathlib.Omega.{arith}
 use borrow.Author.Tests.{eqb-true, eqb-false}
-use lib.Dec.{T, eqb}
+use lib.Dec.{eqb}
 use lib.ListN.{length, take, drop}
-use types.Run.{OneOf, miss}
+use types.Run.{OneOf}
 use mir.Val.{hasKey}
 use denote.Enum.Declared.{tagOf}
 use Rattle.lexer.specs.Forms.{Forms, closed, ended, word, part, Frames, framesAt, trim}
@@ -16,6 +16,7 @@ use Rattle.lexer.specs.Token.{tokenAt}
 use Rattle.lexer.specs.declared.Token.{Token}
 use Rattle.lexer.proofs.Seen as token
 use Rattle.lexer.proofs.Trim.{whole, cut}
+use Rattle.lexer.proofs.Variants.{When, one-of}
 use Rattle.words.specs.Numbers.{numberOf}
 use Rattle.items.specs.Looks.{itemOf, itemAt, rowEnd}
 use Rattle.items.specs.declared.Item.{Item}
@@ -120,18 +121,6 @@ module _ {B : Type 0} (q : Forms → B) {t : List ℕ} {i : ℕ} (levels : ℕ) 
 -- the place of an item among the variants, as the check has it
 abbrev tag : Item → ℕ
 tag k = tagOf the-type k
-
-abbrev When : Bool → Type 0 → Type 0
-When true X = X
-When false X = Unit {0}
-
--- X where x is one of the numbers ks
-one-of : (ks : List ℕ) (x : ℕ) (X : Type 0) → When (hasKey ks x) X → OneOf ks x → X
-one-of ks x X w h = go (hasKey ks x) refl w
-  where
-    go : (b : Bool) → hasKey ks x ≡ b → When b X → X
-    go true e v = v
-    go false e v = absurd (miss ks x (subst⁻¹ (λ (q : Bool). T (not q)) e tt) h)
 
 -- P at each item whose place is among ks, so P at an item that is one of them
 abbrev pub Each : List ℕ → (Item → Type 0) → Type 0

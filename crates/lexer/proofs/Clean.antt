@@ -2,7 +2,7 @@
 -- One induction over the bytes that are left: with so many parentheses open, so many rows are still to be closed, each of them with
 -- room for one level more than the row in it. Assumes nothing.
 use mathlib.Core.Path.{_≡_, refl, sym, ap, _∙_}
-use mathlib.Core.Bool.{Bool, true, false, _&&_, cond}
+use mathlib.Core.Bool.{Bool, true, false, _&&_, cond, and-eq-true-iff}
 use mathlib.Core.List.{List, [], _∷_, _++_}
 use Prim.Native.Nat.{ℕ, zero, suc, _+_, _-_, _≤_, _<_}
 use native.Mathlib.Omega.{arith}
@@ -18,7 +18,6 @@ use Rattle.lexer.specs.declared.ByteClass.{ByteClass}
 use Rattle.lexer.specs.declared.ByteClass.the-variants.{Blank, LineFeed, Comment, Open, Close, Letter, Digit, Dot, Wrong}
 use Rattle.lexer.specs.declared.Scanned.{Scanned}
 use Rattle.lexer.specs.declared.Token.{Token}
-use Rattle.lexer.proofs.Names.{both}
 use Rattle.lexer.proofs.Scans.{halted}
 use Rattle.lexer.proofs.Trim.{uncut}
 
@@ -44,9 +43,9 @@ part-row : (q : Forms → Bool) (p : ℕ) (f g : Forms) (room : ℕ) → q (part
     → Row q (part p f g) (suc room)
 unfolding namesGood
 part-row q p f g room e a b = record {
-  shut = e ∙ both (closes f) (q g) (a .shut) (b .shut);
+  shut = e ∙ and-eq-true-iff (closes f) (q g) .1 (a .shut, b .shut);
   deep = uncut p f g room (a .deep) (b .deep);
-  names = both (namesGood f) (namesGood g) (a .names) (b .names);
+  names = and-eq-true-iff (namesGood f) (namesGood g) .1 (a .names, b .names);
 }
 
 part-rows : (a : List Forms) (level room p : ℕ) (f : Forms) → Rows a (suc level) f room → Rows (tail a) level (part p f (head a)) (suc room)
@@ -62,7 +61,7 @@ unfolding closes namesGood trim
 word-rows a zero room s b f l e r = absurd (omega arith)
 word-rows [] (suc level) room s b f l e r = absurd r
 word-rows (g ∷ gs) (suc level) room s b f l e r = (
-  record { shut = r .0 .shut; deep = ap (word s b) (r .0 .deep); names = both (isName b) (namesGood f) e (r .0 .names) },
+  record { shut = r .0 .shut; deep = ap (word s b) (r .0 .deep); names = and-eq-true-iff (isName b) (namesGood f) .1 (e, r .0 .names) },
   r .1,
 )
 
@@ -86,7 +85,7 @@ not-wrong place h =
     let z : _≡_ {A = ℕ} 0 1 = cc in
     omega arith
 
-never : (t bs : List ℕ) (place at : ℕ) → scanFrom t bs (stopped place) at ≡ Scanned.Clean → ⊥
+pub never : (t bs : List ℕ) (place at : ℕ) → scanFrom t bs (stopped place) at ≡ Scanned.Clean → ⊥
 never t bs place at h = not-wrong place (sym (halted t bs place at) ∙ h)
 
 module _ (t bs : List ℕ) (b at : ℕ)
@@ -153,7 +152,7 @@ at-end zero room at h = record { shut = refl; deep = refl; names = refl }
 at-end (suc level) room at h = absurd (not-wrong at (rw (eqb·suc-zero level) at h))
 
 -- a run that ends with the text lies within parentheses, which are not closed
-unclosed : (level at first : ℕ) (q : Bool) → 0 < level → cond q (closedAt level at) (Scanned.Wrong first) ≡ Scanned.Clean → ⊥
+pub unclosed : (level at first : ℕ) (q : Bool) → 0 < level → cond q (closedAt level at) (Scanned.Wrong first) ≡ Scanned.Clean → ⊥
 unclosed zero at first q u h = omega arith
 unclosed (suc level) at first true u h = not-wrong at (rw (eqb·suc-zero level) at h)
 unclosed (suc level) at first false u h = not-wrong first h

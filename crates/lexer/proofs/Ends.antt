@@ -20,8 +20,8 @@ pub told : {j k : ByteClass} {r v : Bool} (test : ByteClass → Bool) → k ≡ 
 told test e f g = ap test (sym e) ∙ sym f ∙ g
 
 -- the bytes after the first of those that are left
-pub rest : (t bs : List ℕ) (b at : ℕ) → drop at t ≡ b ∷ bs → drop (at + 1) t ≡ bs
-rest t bs b at e = sym (drop-drop 1 at t) ∙ ap (λ (l : List ℕ). drop 1 l) e
+pub rest : {A : Type 0} (t bs : List A) (b : A) (at : ℕ) → drop at t ≡ b ∷ bs → drop (at + 1) t ≡ bs
+rest t bs b at e = sym (drop-drop 1 at t) ∙ ap (drop 1) e
 
 -- where a byte is left there is one
 pub below : (t bs : List ℕ) (b at : ℕ) → drop at t ≡ b ∷ bs → at < length t

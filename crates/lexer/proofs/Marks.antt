@@ -1,11 +1,10 @@
 -- The table of byte classes: the mark of each class, and the law that carries a test of the whole table to every byte.
 -- Assumes nothing.
-use mathlib.Core.Path.{_≡_, refl, sym, ap, _∙_, subst}
-use mathlib.Core.Bool.{Bool, true, cond}
+use mathlib.Core.Path.{_≡_, refl, sym, ap, _∙_}
+use mathlib.Core.Bool.{cond}
 use mathlib.Core.List.{List, [], _∷_}
-use Prim.Native.Nat.{ℕ, zero, suc, _+_, _-_, _≤_, _<_}
+use Prim.Native.Nat.{ℕ, zero, suc, _+_, _<_}
 use native.Mathlib.Nat.{add-zero, zero-add, add-suc, suc-add, le-of-suc-le-suc, not-suc-le-zero}
-use native.Mathlib.Omega.{arith}
 use lib.Dec.{eqb, ltb}
 use lib.ListN.{getD}
 use Rattle.lexer.specs.Class.{is, starts, goesOn, isDot, inWord}
@@ -28,13 +27,6 @@ from d f (suc n) i (suc k) h = from d f n (suc i) k (le-of-suc-le-suc h) ∙ rw 
 -- the whole table is f, so each entry is
 pub entry : (f : ℕ → ℕ) (n : ℕ) (xs : List ℕ) → xs ≡ tabulate f 0 n → (k : ℕ) → k < n → getD xs k 0 ≡ f k
 entry f n xs e k h = rw e (from 0 f n 0 k h ∙ rw zero-add)
-
--- two rules that are computed to be the same at n places from a first one on are the same at each of them
-pub agree : (f g : ℕ → Bool) (first n : ℕ) → tabulate f first n ≡ tabulate g first n → (k : ℕ) → first ≤ k → k < first + n → f k ≡ g k
-agree f g first n e k l h =
-    let inside : k - first < n = omega arith in
-    subst (λ (x : ℕ). f x ≡ g x) (omega arith)
-    (sym (from true f n first (k - first) inside) ∙ ap (λ (xs : List Bool). getD xs (k - first) true) e ∙ from true g n first (k - first) inside)
 
 -- ---- the marks
 

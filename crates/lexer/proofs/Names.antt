@@ -1,30 +1,18 @@
 -- Names: their parts read byte by byte, what a name that is under way asks of the bytes to come, and how long names are. Assumes nothing.
 use mathlib.Core.Path.{_≡_, refl, sym, ap, _∙_}
-use mathlib.Core.Bool.{Bool, true, false, not, _&&_, and-eq-true-iff, and-assoc, and-false}
+use mathlib.Core.Bool.{Bool, true, false, not, _&&_, and-eq-true-iff, and-assoc, and-false, false≢true, cond}
 use mathlib.Core.List.{List, [], _∷_, _++_, append-assoc, append-nil}
 use Prim.Native.Nat.{ℕ, suc, _+_, _≤_, _<_}
 use native.Mathlib.Omega.{arith}
-use borrow.Author.Tests.{leb-true, le-leb, lt-leb}
+use borrow.Author.Tests.{leb-true, le-leb, lt-leb, eqb-true}
 use lib.Dec.{leb}
 use lib.ListN.{length}
-use Rattle.lexer.specs.Class.{classOf, starts, goesOn, isDot, inWord, maxName, allGoOn, isPart, allParts, onFirst, parts, isDotted, undotted, isName}
+use Rattle.lexer.specs.Class.{classOf, starts, goesOn, isDot, inWord, maxName, allGoOn, isPart, allParts, onFirst, parts, isDotted, undotted, isName, is, isBlank, isLetter, isDigit}
 use Rattle.lexer.specs.Answers.{partStarts}
 use Rattle.lexer.specs.declared.ByteClass.{ByteClass}
 use Rattle.lexer.specs.declared.ByteClass.the-variants.{Blank, LineFeed, Comment, Open, Close, Letter, Digit, Dot, Wrong}
 
--- a test of two parts: both pass, and each of them does
-pub both : (a b : Bool) → a ≡ true → b ≡ true → a && b ≡ true
-both a b e f = and-eq-true-iff a b .1 (e, f)
-
-pub each : (a b : Bool) → a && b ≡ true → (a ≡ true) × (b ≡ true)
-each a b e = and-eq-true-iff a b .0 e
-
 -- ---- classes
-
-pub clash : false ≡ true → ⊥
-clash e =
-    let z : _≡_ {A = ℕ} 0 1 = cc in
-    omega arith
 
 -- a dot starts no part; what starts a part is no dot; but for the dot, names are made of what goes on a part
 pub dot-starts-none : (k : ByteClass) → isDot k ≡ true → starts k ≡ false
@@ -33,7 +21,7 @@ dot-starts-none LineFeed e = refl
 dot-starts-none Comment e = refl
 dot-starts-none Open e = refl
 dot-starts-none Close e = refl
-dot-starts-none Letter e = absurd (clash e)
+dot-starts-none Letter e = absurd (false≢true e)
 dot-starts-none Digit e = refl
 dot-starts-none Dot e = refl
 dot-starts-none Wrong e = refl
@@ -46,19 +34,19 @@ start-no-dot Open e = refl
 start-no-dot Close e = refl
 start-no-dot Letter e = refl
 start-no-dot Digit e = refl
-start-no-dot Dot e = absurd (clash e)
+start-no-dot Dot e = absurd (false≢true e)
 start-no-dot Wrong e = refl
 
 pub dot-in-word : (k : ByteClass) → isDot k ≡ true → inWord k ≡ true
-dot-in-word Blank e = absurd (clash e)
-dot-in-word LineFeed e = absurd (clash e)
-dot-in-word Comment e = absurd (clash e)
-dot-in-word Open e = absurd (clash e)
-dot-in-word Close e = absurd (clash e)
+dot-in-word Blank e = absurd (false≢true e)
+dot-in-word LineFeed e = absurd (false≢true e)
+dot-in-word Comment e = absurd (false≢true e)
+dot-in-word Open e = absurd (false≢true e)
+dot-in-word Close e = absurd (false≢true e)
 dot-in-word Letter e = refl
 dot-in-word Digit e = refl
 dot-in-word Dot e = refl
-dot-in-word Wrong e = absurd (clash e)
+dot-in-word Wrong e = absurd (false≢true e)
 
 pub part-in-word : (k : ByteClass) → isDot k ≡ false → inWord k ≡ goesOn k
 part-in-word Blank e = refl
@@ -68,7 +56,7 @@ part-in-word Open e = refl
 part-in-word Close e = refl
 part-in-word Letter e = refl
 part-in-word Digit e = refl
-part-in-word Dot e = absurd (clash (sym e))
+part-in-word Dot e = absurd (false≢true (sym e))
 part-in-word Wrong e = refl
 
 pub part-byte : (k : ByteClass) → goesOn k ≡ true → inWord k ≡ true
@@ -81,6 +69,27 @@ part-byte Letter e = e
 part-byte Digit e = e
 part-byte Dot e = refl
 part-byte Wrong e = e
+
+unless : (q : Bool) (j k : ByteClass) → isDot j ≡ false → isDot k ≡ false → isDot (cond q j k) ≡ false
+unless true j k e f = e
+unless false j k e f = f
+
+-- the byte of the dot, and no other, is in the class of the dot
+pub dot-byte : (b : ℕ) → isDot (classOf b) ≡ is "." b
+unfolding classOf
+dot-byte b = go (is "." b) refl
+  where
+    go : (q : Bool) → is "." b ≡ q → isDot (classOf b) ≡ q
+    go true e = ap (λ (k : ℕ). isDot (classOf k)) (eqb-true b 46 e)
+    go false e =
+        rw e
+        (unless (isBlank b) _ _ refl
+        (unless (is ";" b) _ _ refl
+        (unless (is "(" b) _ _ refl
+        (unless (is ")" b) _ _ refl
+        (unless (isLetter b) _ _ refl
+        (unless (isDigit b) _ _ refl
+        (unless (is "\n" b) _ _ refl refl)))))))
 
 -- ---- parts, byte by byte
 
@@ -186,7 +195,7 @@ finished w c fresh x h =
 -- "more than 64 bytes not counting a leading dot" is no name
 pub name-counted : (w : List ℕ) → isName w ≡ true → length (undotted w) ≤ maxName
 unfolding isName
-name-counted w e = leb-true (length (undotted w)) maxName (each (isDotted (undotted w)) (leb (length (undotted w)) maxName) e .1)
+name-counted w e = leb-true (length (undotted w)) maxName (and-eq-true-iff (isDotted (undotted w)) (leb (length (undotted w)) maxName) .0 e .1)
 
 -- at least a byte, and with a leading dot at most 65
 pub name-length : (w : List ℕ) → isName w ≡ true → (0 < length w) × (length w ≤ maxName + 1)
@@ -204,6 +213,37 @@ name-length (b ∷ bs) e = (omega arith, go (isDot (classOf b)) refl)
         let h : suc (length bs) ≤ maxName = rw f at (name-counted (b ∷ bs) e) in
         omega arith
 
+-- ---- the parts of a name that is cut at a dot
+
+first-some : (b : ℕ) (l : List (List ℕ)) → 0 < length (onFirst b l)
+first-some b [] = omega arith
+first-some b (p ∷ ps) = omega arith
+
+pub some-part : (w : List ℕ) → 0 < length (parts w)
+unfolding parts
+some-part [] = omega arith
+some-part (b ∷ bs) = go (isDot (classOf b))
+  where
+    go : (q : Bool) → 0 < length {A = List ℕ} (elim q [ true ↦ [] ∷ parts bs | false ↦ onFirst b (parts bs) ])
+    go true = omega arith
+    go false = first-some b (parts bs)
+
+first-append : (b : ℕ) (l m : List (List ℕ)) → 0 < length l → onFirst b (l ++ m) ≡ onFirst b l ++ m
+first-append b [] m h = absurd (omega arith)
+first-append b (p ∷ ps) m h = refl
+
+-- the parts before a dot, and those behind it
+pub cut-at-dot : (w : List ℕ) (b : ℕ) (v : List ℕ) → isDot (classOf b) ≡ true → parts (w ++ (b ∷ v)) ≡ parts w ++ parts v
+unfolding parts
+cut-at-dot [] b v d = ap (λ (q : Bool). elim q [ true ↦ [] ∷ parts v | false ↦ onFirst b (parts v) ]) d
+cut-at-dot (c ∷ w) b v d = go (isDot (classOf c)) (cut-at-dot w b v d)
+  where
+    go : (q : Bool) → parts (w ++ (b ∷ v)) ≡ parts w ++ parts v
+        → elim q [ true ↦ [] ∷ parts (w ++ (b ∷ v)) | false ↦ onFirst c (parts (w ++ (b ∷ v))) ]
+        ≡ elim q [ true ↦ [] ∷ parts w | false ↦ onFirst c (parts w) ] ++ parts v
+    go true i = ap (λ (l : List (List ℕ)). [] ∷ l) i
+    go false i = ap (onFirst c) i ∙ first-append c (parts w) (parts v) (some-part w)
+
 -- ---- a name of one part, for those that take no dot
 
 part-no-dot : (k : ByteClass) → goesOn k ≡ true → isDot k ≡ false
@@ -214,7 +254,7 @@ part-no-dot Open e = refl
 part-no-dot Close e = refl
 part-no-dot Letter e = refl
 part-no-dot Digit e = refl
-part-no-dot Dot e = absurd (clash e)
+part-no-dot Dot e = absurd (false≢true e)
 part-no-dot Wrong e = refl
 
 dot-parts : (b : ℕ) (bs : List ℕ) (q : Bool) → isDot (classOf b) ≡ q → parts (b ∷ bs) ≡ elim q [ true ↦ [] ∷ parts bs | false ↦ onFirst b (parts bs) ]
@@ -222,22 +262,20 @@ unfolding parts
 dot-parts b bs q e = ap (λ (x : Bool). elim x [ true ↦ [] ∷ parts bs | false ↦ onFirst b (parts bs) ]) e
 
 -- what goes on a part has no dot in it
-pub one-part : (w : List ℕ) → allGoOn w ≡ true → parts w ≡ w ∷ []
+one-part : (w : List ℕ) → allGoOn w ≡ true → parts w ≡ w ∷ []
 unfolding allGoOn parts
 one-part [] e = refl
 one-part (b ∷ bs) e =
-    let p = each (goesOn (classOf b)) (allGoOn bs) e in
+    let p = and-eq-true-iff (goesOn (classOf b)) (allGoOn bs) .0 e in
     dot-parts b bs false (part-no-dot (classOf b) (p .0)) ∙ ap (onFirst b) (one-part bs (p .1))
 
--- a part is a name where it is not too long
-pub part-name : (w : List ℕ) → isPart w ≡ true → length w ≤ maxName → isName w ≡ true
-unfolding isName isDotted isPart allParts
-part-name [] e h = absurd (clash e)
-part-name (b ∷ bs) e h =
-    let p = each (starts (classOf b)) (allGoOn bs) e in
-    let n = start-no-dot (classOf b) (p .0) in
-    let w : parts (b ∷ bs) ≡ (b ∷ bs) ∷ [] = dot-parts b bs false n ∙ ap (onFirst b) (one-part bs (p .1)) in
-    rw (n, w, e, le-leb (suc (length bs)) maxName h)
+-- nor has a part
+pub only-part : (w : List ℕ) → isPart w ≡ true → parts w ≡ w ∷ []
+unfolding isPart
+only-part [] e = absurd (false≢true e)
+only-part (b ∷ bs) e =
+    let p = and-eq-true-iff (starts (classOf b)) (allGoOn bs) .0 e in
+    dot-parts b bs false (start-no-dot (classOf b) (p .0)) ∙ ap (onFirst b) (one-part bs (p .1))
 
 -- how long the first is
 abbrev firstLength : List (List ℕ) → ℕ
@@ -256,6 +294,6 @@ name-part (b ∷ bs) e f = go (isDot (classOf b)) refl
         absurd (omega arith)
     go false g =
         let h : allParts (parts (b ∷ bs)) && leb (suc (length bs)) maxName ≡ true = rw g at e in
-        let i = each (allParts (parts (b ∷ bs))) (leb (suc (length bs)) maxName) h in
+        let i = and-eq-true-iff (allParts (parts (b ∷ bs))) (leb (suc (length bs)) maxName) .0 h in
         let j : (starts (classOf b) && allGoOn bs) && true ≡ true = sym (ap allParts f) ∙ i .0 in
-        (each (starts (classOf b) && allGoOn bs) true j .0, leb-true (suc (length bs)) maxName (i .1))
+        (and-eq-true-iff (starts (classOf b) && allGoOn bs) true .0 j .0, leb-true (suc (length bs)) maxName (i .1))

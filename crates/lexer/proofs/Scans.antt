@@ -1,7 +1,7 @@
 -- How the scan of a text goes on by a byte, over a comment, and at its end: what the loop of `scan` does, stated once.
 -- Assumes nothing.
 use mathlib.Core.Path.{_≡_, refl, sym, ap, _∙_}
-use mathlib.Core.Bool.{Bool, true, false, not, _&&_, cond}
+use mathlib.Core.Bool.{Bool, true, false, not, _&&_, cond, false≢true}
 use mathlib.Core.List.{List, [], _∷_, _++_}
 use Prim.Native.Nat.{ℕ, zero, suc, _+_, _-_, _≤_, _<_}
 use native.Mathlib.Numerals.{add-one}
@@ -18,7 +18,7 @@ use Rattle.lexer.specs.declared.ByteClass.the-variants.{Blank, LineFeed,
 use Rattle.lexer.specs.declared.Scanned.{Scanned}
 use Rattle.lexer.specs.declared.Step.{Step}
 use Rattle.lexer.proofs.Ends.{bytes-there, over-comment, byte-there, byte-goes-on, name-word, name-over, name-not-bare}
-use Rattle.lexer.proofs.Names.{clash, fits, no-part, SoFar, letter-first, dot-first, grown, one-too-many, spoiled, finished}
+use Rattle.lexer.proofs.Names.{fits, no-part, SoFar, letter-first, dot-first, grown, one-too-many, spoiled, finished}
 
 -- a text that is too long is fault 1, and only such a text
 pub too-long : (t : List ℕ) → maxText < length t → scan t ≡ Scanned.TooLong
@@ -207,15 +207,15 @@ module _ (t : List ℕ) (first from level at : ℕ) (x : InName t first from lev
       }
 
 start-goes : (k : ByteClass) → starts k ≡ true → inWord k ≡ true
-start-goes Blank e = absurd (clash e)
-start-goes LineFeed e = absurd (clash e)
-start-goes Comment e = absurd (clash e)
-start-goes Open e = absurd (clash e)
-start-goes Close e = absurd (clash e)
+start-goes Blank e = absurd (false≢true e)
+start-goes LineFeed e = absurd (false≢true e)
+start-goes Comment e = absurd (false≢true e)
+start-goes Open e = absurd (false≢true e)
+start-goes Close e = absurd (false≢true e)
 start-goes Letter e = refl
 start-goes Digit e = refl
 start-goes Dot e = refl
-start-goes Wrong e = absurd (clash e)
+start-goes Wrong e = absurd (false≢true e)
 
 part-goes : (bs : List ℕ) → partStarts bs ≡ true → wordGoesOn bs ≡ true
 part-goes [] e = e
@@ -266,7 +266,7 @@ begins level at Open e f = sym (neither (ltb level maxLevel) (going between (lev
 begins level at Close e f = sym (neither (eqb level 0) (stopped at) (going between (level - 1)) refl refl) ∙ e
 begins level at Letter e f = refl
 begins level at Digit e f = e
-begins level at Dot e f = absurd (clash (sym f))
+begins level at Dot e f = absurd (false≢true (sym f))
 begins level at Wrong e f = e
 
 module _ (t : List ℕ) (at level : ℕ) (h : at < length t) (i : scanFrom t (drop (at + 1) t) (going (inName at 1) level) (at + 1) ≡ scan t) where
@@ -324,7 +324,7 @@ module _ (t : List ℕ) (at level : ℕ) (h : at < length t) (i : scanFrom t (dr
           record {
             fresh = false;
             so-far = rw (one, run, z) (letter-first (getD t at 0) (begins level at (classOf (getD t at 0)) leads q));
-            part = λ v. absurd (clash v);
+            part = λ v. absurd (false≢true v);
             left = rw one i;
             begun = omega arith;
             counted = omega (arith, c);

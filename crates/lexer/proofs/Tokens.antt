@@ -11,13 +11,12 @@ use lib.Seq.{drop-cons}
 use types.Run.{OneOf}
 use Rattle.lexer.specs.Class.{classOf, inWord, endsComment}
 use Rattle.lexer.specs.Scan.{Mode, between, inComment, inName}
-use Rattle.lexer.specs.Token.{betweenThen, ownToken, modeThen, ending, tokensFrom, tokensAt, firstOf, tokenAt}
+use Rattle.lexer.specs.Token.{betweenThen, ownToken, modeThen, ending, tokensFrom, firstOf}
 use Rattle.lexer.specs.Answers.{firstFrom, endsWord, commentEnd, wordEnd}
 use Rattle.lexer.specs.declared.ByteClass.{ByteClass}
 use Rattle.lexer.specs.declared.ByteClass.the-variants.{Blank, LineFeed, Comment, Open, Close, Letter, Digit, Dot, Wrong}
 use Rattle.lexer.specs.declared.Token.{Token}
 use Rattle.lexer.proofs.Ends.{over-comment}
-use Rattle.lexer.proofs.Names.{clash}
 use Rattle.lexer.proofs.Variants.{tag, among}
 
 -- ---- a turn of the loop of `next`
@@ -36,18 +35,6 @@ pub name-like : (at : ℕ) (k : ByteClass) → OneOf (5 ∷ 6 ∷ 7 ∷ []) (tag
 name-like at =
     among (5 ∷ 6 ∷ 7 ∷ []) (λ k. Leads at k (inName at 1))
     (tt, tt, tt, tt, tt, record { no-token = refl; to = refl }, record { no-token = refl; to = refl }, record { no-token = refl; to = refl }, tt)
-
--- a class of which names are made leads into one
-goes-like : (at : ℕ) (k : ByteClass) → inWord k ≡ true → Leads at k (inName at 1)
-goes-like at Blank e = absurd (clash e)
-goes-like at LineFeed e = absurd (clash e)
-goes-like at Comment e = absurd (clash e)
-goes-like at Open e = absurd (clash e)
-goes-like at Close e = absurd (clash e)
-goes-like at Letter e = record { no-token = refl; to = refl }
-goes-like at Digit e = record { no-token = refl; to = refl }
-goes-like at Dot e = record { no-token = refl; to = refl }
-goes-like at Wrong e = absurd (clash e)
 
 pub comment-like : (at : ℕ) (k : ByteClass) → k ≡ Comment → Leads at k inComment
 comment-like at k e = record { no-token = rw e; to = rw e }
@@ -106,18 +93,3 @@ word-first (b ∷ bs) first len at e = go (inWord (classOf b)) refl (word-first 
 
 pub word-here : (t : List ℕ) (at : ℕ) → firstOf (tokensFrom (drop (at + 1) t) (inName at 1) (at + 1)) ≡ Token.Word at (wordEnd t (at + 1) - at)
 word-here t at = word-first (drop (at + 1) t) at 1 (at + 1) refl
-
--- ---- a token by the byte at its place alone
-
-module _ (t : List ℕ) (at : ℕ) where
-  pub over-space : (b : ℕ) → at < length t → getD t at 0 ≡ b → Leads at (classOf b) between → tokenAt t (at + 1) ≡ tokenAt t at
-  unfolding tokenAt tokensAt
-  over-space b h e l = sym (ap firstOf (turn t at (classOf b) between h (ap classOf (sym e)) l))
-
-  pub word-by-byte : at < length t → inWord (classOf (getD t at 0)) ≡ true → Token.Word at (wordEnd t (at + 1) - at) ≡ tokenAt t at
-  unfolding tokenAt tokensAt
-  word-by-byte h e = sym (word-here t at) ∙ ap firstOf (sym (turn t at (classOf (getD t at 0)) (inName at 1) h refl (goes-like at (classOf (getD t at 0)) e)))
-
-  pub by-itself : (b : ℕ) (r : Token) → at < length t → getD t at 0 ≡ b → ownToken at (classOf b) ≡ r ∷ [] → r ≡ tokenAt t at
-  unfolding tokenAt tokensAt
-  by-itself b r h e f = sym (stop t at (classOf b) r h (ap classOf (sym e)) f)

@@ -5,6 +5,7 @@ use Prim.Native.Nat.{ℕ, zero, suc, _-_, _≤_}
 use native.Mathlib.Omega.{arith}
 use borrow.Author.Tests.{ne-eqb, eq-eqb}
 use lib.Dec.{eqb}
+use mathlib.Core.List.{List}
 use Rattle.lexer.specs.Forms.{Forms, closed, ended, word, part, trim}
 
 module _ (p : ℕ) (f g : Forms) (n : ℕ) where
@@ -66,3 +67,14 @@ further-down (part p f g) (suc n) (suc m) e h =
     let w : part p (trim f (suc n - 1)) (trim g (suc n)) ≡ part p f g = sym (whole p f g (suc n) (λ z. omega arith)) ∙ e in
     let k : suc n - 1 ≡ n = omega arith in
     uncut p f g m (further-down f n m (rw k at (ap inner w)) (omega arith)) (further-down g (suc n) (suc m) (ap after w) h)
+
+-- the row starts with a part
+abbrev pub startsPart : Forms → Bool
+startsPart closed = false
+startsPart ended = false
+startsPart (word s w f) = false
+startsPart (part p f g) = true
+
+-- the parts of two rows that are the same
+pub same-words : {s r : ℕ} {v w : List ℕ} {f g : Forms} → word s v f ≡ word r w g → (v ≡ w) × (f ≡ g)
+same-words e = (cc, cc)

@@ -20,8 +20,8 @@ When true X = X
 When false X = Unit {0}
 
 -- X where x is one of the numbers ks
-here : (ks : List ℕ) (x : ℕ) (X : Type 0) → When (hasKey ks x) X → OneOf ks x → X
-here ks x X w h = go (hasKey ks x) refl w
+pub one-of : (ks : List ℕ) (x : ℕ) (X : Type 0) → When (hasKey ks x) X → OneOf ks x → X
+one-of ks x X w h = go (hasKey ks x) refl w
   where
     go : (b : Bool) → hasKey ks x ≡ b → When b X → X
     go true e v = v
@@ -42,12 +42,12 @@ Each ks P =
 
 -- so P at a class that is one of them
 pub among : (ks : List ℕ) (P : ByteClass → Type 0) → Each ks P → (k : ByteClass) → OneOf ks (tag k) → P k
-among ks P a Blank h = here ks 0 (P Blank) (a .0) h
-among ks P a LineFeed h = here ks 1 (P LineFeed) (a .1) h
-among ks P a Comment h = here ks 2 (P Comment) (a .2) h
-among ks P a Open h = here ks 3 (P Open) (a .3) h
-among ks P a Close h = here ks 4 (P Close) (a .4) h
-among ks P a Letter h = here ks 5 (P Letter) (a .5) h
-among ks P a Digit h = here ks 6 (P Digit) (a .6) h
-among ks P a Dot h = here ks 7 (P Dot) (a .7) h
-among ks P a Wrong h = here ks 8 (P Wrong) (a .8) h
+among ks P a Blank h = one-of ks 0 (P Blank) (a .0) h
+among ks P a LineFeed h = one-of ks 1 (P LineFeed) (a .1) h
+among ks P a Comment h = one-of ks 2 (P Comment) (a .2) h
+among ks P a Open h = one-of ks 3 (P Open) (a .3) h
+among ks P a Close h = one-of ks 4 (P Close) (a .4) h
+among ks P a Letter h = one-of ks 5 (P Letter) (a .5) h
+among ks P a Digit h = one-of ks 6 (P Digit) (a .6) h
+among ks P a Dot h = one-of ks 7 (P Dot) (a .7) h
+among ks P a Wrong h = one-of ks 8 (P Wrong) (a .8) h

@@ -11,8 +11,8 @@ use Rattle.policy.specs.Statements.{Family, attributeOf, sameSort, plain, class
 use Rattle.policy.specs.Faults.{placeOf, places}
 use Rattle.policy.proofs.Lists.{gather-append}
 use Rattle.meaning_laws.specs.Mentioning.{DeclaredAt}
-use Rattle.meaning_laws.proofs.ListLaws.{given-some}
 use Rattle.policy.proofs.Sameness.{sort-same, sort-turned, family-self}
+use Rattle.policy.proofs.Options.{given-some}
 use Rattle.meaning_laws.proofs.Splitting.{cut-gathered}
 
 -- the place and the name of an attribute are kept together

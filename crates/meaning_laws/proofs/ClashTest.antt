@@ -22,7 +22,7 @@ use Rattle.meaning_laws.proofs.Counting.{lower}
 use Rattle.meaning_laws.proofs.WithinDeclared.{stands-within}
 
 -- two sets meet below c
-meet-there : (c : ℕ) (f g : Set) (n : ℕ) → n < c → f n ≡ true → g n ≡ true → meet c f g ≡ true
+pub meet-there : (c : ℕ) (f g : Set) (n : ℕ) → n < c → f n ≡ true → g n ≡ true → meet c f g ≡ true
 unfolding meet
 meet-there zero f g n l a b = absurd (omega (arith, l))
 meet-there (suc c) f g n l a b = by (decided (eqb n c)) (λ k. meet-there c f g n k a b)

@@ -22,11 +22,6 @@ unfolding countBelow
 count-le zero f g h = omega arith
 count-le (suc m) f g h = omega (arith, count-le m f g (λ y l. h y (omega (arith, l))), one-le (f m) (g m) (h m (omega arith)))
 
-pub count-most : (m : ℕ) (f : ℕ → Bool) → countBelow m f ≤ m
-unfolding countBelow
-count-most zero f = omega arith
-count-most (suc m) f = omega (arith, count-most m f, one-le (f m) true (λ _. refl))
-
 pub lower : (b m : ℕ) → b < suc m → (b ≡ m → ⊥) → b < m
 lower b m h ne = omega (arith, ne)
 

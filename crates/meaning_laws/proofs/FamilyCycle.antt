@@ -45,7 +45,7 @@ module _ (p : Policy) (f : Family) (ok : Accepted p) where
   unmentioned : (a : ℕ) → onCycle p f a ≡ false → ¬ Mentions p f a a
   unmentioned a e m = true≢false (sym (on-cycle-exactly p f ok a .1 m) ∙ e)
 
-  off-cycle : (a : ℕ) → ¬ Mentions p f a a → onCycle p f a ≡ false
+  pub off-cycle : (a : ℕ) → ¬ Mentions p f a a → onCycle p f a ≡ false
   off-cycle a h = by (decided (onCycle p f a))
     where
       by : (onCycle p f a ≡ true) ⊎ (onCycle p f a ≡ false) → onCycle p f a ≡ false

@@ -4,7 +4,7 @@ use mathlib.Core.Path.{_≡_, refl, sym, _∙_, subst}
 use mathlib.Core.Logic.{_⊎_, inl, inr, _↔_}
 use mathlib.Core.Bool.{Bool, true, false, _||_, cond, false≢true, or-true}
 use mathlib.Core.List.{List, [], _∷_}
-use mathlib.Core.Option.{Option, none, some, Option·none-ne-some, Option·some-injective}
+use mathlib.Core.Option.{Option, none, some}
 use lib.Dec.{eqb}
 use borrow.Author.Tests.{eq-eqb, eqb-true}
 use Rattle.policy.specs.Basics.{any, gather, keep, isAmong, All}
@@ -32,11 +32,6 @@ or-says {P} {Q} a b f g = (there, λ h. from-either a b (λ e. inl (f .1 e)) (λ
     there : P ⊎ Q → (a || b) ≡ true
     there (inl x) = or-left a b (f .0 x)
     there (inr y) = or-right a b (g .0 y)
-
--- a value that a test lets through
-pub given-some : {A : Type 0} (t : Bool) (v w : A) → cond t (some v) none ≡ some w → (t ≡ true) × (v ≡ w)
-given-some true v w h = (refl, Option·some-injective v w h)
-given-some false v w h = absurd (Option·none-ne-some w h)
 
 -- a choice by cases of a test
 pub chosen : {A : Type 0} (t : Bool) (x y : A) → (elim t as (λ _. A) [ true ↦ x | false ↦ y ]) ≡ cond t x y

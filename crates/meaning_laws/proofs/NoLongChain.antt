@@ -14,9 +14,10 @@ use Rattle.policy.specs.Faults.{mentions, attributesIn}
 use Rattle.policy.specs.Accepted.{Accepted}
 use Rattle.meaning_laws.specs.Mentioning.{MentionsDirectly, Mentions, directly, through}
 use Rattle.meaning_laws.proofs.ListLaws.{decided, from-either, any-none}
-use Rattle.meaning_laws.proofs.Counting.{amongBelow, one-joins, count-most}
+use Rattle.meaning_laws.proofs.Counting.{amongBelow, one-joins}
 use Rattle.meaning_laws.proofs.DirectMention.{mentions-exactly, direct-declared}
 use Rattle.policy.proofs.Counts.{few-of}
+use Rattle.bitset.proofs.CountLaws.{countBelow-le}
 use Rattle.meaning_laws.proofs.FinalSets.{chain}
 
 module _ (p : Policy) (f : Family) (ok : Accepted p) (acyclic : (a : ℕ) → ¬ Mentions p f a a) where
@@ -32,7 +33,7 @@ module _ (p : Policy) (f : Family) (ok : Accepted p) (acyclic : (a : ℕ) → ¬
   -- so many more mentions would need one attribute more than there are
   no-chain : (k : ℕ) (v : List ℕ) (a : ℕ) → Trail v a → attributesIn p f < k + amongBelow (attributesIn p f) (a ∷ v) → chain k p f a ≡ false
   unfolding chain
-  no-chain zero v a trail h = absurd (omega (arith, h, count-most (attributesIn p f) (λ y. isAmong y (a ∷ v))))
+  no-chain zero v a trail h = absurd (omega (arith, h, countBelow-le (attributesIn p f) (λ y. isAmong y (a ∷ v))))
   no-chain (suc k) v a trail h = any-none (chain k p f) (mentions p f a) (λ x e. go x (mentions-exactly p f a x .1 e) (no-chain k (a ∷ v) x))
     where
       go : (x : ℕ) → MentionsDirectly p f a x

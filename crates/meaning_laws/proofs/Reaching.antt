@@ -13,9 +13,10 @@ use Rattle.policy.specs.Statements.{Family, Policy}
 use Rattle.policy.specs.Faults.{mentions, attributesIn, below, wider, reach, onCycle}
 use Rattle.policy.specs.Accepted.{Accepted}
 use Rattle.policy.proofs.Lists.{both-true}
+use Rattle.bitset.proofs.CountLaws.{countBelow-le}
 use Rattle.meaning_laws.specs.Mentioning.{Mentions, directly, through}
 use Rattle.meaning_laws.proofs.ListLaws.{decided, from-either, or-right, any-in, any-out}
-use Rattle.meaning_laws.proofs.Counting.{amongBelow, count-most, count-more, find-below}
+use Rattle.meaning_laws.proofs.Counting.{amongBelow, count-more, find-below}
 use Rattle.meaning_laws.proofs.DirectMention.{mentions-exactly, direct-declared}
 
 -- the numbers below m that pass a test, as a list
@@ -137,7 +138,7 @@ module _ (p : Policy) (f : Family) (ok : Accepted p) where
       by : Closed end ⊎ (attributesIn p f + size xs ≤ size end) → Closed end ⊎ (suc (size end) ≤ size (wider p f end)) → Closed end
       by (inl c) r = c
       by (inr h) (inl c) = c
-      by (inr h) (inr g) = absurd (omega (arith, h, g, count-most (attributesIn p f) (λ y. isAmong y (wider p f end))))
+      by (inr h) (inr g) = absurd (omega (arith, h, g, countBelow-le (attributesIn p f) (λ y. isAmong y (wider p f end))))
 
   kept-on : (k : ℕ) (xs : List ℕ) (b : ℕ) → b < attributesIn p f → isAmong b xs ≡ true → isAmong b (reach k p f xs) ≡ true
   unfolding reach

@@ -13,7 +13,8 @@ use Rattle.policy.specs.Basics.{All}
 use Rattle.policy.specs.Accepted.{ReferenceIn, SetIn, StatementIn, Accepted}
 use Rattle.policy.proofs.Lists.{both-true}
 use Rattle.policy.proofs.Sameness.{family-same, relation-same}
-use Rattle.meaning_laws.proofs.ListLaws.{from-either, given-some, any-of, all-gathered}
+use Rattle.policy.proofs.Options.{given-some}
+use Rattle.meaning_laws.proofs.ListLaws.{from-either, any-of, all-gathered}
 
 -- S names only what is declared, and the attributes' sets stay within it: so does S
 module _ (ds : List Declaration) (f : Family) where

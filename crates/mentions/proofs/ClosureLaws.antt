@@ -20,7 +20,7 @@ use Rattle.policy.specs.Basics.{isAmong}
 use Rattle.policy.specs.Statements.{Family, Policy}
 use Rattle.policy.specs.Faults.{mentions, attributesIn, onCycle}
 use Rattle.policy.specs.Accepted.{Accepted}
-use Rattle.policy.proofs.Lists.{both-true, true-both}
+use Rattle.policy.proofs.Lists.{both-true, true-both, same-tests}
 use Rattle.set_code.specs.Evaluation.{setsIn}
 use Rattle.meaning_laws.specs.Mentioning.{Mentions, directly, through}
 use Rattle.meaning_laws.proofs.ListLaws.{decided, or-left, or-right, from-either}
@@ -128,11 +128,6 @@ module _ (R : ℕ → ℕ → Bool) where
   first-kept zero a b h = h
   first-kept (suc k) a b h = kept k a b (first-kept k a b h)
 
-same-truth : (s t : Bool) → (s ≡ true → t ≡ true) → (t ≡ true → s ≡ true) → s ≡ t
-same-truth true t f g = sym (f refl)
-same-truth false true f g = g refl
-same-truth false false f g = refl
-
 -- ---- of the mentions of a policy
 
 module _ (p : Policy) (f : Family) (ok : Accepted p) where
@@ -158,11 +153,11 @@ module _ (p : Policy) (f : Family) (ok : Accepted p) where
   own-row rows e a = by (decided (ltb a 64))
     where
       on : closed 64 names a a ≡ onCycle p f a
-      on = same-truth (closed 64 names a a) (onCycle p f a)
+      on = same-tests (closed 64 names a a) (onCycle p f a)
           (λ h. on-cycle-exactly p f ok a .1 (only-mentions 64 a a h)) (λ h. all-mentions (on-cycle-exactly p f ok a .0 h))
 
       off : 64 ≤ a → false ≡ onCycle p f a
-      off l = same-truth false (onCycle p f a) (λ h. absurd (false≢true h))
+      off l = same-tests false (onCycle p f a) (λ h. absurd (false≢true h))
           (λ h. absurd (omega (arith, l, below-64 a a (on-cycle-exactly p f ok a .0 h) .0)))
 
       by : (ltb a 64 ≡ true) ⊎ (ltb a 64 ≡ false) → (ltb a 64 && setsIn rows a a) ≡ onCycle p f a

@@ -7,7 +7,7 @@ use native.Mathlib.Omega.{arith}
 use lib.ListN.{length}
 use lib.Seq.{take-all}
 use Rattle.bitset.specs.Parts.{part}
-use Rattle.bitset.proofs.PartLaws.{small-part}
+use Rattle.bitset.proofs.PartLaws.{small-part, length-part-min}
 use Rattle.policy.specs.Basics.{Name, same, unle}
 use Rattle.policy.specs.Encode.{NameEntry, nameEntry}
 use Rattle.policy.proofs.Lists.{same-is}
@@ -16,7 +16,7 @@ use Rattle.symbols.specs.Section.{entriesAt, between, EntryIs}
 use Rattle.symbols.specs.Lookup.{familyNumber, firstNamed}
 use Rattle.symbols.specs.declared.Entry.{Entry}
 use Rattle.symbols.specs.declared.Found.{Found}
-use Rattle.symbols.proofs.PartLaws.{part-whole, length-part}
+use Rattle.symbols.proofs.PartLaws.{part-whole}
 use Rattle.name_chains.specs.Compared.{isCandidate, comparedIn, TriedIn}
 use Rattle.name_chains.specs.Chains.{howMany, Nth, Chained, ChainIs, HasChain, Tries, Compares}
 use Rattle.name_index.specs.Index.{frontOf, wordIn, chainIn, linkIn}
@@ -150,7 +150,7 @@ tries-as {t} {f} {v} {w} {r} e h = subst (λ (x : Name). Tries t f x r) e h
 -- ---- along a section
 
 name-long : {t : List ℕ} {at end s n past : ℕ} → EntryIs t at end (Entry.Named s n past) → length (between t (at + 4) past) ≡ past - (at + 4)
-name-long {t} {at} {end} {s} {n} {past} h = length-part t (at + 4) (past - (at + 4)) ∙ omega (arith, h .within)
+name-long {t} {at} {end} {s} {n} {past} h = length-part-min t (at + 4) (past - (at + 4)) ∙ omega (arith, h .within)
 
 module _ {t : List ℕ} {at end s n past : ℕ} (h : EntryIs t at end (Entry.Named s n past)) (f : ℕ) (w : Name) where
   pub other-length : (past - (at + 4) ≡ length w → ⊥) → isCandidate f (length w) (nameEntry s n (between t (at + 4) past)) ≡ false

@@ -4,7 +4,7 @@ use mathlib.Core.Bool.{Bool, true, false, cond, _&&_, false≢true}
 use mathlib.Core.List.{List, [], _∷_}
 use Prim.Native.Nat.{ℕ, zero, suc, _+_, _*_, _<_, _≤_}
 use native.Mathlib.Omega.{arith}
-use borrow.Author.Tests.{eq-eqb, eqb-false}
+use borrow.Author.Tests.{eqb-false}
 use lib.Dec.{eqb}
 use lib.ListN.{length, drop}
 use lib.Seq.{drop-drop}
@@ -16,6 +16,7 @@ use Rattle.symbols.specs.declared.Entry.{Entry}
 use Rattle.symbols.specs.declared.Found.{Found}
 use Rattle.symbols.proofs.PartLaws.{same-length}
 use Rattle.symbols.proofs.FindLaws.{ahead}
+use Rattle.symbols.proofs.Searching.{own-entry}
 use Rattle.name_chains.specs.Compared.{isCandidate, comparedIn, TriedIn}
 use Rattle.name_chains.specs.Chains.{howMany, firstCandidate, Nth}
 use Rattle.name_chains.proofs.CandidateLaws.{candidate-is, none-many}
@@ -25,8 +26,7 @@ use Rattle.name_chains.proofs.CandidateLaws.{candidate-is, none-many}
 module _ (f : ℕ) (w : Name) (e : NameEntry) (es : List NameEntry) where
   -- an entry of the family and length is compared
   pub first-by : isCandidate f (length w) e ≡ true → firstNamed f w (e ∷ es) ≡ cond (same w (e .name)) (Found.At (e .sort) (e .number)) (firstNamed f w es)
-  unfolding firstNamed
-  first-by q = rw (eq-eqb (familyNumber (e .sort) (e .number)) f (candidate-is f (length w) e q .0))
+  first-by q = own-entry f w e es (candidate-is f (length w) e q .0)
 
   pub compared-by : isCandidate f (length w) e ≡ true → comparedIn f w (e ∷ es) ≡ cond (same w (e .name)) 1 (1 + comparedIn f w es)
   unfolding comparedIn

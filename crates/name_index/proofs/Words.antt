@@ -7,9 +7,8 @@ use native.Mathlib.Omega.{arith}
 use lib.ListN.{length, getD, take, drop, set, length-drop, drop-of-length-le}
 use lib.Seq.{drop-cons, getD-drop}
 use Rattle.bitset.specs.Parts.{part, put}
-use Rattle.bitset.proofs.PartLaws.{small-part, length-part-le, length-put, part-put-same, part-put-before, part-put-after}
+use Rattle.bitset.proofs.PartLaws.{small-part, length-part-le, length-put, part-put-same, part-put-before, part-put-after, sets-put}
 use Rattle.policy.specs.Basics.{le, unle}
-use Rattle.symbols.proofs.AppendLaws.{put-sets}
 use Rattle.policy.proofs.AsNumbers.{Small}
 use Rattle.symbols.proofs.PartLaws.{part-none, part-whole, part-head}
 use Rattle.table_laws.proofs.LittleEndian.{le-length, unle-le}
@@ -105,7 +104,7 @@ eight-put t o n h =
     let e5 : o + 5 ≡ suc (suc (suc (suc (suc o)))) = omega arith in
     let e6 : o + 6 ≡ suc (suc (suc (suc (suc (suc o))))) = omega arith in
     let e7 : o + 7 ≡ suc (suc (suc (suc (suc (suc (suc o)))))) = omega arith in
-    rw (e1, e2, e3, e4, e5, e6, e7) (put-sets t o (le 8 n) (omega arith))
+    rw (e1, e2, e3, e4, e5, e6, e7) (sets-put t o (le 8 n) (omega arith))
 
 -- memory that is the same before the index, and of the same length
 pub record Kept (t u : List ℕ) : Type 0 where

@@ -5,9 +5,10 @@ use mathlib.Core.List.{List, [], _∷_, _++_, append-nil}
 use Prim.Native.Nat.{ℕ, _+_, _≤_}
 use native.Mathlib.Omega.{arith}
 use lib.ListN.{length, take, drop, set, take-append-drop, length-set}
-use lib.Seq.{take-add, drop-drop}
+use lib.Seq.{take-add}
 use Rattle.bitset.specs.Parts.{part}
 use Rattle.lexer.specs.Forms.{framesAt}
+use Rattle.lexer.proofs.Ends.{rest}
 use Rattle.policy.specs.Basics.{Name, isIn, differ}
 use Rattle.policy.proofs.Differing.{differ-more, differ-new}
 use Rattle.name_index.specs.Index.{frontOf}
@@ -23,9 +24,6 @@ module _ (ws : List Name) (k : ℕ) (x : Name) (xs : List Name) (e : drop k ws �
 
   one-more : take (k + 1) ws ≡ take k ws ++ (x ∷ [])
   one-more = take-add k 1 ws ∙ ap (λ (r : List Name). take k ws ++ take 1 r) e
-
-  one-less : drop (k + 1) ws ≡ xs
-  one-less = sym (drop-drop 1 k ws) ∙ ap (drop 1) e
 
   not-apart : isIn x (take k ws) ≡ true → differ ws ≡ false
   not-apart h = by (differ ws) refl
@@ -74,7 +72,7 @@ module _ (t : List ℕ) (at : ℕ) where
       pub passed-more : (front : ℕ) → front ≡ frontOf (part t start len) → isAmongFirst t at k (part t start len) ≡ false
           → Passed t at (set fs k front) (k + 1) (start + len)
       passed-more front e q = record {
-        left = one-less ws k (part t start len) (wordsIn (framesAt t (start + len) .here)) next;
+        left = rest ws (wordsIn (framesAt t (start + len) .here)) (part t start len) k next;
         apart = ap differ more ∙ differ-more (take k ws) (part t start len) (p .apart) q;
         keeps = keeps-more fs k front (part t start len) ws more e (p .keeps);
         long = p .long ∙ sym (length-set fs k front);

@@ -9,7 +9,8 @@ use lib.ListN.{length}
 use Rattle.policy.specs.Basics.{given}
 use Rattle.policy.specs.Statements.{users, roles, types, thingOf, attributeOf, Declaration, count, classNames}
 use Rattle.policy.specs.Sound.{namesAt, goodFrom}
-use Rattle.table_laws.proofs.ListLaws.{bound, given-some}
+use Rattle.policy.proofs.Options.{given-some}
+use Rattle.table_laws.proofs.ListLaws.{bound}
 use Rattle.name_section.specs.declared.Counted.{Counted}
 use Rattle.name_section.specs.SoundNames.{soundNames, countedOf}
 

@@ -10,10 +10,11 @@ use Rattle.policy.specs.Statements.{Declaration}
 use Rattle.policy.specs.Encode.{NameEntry, entryBytes, entries}
 use Rattle.policy.specs.Sound.{goodFrom, namesAt}
 use Rattle.policy.proofs.Gathered.{all-map}
+use Rattle.policy.proofs.Options.{given-some}
 use Rattle.symbols.specs.Section.{sectionIn, exactEntries}
 use Rattle.symbols.proofs.ReadBack.{Small, read-back, only-written, policy-reads}
 use Rattle.table_laws.specs.SoundTable.{Bytes}
-use Rattle.table_laws.proofs.ListLaws.{bound, given-some}
+use Rattle.table_laws.proofs.ListLaws.{bound}
 use Rattle.table_laws.proofs.NamesReadBack.{names-back}
 use Rattle.table_laws.proofs.NamesOnly.{names-only}
 use Rattle.table_laws.proofs.NamesFit.{GoodEntry, peopled, entries-fit}

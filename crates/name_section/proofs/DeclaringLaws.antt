@@ -15,10 +15,10 @@ use Rattle.policy.specs.Maxima.{maxOf, maxClasses, maxPermissions}
 use Rattle.policy.specs.Encode.{NameEntry, nameEntry, sortCode, permissionEntries, entriesOf, entriesFrom, entries}
 use Rattle.policy.specs.Sound.{isGood, isGoodPart, goodFrom}
 use Rattle.policy.proofs.Lists.{both-true, true-both, every-append}
-use Rattle.policy.proofs.Good.{GoodFirst, good-first, good-rest}
-use Rattle.table_laws.proofs.ListLaws.{if-some}
+use Rattle.policy.proofs.Good.{good-first, good-rest, good-more}
 use Rattle.symbols.proofs.Declaring.{entries-more, permission-more}
 use Rattle.policy.proofs.Differing.{differ-more, differ-new}
+use Rattle.policy.proofs.Options.{if-some}
 use Rattle.name_section.specs.Declaring.{Kind, ofThing, ofClass, ofPermission, ofNothing, kindOf, isPlaced, isGoodFor, isUnused, mayFollow}
 use Rattle.name_section.specs.Declaring.{Declaring, complete, opened, declared, closes, extended, declaring, finished, declares}
 
@@ -63,19 +63,6 @@ pub record GoodClass (ds : List Declaration) (v : Name) (ps : List Name) : Type 
 abbrev pub GoodSoFar : Declaring → Type 0
 GoodSoFar (complete ds) = goodFrom [] ds ≡ true
 GoodSoFar (opened ds v ps) = (goodFrom [] ds ≡ true) × GoodClass ds v ps
-
-good-from-more : (e ds : List Declaration) (d : Declaration) → goodFrom e ds ≡ true → GoodFirst (e ++ ds) d → goodFrom e (ds ++ (d ∷ [])) ≡ true
-unfolding goodFrom
-good-from-more e [] d h g =
-    let f : GoodFirst e d = subst (λ (x : List Declaration). GoodFirst x d) (append-nil e) g in
-    rw (f .names, f .new, f .room)
-good-from-more e (x ∷ ds) d h g =
-    let f = good-first e x ds h in
-    rw (f .names, f .new, f .room)
-    (good-from-more (e ++ (x ∷ [])) ds d (good-rest e x ds h) (subst (λ (y : List Declaration). GoodFirst y d) (sym (append-assoc e (x ∷ []) ds)) g))
-
-good-more : (ds : List Declaration) (d : Declaration) → goodFrom [] ds ≡ true → GoodFirst ds d → goodFrom [] (ds ++ (d ∷ [])) ≡ true
-good-more ds d h g = good-from-more [] ds d h g
 
 pub closed-good : (d : Declaring) → GoodSoFar d → closes d ≡ true → goodFrom [] (declared d) ≡ true
 closed-good (complete ds) g h = g

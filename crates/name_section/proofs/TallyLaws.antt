@@ -1,9 +1,8 @@
 -- The counts of the walk are those of what is declared so far: which entry they allow, and what they are after it. Assumes nothing.
 use mathlib.Core.Path.{_≡_, refl, sym, ap, _∙_}
-use mathlib.Core.Bool.{Bool, true, false, not, _&&_, cond, false≢true}
+use mathlib.Core.Bool.{Bool, true, false, not, _&&_, cond, false≢true, and-false}
 use mathlib.Core.List.{List, [], _∷_, _++_}
-use mathlib.Core.Option.{none, some}
-use Prim.Native.Nat.{ℕ, zero, suc, _+_, _-_, _*_, _/_, _%_, _<_}
+use Prim.Native.Nat.{ℕ, zero, suc, _+_, _*_, _/_, _%_, _<_}
 use native.Mathlib.Omega.{arith}
 use borrow.Author.Tests.{eqb-true, eqb-false, eq-eqb, ne-eqb, ltb-true, lt-ltb, le-ltb}
 use lib.Dec.{eqb, ltb}
@@ -12,25 +11,20 @@ use lib.Seq.{getD-set-same, getD-set-other}
 use Rattle.bitset.specs.Sets.{tabulate}
 use Rattle.bitset.proofs.SetLaws.{tabulate-ext}
 use Rattle.policy.specs.Basics.{Name, gather}
-use Rattle.policy.specs.Statements.{users, roles, types, Sort, thingOf, attributeOf, Declaration, plain, class, sameSort, ofSort, ofClass as class-of, withPermissions, namesOf, count, classNames, permissions}
+use Rattle.policy.specs.Statements.{users, roles, types, Sort, thingOf, attributeOf, Declaration, plain, class, sameSort, ofClass as class-of, withPermissions, namesOf, count, classNames, permissions}
 use Rattle.policy.specs.Maxima.{maxOf, maxClasses}
 use Rattle.policy.specs.Encode.{sortCode}
-use Rattle.policy.proofs.Lists.{both-true, true-both, gather-over, gather-last}
+use Rattle.policy.proofs.Lists.{both-true, true-both, gather-over, gather-last, same-tests}
 use Rattle.policy.proofs.Sameness.{sort-self, sort-same}
+use Rattle.policy.proofs.Sorts.{code-below}
+use Rattle.policy.proofs.Counts.{count-same, count-more}
 use Rattle.symbols.proofs.ClassesFound.{classes-same, classes-more}
-use Rattle.table_laws.proofs.NamesFit.{code-below}
 use Rattle.name_section.specs.SoundNames.{countsOf, permissionCounts}
 use Rattle.name_section.specs.Declaring.{Kind, ofThing, ofClass, ofPermission, ofNothing, kindOf, Declaring, complete, opened, declared, closes, isPlaced, extended}
 use Rattle.name_section.specs.Tally.{mostOf, allows, counted, permitted, Zeros, openOf, Tallied, countsIn}
 use Rattle.name_section.proofs.DeclaringLaws.{KindIs, kind-is, kind-of-code, rises}
 
 -- ---- which entry the counts allow
-
-alike : (a b : Bool) → (a ≡ true → b ≡ true) → (b ≡ true → a ≡ true) → a ≡ b
-alike true true f g = refl
-alike true false f g = sym (f refl)
-alike false true f g = g refl
-alike false false f g = refl
 
 pub closes-open : (d : Declaring) → not (eqb (openOf d) 1) ≡ closes d
 closes-open (complete ds) = refl
@@ -45,13 +39,9 @@ most-of (attributeOf users) = refl
 most-of (attributeOf roles) = refl
 most-of (attributeOf types) = refl
 
-and-false : (q : Bool) → q && false ≡ false
-and-false true = refl
-and-false false = refl
-
 -- a permission's number, by its class and its place
 by-place : (n k l : ℕ) → eqb (n / 32 + 1) (k + 1) && eqb (n % 32 + 1) (l + 1) ≡ ltb l 32 && eqb n (k * 32 + l)
-by-place n k l = alike (eqb (n / 32 + 1) (k + 1) && eqb (n % 32 + 1) (l + 1)) (ltb l 32 && eqb n (k * 32 + l))
+by-place n k l = same-tests (eqb (n / 32 + 1) (k + 1) && eqb (n % 32 + 1) (l + 1)) (ltb l 32 && eqb n (k * 32 + l))
     (λ h.
     let p = both-true (eqb (n / 32 + 1) (k + 1)) (eqb (n % 32 + 1) (l + 1)) h in
     let q = eqb-true (n / 32 + 1) (k + 1) (p .0) in
@@ -79,15 +69,6 @@ allows-placed c p d t sort n = by (kindOf sort) (kind-is sort) d t
 
 -- ---- one declaration more
 
-module _ (s : Sort) (ds : List Declaration) (d : Declaration) where
-  count-same : ofSort s d ≡ none → count s (ds ++ (d ∷ [])) ≡ count s ds
-  unfolding count namesOf
-  count-same h = ap length (gather-over (ofSort s) ds d h)
-
-  count-more : (w : Name) → ofSort s d ≡ some w → count s (ds ++ (d ∷ [])) ≡ count s ds + 1
-  unfolding count namesOf
-  count-more w h = ap length (gather-last (ofSort s) ds d w h) ∙ length-append (gather (ofSort s) ds) (w ∷ [])
-
 -- a sort is known by its code
 thing-injective : (s t : Sort) → ofThing s ≡ ofThing t → s ≡ t
 thing-injective s t h = cc
@@ -102,7 +83,7 @@ unfolding permissions
 permissions-same ds s w k = ap (λ (xs : List (List Name)). getD xs k []) (gather-over withPermissions ds (plain s w) refl)
 
 suc-eqb : (m n : ℕ) → eqb (suc m) (suc n) ≡ eqb m n
-suc-eqb m n = alike (eqb (suc m) (suc n)) (eqb m n)
+suc-eqb m n = same-tests (eqb (suc m) (suc n)) (eqb m n)
     (λ h. let e = eqb-true (suc m) (suc n) h in eq-eqb m n (omega arith)) (λ h. let e = eqb-true m n h in eq-eqb (suc m) (suc n) (omega arith))
 
 getD-more : {A : Type 0} (xs : List A) (x d : A) (k : ℕ) → getD (xs ++ (x ∷ [])) k d ≡ cond (eqb k (length xs)) x (getD xs k d)

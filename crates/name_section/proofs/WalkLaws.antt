@@ -12,22 +12,23 @@ use lib.Dec.{eqb, ltb, leb}
 use lib.ListN.{length, getD, drop, set, replicate, length-set, length-replicate}
 use Rattle.bitset.specs.Parts.{part}
 use Rattle.policy.specs.Basics.{Name, isIn, _>>=_, given, All}
-use Rattle.policy.specs.Statements.{users, roles, types, Sort, thingOf, attributeOf, Declaration, class, familyOf, classNames}
+use Rattle.policy.specs.Statements.{Declaration, class, familyOf, classNames}
 use Rattle.policy.specs.Maxima.{maxParts}
-use Rattle.policy.specs.Encode.{NameEntry, nameEntry, sortCode, entries}
+use Rattle.policy.specs.Encode.{NameEntry, nameEntry, entries}
 use Rattle.policy.proofs.Lists.{both-true, all-append}
+use Rattle.policy.proofs.Sorts.{code-below}
+use Rattle.policy.proofs.Counts.{few-in-all}
 use Rattle.symbols.specs.Section.{entry, sectionAt, sectionIn, entriesRead, isExact, exactEntries, entriesAt, exactEntriesAt, between, EntryIs}
 use Rattle.symbols.specs.Lookup.{familyNumber, firstNamed}
-use Rattle.symbols.specs.Resolving.{familyCode, isFound, FewPermissions}
+use Rattle.symbols.specs.Resolving.{isFound, FewPermissions}
 use Rattle.symbols.specs.declared.Entry.{Entry}
 use Rattle.symbols.proofs.ReadBack.{over, exact-over, entries-over, exact-some}
 use Rattle.symbols.proofs.Walking.{read-from, walk-end, walk-broken, walk-on, walk-start}
-use Rattle.symbols.proofs.ReferencesFound.{reference-found}
-use Rattle.symbols.proofs.ClassesFound.{class-found, permission-found, few-permissions}
+use Rattle.symbols.proofs.ReferencesFound.{reference-found, code-of}
+use Rattle.symbols.proofs.ClassesFound.{class-found, permission-found}
 use Rattle.symbols.proofs.Declaring.{permissions-last}
 use Rattle.table_laws.specs.SoundTable.{Bytes}
 use Rattle.table_laws.proofs.ListLaws.{all-take, all-drop}
-use Rattle.table_laws.proofs.NamesFit.{code-below}
 use Rattle.name_section.specs.declared.Counted.{Counted}
 use Rattle.name_section.specs.SoundNames.{soundNames, countsOf, countedOf, permissionCounts, permissionsAfter}
 use Rattle.name_section.specs.Declaring.{Kind, ofThing, ofClass, ofPermission, ofNothing, kindOf, isPlaced, isGoodFor, isUnused, mayFollow}
@@ -44,16 +45,8 @@ use Rattle.name_section.proofs.FilterLaws.{knows-none, knows-more}
 
 -- ---- an entry is new where its name is not found among those before it
 
-family-code : (s : Sort) (n : ℕ) → familyNumber (sortCode s) n ≡ familyCode (familyOf s)
-family-code (thingOf users) n = refl
-family-code (thingOf roles) n = refl
-family-code (thingOf types) n = refl
-family-code (attributeOf users) n = refl
-family-code (attributeOf roles) n = refl
-family-code (attributeOf types) n = refl
-
 few-so-far : (ds : List Declaration) (v : Name) (ps : List Name) → GoodSoFar (opened ds v ps) → All FewPermissions (ds ++ (class v ps ∷ []))
-few-so-far ds v ps g = all-append FewPermissions ds (class v ps ∷ []) (few-permissions [] ds (g .0)) (g .1 .few, tt)
+few-so-far ds v ps g = all-append FewPermissions ds (class v ps ∷ []) (few-in-all [] ds (g .0)) (g .1 .few, tt)
 
 -- the class and the place of a permission
 permission-place : (n k l : ℕ) → (ltb l 32 && eqb n (k * 32 + l)) ≡ true → (n / 32 ≡ k) × (n < k * 32 + 32)
@@ -65,7 +58,7 @@ permission-place n k l h =
 
 unused-found : (k : Kind) (sort n : ℕ) (w : Name) (d : Declaring) → KindIs sort k → GoodSoFar d → isPlaced k d n ≡ true
     → not (isFound (firstNamed (familyNumber sort n) w (entries (declared d)))) ≡ isUnused k d w
-unused-found (ofThing s) sort n w d e g h = rw (e, family-code s n) (ap not (reference-found (declared d) (familyOf s) w))
+unused-found (ofThing s) sort n w d e g h = rw (e, code-of s n) (ap not (reference-found (declared d) (familyOf s) w))
 unused-found ofClass sort n w d e g h = rw e (ap not (class-found (declared d) w))
 unused-found ofPermission sort n w (complete ds) e g h = absurd (false≢true h)
 unused-found ofPermission sort n w (opened ds v ps) e g h =

@@ -11,20 +11,20 @@ use lib.Dec.{leb, ltb}
 use lib.ListN.{length, getD, drop}
 use lib.Seq.{getD-take, getD-drop}
 use Rattle.bitset.specs.Parts.{part}
+use Rattle.bitset.proofs.PartLaws.{length-part-min}
 use Rattle.lexer.specs.Answers.{partStarts}
 use Rattle.lexer.specs.Class.{classOf, starts, goesOn, isDot, maxName, allGoOn, isPart, allParts, parts, isDotted}
-use Rattle.lexer.proofs.Names.{dotted-from, no-part}
+use Rattle.lexer.proofs.Names.{dotted-from, no-part, some-part, cut-at-dot, only-part}
 use Rattle.policy.specs.Basics.{Name, same, any, every, isIn}
 use Rattle.policy.specs.Words.{reserved, isReserved}
 use Rattle.policy.specs.Sound.{isGoodPart}
 use Rattle.policy.proofs.Lists.{both-true, true-both, either-true, same-is}
 use Rattle.symbols.specs.Section.{between}
-use Rattle.symbols.proofs.PartLaws.{part-cons, part-none, part-join, length-part}
-use Rattle.table_laws.proofs.NamesFit.{only-part}
+use Rattle.symbols.proofs.PartLaws.{part-cons, part-none, part-join}
 use Rattle.name_filter.specs.Filter.{stepped, hashFrom, hashOf}
 use Rattle.name_spelling.specs.Spelling.{mayBeReserved, hashIf, ReadTo, PartRead, partsSpelled, behindPart, moreSpelled, isSpelt, spelled}
 use Rattle.name_spelling.specs.declared.Part.{Part}
-use Rattle.name_spelling.proofs.DottedLaws.{some-part, alone, cut-at-dot, no-name}
+use Rattle.name_spelling.proofs.DottedLaws.{alone, no-name}
 
 -- ---- reserved words
 
@@ -62,7 +62,7 @@ not-reserved p e h = part-reserved p e ∙ rw (not-among p h)
 -- ---- bytes of a table
 
 long : (t : List ℕ) (from past : ℕ) → from ≤ past → past ≤ length t → length (between t from past) ≡ past - from
-long t from past l g = omega (arith, length-part t from (past - from))
+long t from past l g = omega (arith, length-part-min t from (past - from))
 
 module _ (t : List ℕ) (from past : ℕ) (l : from < past) (g : past ≤ length t) where
   first-byte : between t from past ≡ getD t from 0 ∷ between t (from + 1) past

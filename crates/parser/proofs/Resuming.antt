@@ -1,6 +1,6 @@
 -- Reading that goes on at a place of the text inside some blocks: what is left are the rest of the row at hand, in the innermost block, then the rests of the rows
 -- around it, each in one block less. What is left after a statement, after a block's header and after the close of a block. Assumes nothing.
-use Prim.Native.Nat.{ℕ, suc, _+_, _-_, _≤_}
+use Prim.Native.Nat.{ℕ, suc, _-_, _≤_}
 use native.Mathlib.Omega.{arith}
 use mathlib.Core.Path.{_≡_, refl, sym, ap, _∙_, subst}
 use mathlib.Core.Bool.{Bool, true, false, cond}

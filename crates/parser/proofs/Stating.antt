@@ -16,6 +16,7 @@ use Rattle.items.specs.Looks.{rowEnd}
 use Rattle.items.specs.Reads as items
 use Rattle.items.specs.Reads.{isSome}
 use Rattle.items.specs.declared.Parsed as form
+use Rattle.items.proofs.Counts.{none-of}
 use Rattle.statement_reader.specs.Memory.{Memory}
 use Rattle.statement_reader.specs.Steps.{Stepped, StepsAt}
 use Rattle.statement_reader.specs.declared.Progress.{Progress}
@@ -38,10 +39,6 @@ is-written : (w : Option Written) → isSome w ≡ true → (v : Written) × (w 
 is-written none e = absurd (false≢true e)
 is-written (some v) e = (v, refl)
 
-not-written : (w : Option Written) → isSome w ≡ false → w ≡ none
-not-written none e = refl
-not-written (some v) e = absurd (false≢true (sym e))
-
 -- the row of the statement, its parentheses being open
 abbrev row : List ℕ → ℕ → Forms
 row t at = framesAt t at .here
@@ -59,7 +56,7 @@ pub formless : {t : List ℕ} {at place : ℕ} {before after : Memory} {s : Prog
     → States t at place before after s (Stated.Fault 3)
 formless {t} {at} {place} {before} {after} x e = record {
   says = λ lent p path h below names deep room.
-      let nothing = not-written (written (row t at)) (as-judged t at false (no-form _ _ (sym e ∙ x .answer)) deep) in
+      let nothing = none-of (written (row t at)) (as-judged t at false (no-form _ _ (sym e ∙ x .answer)) deep) in
       subst (λ (o : Option Written). StatedBy (naming path p o) t at p path place lent after (Stated.Fault 3)) (sym nothing) refl;
   ahead = tt;
 }

@@ -16,7 +16,7 @@ use Rattle.lexer.specs.declared.Token.{Token}
 use Rattle.lexer.specs.Scan.{scan}
 use Rattle.lexer.specs.Class.{isName}
 use Rattle.lexer.specs.Token.{tokenAt}
-use Rattle.lexer.specs.Forms.{Forms, closed, ended, word, part, Frames, head, tail, out, framesAt, formsOf, closes, balanced, namesGood}
+use Rattle.lexer.specs.Forms.{Forms, closed, ended, word, part, Frames, out, framesAt, formsOf, closes, balanced, namesGood}
 use Rattle.lexer.proofs.Clean.{clean-short, clean-balanced, clean-uncut, clean-names}
 use Rattle.lexer.proofs.Seen as seen-token
 use Rattle.lexer.proofs.Seen.{token-ahead}
@@ -29,29 +29,29 @@ use Rattle.policy.specs.Words.{blockWord}
 use Rattle.policy.specs.Scopes.{Scoped, scoped, scopedIn, blockOf, blocksIn}
 use Rattle.policy.proofs.Lists.{both-true, gather-append, same-is}
 use Rattle.policy.specs.Reading.{Judged, reads, opens, fault, naming, opening, judge, Read, policy, refused, readFrom, rowCount}
-use Rattle.policy.specs.Sound.{goodFrom}
 use Rattle.policy.specs.Accepted.{Accepted, GoodPath}
 use Rattle.policy.specs.Encode.{headsFrom, entriesFrom, entries}
+use Rattle.policy.proofs.BlockLaws.{no-block}
 use Rattle.items.specs.Looks.{itemOf, itemAt}
 use Rattle.items.specs.declared.Item.{Item}
 use Rattle.items.proofs.Item.{the-type}
 use Rattle.items.proofs.Ends.{leaves}
-use Rattle.items.proofs.Frames.{Looked, sees}
+use Rattle.items.proofs.Frames.{FramesSeen, sees}
 use Rattle.items.proofs.Items.{among}
 use Rattle.grammar.specs.Shapes.{startsBlock}
 use Rattle.grammar.proofs.BlockLaws.{block-at}
 use Rattle.reading_laws.proofs.ReadThen.{line, judgedAt, read-one}
-use Rattle.reading_laws.proofs.ReadAccepted.{statement-accepted}
+use Rattle.reading_laws.proofs.ReadAccepted.{statement-accepted, none-accepted}
 use Rattle.reading_laws.proofs.FullNames.{good-top}
-use Rattle.reading_laws.proofs.BlockOrStatement.{no-block, judge-statement, judge-block}
+use Rattle.reading_laws.proofs.BlockOrStatement.{judge-statement, judge-block}
 use Rattle.parser.specs.Left.{resumed, RowsWhole, whole, weightIn, Stands, Rest}
 use Rattle.parser.proofs.Resuming as resuming
 use Rattle.parser.proofs.Resuming.{InPart, inside, statement-deep, after-statement, after-header, after-close, block-whole, block-left, close-whole}
 use Rattle.statement_code.specs.Code.{codeOf}
-use Rattle.code_laws.specs.Weight.{weight, weightAround, weightOf}
-use Rattle.code_laws.proofs.TextWeight.{text-weight, frames-weight}
+use Rattle.code_laws.specs.Weight.{weight, weightOf}
+use Rattle.code_laws.proofs.TextWeight.{text-weight, frames-weight, around-weight}
 use Rattle.code_laws.proofs.StatementShape.{statement-fits}
-use Rattle.code_laws.proofs.CodeFits.{code-longer}
+use Rattle.code_laws.proofs.CodeFits.{code-longer, no-code}
 use Rattle.name_chains.specs.Chains.{Chained}
 use Rattle.name_chains.specs.Entered.{Cleared}
 use Rattle.declarations.specs.Declaring.{sectionOf}
@@ -74,14 +74,10 @@ use Rattle.parser.specs.declared.Entered.{Entered}
 
 -- ---- before the first part
 
-nothing-accepted : Accepted []
-unfolding declarations transitions constrains gather goodFrom rowCount
-nothing-accepted = record { names = refl; statements = tt; few-transitions = omega arith; few-constrains = omega arith; few-rows = omega arith }
-
 nothing-holds : (lent : Memory) → Chained (lent .symbols) 0 [] → InScope (lent .symbols) [] → Holds [] [] lent lent nothingRead
 unfolding symbolsOf sectionOf codeOf constraintsOf rowsOf declarations transitions constrains gather rowCount entries entriesFrom headsFrom joined each
 nothing-holds lent index scope = record {
-  accepted = nothing-accepted;
+  accepted = none-accepted;
   blocks = good-top;
   symbols = empty;
   chained = index;
@@ -93,10 +89,6 @@ nothing-holds lent index scope = record {
   constraint-count = refl;
   row-count = refl;
 }
-
-no-code : length (codeOf []) ≡ 0
-unfolding codeOf joined each
-no-code = refl
 
 no-blocks : blocksIn [] ≡ []
 unfolding blocksIn gather
@@ -144,7 +136,7 @@ module _ {t : List ℕ} {at : ℕ} {lent now : Memory} {keys filter : List ℕ} 
   pub finishes : (i : Item) → i ≡ itemAt t at → OneOf (0 ∷ 3 ∷ []) (tagOf the-type i) → Rest t at lent now keys filter s o → Reads (whole t) lent now (Parsed.Accepted s)
   unfolding closes partsAlone balanced
   finishes i e h r =
-      among (0 ∷ 3 ∷ []) (λ (k : Item). Looked t at k → Reads (whole t) lent now (Parsed.Accepted s)) (
+      among (0 ∷ 3 ∷ []) (λ (k : Item). FramesSeen t at k → Reads (whole t) lent now (Parsed.Accepted s)) (
         λ a n k q l. odd (r .path) _ (l .frames) refl refl (r .stands),
         tt,
         tt,
@@ -329,12 +321,6 @@ rows-weight : (path : List Name) (r : Frames) → RowsWhole path r → length pa
 rows-weight [] r h = omega arith
 rows-weight (b ∷ path) r (w, h) = omega (arith, closed-weight (r .here) (w .shut), rows-weight path (out r) h)
 
--- they are among the rows from the place on
-around-weight : (fs : List Forms) → weight (head fs) + weightAround (tail fs) ≤ weightAround fs
-unfolding weight weightAround
-around-weight [] = omega arith
-around-weight (f ∷ fs) = omega arith
-
 rows-among : (path : List Name) (r : Frames) → weightIn path r ≤ weightOf r
 rows-among [] r = omega arith
 rows-among (b ∷ path) r = omega (arith, rows-among path (out r), around-weight (r .around))
@@ -484,7 +470,7 @@ no-block-word t next e h = sym (block-at t next e) ∙ h
 -- ---- the close of a block
 
 module _ {t : List ℕ} {at q : ℕ} {lent : Memory} {sy sy' co cs rs keys filter : List ℕ} {s : Progress} {o o' : Open}
-    (l : Looked t at (Item.Close q)) (y : ClosesBlock keys sy sy' o o') where
+    (l : FramesSeen t at (Item.Close q)) (y : ClosesBlock keys sy sy' o o') where
   close-on : {sofar : Policy} (path : List Name) {before : List Scoped} → Stands t at lent (memory sy co cs rs) keys filter s o sofar path before
       → Rest t q lent (memory sy' co cs rs) keys filter s o'
   unfolding closes partsAlone balanced weight

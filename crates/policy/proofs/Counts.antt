@@ -1,23 +1,31 @@
 -- Declarations that pass `goodFrom` keep every maximum: of each sort, and of the permissions of each class. By induction on the
 -- declarations, from what is declared before. Assumes nothing.
-use Prim.Native.Nat.{ℕ, _≤_, _<_}
+use Prim.Native.Nat.{ℕ, _≤_, _<_, suc, _+_}
 use native.Mathlib.Omega.{arith}
-use mathlib.Core.Path.{_≡_, refl, sym, ap, subst}
-use mathlib.Core.Bool.{Bool, true, false, _&&_, cond, false≢true}
+use mathlib.Core.Path.{_≡_, refl, sym, ap, subst, _∙_}
+use mathlib.Core.Bool.{Bool, true, false, cond}
 use mathlib.Core.List.{List, [], _∷_, _++_, append-assoc, append-nil}
 use mathlib.Core.Option.{none, some}
 use lib.Dec.{ltb, leb}
 use lib.ListN.{length, length-append}
 use borrow.Author.Tests.{ltb-true, leb-true}
 use Rattle.policy.specs.Basics.{Name, gather, All}
-use Rattle.policy.specs.Statements.{Family, users, roles, types, Sort, thingOf, attributeOf, Declaration, plain, class, sameFamily, sameSort, ofSort, withPermissions, ofClass, namesOf, classNames, count, permissions}
+use Rattle.policy.specs.Statements.{Sort, Declaration, plain, class, sameSort, ofSort, withPermissions, ofClass, namesOf, classNames, count, permissions}
 use Rattle.policy.specs.Maxima.{maxOf, maxClasses, maxPermissions}
-use Rattle.policy.specs.Reading.{isNew, hasRoom}
-use Rattle.policy.specs.Sound.{goodNames, goodFrom}
+use Rattle.policy.specs.Reading.{hasRoom}
+use Rattle.policy.specs.Sound.{goodFrom}
 use Rattle.policy.proofs.Lists.{both-true, gather-over, gather-last}
 use Rattle.policy.proofs.Good.{good-first, good-rest}
 use Rattle.policy.proofs.Sameness.{sort-same}
 use Rattle.policy.proofs.Gathered.{OfValue, all-gather, all-getD}
+
+pub count-same : (s : Sort) (e : List Declaration) (d : Declaration) → ofSort s d ≡ none → count s (e ++ (d ∷ [])) ≡ count s e
+unfolding count namesOf
+count-same s e d h = ap length (gather-over (ofSort s) e d h)
+
+pub count-more : (s : Sort) (e : List Declaration) (d : Declaration) (v : Name) → ofSort s d ≡ some v → count s (e ++ (d ∷ [])) ≡ count s e + 1
+unfolding count namesOf
+count-more s e d v h = ap length (gather-last (ofSort s) e d v h) ∙ length-append (gather (ofSort s) e) (v ∷ [])
 
 one-more : (s : Sort) (e : List Declaration) (d : Declaration) → hasRoom e d ≡ true → count s e ≤ maxOf s → count s (e ++ (d ∷ [])) ≤ maxOf s
 unfolding count namesOf
@@ -82,3 +90,10 @@ few-classes-from e (d ∷ ds) h l =
 pub few-classes : (ds : List Declaration) → goodFrom [] ds ≡ true → length (classNames ds) ≤ maxClasses
 unfolding classNames gather
 few-classes ds h = few-classes-from [] ds h (omega arith)
+
+-- as many lists of permissions as classes
+pub class-lists : (ds : List Declaration) → length (gather withPermissions ds) ≡ length (gather ofClass ds)
+unfolding gather
+class-lists [] = refl
+class-lists (plain s w ∷ ds) = class-lists ds
+class-lists (class w ps ∷ ds) = ap suc (class-lists ds)

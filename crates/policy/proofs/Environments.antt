@@ -6,10 +6,10 @@ use mathlib.Core.Bool.{Bool, true, false, _&&_, cond}
 use mathlib.Core.List.{List, [], _∷_, _++_, append-assoc}
 use mathlib.Core.Option.{Option, none, some}
 use lib.ListN.{length, length-append}
-use Rattle.policy.specs.Basics.{Name, same, orElse, next, indexOf, gather}
+use Rattle.policy.specs.Basics.{Name, same, next, indexOf, gather}
 use Rattle.policy.specs.Statements.{Family, Sort, Declaration, plain, class, sameFamily, sameSort, familyOf, ofSort, namesOf, classNames, permissions, count}
-use Rattle.policy.specs.Names.{Named, tries, firstHit, environmentOf, firstFrom, numberIn}
-use Rattle.policy.proofs.IfAny.{IfAny, nothing, just, and-then, if-given}
+use Rattle.policy.specs.Names.{Named, tries, firstHit, environmentOf, firstFrom, numberIn, hasDotInFront, outward}
+use Rattle.policy.proofs.IfAny.{IfAny, nothing, just, and-then, if-given, or-else}
 use Rattle.policy.proofs.Lists.{gather-append}
 use Rattle.policy.proofs.Sameness.{family-same, sort-same, sort-self}
 
@@ -51,15 +51,16 @@ first-in f w e (plain s v ∷ ds) =
     by true false h later = later
     by true true h later = just (record { family = sym (family-same f (familyOf s) h); number = count-below s v e ds })
 
--- what is found at the first of some names that has something is what one of them has
-or-any : {A : Type 0} (P : A → Type 0) (x y : Option A) → IfAny P x → IfAny P y → IfAny P (orElse x y)
-or-any P none y h g = g
-or-any P (some a) y h g = h
+-- a use with no dot in front that stands in no block is tried as it is written
+pub tried-once : (w : Name) → hasDotInFront w ≡ false → tries [] w ≡ w ∷ []
+unfolding tries outward
+tried-once w h = rw h
 
+-- what is found at the first of some names that has something is what one of them has
 pub hit-any : {A : Type 0} (P : A → Type 0) (find : Name → Option A) → ((w : Name) → IfAny P (find w)) → (ws : List Name) → IfAny P (firstHit find ws)
 unfolding firstHit
 hit-any P find h [] = nothing
-hit-any P find h (w ∷ ws) = or-any P (find w) (firstHit find ws) (h w) (hit-any P find h ws)
+hit-any P find h (w ∷ ws) = or-else (find w) (firstHit find ws) (h w) (hit-any P find h ws)
 
 module _ (ds : List Declaration) (path : List Name) where
   pub named-in : (f : Family) (w : Name) → IfAny (NamedIn ds f) (environmentOf ds path .find f w)

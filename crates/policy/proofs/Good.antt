@@ -1,7 +1,7 @@
--- What `goodFrom` says of the first declaration, and of those after it. Assumes nothing.
-use mathlib.Core.Path.{_≡_}
+-- What `goodFrom` says of the first declaration, and of those after it; and of one declaration more. Assumes nothing.
+use mathlib.Core.Path.{_≡_, sym, subst}
 use mathlib.Core.Bool.{true, _&&_}
-use mathlib.Core.List.{List, [], _∷_, _++_}
+use mathlib.Core.List.{List, [], _∷_, _++_, append-nil, append-assoc}
 use Rattle.policy.specs.Statements.{Declaration}
 use Rattle.policy.specs.Reading.{isNew, hasRoom}
 use Rattle.policy.specs.Sound.{goodNames, goodFrom}
@@ -24,3 +24,17 @@ module _ (e : List Declaration) (d : Declaration) (ds : List Declaration) (h : g
       let both = both-true (goodNames d && isNew e d) (hasRoom e d) first in
       let one = both-true (goodNames d) (isNew e d) (both .0) in
       record { names = one .0; new = one .1; room = both .1 }
+
+-- one declaration more
+good-from-more : (e ds : List Declaration) (d : Declaration) → goodFrom e ds ≡ true → GoodFirst (e ++ ds) d → goodFrom e (ds ++ (d ∷ [])) ≡ true
+unfolding goodFrom
+good-from-more e [] d h g =
+    let f : GoodFirst e d = subst (λ (x : List Declaration). GoodFirst x d) (append-nil e) g in
+    rw (f .names, f .new, f .room)
+good-from-more e (x ∷ ds) d h g =
+    let f = good-first e x ds h in
+    rw (f .names, f .new, f .room)
+    (good-from-more (e ++ (x ∷ [])) ds d (good-rest e x ds h) (subst (λ (y : List Declaration). GoodFirst y d) (sym (append-assoc e (x ∷ []) ds)) g))
+
+pub good-more : (ds : List Declaration) (d : Declaration) → goodFrom [] ds ≡ true → GoodFirst ds d → goodFrom [] (ds ++ (d ∷ [])) ≡ true
+good-more ds d h g = good-from-more [] ds d h g

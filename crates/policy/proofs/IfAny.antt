@@ -6,7 +6,9 @@ use mathlib.Core.Bool.{Bool, true, false}
 use mathlib.Core.List.{List, [], _∷_}
 use mathlib.Core.Option.{Option, none, some, Option·some-injective, Option·none-ne-some}
 use lib.ListN.{length}
+use Rattle.lexer.specs.Forms.{Forms, closed, ended, word, part}
 use Rattle.policy.specs.Basics.{_>>=_, given, more, eachOf, ofOne, ofTwo, All, orElse}
+use Rattle.policy.specs.Grammar.{atClose}
 
 -- the value has the property, if there is one
 pub record IfAny {A : Type 0} (P : A → Type 0) (o : Option A) : Type 0 where
@@ -26,6 +28,13 @@ module _ {A : Type 0} {P : A → Type 0} where
   pub if-given : (b : Bool) (a : A) → (b ≡ true → P a) → IfAny P (given b a)
   if-given true a h = just (h refl)
   if-given false a h = nothing
+
+  -- the end of a row
+  pub at-close : (f : Forms) (o : Option A) → IfAny P o → IfAny P (atClose f o)
+  at-close closed o h = h
+  at-close ended o h = nothing
+  at-close (word at w r) o h = nothing
+  at-close (part p i r) o h = nothing
 
 module _ {A B : Type 0} {Q : B → Type 0} where
   -- where nothing needs to be known of the first value

@@ -8,3 +8,9 @@ pub mod Counts
 pub mod Differing
 pub mod Environments
 pub mod LineFeeds
+pub mod Dotless
+pub mod Options
+pub mod BlockLaws
+pub mod Sorts
+pub mod RowCounts
+pub mod Outcomes

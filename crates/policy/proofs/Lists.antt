@@ -1,6 +1,6 @@
 -- Laws of the small words of specs/Basics that every other proof uses: lists one after the other, tests over lists, values gathered.
 -- Each is by induction on the first list. Assumes nothing.
-use Prim.Native.Nat.{ℕ, zero, suc, _+_, _<_}
+use Prim.Native.Nat.{ℕ, zero, suc, _<_}
 use mathlib.Core.Path.{_≡_, refl, sym, ap, _∙_}
 use mathlib.Core.Logic.{_⊎_, inl, inr}
 use mathlib.Core.Bool.{Bool, true, false, _&&_, _||_, or-assoc, and-assoc, false≢true}
@@ -31,6 +31,17 @@ either-true false b h = inr h
 pub neither : (a b : Bool) → (a || b) ≡ false → (a ≡ false) × (b ≡ false)
 neither false b h = (refl, h)
 neither true b h = absurd (false≢true (sym h))
+
+-- two tests of which each passes where the other does
+pub same-tests : (a b : Bool) → (a ≡ true → b ≡ true) → (b ≡ true → a ≡ true) → a ≡ b
+same-tests true b f g = sym (f refl)
+same-tests false true f g = g refl
+same-tests false false f g = refl
+
+-- where a test passes, what follows may be exchanged
+pub under : (b : Bool) {x y : Bool} → (b ≡ true → x ≡ y) → (b && x) ≡ (b && y)
+under false h = refl
+under true h = h refl
 
 -- names are the same where the test says so
 pub same-is : (v w : Name) → same v w ≡ true → v ≡ w
@@ -96,6 +107,11 @@ module _ {A B : Type 0} where
   unfolding gather
   gather-last f [] x b h = ap (λ o. keep o []) h
   gather-last f (y ∷ ys) x b h = ap (λ r. keep (f y) r) (gather-last f ys x b h) ∙ kept (f y) (gather f ys) (b ∷ [])
+
+pub any-ext : {A : Type 0} (f g : A → Bool) (xs : List A) → ((x : A) → f x ≡ g x) → any f xs ≡ any g xs
+unfolding any
+any-ext f g [] h = refl
+any-ext f g (x ∷ xs) h = rw (h x, any-ext f g xs h)
 
 pub any-over : {A : Type 0} (f : A → Bool) (xs : List A) (x : A) → f x ≡ false → any f (xs ++ (x ∷ [])) ≡ any f xs
 unfolding any

@@ -1,11 +1,11 @@
 -- Bytes that are no sound table are refused by 11, whatever is asked. Assumes nothing.
 use Prim.Native.Nat.{ℕ}
-use mathlib.Core.Path.{_≡_, refl, sym, ap, _∙_}
-use mathlib.Core.Bool.{Bool, true, false, false≢true}
+use mathlib.Core.Path.{_≡_, refl, sym, ap}
+use mathlib.Core.Bool.{false, false≢true}
 use mathlib.Core.List.{List}
 use mathlib.Core.Option.{Option, none, some}
 use Rattle.policy.specs.Meaning.{Context}
-use Rattle.policy.specs.Deciding.{Question, refuses, unconsulted, Reply, refused}
+use Rattle.policy.specs.Deciding.{Question, refuses, unconsulted, refused}
 use Rattle.policy.specs.Image.{Image}
 use Rattle.policy.specs.Sound.{imageIn}
 use Rattle.policy.specs.Questions.{asked, valid, validOn, newRole, newRoleOn, changed, changeOn}

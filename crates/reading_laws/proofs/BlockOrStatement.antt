@@ -4,26 +4,20 @@ use Prim.Native.Nat.{ℕ}
 use native.Mathlib.Omega.{arith}
 use mathlib.Core.Path.{_≡_, refl, sym, ap, _∙_}
 use mathlib.Core.Bool.{Bool, true, false, cond}
-use mathlib.Core.List.{List, []}
+use mathlib.Core.List.{List}
 use mathlib.Core.Option.{Option, none, some, Option·none-ne-some}
 use Rattle.lexer.specs.Forms.{Forms, closed, ended, word, part}
 use Rattle.policy.specs.Basics.{Name, same, _>>=_, lookup, isIn}
-use Rattle.policy.specs.Statements.{Statement, Written, declare, attributeset, gives, roletransition, constrain, plain, class, Policy, declarations}
+use Rattle.policy.specs.Statements.{Statement, Written, Policy, declarations}
 use Rattle.policy.specs.Words.{Keyword, blockWord, keywordOf}
 use Rattle.policy.specs.Names.{full, environmentOf}
 use Rattle.policy.specs.Grammar.{formed, written, isBlock, blockIn}
 use Rattle.policy.specs.Scopes.{Scoped, blocksIn}
 use Rattle.policy.specs.Reading.{inBlocks, again, resolved, fits, shallow, reads, opens, fault, sized, resolving, naming, blockFits, opening, judge}
 use Rattle.policy.proofs.Lists.{same-is}
+use Rattle.policy.proofs.BlockLaws.{no-block}
 
 -- ---- forms
-
--- what is no block has no block's name
-pub no-block : (f : Forms) → isBlock f ≡ false → blockIn f ≡ none
-no-block closed h = refl
-no-block ended h = refl
-no-block (part at i r) h = refl
-no-block (word at w r) h = rw h
 
 -- and what has one is a block
 pub is-block : (f : Forms) (b : Name) → blockIn f ≡ some b → isBlock f ≡ true
@@ -50,16 +44,6 @@ written-no-block (word at v r) w h = go (same v blockWord) refl
     go true e =
         let n : keywordOf v ≡ none = ap keywordOf (same-is v blockWord e) ∙ no-keyword in
         absurd (Option·none-ne-some w (sym (ap (λ (k : Option Keyword). k >>= λ k. formed k r) n) ∙ h))
-
--- at the whole-text level a name is its own full name
-pub in-no-blocks : (w : Written) → inBlocks [] w ≡ w
-unfolding full
-in-no-blocks (declare (plain s v)) = refl
-in-no-blocks (declare (class v ps)) = refl
-in-no-blocks (attributeset f a s) = refl
-in-no-blocks (gives r x y) = refl
-in-no-blocks (roletransition r t c n) = refl
-in-no-blocks (constrain c ps e) = refl
 
 -- ---- judgements
 

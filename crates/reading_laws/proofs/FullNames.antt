@@ -1,20 +1,18 @@
 -- W-203: the parts of a full name are the names of the blocks, the outermost first, and then the own name. So where the blocks have good names and are not too
 -- many, and the own name is good, a full name that is short enough is good; and a block that is opened leaves the blocks around a statement good. By induction on
 -- the blocks. Assumes nothing.
-use Prim.Native.Nat.{ℕ, _+_, _≤_}
+use Prim.Native.Nat.{_+_, _≤_}
 use native.Mathlib.Omega.{arith}
 use mathlib.Core.Path.{_≡_, refl, sym, ap, _∙_}
-use mathlib.Core.Bool.{Bool, true, false, not, _&&_, _||_, cond, or-false, false≢true}
+use mathlib.Core.Bool.{Bool, true, false, not, _&&_, _||_, cond, or-false}
 use mathlib.Core.List.{List, [], _∷_, _++_, append-assoc, reverseAux, reverse, reverseAux-eq, reverse-cons}
 use mathlib.Core.Option.{none, some}
 use lib.Dec.{leb, ltb}
 use lib.ListN.{length}
 use borrow.Author.Tests.{leb-true, le-leb, ltb-true, not-true}
-use Rattle.lexer.specs.declared.ByteClass.{ByteClass}
-use Rattle.lexer.specs.declared.ByteClass.the-variants.{Blank, LineFeed, Comment, Open, Close, Letter, Digit, Wrong}
-use Rattle.lexer.specs.Class.{is, isBlank, isLetter, isDigit, classOf, starts, isDot, maxName, allGoOn, isPart, allParts, onFirst, parts, isDotted, isName}
+use Rattle.lexer.specs.Class.{is, maxName, isPart, allParts, parts, isDotted, isName}
 use Rattle.lexer.specs.Forms.{Forms, closed, ended, word, part, namesGood}
-use Rattle.lexer.proofs.Names.{start-no-dot, one-part, name-part}
+use Rattle.lexer.proofs.Names.{name-part, cut-at-dot, only-part, dot-byte}
 use Rattle.policy.specs.Basics.{Name, same, All, any, every, isIn}
 use Rattle.policy.specs.Maxima.{maxDepth, maxParts}
 use Rattle.policy.specs.Statements.{Declaration, plain, class, Policy}
@@ -27,61 +25,21 @@ use Rattle.policy.specs.Sound.{isGood, isGoodPart, goodPermissions, goodNames}
 use Rattle.policy.specs.Accepted.{GoodPath}
 use Rattle.policy.proofs.Lists.{both-true, true-both}
 use Rattle.policy.proofs.IfAny.{IfAny, nothing, and-then, if-given}
+use Rattle.policy.proofs.Dotless.{dotless-part}
 use Rattle.reading_laws.proofs.BlockOrStatement.{opens-block}
 
 -- ---- parts
 
--- a byte that is no dot is of another class than the dot
-neither-dot : (c : Bool) (x y : ByteClass) → isDot x ≡ false → isDot y ≡ false → isDot (cond c x y) ≡ false
-neither-dot true x y h k = h
-neither-dot false x y h k = k
-
-no-dot : (b : ℕ) → is "." b ≡ false → isDot (classOf b) ≡ false
-unfolding classOf
-no-dot b e =
-    neither-dot (isBlank b) Blank _ refl (neither-dot (is ";" b) Comment _ refl (neither-dot (is "(" b) Open _ refl (neither-dot (is ")" b) Close _ refl
-    (neither-dot (isLetter b) Letter _ refl (neither-dot (isDigit b) Digit _ refl (rw e (neither-dot (is "\n" b) LineFeed Wrong refl refl)))))))
-
 -- the name has no dot in it
 abbrev pub OnePart : Name → Type 0
 OnePart w = parts w ≡ w ∷ []
-
--- as the grammar's test says
-pub dotless-part : (w : Name) → dotless w ≡ true → OnePart w
-unfolding dotless parts
-dotless-part [] h = refl
-dotless-part (b ∷ w) h =
-    let t = both-true (not (is "." b)) (dotless w) h in
-    rw (no-dot b (not-true (is "." b) (t .0)), parts) (ap (onFirst b) (dotless-part w (t .1)))
-
--- a byte before the first part leaves those behind it: no name is without a part
-on-first : (b : ℕ) (w : Name) (ps : List Name) → onFirst b (parts w ++ ps) ≡ onFirst b (parts w) ++ ps
-unfolding parts
-on-first b [] ps = refl
-on-first b (c ∷ w) ps = go (isDot (classOf c)) (parts w)
-  where
-    go : (q : Bool) (l : List Name) → onFirst b (elim q [ true ↦ [] ∷ l | false ↦ onFirst c l ] ++ ps) ≡ onFirst b (elim q [ true ↦ [] ∷ l | false ↦ onFirst c l ]) ++ ps
-    go true l = refl
-    go false [] = refl
-    go false (p ∷ l) = refl
-
--- the parts before a dot, then those behind it
-parts-then : (v w : Name) → parts (v ++ (46 ∷ w)) ≡ parts v ++ parts w
-unfolding parts classOf
-parts-then [] w = refl
-parts-then (b ∷ v) w = go (isDot (classOf b)) (parts-then v w)
-  where
-    go : (q : Bool) → parts (v ++ (46 ∷ w)) ≡ parts v ++ parts w
-        → elim q [ true ↦ [] ∷ parts (v ++ (46 ∷ w)) | false ↦ onFirst b (parts (v ++ (46 ∷ w))) ] ≡ elim q [ true ↦ [] ∷ parts v | false ↦ onFirst b (parts v) ] ++ parts w
-    go true e = ap {B = List Name} (λ ps. [] ∷ ps) e
-    go false e = ap (onFirst b) e ∙ on-first b v (parts w)
 
 -- "`(block b ...)` puts the names declared inside under `b.`": the parts of a full name are the blocks, the outermost first, then the own name
 pub parts-full : (path : List Name) (w : Name) → All OnePart path → OnePart w → parts (full path w) ≡ reverse path ++ (w ∷ [])
 unfolding full
 parts-full [] w h k = k
 parts-full (b ∷ path) w h k =
-    ap parts (append-assoc (full path b) (46 ∷ []) w) ∙ parts-then (full path b) w
+    ap parts (append-assoc (full path b) (46 ∷ []) w) ∙ cut-at-dot (full path b) 46 w (dot-byte 46)
     ∙ rw (parts-full path b (h .1) (h .0), k) (ap (λ (l : List Name). l ++ (w ∷ [])) (sym (reverse-cons b path)))
 
 -- ---- good names
@@ -90,21 +48,13 @@ parts-full (b ∷ path) w h k =
 abbrev GoodOne : Name → Type 0
 GoodOne p = (isPart p ≡ true) × (isIn p reserved ≡ false)
 
--- nor has a part
-pub part-one : (w : Name) → isPart w ≡ true → OnePart w
-unfolding isPart parts
-part-one [] h = absurd (false≢true h)
-part-one (b ∷ w) h =
-    let t = both-true (starts (classOf b)) (allGoOn w) h in
-    rw (start-no-dot (classOf b) (t .0), parts) (ap (onFirst b) (one-part w (t .1)))
-
 -- a good part is one, and so are those of a path
 good-one : (w : Name) → isGoodPart w ≡ true → GoodOne w × OnePart w
 unfolding isReserved any
 good-one w h =
     let t = both-true (isPart w && leb (length w) maxName) (not (isReserved w)) h in
     let p = both-true (isPart w) (leb (length w) maxName) (t .0) .0 in
-    let one = part-one w p in
+    let one = only-part w p in
     let r : (isIn w reserved || false) ≡ false = rw one at (not-true (any (λ p. isIn p reserved) (parts w)) (t .1)) in
     ((p, sym (or-false (isIn w reserved)) ∙ r), one)
 

@@ -1,25 +1,19 @@
 -- What is declared stays declared when more is declared at the end: numbers of things, attributes and classes stay in range, and the
 -- permissions of a class stay the same. Assumes nothing.
-use Prim.Native.Nat.{ℕ, suc, _<_, _≤_}
+use Prim.Native.Nat.{ℕ, _<_, _≤_}
 use native.Mathlib.Omega.{arith}
-use mathlib.Core.Path.{_≡_, refl, sym, ap, _∙_, subst}
-use mathlib.Core.List.{List, [], _∷_, _++_}
+use mathlib.Core.Path.{_≡_, sym, ap, _∙_, subst}
+use mathlib.Core.List.{List, [], _++_}
 use mathlib.Core.Option.{Option}
 use lib.ListN.{length, getD, length-append, List·getD-append}
 use Rattle.policy.specs.Basics.{Name, gather, All}
-use Rattle.policy.specs.Statements.{Family, roles, types, Sort, thingOf, attributeOf, Declaration, plain, class, ofSort, ofClass, withPermissions, Reference, thing, attribute, SetExpr, nameS, allS, notS, andS, orS, xorS, unionS, emptyS, Constraint, sidesE, nameE, notE, andE, orE, Statement, declare, attributeset, gives, roletransition, constrain, fromOf, toOf, namesOf, classNames, permissions, count}
+use Rattle.policy.specs.Statements.{Family, roles, types, Sort, thingOf, attributeOf, Declaration, ofSort, ofClass, withPermissions, Reference, thing, attribute, SetExpr, nameS, allS, notS, andS, orS, xorS, unionS, emptyS, Constraint, sidesE, nameE, notE, andE, orE, Statement, declare, attributeset, gives, roletransition, constrain, fromOf, toOf, namesOf, classNames, permissions, count}
 use Rattle.policy.specs.Accepted.{ReferenceIn, SetIn, ConstraintIn, StatementIn}
 use Rattle.policy.proofs.Lists.{gather-append}
+use Rattle.policy.proofs.Counts.{class-lists}
 
 gather-grows : {A B : Type 0} (f : A → Option B) (xs ys : List A) → length (gather f xs) ≤ length (gather f (xs ++ ys))
 gather-grows f xs ys = rw (gather-append f xs ys, length-append) (omega arith)
-
--- as many lists of permissions as classes
-as-many : (ds : List Declaration) → length (gather withPermissions ds) ≡ length (gather ofClass ds)
-unfolding gather
-as-many [] = refl
-as-many (plain s w ∷ ds) = as-many ds
-as-many (class w ps ∷ ds) = ap suc (as-many ds)
 
 module _ (ds es : List Declaration) where
   pub count-grows : (s : Sort) → count s ds ≤ count s (ds ++ es)
@@ -34,7 +28,7 @@ module _ (ds es : List Declaration) where
   unfolding permissions classNames
   permissions-stay c h =
       ap (λ (l : List (List Name)). getD l c []) (gather-append withPermissions ds es)
-      ∙ List·getD-append (gather withPermissions ds) (gather withPermissions es) [] c (subst (λ (n : ℕ). c < n) (sym (as-many ds)) h)
+      ∙ List·getD-append (gather withPermissions ds) (gather withPermissions es) [] c (subst (λ (n : ℕ). c < n) (sym (class-lists ds)) h)
 
   pub reference-grows : (f : Family) (r : Reference) → ReferenceIn ds f r → ReferenceIn (ds ++ es) f r
   reference-grows f (thing n) h = omega (arith, count-grows (thingOf f))

@@ -17,7 +17,8 @@ use Rattle.policy.specs.Grammar.{written, blockIn}
 use Rattle.policy.specs.Scopes.{Scoped, scoped, scopedIn}
 use Rattle.policy.specs.Names.{environmentOf, Environment}
 use Rattle.policy.proofs.IfAny.{IfAny, just, whatever}
-use Rattle.reading_laws.proofs.BlockOrStatement.{no-block, is-block, written-no-block, in-no-blocks, opens-block}
+use Rattle.policy.proofs.BlockLaws.{no-block, in-no-blocks}
+use Rattle.reading_laws.proofs.BlockOrStatement.{is-block, written-no-block, opens-block}
 use Rattle.reading_laws.proofs.Judging.{judge-resolves}
 use Rattle.reading_laws.proofs.Placed.{placed, written-placed}
 use Rattle.reading_laws.proofs.ReadThen.{scoped-then, scoped-statement, line, judgedAt, read-one, read-on}
@@ -25,7 +26,7 @@ use Rattle.reading_laws.proofs.TextMoved.{text-moved}
 use Rattle.reading_laws.proofs.TextThen.{text-then}
 
 -- a text that is read is clean
-read-clean : (t : List ℕ) (p : Policy) → readPolicy t ≡ policy p → (scan t ≡ Scanned.Clean) × (readAll (scopedIn [] (formsOf t)) ≡ policy p)
+pub read-clean : (t : List ℕ) (p : Policy) → readPolicy t ≡ policy p → (scan t ≡ Scanned.Clean) × (readAll (scopedIn [] (formsOf t)) ≡ policy p)
 unfolding readPolicy
 read-clean t p h = go (scan t) refl h
   where

@@ -7,18 +7,19 @@ use mathlib.Core.List.{List, [], _∷_, _++_}
 use mathlib.Core.Option.{Option, none, some}
 use Prim.Native.Nat.{ℕ, _+_}
 use native.Mathlib.Omega.{arith}
-use lib.ListN.{length, length-append}
 use Rattle.lexer.specs.Spell.{bytes}
 use Rattle.policy.specs.Basics.{Name, same, any, isIn, next, indexOf, gather, keep, given, _>>=_, orElse}
 use Rattle.policy.specs.Statements.{Family, Sort, Declaration, plain, class}
 use Rattle.policy.specs.Statements.{sameFamily, sameSort, familyOf, ofSort, ofFamily, namesOf, familyNames, count, thingOf, attributeOf, Reference, thing, attribute}
-use Rattle.policy.specs.Names.{hasDotInFront, outward, tries, firstHit, Named, environmentOf, firstFrom, numberIn, refer, referenceOf}
+use Rattle.policy.specs.Names.{tries, firstHit, Named, environmentOf, firstFrom, numberIn, refer, referenceOf}
 use Rattle.policy.specs.Sound.{goodFrom}
-use Rattle.policy.proofs.Lists.{same-is, any-append, gather-append, gather-over, gather-last}
+use Rattle.policy.proofs.Lists.{same-is, any-append, gather-append, gather-last}
 use Rattle.policy.proofs.Sameness.{family-same, family-self, sort-same, sort-self}
 use Rattle.policy.proofs.Good.{good-first, good-rest}
 use Rattle.policy.proofs.IfAny.{IfAny}
 use Rattle.policy.proofs.Environments.{named-in}
+use Rattle.policy.proofs.Options.{or-none}
+use Rattle.policy.proofs.Counts.{count-same, count-more}
 
 -- ---- names of a family differ
 
@@ -36,14 +37,6 @@ now-in s w v e h =
     or-true : (q : Bool) → (q || (true || false)) ≡ true
     or-true true = refl
     or-true false = refl
-
-count-same : (s : Sort) (e : List Declaration) (d : Declaration) → ofSort s d ≡ none → count s (e ++ (d ∷ [])) ≡ count s e
-unfolding count namesOf
-count-same s e d h = ap length (gather-over (ofSort s) e d h)
-
-count-more : (s : Sort) (e : List Declaration) (d : Declaration) (v : Name) → ofSort s d ≡ some v → count s (e ++ (d ∷ [])) ≡ count s e + 1
-unfolding count namesOf
-count-more s e d v h = ap length (gather-last (ofSort s) e d v h) ∙ length-append (gather (ofSort s) e) (v ∷ [])
 
 -- a name that the family has is not declared again
 never-again : (s : Sort) (w : Name) (e ds : List Declaration) → goodFrom e ds ≡ true → isIn w (familyNames (familyOf s) e) ≡ true → indexOf w (namesOf s ds) ≡ none
@@ -124,27 +117,12 @@ first-is-place ds s w g = sort-from s w [] ds g ∙ shift-none (indexOf w (gathe
 
 -- ---- uses of names
 
--- nothing behind the first
-or-none : {A : Type 0} (o : Option A) → orElse o none ≡ o
-or-none none = refl
-or-none (some a) = refl
-
 -- "Things are numbered from 0 in text order within their sort": a use that is tried as one full name alone stands, in any block, for the place of that name among
 -- the names of the sort
 pub number-is-place : (ds : List Declaration) (path : List Name) (s : Sort) (v w : Name) → tries path v ≡ w ∷ [] → goodFrom [] ds ≡ true
     → numberIn (environmentOf ds path) s v ≡ indexOf w (namesOf s ds)
 unfolding environmentOf numberIn firstHit
 number-is-place ds path s v w e g = rw e (ap (ofTheSort s) (or-none (firstFrom [] ds (familyOf s) w)) ∙ first-is-place ds s w g)
-
--- "A leading dot means the whole-text level": such a use is tried as the full name behind the dot
-pub tried-behind-dot : (path : List Name) (w : Name) → tries path (bytes "." ++ w) ≡ w ∷ []
-unfolding tries
-tried-behind-dot path w = refl
-
--- and so is any use that stands in no block
-pub tried-in-no-block : (w : Name) → hasDotInFront w ≡ false → tries [] w ≡ w ∷ []
-unfolding tries outward
-tried-in-no-block w h = rw h
 
 -- a name that may stand for a thing or an attribute stands for the thing that has it, and else for the attribute
 as-placed : (f : Family) (o : Option Named) (x y : Option ℕ) → IfAny (λ d. familyOf (d .sort) ≡ f) o → ofTheSort (thingOf f) o ≡ x → ofTheSort (attributeOf f) o ≡ y

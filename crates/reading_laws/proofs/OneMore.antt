@@ -2,50 +2,36 @@
 use Prim.Native.Nat.{ℕ, _+_, _<_, _≤_}
 use native.Mathlib.Omega.{arith}
 use mathlib.Core.Path.{_≡_, refl}
-use mathlib.Core.Bool.{true, _&&_}
-use mathlib.Core.List.{List, [], _∷_, _++_, append-nil, append-assoc}
+use mathlib.Core.Bool.{true}
+use mathlib.Core.List.{List, [], _∷_, _++_, append-nil}
 use mathlib.Core.Option.{Option, none, some}
 use lib.ListN.{length, length-append}
 use borrow.Author.Tests.{ltb-true, leb-true}
-use Rattle.policy.specs.Basics.{gather, keep, All}
+use Rattle.policy.specs.Basics.{gather, keep}
 use Rattle.policy.specs.Statements.{Declaration, Statement, declare, attributeset, gives, roletransition, constrain, Line, Policy, declared, declarations, transition, transitions, constrained, constrains, Constrain, size}
 use Rattle.policy.specs.Maxima.{maxTransitions, maxConstraints, maxRows}
 use Rattle.policy.specs.Reading.{isNew, isShort, hasRoom, rowCount}
 use Rattle.policy.specs.Sound.{goodNames, goodFrom}
 use Rattle.policy.specs.Accepted.{StatementIn, Accepted}
-use Rattle.policy.proofs.Lists.{both-true, true-both, gather-append, all-append}
+use Rattle.policy.proofs.Lists.{both-true, gather-append, all-append}
 use Rattle.policy.proofs.IfAny.{IfAny, nothing, just}
+use Rattle.policy.proofs.RowCounts.{rows-last}
+use Rattle.policy.proofs.Gathered.{all-map}
+use Rattle.policy.proofs.Good as good
 use Rattle.reading_laws.proofs.Growing.{statement-grows}
 use Rattle.reading_laws.proofs.Judging.{Passes}
-
-all-map : {A : Type 0} (P Q : A → Type 0) → ((a : A) → P a → Q a) → (xs : List A) → All P xs → All Q xs
-all-map P Q f [] h = tt
-all-map P Q f (x ∷ xs) h = (f x (h .0), all-map P Q f xs (h .1))
 
 -- a declaration that has good names, is new and has room, after good ones
 abbrev Declarable : List Declaration → Declaration → Type 0
 Declarable ds d = (goodNames d ≡ true) × (isNew ds d ≡ true) × (hasRoom ds d ≡ true)
 
-good-last : (e ds : List Declaration) (d : Declaration) → goodFrom e ds ≡ true → Declarable (e ++ ds) d → goodFrom e (ds ++ (d ∷ [])) ≡ true
-unfolding goodFrom
-good-last e [] d h g =
-    true-both _ true (true-both _ (hasRoom e d) (true-both (goodNames d) (isNew e d) (g .0) (rw append-nil at (g .1))) (rw append-nil at (g .2))) refl
-good-last e (x ∷ ds) d h g =
-    let b = both-true (goodNames x && isNew e x && hasRoom e x) (goodFrom (e ++ (x ∷ [])) ds) h in
-    true-both _ _ (b .0) (good-last (e ++ (x ∷ [])) ds d (b .1) (rw append-assoc g))
-
 good-more : (ds : List Declaration) (o : Option Declaration) → goodFrom [] ds ≡ true → IfAny (Declarable ds) o → goodFrom [] (ds ++ keep o []) ≡ true
 good-more ds none h k = rw append-nil h
-good-more ds (some d) h k = good-last [] ds d h (k .has d refl)
+good-more ds (some d) h k = let g = k .has d refl in good.good-more ds d h (record { names = g .0; new = g .1; room = g .2 })
 
 few-more : {B : Type 0} (n : ℕ) (xs : List B) (o : Option B) → length xs ≤ n → IfAny (λ _. length xs < n) o → length (xs ++ keep o []) ≤ n
 few-more n xs none h k = rw append-nil h
 few-more n xs (some b) h k = rw length-append (omega (arith, k .has b refl))
-
-rows-last : (xs : List Constrain) (c : Constrain) → rowCount (xs ++ (c ∷ [])) ≡ rowCount xs + size (c .body)
-unfolding rowCount
-rows-last [] c = omega arith
-rows-last (x ∷ xs) c = omega (arith, rows-last xs c)
 
 rows-more : (n : ℕ) (xs : List Constrain) (o : Option Constrain) → rowCount xs ≤ n → IfAny (λ c. rowCount xs + size (c .body) ≤ n) o → rowCount (xs ++ keep o []) ≤ n
 rows-more n xs none h k = rw append-nil h

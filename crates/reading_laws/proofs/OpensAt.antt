@@ -1,6 +1,6 @@
 -- The place of a statement, of a block, and of every part in them, is that of an opening parenthesis of the text. By induction on the bytes, then on the
 -- tokens, then on the rows. Assumes nothing.
-use Prim.Native.Nat.{ℕ, suc, _+_, _≤_}
+use Prim.Native.Nat.{ℕ, suc, _+_, _≤_, _<_}
 use Prim.Native.Char.{code}
 use native.Mathlib.Nat.{add-zero, zero-add, add-assoc}
 use native.Mathlib.Numerals.{one-add}
@@ -9,8 +9,9 @@ use mathlib.Core.Path.{_≡_, refl, sym, ap, _∙_, subst}
 use mathlib.Core.Bool.{Bool, true, false, cond, false≢true}
 use mathlib.Core.List.{List, [], _∷_}
 use mathlib.Core.Option.{Option, none, some}
-use lib.ListN.{getD}
-use borrow.Author.Tests.{eqb-true}
+use lib.ListN.{getD, length, List·getD-eq-default}
+use borrow.Author.Tests.{eqb-true, leb-true, leb-false}
+use lib.Dec.{leb}
 use Rattle.lexer.specs.declared.ByteClass.{ByteClass}
 use Rattle.lexer.specs.declared.ByteClass.the-variants.{Blank, LineFeed, Comment, Open, Close, Letter, Digit, Dot, Wrong}
 use Rattle.lexer.specs.declared.Token.{Token}
@@ -151,3 +152,11 @@ module _ (text : List ℕ) where
   fault-place n at l (wrong-byte b e) = absurd (omega arith)
   fault-place n at l (at-statement m b e s) =
       subst OpensAt (s .place) (all-right ScopedOpens (s .before) (s .here ∷ s .rest) (subst (All ScopedOpens) (s .row) (scoped-open [] (formsOf text) forms-open)) .0)
+
+-- an opening parenthesis stands at a place of the text
+pub opens-within : (text : List ℕ) (at : ℕ) → OpensAt text at → at < length text
+opens-within text at h = go (leb (length text) at) refl
+  where
+    go : (b : Bool) → leb (length text) at ≡ b → at < length text
+    go false e = leb-false (length text) at e
+    go true e = absurd (omega (arith, h, List·getD-eq-default text 0 (leb-true (length text) at e)))

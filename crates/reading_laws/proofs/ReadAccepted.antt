@@ -27,7 +27,7 @@ use Rattle.reading_laws.proofs.OneMore.{one-more}
 use Rattle.reading_laws.proofs.ReadThen.{line, PartRead, first-statement, first-block, part-read}
 
 -- no statements
-none-accepted : Accepted []
+pub none-accepted : Accepted []
 unfolding declarations transitions constrains gather goodFrom rowCount
 none-accepted = record { names = refl; statements = tt; few-transitions = omega arith; few-constrains = omega arith; few-rows = omega arith }
 

@@ -14,7 +14,8 @@ use Rattle.policy.specs.Grammar.{isBlock, blockIn}
 use Rattle.policy.specs.Scopes.{Scoped, scoped, scopedIn}
 use Rattle.policy.specs.Reading.{Judged, reads, opens, fault, judge, Read, policy, refused, readFrom}
 use Rattle.policy.proofs.Lists.{each-append}
-use Rattle.reading_laws.proofs.BlockOrStatement.{no-block, is-block, reads-statement, opens-block}
+use Rattle.policy.proofs.BlockLaws.{no-block}
+use Rattle.reading_laws.proofs.BlockOrStatement.{is-block, reads-statement, opens-block}
 
 infixr 50 _then_
 -- the items of a row, then those of another, in place of the first one's end
@@ -117,16 +118,6 @@ read-then before (x ∷ xs) ys p =
 -- where the first are read, the others are read after them
 pub read-on : (before xs ys : List Scoped) (p q : Policy) → readFrom before xs p ≡ policy q → readFrom before (xs ++ ys) p ≡ readFrom (before ++ xs) ys q
 read-on before xs ys p q h = read-then before xs ys p ∙ rw h
-
--- and where one of the first is refused, the others are not read
-pub read-stops : (before xs ys : List Scoped) (p : Policy) (n at : ℕ) → readFrom before xs p ≡ refused n at → readFrom before (xs ++ ys) p ≡ refused n at
-read-stops before xs ys p n at h = read-then before xs ys p ∙ rw h
-
--- one statement more that is judged good is one line more
-pub longer-row : (before xs : List Scoped) (x : Scoped) (p q : Policy) (s : Statement) → readFrom before xs p ≡ policy q → judge (before ++ xs) q x ≡ reads s
-    → readFrom before (xs ++ (x ∷ [])) p ≡ policy (q ++ (line (x .place) s ∷ []))
-unfolding readFrom
-longer-row before xs x p q s h k = read-on before xs (x ∷ []) p q h ∙ read-reads (before ++ xs) x [] q s k
 
 -- and one that is judged faulty is refused, whatever follows
 pub stopped-row : (before xs : List Scoped) (x : Scoped) (rest : List Scoped) (n : ℕ) (p q : Policy) → readFrom before xs p ≡ policy q

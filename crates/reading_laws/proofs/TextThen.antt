@@ -16,9 +16,10 @@ use Rattle.lexer.specs.declared.ByteClass.the-variants.{Blank, LineFeed, Commen
 use Rattle.lexer.specs.declared.Scanned.{Scanned}
 use Rattle.lexer.specs.declared.Token.{Token}
 use Rattle.lexer.specs.Class.{classOf, inWord, endsComment, isName}
-use Rattle.lexer.specs.Scan.{maxText, maxLevel, Mode, between, inComment, inName, going, stopped, commentThen, stepBetween, stepName, closedAt, scanFrom, scan}
+use Rattle.lexer.specs.Scan.{maxText, maxLevel, Mode, between, inComment, inName, going, stopped, commentThen, stepBetween, stepName, scanFrom, scan}
 use Rattle.lexer.specs.Token.{betweenThen, ownToken, modeThen, ending, tokensFrom, tokensAt}
 use Rattle.lexer.specs.Forms.{ended, word, Frames, out, step, build, framesAt, formsOf}
+use Rattle.lexer.proofs.Clean.{never, unclosed}
 use Rattle.reading_laws.proofs.ReadThen.{_then_}
 
 -- frames whose outermost row, so many rows out, goes on with other frames
@@ -38,11 +39,6 @@ comment-under level at k = go (endsComment k)
     go : (q : Bool) → Under (cond q between inComment) level at
     go true = tt
     go false = tt
-
-never : (t bs : List ℕ) (place at : ℕ) → scanFrom t bs (stopped place) at ≡ Scanned.Clean → ⊥
-unfolding scanFrom
-never t [] place at h = let z : _≡_ {A = ℕ} 0 1 = cc in omega arith
-never t (b ∷ bs) place at h = let z : _≡_ {A = ℕ} 0 1 = cc in omega arith
 
 module _ (t u : List ℕ) where
   abbrev whole : List ℕ
@@ -128,15 +124,6 @@ module _ (t u : List ℕ) where
       let g : Scanned.Wrong at ≡ Scanned.Clean = rw (eqb·suc-zero level) at h in
       let z : _≡_ {A = ℕ} 0 1 = cc in
       absurd (omega arith)
-
-  -- a run that ends with the text lies within parentheses, which are not closed
-  unclosed : (level at first : ℕ) (q : Bool) → 0 < level → cond q (closedAt level at) (Scanned.Wrong first) ≡ Scanned.Clean → ⊥
-  unclosed zero at first q l h = omega arith
-  unclosed (suc level) at first true l h =
-      let g : Scanned.Wrong at ≡ Scanned.Clean = rw (eqb·suc-zero level) at h in
-      let z : _≡_ {A = ℕ} 0 1 = cc in
-      omega arith
-  unclosed (suc level) at first false l h = let z : _≡_ {A = ℕ} 0 1 = cc in omega arith
 
   from : (bs : List ℕ) (m : Mode) (level at : ℕ) → at + length bs ≡ length t → Under m level at → scanFrom t bs (going m level) at ≡ Scanned.Clean
       → GoesOn bs m level at

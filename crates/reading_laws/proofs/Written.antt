@@ -12,11 +12,11 @@ use Rattle.lexer.specs.Class.{isName}
 use Rattle.lexer.specs.Forms.{Forms, closed, ended, word, part, namesGood}
 use Rattle.policy.specs.Basics.{Name, every, All, ofTwo}
 use Rattle.policy.specs.Words.{isReserved, asName, asPart, Keyword, declareK, classK, setK, relationK, transitionK, constrainK, Connective, allC, notC, andC, orC, xorC, keywordOf, expressionWord, opOf, isPlain, Component, componentOf}
-use Rattle.policy.specs.Grammar.{setIn, areSides, isRoles, compared, atClose, wordThen, partThen, twoWords, wordAndPart, comparison, formE, connected, expressions, expressionIn, rowOf, oneOrMore, classIn, ofFour, formed, written}
+use Rattle.policy.specs.Grammar.{setIn, areSides, isRoles, compared, wordThen, partThen, twoWords, wordAndPart, comparison, formE, connected, expressions, expressionIn, rowOf, oneOrMore, classIn, ofFour, formed, written}
 use Rattle.policy.specs.Statements.{Op, Constraint, notE, andE, orE, Relation, gives}
 use Rattle.policy.specs.Sound.{isGoodPart, goodPermissions}
 use Rattle.policy.proofs.Lists.{both-true, true-both}
-use Rattle.policy.proofs.IfAny.{IfAny, nothing, just, and-then, whatever, if-given, if-one, if-two, if-more}
+use Rattle.policy.proofs.IfAny.{IfAny, nothing, just, and-then, whatever, if-given, if-one, if-two, if-more, at-close}
 use Rattle.reading_laws.proofs.FullNames.{part-good}
 use Rattle.reading_laws.proofs.Resolving.{Allowed, WellWritten}
 
@@ -61,12 +61,6 @@ module _ {A : Type 0} {P : A → Type 0} where
   part-then ended g k = nothing
   part-then (word at w r) g k = nothing
   part-then (part p i r) g k = k i r (both-true (namesGood i) (namesGood r))
-
-  at-close : (f : Forms) (o : Option A) → IfAny P o → IfAny P (atClose f o)
-  at-close closed o h = h
-  at-close ended o h = nothing
-  at-close (word at w r) o h = nothing
-  at-close (part p i r) o h = nothing
 
   two-words : (f : Forms) (g : Name → Name → Option A) → ((v w : Name) → IfAny P (g v w)) → IfAny P (twoWords f g)
   two-words f g k = word-then f _ λ v r _. word-then r _ λ w r _. at-close r _ (k v w)

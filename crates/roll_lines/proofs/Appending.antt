@@ -6,8 +6,7 @@ use native.Mathlib.Omega.{arith}
 use lib.ListN.{length, length-append}
 use Rattle.bitset.specs.Parts.{put}
 use Rattle.bitset.specs.Relations.{joined}
-use Rattle.bitset.proofs.PartLaws.{length-put}
-use Rattle.set_writer.proofs.Putting.{put-put}
+use Rattle.bitset.proofs.PartLaws.{length-put, put-put}
 use Rattle.text_writer.specs.Writing.{Appends}
 
 module _ {t u : List ℕ} {at p : ℕ} {a : List ℕ} where

@@ -13,11 +13,11 @@ use Rattle.policy.specs.Roll.{decimal, rollOf, roll}
 use Rattle.table_laws.specs.SoundTable.{Bytes}
 use Rattle.table_laws.specs.Shown.{recordsIn}
 use Rattle.table_laws.proofs.WellFormedLaid.{well-formed-laid}
+use Rattle.table_laws.proofs.ImageOnly.{image-formed}
 use Rattle.text_writer.specs.Writing.{Appends}
 use Rattle.text_writer.proofs.Digits.{few-digits}
 use Rattle.roll_lines.specs.LineWriting.{acceptance, thingsIn, PutsLines, PutsRoll}
 use Rattle.roll_lines.proofs.Appending.{appends-then, appends-last, appends-length}
-use Rattle.roll_lines.proofs.Things.{image-formed}
 
 pub acceptance-short : (n : ℕ) → length (acceptance n) ≤ 36
 unfolding joined
@@ -33,7 +33,7 @@ pub roll-put : {t a b c d : List ℕ} {n p q r : ℕ} → Bytes t → 24868 ≤ 
 unfolding joined rollOf thingsIn recordsIn count
 roll-put {t} {a} {b} {c} {d} {n} {p} {q} {r} small room first users-put roles-put = record {
   says = λ i h.
-      let laid = well-formed-laid i (image-formed t small i h) in
+      let laid = well-formed-laid i (image-formed t i h) in
       let short = acceptance-short n in
       let fits : 0 + length (acceptance n) ≤ length a = omega (arith, short, room) in
       let same = appends-length fits first in

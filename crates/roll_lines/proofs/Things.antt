@@ -3,21 +3,18 @@
 use Prim.Native.Nat.{ℕ, zero, suc, _<_, _≤_}
 use native.Mathlib.Omega.{arith}
 use mathlib.Core.Path.{_≡_, refl, sym, ap, subst, _∙_}
-use mathlib.Core.Bool.{Bool, true, false, not, cond}
+use mathlib.Core.Bool.{Bool, true, false, cond}
 use mathlib.Core.List.{List, [], _∷_, _++_}
 use mathlib.Core.Option.{Option, none, some, Option·none-ne-some, Option·some-injective}
 use lib.ListN.{length, getElem?, take, drop}
 use Rattle.bitset.specs.Parts.{part}
 use Rattle.bitset.proofs.PartLaws.{length-part-min}
-use Rattle.lexer.specs.Class.{isName}
 use Rattle.policy.specs.Basics.{Name, All}
-use Rattle.policy.specs.Words.{isReserved}
 use Rattle.policy.specs.Statements.{users, roles, Sort, thingOf, Declaration, plain, class, sameSort, ofSort, namesOf, count}
 use Rattle.policy.specs.Image.{Image}
 use Rattle.policy.specs.Sound.{wellFormed, goodNames, goodFrom, imageIn}
 use Rattle.policy.specs.Deciding.{Reply, answered, refused}
 use Rattle.policy.specs.Questions.{Part, nameOn, entryOn}
-use Rattle.policy.proofs.Lists.{both-true}
 use Rattle.policy.proofs.Good.{good-first, good-rest}
 use Rattle.policy.proofs.Counts.{few-of}
 use Rattle.policy.proofs.Gathered.{OfValue, all-gather}
@@ -114,9 +111,6 @@ module _ (i : Image) (h : wellFormed i ≡ true) where
 -- BY NUMBER
 
 module _ (t : List ℕ) (b : Bytes t) (i : Image) (h : imageIn t ≡ some i) where
-  pub image-formed : wellFormed i ≡ true
-  image-formed = table-only t b i h .0
-
   thing-in : (s n : ℕ) → s < 2 → nameIn (i .names) s n ≡ getElem? (thingsIn i s) n
   unfolding nameIn thingsIn
   thing-in zero n l = refl

@@ -11,8 +11,9 @@ use Rattle.policy.specs.Reading.{Read, policy, refused}
 use Rattle.policy.specs.Image.{Image, imageOf}
 use Rattle.policy.specs.Encode.{encode}
 use Rattle.policy.specs.Sound.{imageIn}
-use Rattle.policy.specs.Outcome.{Input, policyOf, Compiled, compiles, refuses, fitted, compiled, Refusal, refusalOf, Outcome, accepted, rejected, outcomeOf, afterOf, outcome, after}
+use Rattle.policy.specs.Outcome.{Input, policyOf, Compiled, compiles, refuses, compiled, Refusal, refusalOf, Outcome, accepted, rejected, outcomeOf, afterOf, outcome, after}
 use Rattle.policy.specs.Roll.{refusal, roll, printed}
+use Rattle.policy.proofs.Outcomes.{isAccepted, lengthIn, compiledBy}
 use Rattle.demand_laws.proofs.Demand3.{table-read}
 
 -- the memory holds a table of n bytes, and what is printed is the roll of its image
@@ -22,15 +23,6 @@ pub record Holds (x : Input) (memory : List ℕ) (n : ℕ) : Type 0 where
   pub long : n ≡ length (encode image)
   pub prints : printed x ≡ roll image
 
--- the parts of an answer
-abbrev isAccepted : Outcome → Bool
-isAccepted (accepted n) = true
-isAccepted (rejected r) = false
-
-abbrev lengthOf : Outcome → ℕ
-lengthOf (accepted n) = n
-lengthOf (rejected r) = 0
-
 abbrev refusedBy : Outcome → Refusal → Refusal
 refusedBy (accepted n) d = d
 refusedBy (rejected r) d = r
@@ -38,10 +30,6 @@ refusedBy (rejected r) d = r
 -- what is printed, by what compiling gives
 abbrev print : Input → Compiled → List ℕ
 print x c = elim c [ refuses n at ↦ refusal (refusalOf x n at) | compiles i ↦ roll i ]
-
--- what compiling gives, by what reading gives
-abbrev compiledBy : Read → ℕ → Compiled
-compiledBy r lent = elim r [ refused n at ↦ refuses n at | policy p ↦ fitted lent (imageOf p) ]
 
 module _ (x : Input) where
   -- A REFUSAL
@@ -83,7 +71,7 @@ module _ (x : Input) where
         record {
           image = imageOf p;
           read = ap imageIn (memory-by (compiles (imageOf p)) c) ∙ table-read x p e (drop (length (encode (imageOf p))) before);
-          long = ap lengthOf (h ∙ answered-by (compiles (imageOf p)) c);
+          long = ap lengthIn (h ∙ answered-by (compiles (imageOf p)) c);
           prints = printed-by (compiles (imageOf p)) c;
         }
 

@@ -10,14 +10,14 @@ use Rattle.policy.specs.Basics.{Name, indexOf}
 use Rattle.policy.specs.Statements.{Family, Declaration, classNames}
 use Rattle.policy.specs.Names.{tries, firstHit, Named, Environment, firstFrom, environmentOf}
 use Rattle.policy.specs.Encode.{entries}
-use Rattle.policy.proofs.Counts.{few-of, few-classes, few-permissions-of}
+use Rattle.policy.proofs.Counts.{few-of, few-classes, few-permissions-of, few-in-all}
 use Rattle.policy.proofs.Environments.{named-in, class-below, permission-below}
-use Rattle.table_laws.proofs.NamesFit.{most}
+use Rattle.policy.proofs.Sorts.{max-small}
 use Rattle.symbols.specs.Lookup.{firstNamed}
 use Rattle.symbols.specs.Resolving.{familyCode, foundNamed, foundNumber, foundClass, foundPermission}
 use Rattle.symbols.specs.declared.Found.{Found}
 use Rattle.symbols.proofs.ReferencesFound.{find-named}
-use Rattle.symbols.proofs.ClassesFound.{find-class, find-permission, few-permissions}
+use Rattle.symbols.proofs.ClassesFound.{find-class, find-permission}
 use Rattle.name_chains.specs.Chains.{Tries}
 use Rattle.name_chains.specs.declared.Tried.{Tried}
 use Rattle.scopes.specs.Path.{orElse, foundFirst}
@@ -72,7 +72,7 @@ unfolding environmentOf
 looks-permission {t} {family} {w} {r} h = record {
   permissions = λ env c y e.
       h .tries (y .end) (entries (y .declared)) (y .chained) .finds
-      ∙ ap (λ (n : ℕ). firstNamed n w (entries (y .declared))) (sym e) ∙ find-permission (y .declared) c w (few-permissions [] (y .declared) (y .good))
+      ∙ ap (λ (n : ℕ). firstNamed n w (entries (y .declared))) (sym e) ∙ find-permission (y .declared) c w (few-in-all [] (y .declared) (y .good))
       ∙ ap (λ (x : Environment). foundPermission c (x .permission c w)) (sym (y .is));
 }
 
@@ -86,7 +86,7 @@ pub bounded : {t : List ℕ} {env : Environment} → Symbols t env → Bounded e
 bounded y = record {
   names = λ f w d e.
       let n = named-in (y .declared) (y .path) f w .has d (ap (λ (x : Environment). x .find f w) (sym (y .is)) ∙ e) .number in
-      omega (arith, few-of (d .sort) (y .declared) (y .good), most (d .sort));
+      omega (arith, few-of (d .sort) (y .declared) (y .good), max-small (d .sort));
   classes = λ w c e.
       let n = class-below (y .declared) (y .path) w .has c (ap (λ (x : Environment). x .class w) (sym (y .is)) ∙ e) in
       omega (arith, few-classes (y .declared) (y .good));

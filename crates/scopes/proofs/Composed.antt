@@ -5,9 +5,8 @@ use Prim.Native.Nat.{ℕ, suc, _+_, _-_, _<_, _≤_}
 use native.Mathlib.Omega.{arith}
 use lib.ListN.{length, set, length-set, length-append}
 use Rattle.bitset.specs.Parts.{part, put}
-use Rattle.bitset.proofs.PartLaws.{length-put, part-put-same, part-put-before, length-part}
+use Rattle.bitset.proofs.PartLaws.{length-put, part-put-same, part-put-before, length-part, sets-put}
 use Rattle.policy.specs.Basics.{Name}
-use Rattle.symbols.proofs.AppendLaws.{put-sets}
 use Rattle.symbols.proofs.PartLaws.{part-whole, part-join}
 use Rattle.scopes.specs.Path.{scopeOf}
 use Rattle.scopes.specs.Scope.{longIn, scopeIn, within, ComposedBy, Composes, ShortBy, Names}
@@ -17,7 +16,7 @@ use Rattle.scopes.proofs.Memory.{scope-long, scope-none}
 
 -- a dot, and the bytes behind it
 dot-put : (u : List ℕ) (n : ℕ) (w : Name) → n + 1 + length w ≤ length u → put (set u n 46) (suc n) w ≡ put u n (46 ∷ w)
-dot-put u n w h = sym (put-sets (set u n 46) (suc n) w (omega (arith, length-set u n 46))) ∙ put-sets u n (46 ∷ w) (omega arith)
+dot-put u n w h = sym (sets-put (set u n 46) (suc n) w (omega (arith, length-set u n 46))) ∙ sets-put u n (46 ∷ w) (omega arith)
 
 -- they stand behind the first n bytes
 dotted : (u : List ℕ) (n : ℕ) (w : Name) → n + 1 + length w ≤ length u → part (put (set u n 46) (n + 1) w) 0 (n + 1 + length w) ≡ part u 0 n ++ (46 ∷ w)

@@ -1,7 +1,7 @@
 -- A good part is at least a byte and has no dot, so a good path is one of such parts. Assumes nothing.
 use mathlib.Core.Path.{_≡_, refl, sym, ap, _∙_}
 use mathlib.Core.Bool.{Bool, true, false, not, _&&_, false≢true}
-use mathlib.Core.List.{List, [], _∷_}
+use mathlib.Core.List.{[], _∷_}
 use Prim.Native.Nat.{ℕ}
 use native.Mathlib.Omega.{arith}
 use lib.Dec.{eqb, leb}
@@ -9,10 +9,9 @@ use lib.ListN.{length}
 use borrow.Author.Tests.{eqb-true, lt-ltb}
 use Rattle.lexer.specs.declared.ByteClass.{ByteClass}
 use Rattle.lexer.specs.Class.{classOf, starts, goesOn, allGoOn, isPart}
-use Rattle.policy.specs.Basics.{Name, every}
+use Rattle.policy.specs.Basics.{Name}
 use Rattle.policy.specs.Words.{isReserved, dotless}
 use Rattle.policy.specs.Sound.{isGoodPart}
-use Rattle.policy.specs.Accepted.{GoodPath}
 use Rattle.policy.proofs.Lists.{both-true, true-both}
 use Rattle.scopes.specs.Path.{isOnePart}
 
@@ -42,13 +41,3 @@ pub one-part : (w : Name) → isGoodPart w ≡ true → isOnePart w ≡ true
 one-part w h =
     let short = both-true (isPart w && leb (length w) 64) (not (isReserved w)) h .0 in
     part-is-one w (both-true (isPart w) (leb (length w) 64) short .0)
-
-parts-one : (path : List Name) → every isGoodPart path ≡ true → every isOnePart path ≡ true
-unfolding every
-parts-one [] h = refl
-parts-one (b ∷ path) h =
-    let q = both-true (isGoodPart b) (every isGoodPart path) h in
-    true-both (isOnePart b) (every isOnePart path) (one-part b (q .0)) (parts-one path (q .1))
-
-pub one-parts : {path : List Name} → GoodPath path → every isOnePart path ≡ true
-one-parts {path} h = parts-one path (h .names)

@@ -7,16 +7,15 @@ use native.Mathlib.Omega.{arith}
 use lib.ListN.{length, getD, take, drop, set, length-set}
 use lib.Seq.{split-at, drop-cons, length-take-le, getD-set-same}
 use Rattle.bitset.specs.Parts.{part, put}
-use Rattle.bitset.proofs.PartLaws.{length-part, getD-part, length-put, part-put-before, part-put-after}
+use Rattle.bitset.proofs.PartLaws.{length-part, getD-part, length-put, part-put-before, part-put-after, sets-put}
 use Rattle.policy.specs.Words.{dotless}
-use Rattle.symbols.proofs.AppendLaws.{put-sets}
 use Rattle.symbols.proofs.PartLaws.{take-part}
 use Rattle.scopes.specs.Scope.{longIn, scopeIn, cutAt, SymbolsKept}
 use Rattle.scopes.proofs.PathLaws.{cut-dotless, cut-last, dotless-next, dotless-end}
 
 -- a store of one byte puts it
 pub set-put : (t : List ℕ) (i v : ℕ) → i < length t → set t i v ≡ put t i (v ∷ [])
-set-put t i v h = put-sets t i (v ∷ []) (omega arith)
+set-put t i v h = sets-put t i (v ∷ []) (omega arith)
 
 pub set-before : (t : List ℕ) (i v p w : ℕ) → i < length t → p + w ≤ i → part (set t i v) p w ≡ part t p w
 set-before t i v p w h l = ap (λ (u : List ℕ). part u p w) (set-put t i v h) ∙ part-put-before t i (v ∷ []) (omega arith) p w l

@@ -1,6 +1,6 @@
 -- Full names and dots: the last dot of a block's full name stands behind the full name of the block around it. Assumes nothing.
 use mathlib.Core.Path.{_≡_, refl, sym, ap, _∙_}
-use mathlib.Core.Bool.{Bool, true, false, not, _&&_}
+use mathlib.Core.Bool.{true, false, not, and-false}
 use mathlib.Core.List.{List, [], _∷_, _++_, append-assoc}
 use Prim.Native.Nat.{ℕ, _+_, _<_, _≤_}
 use native.Mathlib.Omega.{arith}
@@ -16,10 +16,6 @@ use Rattle.scopes.specs.Path.{scopeOf, isOnePart}
 use Rattle.scopes.specs.Scope.{cutAt, within}
 
 -- ---- the last dot of a name
-
-and-false : (a : Bool) → (a && false) ≡ false
-and-false true = refl
-and-false false = refl
 
 pub cut-dotless : (s : Name) → dotless s ≡ true → cutAt s ≡ 0
 unfolding cutAt dotless

@@ -14,6 +14,7 @@ use Rattle.name_chains.specs.Compared.{comparedIn, TriedIn}
 use Rattle.name_chains.specs.Chains.{Chained, Tries}
 use Rattle.name_chains.specs.declared.Tried.{Tried}
 use Rattle.policy.specs.Names.{full, outward, hasDotInFront, tries}
+use Rattle.policy.proofs.Environments.{tried-once}
 use Rattle.scopes.specs.Path.{scopeOf, orElse, foundFirst, ifFound, deciding, Decides, isOnePart}
 use Rattle.scopes.specs.Scope.{longIn, scopeIn, InScope, within, cutAt, isMissing, isPlain, TriedOnce, Resolves}
 use Rattle.scopes.proofs.PathLaws.{cut-full, front-full, first-part, other-parts, no-block, within-full}
@@ -165,8 +166,7 @@ module _ (t : List ℕ) (f : ℕ) (w : Name) where
 -- ---- at the whole-text level
 
 once-tries : (path : List Name) (w : Name) → isPlain path w ≡ true → tries path w ≡ w ∷ []
-unfolding tries outward
-once-tries [] w h = rw (not-true (hasDotInFront w) h)
+once-tries [] w h = tried-once w (not-true (hasDotInFront w) h)
 once-tries (b ∷ path) w h = absurd (false≢true h)
 
 -- a use that is tried once is resolved by that try

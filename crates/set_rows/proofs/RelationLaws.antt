@@ -1,24 +1,21 @@
 -- A relation as rows of sets: the rows one after the other are one set, in which number m of row u is number 8 * w * u + m; a row is read back;
 -- and to grant is what logic says. Assumes nothing.
-use mathlib.Core.Path.{_≡_, refl, sym, ap, ap₂, _∙_, subst}
-use mathlib.Core.Bool.{Bool, true, false, _&&_, _||_, cond}
-use mathlib.Core.Logic.{_↔_}
-use lib.Dec.{eqb}
-use borrow.Author.Tests.{eq-eqb, ne-eqb}
+use mathlib.Core.Path.{_≡_, refl, sym, ap, ap₂, _∙_}
+use mathlib.Core.Bool.{Bool, true, false, _&&_, _||_}
 use mathlib.Core.List.{List, [], _∷_, _++_}
 use Prim.Native.Nat.{ℕ, zero, suc, _+_, _*_, _/_, _%_, _≤_, _<_}
-use native.Mathlib.Nat.{mul-zero, mul-suc, zero-mul, zero-add, suc-add, add-comm, div-eq-of-lt, mod-eq-of-lt, add-mod-left, add-div-left, mod-lt, mul-assoc, mul-comm, div-lt-iff-lt-mul, zero-lt-suc}
+use native.Mathlib.Nat.{mul-zero, mul-suc, zero-mul, zero-add, suc-add, add-comm, div-eq-of-lt, mod-eq-of-lt, add-mod-left, add-div-left, mod-lt, zero-lt-suc}
 use native.Mathlib.Numerals.{add-one}
 use native.Mathlib.Omega.{arith}
 use lib.ListN.{length, getD, take}
 use Rattle.bitset.specs.Sets.{member, setOf, tabulate, fromBits, equal, emptied}
-use Rattle.bitset.specs.Parts.{part, put}
+use Rattle.bitset.specs.Parts.{part}
 use Rattle.bitset.specs.Relations.{joined, relation, granted}
 use Rattle.bitset.proofs.BitLaws.{fromBits-ext}
 use Rattle.bitset.proofs.SetLaws.{tabulate-ext, setOf-ext, member-setOf, length-setOf, small-setOf}
-use Rattle.bitset.proofs.AllLaws.{equal-bytes}
-use Rattle.bitset.proofs.PartLaws.{part-setOf, put-setOf, put-none}
-use Rattle.set_rows.proofs.GrantLaws.{row-of, place-of, row-next, row-fits, member-take}
+use Rattle.bitset.proofs.PartLaws.{part-setOf}
+use Rattle.set_operators.proofs.TestLaws.{equal-bytes}
+use Rattle.set_rows.proofs.GrantLaws.{row-of, place-of, row-fits, member-take}
 
 tabulate-add : (v w : ℕ) (g : ℕ → ℕ) → tabulate (v + w) g ≡ tabulate v g ++ tabulate w (λ i. g (v + i))
 unfolding tabulate
@@ -95,41 +92,6 @@ row-relation n w f u h =
 
 pub member-relation : (n w : ℕ) (f : ℕ → ℕ → Bool) (u m : ℕ) → u < n → m < 8 * w → member (part (relation n w f) (w * u) w) m ≡ f u m
 member-relation n w f u m h l = ap (λ (s : List ℕ). member s m) (row-relation n w f u h) ∙ member-setOf w (f u) m l
-
--- a row that is put has the numbers that were put, and the other rows are as they were
-put-narrow : (n u : ℕ) (f h : ℕ → ℕ → Bool) (g : ℕ → Bool) → put (relation n 0 f) (0 * u) (setOf 0 g) ≡ relation n 0 h
-unfolding setOf tabulate
-put-narrow n u f h g = put-none (relation n 0 f) (0 * u) ∙ relation-narrow n f ∙ sym (relation-narrow n h)
-
-put-wide : (n w u : ℕ) (f : ℕ → ℕ → Bool) (g : ℕ → Bool) → 0 < w → u < n
-    → put (relation n w f) (w * u) (setOf w g) ≡ relation n w (λ v m. cond (eqb v u) (g m) (f v m))
-put-wide n w u f g p h =
-    ap (λ (t : List ℕ). put t (w * u) (setOf w g)) (relation-setOf n w f)
-    ∙ put-setOf (w * n) (w * u) w old g new (row-fits w u n h)
-    (λ m l. other m (λ e. omega (arith, below m u .1 (subst (λ (x : ℕ). m < x) (scale u) l))))
-    (λ m l. ap₂ (λ (v k : ℕ). cond (eqb v u) (g k) (f v k)) (row-of w u m l) (place-of w u m l) ∙ ap (λ (b : Bool). cond b (g m) (f u m)) (eq-eqb u u refl))
-    (λ m l. other m (λ e. omega (arith, below m (u + 1) .0 (omega arith), row-next w u, scale (u + 1))))
-    ∙ sym (relation-setOf n w (λ v m. cond (eqb v u) (g m) (f v m)))
-  where
-    old : ℕ → Bool
-    old m = f (m / (8 * w)) (m % (8 * w))
-
-    new : ℕ → Bool
-    new m = cond (eqb (m / (8 * w)) u) (g (m % (8 * w))) (f (m / (8 * w)) (m % (8 * w)))
-
-    other : (m : ℕ) → (m / (8 * w) ≡ u → ⊥) → new m ≡ old m
-    other m ne = ap (λ (b : Bool). cond b (g (m % (8 * w))) (f (m / (8 * w)) (m % (8 * w)))) (ne-eqb (m / (8 * w)) u ne)
-
-    below : (m k : ℕ) → (m / (8 * w) < k) ↔ (m < k * (8 * w))
-    below m k = div-lt-iff-lt-mul (omega arith)
-
-    scale : (k : ℕ) → 8 * (w * k) ≡ k * (8 * w)
-    scale k = sym (mul-assoc 8 w k) ∙ mul-comm (8 * w) k
-
-pub put-row : (n w u : ℕ) (f : ℕ → ℕ → Bool) (g : ℕ → Bool) → u < n
-    → put (relation n w f) (w * u) (setOf w g) ≡ relation n w (λ v m. cond (eqb v u) (g m) (f v m))
-put-row n zero u f g h = put-narrow n u f (λ v m. cond (eqb v u) (g m) (f v m)) g
-put-row n (suc w) u f g h = put-wide n (suc w) u f g (zero-lt-suc w) h
 
 -- granting on relations is what logic says, whatever bytes name the rows and the numbers
 granted-narrow : (n : ℕ) (f g : ℕ → ℕ → Bool) (us rs : List ℕ) → granted 0 (relation n 0 f) us rs ≡ relation n 0 g

@@ -12,7 +12,7 @@ use Rattle.policy.specs.Grammar.{operands, setIn}
 use Rattle.policy.specs.Names.{refer, Environment}
 use Rattle.policy.specs.Reading.{referS}
 use Rattle.symbols.specs.Resolving.{familyCode}
-use Rattle.items.proofs.Frames.{Looked}
+use Rattle.items.proofs.Frames.{FramesSeen}
 use Rattle.items.specs.declared.Item.{Item}
 use Rattle.items.proofs.Frames.{around-of, closes, by-word, by-part, by-close, by-end, too-deep}
 use Rattle.items.proofs.Items.{word-lent}
@@ -89,7 +89,7 @@ module _ {t : List ℕ} {at levels : ℕ} {table : List ℕ} {family : ℕ} {bef
 
   -- ---- a word
 
-  module _ {s n k q : ℕ} (l : Looked t i (Item.Word s n k q)) {r : Referred} (lent : Refers table family (take ((s + n) - s) (drop s t)) r) where
+  module _ {s n k q : ℕ} (l : FramesSeen t i (Item.Word s n k q)) {r : Referred} (lent : Refers table family (take ((s + n) - s) (drop s t)) r) where
     m : Refers table family (take n (drop s t)) r
     m = subst (λ (w : Name). Refers table family w r) (word-lent t s n) lent
 
@@ -122,7 +122,7 @@ module _ {t : List ℕ} {at levels : ℕ} {table : List ℕ} {family : ℕ} {bef
 
   -- ---- a part
 
-  module _ {p q : ℕ} (l : Looked t i (Item.Open p q)) where
+  module _ {p q : ℕ} (l : FramesSeen t i (Item.Open p q)) where
     -- that lies too deep
     pub stop-deep : levels ≡ 0 → WritesSet t at levels table family before to code SetWritten.Undeclared
     stop-deep h = stops (o .keeps) λ env f w y e g. absurd (cut env f (by-row _ ended (too-deep operands levels l h) (o .left env f w y e g)))
@@ -160,12 +160,12 @@ module _ {t : List ℕ} {at levels : ℕ} {table : List ℕ} {family : ℕ} {bef
 
   -- ---- the close, and the end of the text
 
-  pub past-close : {q v : ℕ} {after : List ℕ} → Looked t i (Item.Close q) → Stored code u endUnit after v → WritesSet t at levels table family before to after (SetWritten.Next q v)
+  pub past-close : {q v : ℕ} {after : List ℕ} → FramesSeen t i (Item.Close q) → Stored code u endUnit after v → WritesSet t at levels table family before to after (SetWritten.Next q v)
   past-close {q} {v} {after} l st = record {
     keeps = keeps-then (o .ahead) (o .keeps) (st .keeps);
     moves = record { rest = closes at l (o .around); less = omega (arith, o .low, l .ahead .0); fits = l .ahead .1; ahead = omega (arith, o .ahead, st .ahead) };
     says = λ env f w y e g. done env f q (by-row _ closed (by-close operands levels l) (o .left env f w y e g)) (o .keeps .long) (st .wrote);
   }
 
-  pub stop-end : Looked t i Item.End → WritesSet t at levels table family before to code SetWritten.Undeclared
+  pub stop-end : FramesSeen t i Item.End → WritesSet t at levels table family before to code SetWritten.Undeclared
   stop-end l = stops (o .keeps) λ env f w y e g. absurd (cut env f (by-row _ ended (by-end operands levels l) (o .left env f w y e g)))

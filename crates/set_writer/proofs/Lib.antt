@@ -4,4 +4,3 @@ pub mod Operating
 pub mod Leaving
 pub mod Starting
 pub mod Going
-pub mod Answering

@@ -9,10 +9,11 @@ use native.Mathlib.Omega.{arith}
 use borrow.Author.Tests.{lt-ltb, le-ltb, lt-leb, le-leb}
 use lib.Dec.{leb, ltb}
 use Rattle.policy.specs.Basics.{Name, _>>=_}
-use Rattle.policy.specs.Statements.{Family, users, roles, types, thingOf, attributeOf, Reference, thing, attribute, Sort}
+use Rattle.policy.specs.Statements.{thingOf, attributeOf, Reference, thing, attribute, Sort}
 use Rattle.policy.specs.Encode.{sortCode}
 use Rattle.policy.specs.Names.{refer, Named, referenceOf}
 use Rattle.policy.proofs.IfAny.{IfAny}
+use Rattle.policy.proofs.Sorts.{thing-sort, attribute-sort}
 use Rattle.symbols.specs.Resolving.{foundNamed}
 use Rattle.symbols.specs.declared.Found.{Found}
 use Rattle.statement_code.specs.Code.{referenceUnit}
@@ -25,16 +26,6 @@ use Rattle.set_writer.specs.declared.Referred.{Referred}
 abbrev pub unitOf : Found → Referred
 unitOf (Found.At s n) = cond (leb 1024 n) Referred.Missing (cond (ltb s 3) (Referred.Unit n) (Referred.Unit (1024 + n)))
 unitOf Found.Missing = Referred.Missing
-
-thing-sort : (f : Family) → sortCode (thingOf f) < 3
-thing-sort users = omega arith
-thing-sort roles = omega arith
-thing-sort types = omega arith
-
-attribute-sort : (f : Family) → 3 ≤ sortCode (attributeOf f)
-attribute-sort users = omega arith
-attribute-sort roles = omega arith
-attribute-sort types = omega arith
 
 -- that of a name with a small number is the unit of its reference
 unit-of : (o : Option Named) → IfAny (λ d. d .number < 512) o → unitOf (foundNamed o) ≡ referred (o >>= λ d. some (referenceOf d))

@@ -11,7 +11,7 @@ use Rattle.policy.specs.Words.{setWord}
 use Rattle.policy.specs.Statements.{SetExpr}
 use Rattle.policy.specs.Grammar.{setIn}
 use Rattle.words.specs.Numbers.{wordOf}
-use Rattle.items.proofs.Frames.{Looked}
+use Rattle.items.proofs.Frames.{FramesSeen}
 use Rattle.items.specs.declared.Item.{Item}
 use Rattle.items.proofs.Frames.{around-of, by-word}
 use Rattle.statement_code.specs.Code.{unionUnit}
@@ -20,7 +20,7 @@ use Rattle.set_writer.proofs.Operating.{operator-row, name-row, part-ro
 
 module _ {t : List ℕ} {at : ℕ} where
   -- with a word
-  pub starts-operator : {s n k q : ℕ} (unit : ℕ) → Looked t at (Item.Word s n k q) → unit ≡ operatorUnit (setWord (wordOf k)) → (unit ≡ unionUnit → ⊥)
+  pub starts-operator : {s n k q : ℕ} (unit : ℕ) → FramesSeen t at (Item.Word s n k q) → unit ≡ operatorUnit (setWord (wordOf k)) → (unit ≡ unionUnit → ⊥)
       → Begins t at (record { operator = unit; next = q })
   starts-operator unit l h d = record {
     row = λ levels w g. operator-row _ _ _ unit _ w (l .ahead .2) h d (sym (by-word setIn levels l) ∙ g);
@@ -28,7 +28,7 @@ module _ {t : List ℕ} {at : ℕ} where
     ahead = omega (arith, l .ahead .0);
   }
 
-  pub starts-name : {s n k q : ℕ} (unit : ℕ) → Looked t at (Item.Word s n k q) → unit ≡ operatorUnit (setWord (wordOf k)) → unit ≡ unionUnit
+  pub starts-name : {s n k q : ℕ} (unit : ℕ) → FramesSeen t at (Item.Word s n k q) → unit ≡ operatorUnit (setWord (wordOf k)) → unit ≡ unionUnit
       → Begins t at (record { operator = unit; next = at })
   starts-name unit l h d = record {
     row = λ levels w g. subst (λ (f : Forms). Operands unit f w) (sym (by-word (λ (f : Forms). f) levels l))

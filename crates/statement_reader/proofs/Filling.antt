@@ -8,8 +8,7 @@ use lib.ListN.{length, take, drop, length-append, length-drop}
 use lib.Seq.{take-at}
 use Rattle.bitset.specs.Parts.{put}
 use Rattle.set_writer.specs.Writing.{Wrote}
-use Rattle.set_writer.proofs.Putting.{put-put}
-use Rattle.bitset.proofs.PartLaws.{put-none}
+use Rattle.bitset.proofs.PartLaws.{put-none, put-put}
 use Rattle.statement_reader.specs.Memory.{Starts}
 
 -- nothing is there yet

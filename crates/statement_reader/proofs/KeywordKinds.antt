@@ -7,10 +7,11 @@ use Rattle.lexer.specs.Forms.{Forms, closed, ended, word, part}
 use Rattle.policy.specs.Basics.{Name, eachOf, ofOne, ofTwo}
 use Rattle.policy.specs.Words.{asName, asPart, Keyword, declareK, classK, setK, relationK, transitionK, constrainK}
 use Rattle.policy.specs.Statements.{roles, types, thingOf, attributeOf, plain, class, Reference, SetExpr, Constraint, StatementOf, declare, attributeset, gives, roletransition, constrain, Written, fromOf, toOf}
-use Rattle.policy.specs.Grammar.{wordAndPart, twoParts, setIn, expressionIn, rowOf, oneOrMore, classIn, ofFour, formed}
+use Rattle.policy.specs.Grammar.{twoParts, setIn, expressionIn, rowOf, ofFour, formed}
 use Rattle.policy.specs.Names.{refer, Environment, numberIn}
 use Rattle.policy.specs.Reading.{referS, referE, resolved}
 use Rattle.policy.proofs.IfAny.{IfAny, nothing, just, whatever}
+use Rattle.code_laws.proofs.StatementShape.{word-and-part, class-in}
 
 -- the statement is of the kind that the keyword names
 module _ {R N : Type 0} where
@@ -23,18 +24,6 @@ module _ {R N : Type 0} where
   IsOf constrainK w = (c : N) × (ps : List N) × (e : Constraint R) × (w ≡ constrain c ps e)
 
 module _ {A : Type 0} {P : A → Type 0} where
-  word-and-part : (f : Forms) (g : Name → Forms → Option A) → ((w : Name) (i : Forms) → IfAny P (g w i)) → IfAny P (wordAndPart f g)
-  word-and-part closed g k = nothing
-  word-and-part ended g k = nothing
-  word-and-part (part p i r) g k = nothing
-  word-and-part (word s w closed) g k = nothing
-  word-and-part (word s w ended) g k = nothing
-  word-and-part (word s w (word q v r)) g k = nothing
-  word-and-part (word s w (part p i closed)) g k = k w i
-  word-and-part (word s w (part p i ended)) g k = nothing
-  word-and-part (word s w (part p i (word q v r))) g k = nothing
-  word-and-part (word s w (part p i (part q j r))) g k = nothing
-
   two-parts : (f : Forms) (g : Forms → Forms → Option A) → ((i j : Forms) → IfAny P (g i j)) → IfAny P (twoParts f g)
   two-parts closed g k = nothing
   two-parts ended g k = nothing
@@ -47,10 +36,6 @@ module _ {A : Type 0} {P : A → Type 0} where
   two-parts (part p i (part q j (word s w r))) g k = nothing
   two-parts (part p i (part q j (part s h r))) g k = nothing
 
-  class-in : (taken : Name → Option Name) (f : Forms) (g : Name → List Name → Option A) → ((c : Name) (ps : List Name) → IfAny P (g c ps))
-      → IfAny P (classIn taken f g)
-  class-in taken f g k = word-and-part f _ λ c i. whatever (taken c) _ λ c. whatever (rowOf asPart i) _ λ ps. whatever (oneOrMore ps) _ λ ps. k c ps
-
 -- as it is written
 pub formed-of : (k : Keyword) (f : Forms) → IfAny (IsOf {R = Name} {N = Name} k) (formed k f)
 formed-of (declareK s) f = whatever (rowOf asPart f) _ one
@@ -60,7 +45,7 @@ formed-of (declareK s) f = whatever (rowOf asPart f) _ one
     one (w ∷ []) = just (w, refl)
     one (v ∷ w ∷ ws) = nothing
 formed-of classK f = class-in asPart f _ λ c ps. just (c, ps, refl)
-formed-of (setK a) f = word-and-part f _ λ w i. whatever (asName w) _ λ w. whatever (setIn i) _ λ s. just (w, s, refl)
+formed-of (setK a) f = word-and-part f _ λ w i _. whatever (asName w) _ λ w. whatever (setIn i) _ λ s. just (w, s, refl)
 formed-of (relationK r) f = whatever (rowOf asName f) _ two
   where
     two : (ws : List Name) → IfAny (IsOf {R = Name} {N = Name} (relationK r)) (ofTwo (gives r) ws)

@@ -8,23 +8,22 @@ use mathlib.Core.Option.{none, some}
 use lib.ListN.{length, length-append}
 use Rattle.bitset.specs.Relations.{joined}
 use Rattle.policy.specs.Basics.{each, gather}
-use Rattle.policy.specs.Statements.{Declaration, Line, Policy, declared, declarations, transition, Transition, transitions, Constrain, constrained, constrains, size}
+use Rattle.policy.specs.Statements.{Declaration, Line, Policy, declared, declarations, transition, Transition, transitions, Constrain, constrained, constrains}
 use Rattle.policy.specs.Reading.{rowCount}
 use Rattle.policy.specs.Rows as rows
 use Rattle.policy.specs.Rows.{Row}
 use Rattle.policy.specs.Image.{maskOf, ConstraintEntry, constraintEntry}
 use Rattle.policy.specs.Encode.{NameEntry, entriesOf, entries, entryBytes, ConstraintHead, headBytes, headsFrom, rowBytes}
 use Rattle.policy.proofs.Lists.{each-append, joined-append, gather-over, gather-last}
+use Rattle.policy.proofs.RowCounts.{rows-count}
 use Rattle.symbols.proofs.Declaring.{entries-more}
-use Rattle.image_laws.proofs.RowCounts.{rows-count, rows-in-all}
+use Rattle.image_laws.proofs.RowCounts.{rows-in-all}
 use Rattle.declarations.specs.Declaring.{sectionOf}
 use Rattle.constrain_statement.specs.Constraining.{headWith, headOf}
+use Rattle.table_laws.proofs.Constraints.{rowsIn}
 use Rattle.statement_reader.specs.Memory.{symbolsOf, constraintsOf, rowsOf}
 
 -- the records of bodies 6 and 7 that one more constraint adds
-abbrev rowsIn : List ConstraintEntry → List Row
-rowsIn cs = joined (each (λ (c : ConstraintEntry). c .rows) cs)
-
 heads-more : (r : ℕ) (cs : List ConstraintEntry) (c : ConstraintEntry)
     → headsFrom r (cs ++ (c ∷ [])) ≡ headsFrom r cs ++ (headWith (c .class) (c .mask) (r + length (rowsIn cs)) (length (c .rows)) ∷ [])
 unfolding headsFrom joined each
@@ -34,11 +33,6 @@ heads-more r (x ∷ cs) c =
     ap (λ (hs : List ConstraintHead). headWith (x .class) (x .mask) r (length (x .rows)) ∷ hs)
     (heads-more (r + length (x .rows)) cs c
     ∙ ap (λ (n : ℕ). headsFrom (r + length (x .rows)) cs ++ (headWith (c .class) (c .mask) n (length (c .rows)) ∷ [])) long)
-
-pub row-count-more : (cs : List Constrain) (c : Constrain) → rowCount (cs ++ (c ∷ [])) ≡ rowCount cs + size (c .body)
-unfolding rowCount
-row-count-more [] c = add-zero (size (c .body)) ∙ sym (zero-add (size (c .body)))
-row-count-more (x ∷ cs) c = omega (arith, row-count-more cs c)
 
 -- the bytes of the records of one more
 bytes-more : {A : Type 0} (f : A → List ℕ) (xs : List A) (x : A) → joined (each f (xs ++ (x ∷ []))) ≡ joined (each f xs) ++ f x

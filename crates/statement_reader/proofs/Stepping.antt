@@ -1,6 +1,6 @@
 -- One statement more in the memory: what is written for a declaration, a statement with code and a constraint is what the statements with it leave
 -- there, and a fault that is answered is the statement's. Assumes nothing.
-use Prim.Native.Nat.{ℕ, _+_, _-_, _*_, _≤_}
+use Prim.Native.Nat.{ℕ, _+_, _*_, _≤_}
 use native.Mathlib.Omega.{arith}
 use borrow.Author.Tests.{ltb-true, leb-true}
 use mathlib.Core.Path.{_≡_, refl, sym, ap, ap₂, subst, _∙_}
@@ -25,7 +25,6 @@ use Rattle.policy.proofs.Lists.{both-true, each-length}
 use Rattle.table_laws.proofs.Pieces.{wide-length}
 use Rattle.table_laws.proofs.ImageReadBack.{every-wide}
 use Rattle.table_laws.proofs.Records.{head-wide, row-wide}
-use Rattle.image_laws.proofs.RowCounts.{rows-count}
 use Rattle.reading_laws.proofs.ReadThen.{line}
 use Rattle.statement_code.specs.Code.{declarationCode, statementCode, codeOf}
 use Rattle.code_laws.proofs.CodeFits.{code-last}
@@ -37,6 +36,7 @@ use Rattle.declarations.proofs.Holding.{holds-symbols}
 use Rattle.statement_writer.specs.Coding as coding
 use Rattle.policy.specs.Answers.{familyOf, relationOf}
 use Rattle.policy.specs.Names.{environmentOf}
+use Rattle.policy.proofs.RowCounts.{rows-count, rows-last}
 use Rattle.statement_writer.specs.Coding.{WritesStatement}
 use Rattle.statement_writer.specs.declared.Coded.{Coded}
 use Rattle.constrain_statement.specs.Constraining as constraining
@@ -48,7 +48,7 @@ use Rattle.statement_reader.specs.declared.Progress.{Progress}
 use Rattle.statement_reader.specs.declared.Step.{Step}
 use Rattle.statement_reader.specs.declared.CodedKind.{CodedKind}
 use Rattle.statement_reader.proofs.Filling.{now-long, front, put-behind, wrote-behind}
-use Rattle.statement_reader.proofs.Sections.{row-count-more, declared-more, declared-same, symbols-more, symbols-same, transitions-more, transitions-same, constrains-more, constrains-same, constraints-more, constraints-same, rows-more, rows-same}
+use Rattle.statement_reader.proofs.Sections.{declared-more, declared-same, symbols-more, symbols-same, transitions-more, transitions-same, constrains-more, constrains-same, constraints-more, constraints-same, rows-more, rows-same}
 use Rattle.statement_reader.proofs.KeywordKinds.{IsOf, formed-of, resolved-of}
 
 module _ {p : Policy} {path : List Name} {lent : Memory} {sy co cs rs : List ℕ} {s : Progress} (h : Holds p path lent (memory sy co cs rs) s) where
@@ -116,7 +116,7 @@ module _ {p : Policy} {path : List Name} {lent : Memory} {sy co cs rs : List ℕ
         wide-length 6 (each rowBytes (rows.rowsOf e)) (every-wide 6 rowBytes row-wide (rows.rowsOf e))
         ∙ omega (arith, each-length rowBytes (rows.rowsOf e), rows-count e) in
         let counted : s .constraints + 1 ≡ length (constrains p ++ (k ∷ [])) = omega (arith, h .constraint-count, length-append (constrains p) (k ∷ [])) in
-        let numbered : next ≡ rowCount (constrains p ++ (k ∷ [])) = omega (arith, a .next-row, h .row-count, row-count-more (constrains p) k) in
+        let numbered : next ≡ rowCount (constrains p ++ (k ∷ [])) = omega (arith, a .next-row, h .row-count, rows-last (constrains p) k) in
         record {
           symbols = rw (symbols-same p l refl) (h .symbols);
           chained = rw (declared-same p l refl) (h .chained);

@@ -9,7 +9,7 @@ use Rattle.lexer.specs.Forms.{Forms, framesAt, trim}
 use Rattle.policy.specs.Basics.{Name, _>>=_}
 use Rattle.policy.specs.Names.{Environment}
 use Rattle.items.specs.declared.Item.{Item}
-use Rattle.items.proofs.Frames.{Looked, by-word}
+use Rattle.items.proofs.Frames.{FramesSeen, by-word}
 use Rattle.items.proofs.Items.{word-lent}
 use Rattle.set_writer.specs.Writing.{Stored}
 use Rattle.set_writer.specs.declared.Referred.{Referred}
@@ -56,7 +56,7 @@ module _ {t : List ℕ} {at : ℕ} {k : Kind} {table : List ℕ} {before : List 
     says = λ env levels y. lacking before before to (namesUnits env (k ∷ []) (trim (framesAt t at .here) levels)) (ap alone (h env levels));
   }
 
-  module _ {s n i q : ℕ} (l : Looked t at (Item.Word s n i q)) {r : Referred} (m : Names table k (take ((s + n) - s) (drop s t)) r) where
+  module _ {s n i q : ℕ} (l : FramesSeen t at (Item.Word s n i q)) {r : Referred} (m : Names table k (take ((s + n) - s) (drop s t)) r) where
     -- a name that is not declared
     pub no-name : r ≡ Referred.Missing → WritesNames t at (k ∷ []) table before to before NamesWritten.Undeclared
     no-name e = record {

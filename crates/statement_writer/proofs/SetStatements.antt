@@ -1,6 +1,6 @@
 -- A set statement's head, and behind it the number of its attribute and the code of S, are its code. Assumes nothing.
 use mathlib.Core.Path.{_≡_, refl, sym, ap, subst, _∙_}
-use mathlib.Core.Bool.{Bool, true, false, false≢true}
+use mathlib.Core.Bool.{false, false≢true}
 use mathlib.Core.List.{List, [], _∷_}
 use mathlib.Core.Option.{Option, none, some, Option·none-ne-some}
 use Prim.Native.Nat.{ℕ, _+_, _-_}
@@ -8,6 +8,7 @@ use native.Mathlib.Omega.{arith}
 use lib.ListN.{length}
 use Rattle.lexer.specs.Scan.{maxLevel}
 use Rattle.lexer.specs.Forms.{Forms, closed, ended, word, part, framesAt, trim}
+use Rattle.lexer.proofs.Trim.{startsPart}
 use Rattle.policy.specs.Answers.{familyOf}
 use Rattle.policy.specs.declared.Family as theFamily
 use Rattle.policy.specs.Words.{setK}
@@ -16,7 +17,7 @@ use Rattle.policy.specs.Grammar.{setIn}
 use Rattle.policy.specs.Reading.{referS, resolved}
 use Rattle.statement_code.specs.Code.{familyNumber, setTag}
 use Rattle.items.specs.declared.Item.{Item}
-use Rattle.items.proofs.Frames.{Looked, by-part}
+use Rattle.items.proofs.Frames.{FramesSeen, by-part}
 use Rattle.set_writer.specs.Sets as sets
 use Rattle.set_writer.specs.Sets.{WritesSet}
 use Rattle.set_writer.specs.declared.SetWritten.{SetWritten}
@@ -35,13 +36,7 @@ abbrev pub codedSet : SetWritten → Coded
 codedSet (SetWritten.Next q u) = Coded.Next u
 codedSet SetWritten.Undeclared = Coded.Undeclared
 
--- the row starts with a part; what that part holds
-abbrev pub startsPart : Forms → Bool
-startsPart closed = false
-startsPart ended = false
-startsPart (word s b f) = false
-startsPart (part p f g) = true
-
+-- what a part holds that a row starts with
 abbrev inside : Forms → Forms
 inside closed = ended
 inside ended = ended
@@ -101,7 +96,7 @@ module _ {t : List ℕ} {at place : ℕ} {table : List ℕ} {a b c : List ℕ} {
     }
 
     -- S is written, or a name of it is not declared
-    pub set-coded : {j p : ℕ} {after : List ℕ} {x : SetWritten} (z : SetWritten) → Looked t q (Item.Open p j) → WritesSet t j (maxLevel - 1 - 1) table n c v after x → x ≡ z
+    pub set-coded : {j p : ℕ} {after : List ℕ} {x : SetWritten} (z : SetWritten) → FramesSeen t q (Item.Open p j) → WritesSet t j (maxLevel - 1 - 1) table n c v after x → x ≡ z
         → WritesStatement t at (setK (familyOf f)) place table a i after (codedSet z)
     set-coded {j} {p} {after} {x} z l k g =
         let k = subst (λ (y : SetWritten). WritesSet t j (maxLevel - 1 - 1) table n c v after y) g k in

@@ -1,39 +1,27 @@
 -- Bytes written one after the other are bytes put at a place: the turn of `copy`, and the head and name of `append`.
 -- Assumes nothing.
 use mathlib.Core.Path.{_≡_, refl, sym, ap, subst, _∙_}
-use mathlib.Core.List.{List, [], _∷_, _++_, append-assoc}
+use mathlib.Core.List.{List, [], _∷_, _++_}
 use Prim.Native.Nat.{ℕ, suc, _+_, _-_, _/_, _%_, _≤_, _<_}
-use native.Mathlib.Nat.{add-zero, add-suc, suc-add}
 use native.Mathlib.Omega.{arith}
 use native.Mathlib.Decide.{decLt}
-use lib.ListN.{length, getD, take, drop, set, length-set}
-use lib.Seq.{sets, sets-eq, length-sets, ext-getD, getD-take, length-take-le}
+use lib.ListN.{length, getD, take, set, length-set}
+use lib.Seq.{sets, ext-getD, getD-take, length-take-le}
 use Rattle.bitset.specs.Parts.{part, put}
-use Rattle.bitset.proofs.PartLaws.{getD-put-in, getD-put-before, getD-put-after}
+use Rattle.bitset.proofs.PartLaws.{getD-put-in, getD-put-before, getD-put-after, sets-put, sets-append, length-put, length-part-min}
 use Rattle.policy.specs.Basics.{le}
 use Rattle.policy.specs.Encode.{NameEntry, nameEntry, entryBytes}
 use Rattle.symbols.specs.Append.{Appended}
-use Rattle.symbols.proofs.PartLaws.{length-part, part-whole, part-none, part-cons, part-join}
+use Rattle.symbols.proofs.PartLaws.{part-whole, part-none, part-cons, part-join}
 
 pub entry-length : (e : NameEntry) → length (entryBytes e) ≡ 4 + length (e .name)
 unfolding le
 entry-length e = omega arith
 
-pub put-sets : (t : List ℕ) (o : ℕ) (s : List ℕ) → o + length s ≤ length t → sets t o s ≡ put t o s
-unfolding put
-put-sets t o s h = sets-eq s t o h ∙ append-assoc (take o t) s (drop (o + length s) t)
-
-pub length-put : (t : List ℕ) (o : ℕ) (s : List ℕ) → o + length s ≤ length t → length (put t o s) ≡ length t
-length-put t o s h = ap length (sym (put-sets t o s h)) ∙ length-sets t o s
-
-pub sets-append : (l : List ℕ) (i : ℕ) (vs ws : List ℕ) → sets (sets l i vs) (i + length vs) ws ≡ sets l i (vs ++ ws)
-sets-append l i [] ws = rw add-zero
-sets-append l i (a ∷ vs) ws = rw (add-suc i (length vs), ← suc-add i (length vs)) (sets-append (set l i a) (suc i) vs ws)
-
 -- ---- copy
 
 long : (x : List ℕ) (from i : ℕ) → i ≤ length x - from → length (part x from i) ≡ i
-long x from i h = length-part x from i ∙ omega arith
+long x from i h = length-part-min x from i ∙ omega arith
 
 part-snoc : (x : List ℕ) (from i : ℕ) → from + i < length x → part x from (i + 1) ≡ part x from i ++ (getD x (from + i) 0 ∷ [])
 part-snoc x from i h =
@@ -52,7 +40,7 @@ pub copy-none : (t x : List ℕ) (at from : ℕ) → t ≡ sets t at (part x fro
 copy-none t x at from = rw (part-none x from 0 refl)
 
 pub copied : (t x : List ℕ) (at from i len : ℕ) → at + len ≤ length t → len ≤ length x - from → i ≡ len → sets t at (part x from i) ≡ put t at (part x from len)
-copied t x at from i len h l e = rw e (put-sets t at (part x from len) (omega (arith, long x from len l)))
+copied t x at from i len h l e = rw e (sets-put t at (part x from len) (omega (arith, long x from len l)))
 
 -- ---- append: the head of an entry, and then its name
 
@@ -77,9 +65,9 @@ module _ (t : List ℕ) (end s n : ℕ) (w : List ℕ) (room : end + 4 + length 
     written =
         q
         ∙ ap (put _ (end + 4)) (part-whole w)
-        ∙ sym (put-sets _ (end + 4) w (omega (arith, length-headed)))
+        ∙ sym (sets-put _ (end + 4) w (omega (arith, length-headed)))
         ∙ head-then t end s (n % 256) (n / 256 % 256) (length w) w
-        ∙ put-sets t end (entryBytes (nameEntry s n w)) (omega arith);
+        ∙ sets-put t end (entryBytes (nameEntry s n w)) (omega arith);
     past = omega arith;
     inside = omega arith;
   })

@@ -1,23 +1,18 @@
 -- Finding a class, and a permission of a class, among the entries of declarations is resolving its name. By induction on the declarations,
 -- from what is declared before. Assumes nothing.
 use mathlib.Core.Path.{_≡_, refl, ap, _∙_}
-use mathlib.Core.Bool.{true}
 use mathlib.Core.List.{List, [], _∷_, _++_}
-use Prim.Native.Nat.{ℕ, zero, suc, _+_, _-_, _*_, _/_, _≤_, _<_}
+use Prim.Native.Nat.{ℕ, zero, suc, _+_, _*_, _/_, _≤_, _<_}
 use native.Mathlib.Omega.{arith}
-use borrow.Author.Tests.{leb-true}
-use lib.Dec.{ltb, leb}
 use lib.ListN.{length, length-append}
 use Rattle.policy.specs.Basics.{Name, isIn, indexOf, gather, All}
 use Rattle.policy.specs.Statements.{Sort, Declaration, plain, class, ofClass, classNames, permissions}
 use Rattle.policy.specs.Encode.{nameEntry, permissionEntries, entriesFrom, entries}
-use Rattle.policy.specs.Sound.{goodFrom}
-use Rattle.policy.proofs.Lists.{both-true, gather-over, gather-last}
+use Rattle.policy.proofs.Lists.{gather-over, gather-last}
 use Rattle.symbols.specs.Lookup.{firstNamed}
 use Rattle.symbols.specs.Resolving.{foundNumber, foundClass, foundPermission, isFound, FewPermissions}
 use Rattle.symbols.specs.declared.Found.{Found}
 use Rattle.symbols.proofs.Searching.{orFound, first-append, own-entry, found-index, found-in, permissions-other, permissions-own, skip-plain, after-class, skip-permissions}
-use Rattle.policy.proofs.Good.{good-first, good-rest}
 
 -- ---- how many classes are declared before
 
@@ -94,14 +89,6 @@ module _ (c : ℕ) (w : Name) where
       (permission-gone (e ++ (class v ps ∷ [])) ds (few .1) (omega (arith, classes-more e v ps)))
       ∙ or-missing (firstNamed (4 + c) w (permissionEntries (length (classNames e) * 32) ps))
       ∙ rw k (permissions-own c w (c * 32) ps (omega arith) (omega (arith, few .0)))
-
--- each class has at most 32
-pub few-permissions : (e ds : List Declaration) → goodFrom e ds ≡ true → All FewPermissions ds
-few-permissions e [] h = tt
-few-permissions e (plain s w ∷ ds) h = (tt, few-permissions (e ++ (plain s w ∷ [])) ds (good-rest e (plain s w) ds h))
-few-permissions e (class w ps ∷ ds) h =
-    let room = both-true (ltb (length (classNames e)) 32) (leb (length ps) 32) (good-first e (class w ps) ds h .room) in
-    (leb-true (length ps) 32 (room .1), few-permissions (e ++ (class w ps ∷ [])) ds (good-rest e (class w ps) ds h))
 
 -- family 4 + c answers as the permissions of class c are looked up
 pub find-permission : (ds : List Declaration) (c : ℕ) (w : Name) → All FewPermissions ds

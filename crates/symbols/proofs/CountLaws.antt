@@ -1,22 +1,23 @@
 -- How many entries of a sort there are: counted entry by entry, and among the entries of declarations. Assumes nothing.
-use Prim.Native.Nat.{ℕ, _+_, _*_, _<_}
+use Prim.Native.Nat.{ℕ, _+_, _*_}
 use native.Mathlib.Omega.{arith}
 use native.Mathlib.Nat.{add-zero, zero-add}
 use mathlib.Core.Path.{_≡_, refl, sym, ap, _∙_}
 use mathlib.Core.Bool.{Bool, true, false, cond, false≢true}
 use mathlib.Core.List.{List, [], _∷_, _++_}
-use mathlib.Core.Option.{none, some, Option·some-injective}
+use mathlib.Core.Option.{none, some}
 use lib.Dec.{eqb}
 use lib.ListN.{length}
 use borrow.Author.Tests.{eq-eqb, ne-eqb}
 use Rattle.policy.specs.Basics.{Name, gather, keep}
-use Rattle.policy.specs.Statements.{users, roles, types, Sort, thingOf, attributeOf, Declaration, plain, class, sameSort, ofSort, ofClass, namesOf, count, classNames}
-use Rattle.policy.specs.Encode.{NameEntry, nameEntry, sortCode, permissionEntries, entriesFrom, entries}
-use Rattle.policy.specs.Sound.{sortOf}
+use Rattle.policy.specs.Statements.{Sort, Declaration, plain, class, sameSort, ofSort, ofClass, namesOf, count, classNames}
+use Rattle.policy.specs.Encode.{NameEntry, sortCode, permissionEntries, entriesFrom, entries}
 use Rattle.policy.proofs.Sameness.{sort-same, sort-self}
-use Rattle.symbols.specs.Section.{entriesRead, entriesAt, between, EntryIs}
+use Rattle.policy.proofs.Sorts.{code-below, code-sort}
+use Rattle.symbols.specs.Section.{entriesAt, EntryIs}
 use Rattle.symbols.specs.declared.Entry.{Entry}
 use Rattle.symbols.specs.Lookup.{countSort}
+use Rattle.symbols.proofs.FindLaws.{ahead}
 
 -- THE WALK
 
@@ -26,18 +27,14 @@ unfolding countSort
 count-ends x k es all e h = sym (add-zero k) ∙ sym (ap (λ (l : List NameEntry). k + countSort x l) e) ∙ h
 
 module _ {t : List ℕ} {at end s n past : ℕ} (h : EntryIs t at end (Entry.Named s n past)) (x : ℕ) where
-  ahead : entriesAt t at end ≡ nameEntry s n (between t (at + 4) past) ∷ entriesAt t past end
-  unfolding entriesRead
-  ahead = ap entriesRead (h .reads)
-
   pub count-passes : (s ≡ x → ⊥) → countSort x (entriesAt t past end) ≡ countSort x (entriesAt t at end)
   unfolding countSort
-  count-passes d = sym (ap (countSort x) ahead ∙ rw (ne-eqb s x d))
+  count-passes d = sym (ap (countSort x) (ahead h) ∙ rw (ne-eqb s x d))
 
   pub count-meets : s ≡ x → (k : ℕ) → k + 1 + countSort x (entriesAt t past end) ≡ k + countSort x (entriesAt t at end)
   unfolding countSort
   count-meets d k =
-      let one : countSort x (entriesAt t at end) ≡ 1 + countSort x (entriesAt t past end) = ap (countSort x) ahead ∙ rw (eq-eqb s x d) in
+      let one : countSort x (entriesAt t at end) ≡ 1 + countSort x (entriesAt t past end) = ap (countSort x) (ahead h) ∙ rw (eq-eqb s x d) in
       omega (arith, one)
 
 -- AMONG DECLARATIONS
@@ -57,27 +54,6 @@ no-permissions : (x : ℕ) → (7 ≡ x → ⊥) → (n : ℕ) (ps : List Name) 
 unfolding countSort permissionEntries
 no-permissions x h n [] = refl
 no-permissions x h n (p ∷ ps) = rw (ne-eqb 7 x h) (no-permissions x h (n + 1) ps)
-
--- the code of a sort is its own
-sort-back : (s : Sort) → sortOf (sortCode s) ≡ some s
-sort-back (thingOf users) = refl
-sort-back (thingOf roles) = refl
-sort-back (thingOf types) = refl
-sort-back (attributeOf users) = refl
-sort-back (attributeOf roles) = refl
-sort-back (attributeOf types) = refl
-
--- no sort of things or attributes is that of classes or permissions
-code-below : (s : Sort) → sortCode s < 6
-code-below (thingOf users) = omega arith
-code-below (thingOf roles) = omega arith
-code-below (thingOf types) = omega arith
-code-below (attributeOf users) = omega arith
-code-below (attributeOf roles) = omega arith
-code-below (attributeOf types) = omega arith
-
-pub code-sort : (s t : Sort) → sortCode s ≡ sortCode t → s ≡ t
-code-sort s t e = Option·some-injective s t (sym (sort-back s) ∙ ap sortOf e ∙ sort-back t)
 
 pub same-code : (s t : Sort) → eqb (sortCode t) (sortCode s) ≡ sameSort s t
 same-code s t = by (sameSort s t) refl

@@ -1,15 +1,16 @@
 -- The entries of one more declaration, and of one more permission of a class. Assumes nothing.
 use mathlib.Core.Path.{_≡_, refl, sym, ap, _∙_}
 use mathlib.Core.List.{List, [], _∷_, _++_, append-nil, append-assoc}
-use Prim.Native.Nat.{ℕ, suc, _+_}
+use Prim.Native.Nat.{ℕ, _+_}
 use native.Mathlib.Nat.{add-zero}
 use native.Mathlib.Omega.{arith}
 use lib.ListN.{length, getD}
 use lib.Seq.{getD-at}
 use Rattle.policy.specs.Basics.{Name, gather}
-use Rattle.policy.specs.Statements.{Declaration, plain, class, withPermissions, ofClass, classNames, permissions}
+use Rattle.policy.specs.Statements.{Declaration, class, withPermissions, ofClass, classNames, permissions}
 use Rattle.policy.specs.Encode.{NameEntry, nameEntry, permissionEntries, entriesOf, entriesFrom, entries}
 use Rattle.policy.proofs.Lists.{gather-last}
+use Rattle.policy.proofs.Counts.{class-lists}
 
 entries-from-more : (e ds : List Declaration) (d : Declaration) → entriesFrom e (ds ++ (d ∷ [])) ≡ entriesFrom e ds ++ entriesOf (e ++ ds) d
 unfolding entriesFrom
@@ -31,12 +32,6 @@ permission-more n (x ∷ ps) p =
     (permission-more (n + 1) ps p ∙ ap (λ (k : ℕ). permissionEntries (n + 1) ps ++ (nameEntry 7 k p ∷ [])) (omega arith))
 
 -- the class that is declared last
-class-lists : (ds : List Declaration) → length (gather withPermissions ds) ≡ length (gather ofClass ds)
-unfolding gather
-class-lists [] = refl
-class-lists (plain s w ∷ ds) = class-lists ds
-class-lists (class w ps ∷ ds) = ap suc (class-lists ds)
-
 pub permissions-last : (ds : List Declaration) (v : Name) (ps : List Name) → permissions (ds ++ (class v ps ∷ [])) (length (classNames ds)) ≡ ps
 unfolding permissions classNames
 permissions-last ds v ps =

@@ -11,11 +11,11 @@ use Rattle.policy.specs.Basics.{le}
 use Rattle.policy.specs.Encode.{NameEntry, nameEntry, entryBytes}
 use Rattle.policy.specs.Deciding.{refused}
 use Rattle.policy.specs.Questions.{nameFrom}
+use Rattle.bitset.proofs.PartLaws.{length-part-min}
 use Rattle.symbols.specs.Section.{entriesRead, entriesAt, between, EntryIs}
 use Rattle.symbols.specs.Lookup.{replyOf}
 use Rattle.symbols.specs.declared.Entry.{Entry}
 use Rattle.symbols.specs.declared.NamePlace.{NamePlace}
-use Rattle.symbols.proofs.PartLaws.{length-part}
 use Rattle.symbols.proofs.LookLaws.{none-past, begins}
 
 -- where no entry stands, none is left
@@ -54,7 +54,7 @@ module _ {t : List ℕ} {at end s n past : ℕ} (h : EntryIs t at end (Entry.Nam
   ahead = ap entriesRead (h .reads)
 
   long : length (between t (at + 4) past) ≡ past - at - 4
-  long = length-part t (at + 4) (past - (at + 4)) ∙ omega (arith, h .within)
+  long = length-part-min t (at + 4) (past - (at + 4)) ∙ omega (arith, h .within)
 
   module _ (s′ n′ : ℕ) where
     passes : (eqb s s′ && eqb n n′) ≡ false → nameFrom s′ n′ past (entriesAt t past end) ≡ nameFrom s′ n′ at (entriesAt t at end)

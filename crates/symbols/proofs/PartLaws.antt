@@ -6,17 +6,14 @@ use mathlib.Core.List.{List, [], _∷_, _++_}
 use Prim.Native.Nat.{ℕ, zero, suc, min, _+_, _-_, _≤_, _<_}
 use native.Mathlib.Numerals.{add-one}
 use native.Mathlib.Omega.{arith}
-use native.Mathlib.Nat.{sub-zero, zero-min, min-zero, suc-min-suc}
+use native.Mathlib.Nat.{sub-zero}
 use borrow.Author.Tests.{eq-eqb, ne-eqb}
 use lib.Dec.{eqb}
-use lib.ListN.{length, getD, take, drop, length-take, length-drop, drop-of-length-le}
+use lib.ListN.{length, getD, take, drop, length-drop, drop-of-length-le}
 use lib.Seq.{drop-cons, drop-drop, take-take, take-add, take-nil, take-all}
 use Rattle.bitset.specs.Parts.{part}
+use Rattle.bitset.proofs.PartLaws.{take-cut}
 use Rattle.policy.specs.Basics.{same}
-
-pub length-part : (t : List ℕ) (o w : ℕ) → length (part t o w) ≡ min w (length t - o)
-unfolding part
-length-part t o w = simp (length-take, length-drop)
 
 pub part-none : (t : List ℕ) (o w : ℕ) → w ≡ 0 → part t o w ≡ []
 unfolding part
@@ -26,15 +23,9 @@ pub part-whole : (t : List ℕ) → part t 0 (length t) ≡ t
 unfolding part
 part-whole t = take-all (length t) t (omega arith)
 
--- a part is cut where the list ends
-take-min : (n : ℕ) (l : List ℕ) → take (min n (length l)) l ≡ take n l
-take-min zero l = rw zero-min
-take-min (suc n) [] = rw min-zero
-take-min (suc n) (x ∷ xs) = rw suc-min-suc (ap (λ (r : List ℕ). x ∷ r) (take-min n xs))
-
 pub part-present : (t : List ℕ) (o w : ℕ) → part t o (min w (length t - o)) ≡ part t o w
 unfolding part
-part-present t o w = rw (← length-drop o t) (take-min w (drop o t))
+part-present t o w = rw (← length-drop o t) (take-cut w (drop o t))
 
 pub part-cons : (t : List ℕ) (o w : ℕ) → 0 < w → o < length t → part t o w ≡ getD t o 0 ∷ part t (o + 1) (w - 1)
 unfolding part

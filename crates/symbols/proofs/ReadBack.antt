@@ -3,7 +3,7 @@
 use mathlib.Core.Path.{_≡_, refl, sym, ap, _∙_}
 use mathlib.Core.Bool.{Bool, true, false, cond, false≢true}
 use mathlib.Core.List.{List, [], _∷_, _++_, append-assoc, append-nil}
-use mathlib.Core.Option.{none, some, Option·none-ne-some, Option·some-injective}
+use mathlib.Core.Option.{none, some}
 use Prim.Native.Nat.{ℕ, zero, suc, _+_, _*_, _/_, _%_, _≤_, _<_}
 use native.Mathlib.Omega.{arith}
 use borrow.Author.Tests.{leb-true, leb-false}
@@ -14,6 +14,7 @@ use Rattle.bitset.specs.Relations.{joined}
 use Rattle.policy.specs.Basics.{each, le, given, more, All}
 use Rattle.policy.specs.Encode.{NameEntry, nameEntry, entryBytes}
 use Rattle.policy.specs.Sound.{entriesIn}
+use Rattle.policy.proofs.Options.{given-some}
 use Rattle.symbols.specs.Section.{Section, done, broken, entry, readBy, sectionIn, entriesRead, isExact, exactEntries}
 use Rattle.symbols.proofs.SectionLaws.{section-entry, section-cut, section-none, section-short}
 
@@ -36,10 +37,6 @@ module _ (P : List ℕ → Section → Type 0) (ends : P [] done) (stops : (p : 
 
   pub by-entries : (p : List ℕ) → P p (sectionIn p)
   by-entries p = by-fuel (length p) p (omega arith)
-
-given-some : {A : Type 0} (q : Bool) (x y : A) → given q x ≡ some y → (q ≡ true) × (x ≡ y)
-given-some true x y h = (refl, Option·some-injective x y h)
-given-some false x y h = absurd (Option·none-ne-some y h)
 
 pub exact-some : (s : Section) (es : List NameEntry) → exactEntries s ≡ some es → (isExact s ≡ true) × (entriesRead s ≡ es)
 exact-some s es h = given-some (isExact s) (entriesRead s) es h
@@ -107,12 +104,6 @@ pub only-written : (p : List ℕ) (es : List NameEntry) → All (λ b. b < 256) 
 only-written p es h e =
     let x = exact-some (sectionIn p) es e in
     sym (written p h (x .0)) ∙ ap (λ (es : List NameEntry). joined (each entryBytes es)) (x .1)
-
--- what is read of bytes can be written
-pub read-small : (p : List ℕ) → All (λ b. b < 256) p → Small (entriesRead (sectionIn p))
-unfolding entriesRead
-read-small = by-entries (λ p s. All (λ b. b < 256) p → Small (entriesRead s)) (λ h. tt) (λ p h. tt)
-    (λ a b c n r l ih h. (omega (arith, h .1 .0, h .1 .1 .0), ih (all-drop n r (h .1 .1 .1 .1))))
 
 -- ---- reading goes on behind it
 

@@ -6,9 +6,10 @@ use native.Mathlib.Omega.{arith}
 use borrow.Author.Tests.{le-leb, lt-leb}
 use lib.ListN.{length, getD, take, drop, length-drop}
 use Rattle.bitset.specs.Parts.{part}
+use Rattle.bitset.proofs.PartLaws.{length-part-min}
 use Rattle.policy.specs.Encode.{nameEntry}
 use Rattle.symbols.specs.Section.{done, broken, entry, readBy, sectionIn, between, sectionAt}
-use Rattle.symbols.proofs.PartLaws.{length-part, part-head, take-part, drop-part}
+use Rattle.symbols.proofs.PartLaws.{part-head, take-part, drop-part}
 
 -- more fuel than bytes reads no more
 fuel : (k m : ℕ) (s : List ℕ) → length s ≤ k → length s ≤ m → readBy k s ≡ readBy m s
@@ -68,7 +69,7 @@ below-four v w left n l h = omega arith
 
 module _ (t : List ℕ) (at end left : ℕ) (l : left ≡ min (end - at) (length t - at)) where
   long : length (between t at end) ≡ left
-  long = length-part t at (end - at) ∙ sym l
+  long = length-part-min t at (end - at) ∙ sym l
 
   pub at-end : left ≡ 0 → sectionAt t at end ≡ done
   unfolding sectionAt
@@ -83,7 +84,7 @@ module _ (t : List ℕ) (at end left : ℕ) (l : left ≡ min (end - at) (length
     head = part-head t at (end - at) (omega arith) (omega arith) ∙ rw e
 
     behind : length (part t (at + 4) (end - at - 4)) ≡ left - 4
-    behind = length-part t (at + 4) (end - at - 4) ∙ rw (less-four (length t) at) (min-four (end - at) (length t - at) left l h)
+    behind = length-part-min t (at + 4) (end - at - 4) ∙ rw (less-four (length t) at) (min-four (end - at) (length t - at) left l h)
 
     pub at-cut : left - 4 < n → sectionAt t at end ≡ broken
     unfolding sectionAt

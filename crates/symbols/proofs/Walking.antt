@@ -8,10 +8,11 @@ use native.Mathlib.Omega.{arith}
 use lib.ListN.{length, take, drop, drop-of-length-le}
 use lib.Seq.{take-all, length-take-le}
 use Rattle.bitset.specs.Parts.{part}
+use Rattle.bitset.proofs.PartLaws.{length-part-min}
 use Rattle.policy.specs.Encode.{NameEntry, nameEntry}
 use Rattle.symbols.specs.Section.{Section, done, broken, entry, sectionIn, entriesRead, isExact, exactEntries, between, sectionAt, exactEntriesAt, EntryIs}
 use Rattle.symbols.specs.declared.Entry.{Entry}
-use Rattle.symbols.proofs.PartLaws.{length-part, part-none, part-join, take-part}
+use Rattle.symbols.proofs.PartLaws.{part-none, part-join, take-part}
 use Rattle.symbols.proofs.SectionLaws.{section-none, section-entry}
 use Rattle.symbols.proofs.ReadBack.{over, exact-over, entries-over, read-on, exact-some, by-entries}
 
@@ -56,7 +57,7 @@ module _ (t : List ℕ) (start at : ℕ) (es : List NameEntry) (reached : exactE
   unfolding sectionAt isExact entriesRead
   walk-on {end} {k} {n} {past} d =
       let e : NameEntry = nameEntry k n (between t (at + 4) past) in
-      let long : 4 + length (between t (at + 4) past) ≡ past - at = omega (arith, length-part t (at + 4) (past - (at + 4)), d .within) in
+      let long : 4 + length (between t (at + 4) past) ≡ past - at = omega (arith, length-part-min t (at + 4) (past - (at + 4)), d .within) in
       let here : sectionIn (between t at past) ≡ entry e done =
       ap sectionIn (sym (ap (λ (w : ℕ). take w (between t at end)) long ∙ take-part t at (end - at) (past - at) (omega (arith, d .within))))
       ∙ alone (between t at end) e (sectionIn (between t past end)) (d .reads) in

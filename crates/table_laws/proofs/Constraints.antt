@@ -16,7 +16,8 @@ use Rattle.policy.specs.Image.{ConstraintEntry}
 use Rattle.policy.specs.Encode.{ConstraintHead, headsFrom}
 use Rattle.policy.specs.Sound.{assignRows}
 use Rattle.policy.proofs.Lists.{both-true}
-use Rattle.table_laws.proofs.ListLaws.{if-some, more-after}
+use Rattle.policy.proofs.Options.{if-some}
+use Rattle.table_laws.proofs.ListLaws.{more-after}
 use Rattle.table_laws.proofs.LayoutLaws.{fits}
 
 abbrev pub rowsIn : List ConstraintEntry → List Row

@@ -1,8 +1,7 @@
 -- The sets of a policy's image are bytes: they are made of rules. Assumes nothing.
-use Prim.Native.Nat.{ℕ, zero, suc, _+_, _*_, _^_, _<_, _≤_}
-use native.Mathlib.Omega.{arith}
+use Prim.Native.Nat.{ℕ, zero, suc, _+_, _*_, _<_}
 use mathlib.Core.Path.{_≡_}
-use mathlib.Core.Bool.{Bool, true, false}
+use mathlib.Core.Bool.{Bool, true}
 use mathlib.Core.List.{List, [], _∷_}
 use Rattle.policy.specs.Basics.{each, All}
 use Rattle.policy.specs.Statements.{Family, users, roles, types, thingOf, attributeOf, Policy, Transition, count, declarations, transitions, userrole, roletype, roleallow}
@@ -10,18 +9,10 @@ use Rattle.policy.specs.Meaning.{Set, stands, related, final}
 use Rattle.policy.specs.Image.{TransitionEntry, width, setsOf, transitionEntry, imageOf}
 use Rattle.policy.specs.Encode.{encode}
 use Rattle.policy.specs.Sound.{wellFormed}
-use Rattle.bitset.specs.Sets.{one, fromBits, tabulate, setOf}
+use Rattle.bitset.specs.Sets.{fromBits, tabulate, setOf}
+use Rattle.bitset.proofs.BitLaws.{fromBits-lt}
 use Rattle.table_laws.specs.SoundTable.{Bytes, SetsOfBytes}
 use Rattle.table_laws.proofs.TableBytes.{encode-bytes}
-
-bit-small : (b : Bool) → one b ≤ 1
-bit-small true = omega arith
-bit-small false = omega arith
-
-from-bits-small : (w : ℕ) (f : ℕ → Bool) → fromBits w f < 2 ^ w
-unfolding fromBits
-from-bits-small zero f = omega arith
-from-bits-small (suc w) f = omega (arith, from-bits-small w (λ k. f (suc k)), bit-small (f 0))
 
 tabulate-all : {A : Type 0} (P : A → Type 0) (n : ℕ) (g : ℕ → A) → ((k : ℕ) → P (g k)) → All P (tabulate n g)
 unfolding tabulate
@@ -30,7 +21,7 @@ tabulate-all P (suc n) g h = (h 0, tabulate-all P n (λ k. g (suc k)) (λ k. h (
 
 pub set-bytes : (w : ℕ) (f : ℕ → Bool) → Bytes (setOf w f)
 unfolding setOf
-set-bytes w f = tabulate-all (λ b. b < 256) w (λ i. fromBits 8 (λ k. f (8 * i + k))) (λ i. from-bits-small 8 (λ k. f (8 * i + k)))
+set-bytes w f = tabulate-all (λ b. b < 256) w (λ i. fromBits 8 (λ k. f (8 * i + k))) (λ i. fromBits-lt 8 (λ k. f (8 * i + k)))
 
 sets-bytes : (n : ℕ) (g : Family) (f : ℕ → Set) → All Bytes (setsOf n g f)
 sets-bytes n g f = tabulate-all Bytes n (λ i. setOf (width g) (f i)) (λ i. set-bytes (width g) (f i))

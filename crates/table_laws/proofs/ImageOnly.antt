@@ -17,8 +17,9 @@ use Rattle.policy.specs.Encode.{transitionBytes, ConstraintHead, headBytes, hea
 use Rattle.policy.specs.Sound.{exactly, transitionAt, rowAt, headAt, assignRows, imageFrom, bodiesIn, namesAt, wellFormed, imageIn}
 use Rattle.policy.proofs.Lists.{all-left, all-right}
 use Rattle.table_laws.specs.SoundTable.{Bytes, allRows}
-use Rattle.table_laws.proofs.ListLaws.{bound-then, given-some, all-joined, all-both, each-back}
+use Rattle.table_laws.proofs.ListLaws.{bound-then, all-joined, all-both, each-back}
 use Rattle.policy.proofs.Gathered.{all-getD}
+use Rattle.policy.proofs.Options.{given-some}
 use Rattle.table_laws.proofs.LayoutOnly.{layout-only}
 use Rattle.table_laws.proofs.Pieces.{Wide, exactly-only}
 use Rattle.table_laws.proofs.Records.{transition-only, head-only, rows-only}
@@ -164,6 +165,15 @@ module _ (bs : List (List ℕ)) where
       let p : ℕ → Type 0 = λ n. n < 256 in
       let after = pairs 68 bs ++ joined bs in
       all-joined p bs (all-right p (pairs 68 bs) (joined bs) (all-right p (le 2 8) after (all-right p (le 2 1) (le 2 8 ++ after) (all-left p (layout bs) rest b))))
+
+-- what a sound table holds is well-formed
+pub image-formed : (t : List ℕ) (i : Image) → imageIn t ≡ some i → wellFormed i ≡ true
+unfolding imageIn
+image-formed t i h =
+    bound-then (bodiesIn t) _ i h λ bs cut h.
+    bound-then (imageFrom bs) _ i h λ im read h.
+    let g = given-some (wellFormed im) im i h in
+    subst (λ (i : Image). wellFormed i ≡ true) (g .1) (g .0)
 
 -- ONLY THE TABLE OF A WELL-FORMED IMAGE IS READ AS THAT IMAGE
 pub table-only : (t : List ℕ) → Bytes t → (i : Image) → imageIn t ≡ some i → (wellFormed i ≡ true) × (rest : List ℕ) × (t ≡ encode i ++ rest)

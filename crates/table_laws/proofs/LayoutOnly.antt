@@ -15,8 +15,9 @@ use Rattle.policy.specs.Basics.{more, each, le, unle}
 use Rattle.policy.specs.Encode.{pairs, layout}
 use Rattle.policy.specs.Sound.{bodyLengths, splitBodies, bodiesIn}
 use Rattle.policy.proofs.Lists.{both-true}
+use Rattle.policy.proofs.Options.{if-some}
 use Rattle.table_laws.specs.SoundTable.{Bytes}
-use Rattle.table_laws.proofs.ListLaws.{bound, if-some, more-after, all-drop}
+use Rattle.table_laws.proofs.ListLaws.{bound, more-after, all-drop}
 use Rattle.table_laws.proofs.LittleEndian.{le-unle-take}
 
 -- parts that were cut from t stand at its front

@@ -1,13 +1,13 @@
 -- What the laws of the table need of lists and of answers that may be missing. Assumes nothing.
-use Prim.Native.Nat.{ℕ, suc, _<_}
+use Prim.Native.Nat.{ℕ, suc, _<_, zero, _+_, _≤_}
 use native.Mathlib.Omega.{arith}
 use mathlib.Core.Path.{_≡_, refl, sym, ap₂, subst}
-use mathlib.Core.Bool.{Bool, true, false, cond}
+use mathlib.Core.Bool.{Bool, true}
 use mathlib.Core.List.{List, [], _∷_}
 use mathlib.Core.Option.{Option, none, some, Option·none-ne-some, Option·some-injective}
-use lib.ListN.{length, getD, take, drop, take-append-drop}
+use lib.ListN.{length, getD, take, drop, take-append-drop, length-append}
 use Rattle.bitset.specs.Relations.{joined}
-use Rattle.policy.specs.Basics.{_>>=_, given, more, each, every, All}
+use Rattle.policy.specs.Basics.{_>>=_, more, each, every, All}
 use Rattle.policy.proofs.Lists.{both-true, all-left, all-right, all-append}
 
 -- what went before an answer that is there
@@ -20,14 +20,6 @@ module _ {A B : Type 0} where
   bound-then o f b h k = let p = bound o f b h in k (p .0) (p .1) (p .2)
 
 module _ {A : Type 0} where
-  pub if-some : (t : Bool) (o : Option A) (a : A) → cond t o none ≡ some a → (t ≡ true) × (o ≡ some a)
-  if-some true o a h = (refl, h)
-  if-some false o a h = absurd (Option·none-ne-some a h)
-
-  pub given-some : (t : Bool) (a b : A) → given t a ≡ some b → (t ≡ true) × (a ≡ b)
-  given-some true a b h = (refl, Option·some-injective a b h)
-  given-some false a b h = absurd (Option·none-ne-some b h)
-
   pub more-some : (o : Option A) (r : Option (List A)) (xs : List A) → more o r ≡ some xs
       → (a : A) × (ys : List A) × (o ≡ some a) × (r ≡ some ys) × (xs ≡ a ∷ ys)
   more-some none r xs h = absurd (Option·none-ne-some xs h)
@@ -82,3 +74,11 @@ pub each-back : {A B : Type 0} (P : A → Type 0) (f : A → B) (g : B → A) �
 unfolding each
 each-back P f g e [] h = refl
 each-back {A} P f g e (x ∷ xs) h = ap₂ {C = List A} (λ y r. y ∷ r) (e x (h .0)) (each-back P f g e xs (h .1))
+
+-- body k and those before it are within all bodies
+pub joined-room : (bs : List (List ℕ)) (k : ℕ) → length (joined (take k bs)) + length (getD bs k []) ≤ length (joined bs)
+unfolding joined
+joined-room [] zero = omega arith
+joined-room [] (suc k) = omega arith
+joined-room (b ∷ bs) zero = omega (arith, length-append b (joined bs))
+joined-room (b ∷ bs) (suc k) = omega (arith, length-append b (joined bs), length-append b (joined (take k bs)), joined-room bs k)

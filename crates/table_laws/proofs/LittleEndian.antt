@@ -3,15 +3,11 @@ use Prim.Native.Nat.{ℕ, zero, suc, _+_, _*_, _/_, _%_, _^_, _<_, _≤_}
 use native.Mathlib.Omega.{arith}
 use mathlib.Core.Path.{_≡_, refl, sym, ap, ap₂, _∙_}
 use mathlib.Core.List.{List, [], _∷_}
-use lib.ListN.{length, take, getD}
+use lib.ListN.{length, take}
 use lib.Seq.{length-take-le}
 use Rattle.policy.specs.Basics.{le, unle}
 use Rattle.table_laws.specs.SoundTable.{Bytes}
-use Rattle.table_laws.proofs.ListLaws.{all-take, all-places}
-
--- a list whose every place holds a byte
-pub bytes-places : (t : List ℕ) → ((k : ℕ) → k < length t → getD t k 0 < 256) → Bytes t
-bytes-places t h = all-places (λ b. b < 256) t 0 h
+use Rattle.table_laws.proofs.ListLaws.{all-take}
 
 pub le-length : (w n : ℕ) → length (le w n) ≡ w
 unfolding le

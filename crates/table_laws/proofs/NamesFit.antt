@@ -2,27 +2,25 @@
 -- at most 2,016 * 68 bytes. By induction on the declarations. Assumes nothing.
 use Prim.Native.Nat.{ℕ, _+_, _*_, _<_, _≤_}
 use native.Mathlib.Omega.{arith}
-use mathlib.Core.Path.{_≡_, refl, subst}
+use mathlib.Core.Path.{_≡_}
 use mathlib.Core.Bool.{true, false, not, _&&_, false≢true}
-use mathlib.Core.List.{List, [], _∷_, _++_, append-assoc, append-nil}
+use mathlib.Core.List.{List, [], _∷_, _++_}
 use lib.Dec.{leb, ltb}
-use lib.ListN.{length, length-append}
+use lib.ListN.{length}
 use borrow.Author.Tests.{leb-true, ltb-true}
-use Rattle.lexer.specs.declared.ByteClass.{ByteClass}
-use Rattle.lexer.specs.declared.ByteClass.the-variants.{Blank, LineFeed, Comment, Open, Close, Letter, Digit, Dot, Wrong}
-use Rattle.lexer.specs.Class.{classOf, starts, goesOn, allGoOn, maxName, isPart, allParts, parts, isDotted}
-use Rattle.lexer.proofs.Names.{one-part}
-use Rattle.policy.specs.Basics.{Name, gather, All}
-use Rattle.policy.specs.Statements.{users, roles, types, Sort, thingOf, attributeOf, Declaration, plain, class, ofClass, count, classNames}
+use Rattle.lexer.specs.Class.{maxName, isPart, allParts, isDotted}
+use Rattle.lexer.proofs.Names.{only-part}
+use Rattle.policy.specs.Basics.{Name, All}
+use Rattle.policy.specs.Statements.{Declaration, plain, class, count, classNames}
 use Rattle.policy.specs.Words.{isReserved}
-use Rattle.policy.specs.Maxima.{maxOf, maxClasses, maxPermissions}
-use Rattle.policy.specs.Reading.{isNew, hasRoom}
-use Rattle.policy.specs.Encode.{NameEntry, sortCode, permissionEntries, entriesOf, entriesFrom}
+use Rattle.policy.specs.Maxima.{maxOf}
+use Rattle.policy.specs.Reading.{hasRoom}
+use Rattle.policy.specs.Encode.{NameEntry, permissionEntries, entriesOf, entriesFrom}
 use Rattle.policy.specs.Sound.{isGood, isGoodPart, goodPermissions, goodNames, goodFrom}
-use Rattle.policy.proofs.Lists.{both-true, true-both, all-append, gather-over, gather-last}
+use Rattle.policy.proofs.Lists.{both-true, all-append}
 use Rattle.table_laws.proofs.ListLaws.{every-all}
-use Rattle.policy.proofs.Counts.{few-classes}
 use Rattle.policy.proofs.Good.{good-first, good-rest}
+use Rattle.policy.proofs.Sorts.{code-below, max-small}
 use Rattle.table_laws.proofs.NamesReadBack.{Peopled}
 
 -- each class has a permission
@@ -40,40 +38,6 @@ pub record GoodEntry (e : NameEntry) : Type 0 where
   pub sort : e .sort < 8
   pub number : e .number < 65536
   pub name : isGood (e .name) ≡ true
-
-pub most : (s : Sort) → maxOf s ≤ 512
-most (thingOf users) = omega arith
-most (thingOf roles) = omega arith
-most (thingOf types) = omega arith
-most (attributeOf f) = omega arith
-
--- things and attributes have the codes below 6
-pub code-below : (s : Sort) → sortCode s < 6
-code-below (thingOf users) = omega arith
-code-below (thingOf roles) = omega arith
-code-below (thingOf types) = omega arith
-code-below (attributeOf users) = omega arith
-code-below (attributeOf roles) = omega arith
-code-below (attributeOf types) = omega arith
-
--- what starts a part goes on one, so that a part is its only part
-start-goes-on : (k : ByteClass) → starts k ≡ true → goesOn k ≡ true
-start-goes-on Blank e = e
-start-goes-on LineFeed e = e
-start-goes-on Comment e = e
-start-goes-on Open e = e
-start-goes-on Close e = e
-start-goes-on Letter e = refl
-start-goes-on Digit e = refl
-start-goes-on Dot e = e
-start-goes-on Wrong e = e
-
-pub only-part : (w : Name) → isPart w ≡ true → parts w ≡ w ∷ []
-unfolding isPart allGoOn
-only-part [] e = absurd (false≢true e)
-only-part (b ∷ bs) e =
-    let p = both-true (starts (classOf b)) (allGoOn bs) e in
-    one-part (b ∷ bs) (true-both (goesOn (classOf b)) (allGoOn bs) (start-goes-on (classOf b) (p .0)) (p .1))
 
 -- a good part is a good name, of one part
 pub part-is-good : (w : Name) → isGoodPart w ≡ true → isGood w ≡ true
@@ -96,7 +60,7 @@ permissions-fit n (p ∷ ps) g l =
 
 entry-fit : (e : List Declaration) (d : Declaration) → goodNames d ≡ true → hasRoom e d ≡ true → All GoodEntry (entriesOf e d)
 entry-fit e (plain s w) g h =
-    (record { sort = omega (arith, code-below s); number = omega (arith, ltb-true (count s e) (maxOf s) h, most s); name = g }, tt)
+    (record { sort = omega (arith, code-below s); number = omega (arith, ltb-true (count s e) (maxOf s) h, max-small s); name = g }, tt)
 entry-fit e (class w ps) g h =
     let names = both-true (isGood w) (goodPermissions ps) g in
     let room = both-true (ltb (length (classNames e)) 32) (leb (length ps) 32) h in

@@ -15,8 +15,9 @@ use Rattle.policy.specs.Statements.{users, roles, types, Sort, thingOf, attribu
 use Rattle.policy.specs.Encode.{NameEntry, nameEntry, sortCode, permissionEntries, entriesFrom, entries, entryBytes}
 use Rattle.policy.specs.Sound.{entriesIn, Grouped, sortOf, grouping, group, noneWaits, sameNumbers, namesAt}
 use Rattle.policy.proofs.Lists.{both-true}
+use Rattle.policy.proofs.Options.{if-some, given-some}
 use Rattle.table_laws.specs.SoundTable.{Bytes}
-use Rattle.table_laws.proofs.ListLaws.{bound, if-some, given-some, more-after, all-drop}
+use Rattle.table_laws.proofs.ListLaws.{bound, more-after, all-drop}
 use Rattle.table_laws.proofs.LittleEndian.{le-two}
 use Rattle.table_laws.proofs.NamesReadBack.{grouped}
 

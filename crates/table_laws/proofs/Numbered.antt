@@ -7,17 +7,16 @@ use mathlib.Core.Path.{_≡_, refl, sym, ap, _∙_}
 use mathlib.Core.Logic.{_⊎_, inl, inr}
 use mathlib.Core.Bool.{Bool, true, false, _&&_, cond, false≢true}
 use mathlib.Core.List.{List, [], _∷_, _++_}
-use mathlib.Core.Option.{Option, none, some, Option·some-injective}
+use mathlib.Core.Option.{Option, none, some}
 use lib.Dec.{eqb}
 use lib.ListN.{length, getElem?, length-append}
 use borrow.Author.Tests.{eq-eqb, ne-eqb}
 use Rattle.policy.specs.Basics.{Name, gather, keep, All}
-use Rattle.policy.specs.Statements.{users, roles, types, Sort, thingOf, attributeOf, Declaration, plain, class, sameSort, ofSort, ofClass, count, namesOf, classNames}
+use Rattle.policy.specs.Statements.{Sort, Declaration, plain, class, sameSort, ofSort, ofClass, count, namesOf, classNames}
 use Rattle.policy.specs.Encode.{NameEntry, nameEntry, sortCode, permissionEntries, entriesOf, entriesFrom, entries}
-use Rattle.policy.specs.Sound.{sortOf}
 use Rattle.policy.proofs.Lists.{gather-over, gather-last}
 use Rattle.policy.proofs.Sameness.{sort-same, sort-self}
-use Rattle.table_laws.proofs.NamesFit.{code-below}
+use Rattle.policy.proofs.Sorts.{code-below, code-sort}
 
 -- the name of the first entry of a sort and number
 unfoldable pub named : ℕ → ℕ → List NameEntry → Option Name
@@ -80,18 +79,6 @@ unfolding permissionEntries
 permissions-other c h n [] = tt
 permissions-other c h n (p ∷ ps) = (h, permissions-other c h (n + 1) ps)
 
--- the code of a sort is its own
-sort-back : (s : Sort) → sortOf (sortCode s) ≡ some s
-sort-back (thingOf users) = refl
-sort-back (thingOf roles) = refl
-sort-back (thingOf types) = refl
-sort-back (attributeOf users) = refl
-sort-back (attributeOf roles) = refl
-sort-back (attributeOf types) = refl
-
-same-code : (s t : Sort) → sortCode s ≡ sortCode t → s ≡ t
-same-code s t e = Option·some-injective s t (sym (sort-back s) ∙ ap sortOf e ∙ sort-back t)
-
 enters-sort : (s : Sort) → Enters (sortCode s) (ofSort s)
 unfolding count namesOf
 enters-sort s e (class w ps) = inl (record {
@@ -112,7 +99,7 @@ enters-sort s e (plain t w) = by (sameSort s t) refl
     )
     by false q = inl (record {
       leaves = ap (λ (b : Bool). cond b (some w) none) q;
-      others = (λ x. false≢true (sym q ∙ ap (sameSort s) (same-code t s x) ∙ sort-self s), tt);
+      others = (λ x. false≢true (sym q ∙ ap (sameSort s) (code-sort t s x) ∙ sort-self s), tt);
     })
 
 enters-class : Enters 6 ofClass

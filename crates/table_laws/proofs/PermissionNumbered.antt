@@ -16,7 +16,7 @@ use Rattle.policy.specs.Encode.{NameEntry, sortCode, permissionEntries, entries
 use Rattle.policy.specs.Sound.{goodFrom}
 use Rattle.policy.proofs.Lists.{gather-over, gather-last}
 use Rattle.policy.proofs.Counts.{FewPermissions, few-in-all}
-use Rattle.table_laws.proofs.NamesFit.{code-below}
+use Rattle.policy.proofs.Sorts.{code-below}
 use Rattle.table_laws.proofs.Numbered.{named}
 
 -- a place among the permissions that start at b; a number behind them

@@ -12,7 +12,7 @@ use borrow.Author.Tests.{eq-eqb, eqb-true}
 use Rattle.bitset.specs.Relations.{joined}
 use Rattle.policy.specs.Basics.{All}
 use Rattle.policy.specs.Sound.{pieces, exactly}
-use Rattle.table_laws.proofs.ListLaws.{given-some}
+use Rattle.policy.proofs.Options.{given-some}
 
 -- each of them w bytes
 abbrev pub Wide : ℕ → List (List ℕ) → Type 0

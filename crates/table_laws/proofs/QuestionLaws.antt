@@ -6,11 +6,11 @@ use mathlib.Core.List.{List}
 use lib.ListN.{getElem?}
 use Rattle.policy.specs.Image.{Image}
 use Rattle.policy.specs.Sound.{imageIn}
-use Rattle.policy.specs.Deciding.{Reply, refused}
+use Rattle.policy.specs.Deciding.{Reply}
 use Rattle.policy.specs.Questions.{asked, nameOf, nameOn, entryOf, entryOn}
-use Rattle.table_laws.specs.SoundTable.{Bytes, Sound}
+use Rattle.table_laws.specs.SoundTable.{Sound}
 use Rattle.table_laws.specs.Shown.{shown, orTwelve, nameIn, recordsIn}
-use Rattle.table_laws.proofs.SoundLaws.{sound-read, unsound-exactly}
+use Rattle.table_laws.proofs.SoundLaws.{sound-read}
 use Rattle.table_laws.proofs.EntryShown.{entry-shown}
 use Rattle.table_laws.proofs.NameShown.{name-shown}
 
@@ -18,9 +18,6 @@ use Rattle.table_laws.proofs.NameShown.{name-shown}
 module _ {A : Type 0} (f : Image → Reply A) (t : List ℕ) where
   pub asked-sound : (s : Sound t) → asked f (imageIn t) ≡ f (s .image)
   asked-sound s = ap (asked f) (sound-read t s)
-
-  pub asked-unsound : Bytes t → (Sound t → ⊥) → asked f (imageIn t) ≡ refused 11 0
-  asked-unsound b n = ap (asked f) (unsound-exactly t b .1 n)
 
 -- the bytes of the part that name-of answers are the name
 pub name-on : (t : List ℕ) (s : Sound t) (sort n : ℕ) → shown t (nameOn t sort n) ≡ orTwelve (nameIn (s .image .names) sort n)

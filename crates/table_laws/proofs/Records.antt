@@ -14,8 +14,9 @@ use Rattle.policy.specs.Rows.{Row, row}
 use Rattle.policy.specs.Image.{TransitionEntry}
 use Rattle.policy.specs.Encode.{transitionBytes, ConstraintHead, headBytes, rowBytes}
 use Rattle.policy.specs.Sound.{transitionAt, rowAt, headAt}
+use Rattle.policy.proofs.Options.{given-some}
 use Rattle.table_laws.specs.SoundTable.{Bytes}
-use Rattle.table_laws.proofs.ListLaws.{given-some, more-some, all-drop}
+use Rattle.table_laws.proofs.ListLaws.{more-some, all-drop}
 use Rattle.table_laws.proofs.LittleEndian.{unle-le, le-unle-take}
 use Rattle.table_laws.proofs.Pieces.{Wide}
 

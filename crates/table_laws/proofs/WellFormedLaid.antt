@@ -23,14 +23,15 @@ use Rattle.table_laws.proofs.Constraints.{rowsIn}
 use Rattle.table_laws.proofs.ImageReadBack.{Sets, Laid, image-back}
 use Rattle.table_laws.proofs.NamesReadBack.{SmallNumber}
 use Rattle.policy.proofs.Counts.{few-classes}
-use Rattle.table_laws.proofs.NamesFit.{GoodEntry, most, peopled, entries-fit}
+use Rattle.policy.proofs.Sorts.{max-small}
+use Rattle.table_laws.proofs.NamesFit.{GoodEntry, peopled, entries-fit}
 use Rattle.table_laws.proofs.NamesRoom.{names-room}
 use Rattle.table_laws.proofs.Lengths.{Widths, bodies-length, encode-bodies-length}
 use Rattle.table_laws.proofs.WellFormed.{formed, sets-of, GoodTransition, good-transition, GoodConstraint, good-constraint, SmallRow, good-row}
 
 module _ (i : Image) (h : wellFormed i ≡ true) where
   few : (s : Sort) → count s (i .names) ≤ 512
-  few s = omega (arith, few-of s (i .names) (formed i h .names), most s)
+  few s = omega (arith, few-of s (i .names) (formed i h .names), max-small s)
 
   -- a constraint's mask fits four bytes
   mask-small : (c : ConstraintEntry) → GoodConstraint (i .names) c → c .mask < 4294967296

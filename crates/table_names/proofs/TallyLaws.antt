@@ -4,14 +4,16 @@ use native.Mathlib.Omega.{arith}
 use native.Mathlib.Nat.{add-zero, zero-add}
 use native.Mathlib.Decide.{ℕ-discrete}
 use mathlib.Core.Path.{_≡_, refl, sym, ap, ap₂, _∙_, subst}
-use mathlib.Core.List.{List, [], _∷_}
+use mathlib.Core.List.{List, []}
 use lib.ListN.{length, getD, set, replicate, length-set}
 use lib.Seq.{getD-set-same, getD-set-other}
-use borrow.Author.Tests.{eq-eqb, ne-eqb}
-use Rattle.policy.specs.Encode.{NameEntry, nameEntry, firstBody}
-use Rattle.symbols.specs.Section.{entriesRead, entriesAt, between, EntryIs}
+use borrow.Author.Tests.{eq-eqb}
+use Rattle.policy.specs.Encode.{NameEntry, firstBody}
+use Rattle.symbols.specs.Section.{entriesAt, EntryIs}
 use Rattle.symbols.specs.declared.Entry.{Entry}
 use Rattle.symbols.specs.Lookup.{countSort}
+use Rattle.symbols.proofs.FindLaws.{ahead}
+use Rattle.symbols.proofs.CountLaws.{count-passes}
 use Rattle.table_names.specs.TableNames.{namesEnd, countIn, Tallied}
 
 -- the counts at a place of the walk: those counted and those that are left are all; and none is above the place
@@ -45,24 +47,16 @@ module _ (t : List ℕ) (end : ℕ) where
     }
 
     module _ (x n past : ℕ) (h : EntryIs t at end (Entry.Named x n past)) where
-      ahead : entriesAt t at end ≡ nameEntry x n (between t (at + 4) past) ∷ entriesAt t past end
-      unfolding entriesRead
-      ahead = ap entriesRead (h .reads)
-
-      other : (s : ℕ) → (x ≡ s → ⊥) → countSort s (entriesAt t past end) ≡ countSort s (entriesAt t at end)
-      unfolding countSort
-      other s d = sym (ap (countSort s) ahead ∙ rw (ne-eqb x s d))
-
       one-more : countSort x (entriesAt t at end) ≡ 1 + countSort x (entriesAt t past end)
       unfolding countSort
-      one-more = ap (countSort x) ahead ∙ rw (eq-eqb x x refl)
+      one-more = ap (countSort x) (ahead h) ∙ rw (eq-eqb x x refl)
 
       -- a sort that is none
       pub tally-passes : 8 ≤ x → Tally t end past c
       tally-passes f = record {
         eight = w .eight;
         low = λ s. omega (arith, w .low s, h .within);
-        so-far = λ s l. ap (λ (k : ℕ). getD c s 0 + k) (other s (λ e. omega arith)) ∙ w .so-far s l;
+        so-far = λ s l. ap (λ (k : ℕ). getD c s 0 + k) (count-passes h s (λ e. omega arith)) ∙ w .so-far s l;
       }
 
       pub tally-counts : x < 8 → Tally t end past (set c x (getD c x 0 + 1))
@@ -84,4 +78,4 @@ module _ (t : List ℕ) (end : ℕ) where
               subst (λ (k : ℕ). getD (set c x (getD c x 0 + 1)) k 0 + countSort k (entriesAt t past end) ≡ countIn t k) e
               (omega (arith, here, one-more, w .so-far x f))
           all s l (no d) =
-              ap₂ _+_ (getD-set-other c x s (getD c x 0 + 1) 0 (λ e. d (sym e))) (other s d) ∙ w .so-far s l
+              ap₂ _+_ (getD-set-other c x s (getD c x 0 + 1) 0 (λ e. d (sym e))) (count-passes h s d) ∙ w .so-far s l

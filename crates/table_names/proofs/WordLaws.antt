@@ -7,12 +7,13 @@ use mathlib.Core.List.{List}
 use lib.ListN.{length}
 use lib.Seq.{take-all}
 use Rattle.bitset.specs.Parts.{part}
+use Rattle.bitset.proofs.PartLaws.{length-part-min}
 use Rattle.policy.specs.Basics.{Name, same}
-use Rattle.symbols.proofs.PartLaws.{length-part, same-length}
+use Rattle.symbols.proofs.PartLaws.{same-length}
 
 -- a part that is shorter than the word; the whole word
 pub shorter : (t : List ℕ) (o n : ℕ) (w : Name) → n < length w → same (part t o n) w ≡ false
-shorter t o n w h = same-length (part t o n) w (λ e. omega (arith, length-part t o n, e))
+shorter t o n w h = same-length (part t o n) w (λ e. omega (arith, length-part-min t o n, e))
 
 pub whole-word : (w : Name) (n : ℕ) → length w ≤ n → part w 0 n ≡ w
 unfolding part

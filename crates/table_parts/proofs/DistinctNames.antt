@@ -14,9 +14,8 @@ use Rattle.policy.specs.Sound.{goodFrom}
 use Rattle.policy.proofs.Lists.{gather-append, gather-last, all-append}
 use Rattle.policy.proofs.Gathered.{all-map}
 use Rattle.policy.proofs.Counts.{FewPermissions, few-in-all}
-use Rattle.table_laws.proofs.NamesFit.{code-below}
 use Rattle.policy.proofs.Sameness.{sort-self}
-use Rattle.symbols.proofs.CountLaws.{code-sort}
+use Rattle.policy.proofs.Sorts.{code-below, code-sort}
 
 -- not of one sort and number
 abbrev pub Apart : NameEntry → NameEntry → Type 0

@@ -17,6 +17,7 @@ use Rattle.policy.specs.Deciding.{Reply}
 use Rattle.policy.specs.Questions.{nameOn, entryOn}
 use Rattle.policy.proofs.Lists.{each-length}
 use Rattle.policy.proofs.Counts.{few-of, few-classes, few-permissions-of}
+use Rattle.policy.proofs.Sorts.{max-small}
 use Rattle.table_laws.specs.SoundTable.{Sound, allRows}
 use Rattle.table_laws.specs.Shown.{shown, orTwelve, nameIn, recordsIn}
 use Rattle.table_laws.proofs.ListLaws.{each-back}
@@ -49,10 +50,7 @@ module _ (t : List ℕ) (s : Sound t) where
   form = formed i (s .formed)
 
   few : (s : Sort) → count s (i .names) ≤ 512
-  few (thingOf users) = omega (arith, few-of (thingOf users) (i .names) (form .names))
-  few (thingOf roles) = omega (arith, few-of (thingOf roles) (i .names) (form .names))
-  few (thingOf types) = few-of (thingOf types) (i .names) (form .names)
-  few (attributeOf f) = omega (arith, few-of (attributeOf f) (i .names) (form .names))
+  few s = omega (arith, few-of s (i .names) (form .names), max-small s)
 
   -- NAMES
 

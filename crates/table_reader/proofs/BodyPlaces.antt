@@ -1,6 +1,6 @@
 -- Each body of an image's table stands at its place, whatever stands behind the table, and the header of a well-formed image's table says
 -- where that is and how long the body is. Assumes nothing.
-use Prim.Native.Nat.{ℕ, zero, suc, _+_, _*_, _^_, _<_, _≤_}
+use Prim.Native.Nat.{ℕ, zero, suc, _+_, _*_, _^_, _<_}
 use native.Mathlib.Nat.{add-zero}
 use native.Mathlib.Omega.{arith}
 use mathlib.Core.Path.{_≡_, refl, sym, ap, _∙_, subst}
@@ -16,6 +16,7 @@ use Rattle.policy.specs.Sound.{wellFormed}
 use Rattle.table_laws.proofs.LittleEndian.{le-length, unle-le}
 use Rattle.table_laws.proofs.LayoutLaws.{pairs-length}
 use Rattle.table_laws.proofs.WellFormedLaid.{well-formed-laid}
+use Rattle.table_laws.proofs.ListLaws.{joined-room}
 use Rattle.table_reader.specs.Records.{bodyPlace, startIn, lengthIn}
 use Rattle.table_reader.proofs.RecordLaws.{Stands, stands-left, stands-right, stands-joined}
 
@@ -70,13 +71,6 @@ pair-front (b ∷ bs) o (suc k) h rest =
           ∙ ap (λ (n : ℕ). (le 4 n ++ le 4 (length (getD bs k []))) ++ next .rest) start;
     }
 
--- what stands before a part, and the part, are within the whole
-joined-room : (bs : List (List ℕ)) (k : ℕ) → k < length bs → length (joined (take k bs)) + length (getD bs k []) ≤ length (joined bs)
-unfolding joined
-joined-room [] k h = absurd (omega arith)
-joined-room (b ∷ bs) zero h = omega (arith, length-append b (joined bs))
-joined-room (b ∷ bs) (suc k) h = omega (arith, length-append b (joined bs), length-append b (joined (take k bs)), joined-room bs k (omega arith))
-
 pair-stands : (i : Image) (rest : List ℕ) (k : ℕ) → k < 8 → Stands (encode i ++ rest) (4 + 8 * k) (le 4 (bodyPlace i k) ++ le 4 (length (getD (bodies i) k [])))
 unfolding encode bodyPlace
 pair-stands i rest k h =
@@ -89,7 +83,7 @@ pair-stands i rest k h =
 module _ (i : Image) (good : wellFormed i ≡ true) (rest : List ℕ) (k : ℕ) (h : k < 8) where
   room : bodyPlace i k + length (getD (bodies i) k []) < 256 ^ 4
   unfolding bodyPlace
-  room = omega (arith, well-formed-laid i good .room, joined-room (bodies i) k (omega (arith, eight i)))
+  room = omega (arith, well-formed-laid i good .room, joined-room (bodies i) k)
 
   -- the header of a well-formed image's table says where each body starts
   pub start-part : startIn (encode i ++ rest) k ≡ bodyPlace i k

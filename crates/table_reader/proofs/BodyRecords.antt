@@ -1,20 +1,19 @@
 -- The records of each body are read back where they stand: all of them, or the one of a number. Assumes nothing.
-use Prim.Native.Nat.{ℕ, _+_, _*_, _<_}
-use native.Mathlib.Omega.{arith}
-use mathlib.Core.Path.{_≡_, refl, sym, ap, ap₂, _∙_}
+use Prim.Native.Nat.{ℕ, _+_, _<_}
+use mathlib.Core.Path.{_≡_, sym, ap, ap₂, _∙_}
 use mathlib.Core.List.{List, [], _∷_, _++_, append-assoc}
 use lib.ListN.{length, getD, take, drop, length-append}
-use lib.Seq.{take-at, drop-at, drop-drop, getD-drop}
+use lib.Seq.{take-at, drop-at, drop-drop}
 use Rattle.bitset.specs.Relations.{joined}
-use Rattle.policy.specs.Basics.{each, le, unle, All}
+use Rattle.policy.specs.Basics.{each, le, All}
 use Rattle.policy.specs.Rows.{Row, row}
 use Rattle.policy.specs.Image.{TransitionEntry}
-use Rattle.policy.specs.Encode.{NameEntry, entryBytes, transitionBytes, ConstraintHead, headBytes, rowBytes}
+use Rattle.policy.specs.Encode.{transitionBytes, ConstraintHead, headBytes, rowBytes}
 use Rattle.policy.specs.Sound.{transitionAt, headAt}
 use Rattle.table_laws.proofs.LittleEndian.{unle-le}
 use Rattle.table_laws.proofs.Records.{WideTransition, transition-wide, SmallHead, head-wide, row-wide}
 use Rattle.table_reader.specs.Records.{records, rowAt}
-use Rattle.table_reader.proofs.RecordLaws.{Stands, records-part, record-part}
+use Rattle.table_reader.proofs.RecordLaws.{Stands, records-part}
 
 -- BODY 7
 
@@ -27,10 +26,6 @@ row-front r h rest = λ i. row (r .kind) (r .comp) (r .op) (unle-le 2 (r .num) h
 
 pub rows-part : {t : List ℕ} {at : ℕ} (l : List Row) → All SmallRow l → Stands t at (joined (each rowBytes l)) → records 6 rowAt (length l) (drop at t) ≡ l
 rows-part = records-part 6 rowAt rowBytes SmallRow (λ r h. row-wide r) row-front
-
-pub row-part : {t : List ℕ} {at : ℕ} (l : List Row) → All SmallRow l → Stands t at (joined (each rowBytes l)) → (k : ℕ) (d : Row) → k < length l → SmallRow d
-    → rowAt (drop (at + 6 * k) t) ≡ getD l k d
-row-part = record-part 6 rowAt rowBytes SmallRow (λ r h. row-wide r) row-front
 
 -- BODY 6
 
@@ -45,10 +40,6 @@ head-front h s rest = λ i. record {
 
 pub heads-part : {t : List ℕ} {at : ℕ} (l : List ConstraintHead) → All SmallHead l → Stands t at (joined (each headBytes l)) → records 10 headAt (length l) (drop at t) ≡ l
 heads-part = records-part 10 headAt headBytes SmallHead (λ h s. head-wide h) head-front
-
-pub head-part : {t : List ℕ} {at : ℕ} (l : List ConstraintHead) → All SmallHead l → Stands t at (joined (each headBytes l)) → (k : ℕ) (d : ConstraintHead) → k < length l → SmallHead d
-    → headAt (drop (at + 10 * k) t) ≡ getD l k d
-head-part = record-part 10 headAt headBytes SmallHead (λ h s. head-wide h) head-front
 
 -- BODY 5
 
@@ -74,25 +65,3 @@ transition-front m w rest = λ i. record {
 pub transitions-part : {t : List ℕ} {at : ℕ} (l : List TransitionEntry) → All WideTransition l → Stands t at (joined (each transitionBytes l))
     → records 82 transitionAt (length l) (drop at t) ≡ l
 transitions-part = records-part 82 transitionAt transitionBytes WideTransition transition-wide transition-front
-
-pub transition-part : {t : List ℕ} {at : ℕ} (l : List TransitionEntry) → All WideTransition l → Stands t at (joined (each transitionBytes l)) → (k : ℕ) (d : TransitionEntry) → k < length l → WideTransition d
-    → transitionAt (drop (at + 82 * k) t) ≡ getD l k d
-transition-part = record-part 82 transitionAt transitionBytes WideTransition transition-wide transition-front
-
--- BODY 1
-
--- the four fields of an entry, each at its own place, and where the next entry starts
-pub record EntryAt (t : List ℕ) (at : ℕ) (e : NameEntry) : Type 0 where
-  pub sort : getD t at 0 ≡ e .sort
-  pub number : unle (take 2 (drop (at + 1) t)) ≡ e .number
-  pub long : getD t (at + 3) 0 ≡ length (e .name)
-  pub name : take (length (e .name)) (drop (at + 4) t) ≡ e .name
-
-pub entry-part : {t : List ℕ} {at : ℕ} (e : NameEntry) → e .number < 65536 → Stands t at (entryBytes e) → EntryAt t at e
-unfolding le
-entry-part {t} {at} e small s = record {
-  sort = sym (ap (λ (k : ℕ). getD t k 0) (omega arith)) ∙ sym (getD-drop at t 0 0) ∙ ap (λ (l : List ℕ). getD l 0 0) (s .here);
-  number = ap (λ (l : List ℕ). unle (take 2 l)) (sym (drop-drop 1 at t) ∙ ap (drop 1) (s .here)) ∙ unle-le 2 (e .number) small;
-  long = sym (getD-drop at t 3 0) ∙ ap (λ (l : List ℕ). getD l 3 0) (s .here);
-  name = ap (take (length (e .name))) (sym (drop-drop 4 at t) ∙ ap (drop 4) (s .here)) ∙ take-at (e .name) (s .rest) (length (e .name)) refl;
-}

@@ -9,9 +9,7 @@ use lib.Seq.{drop-drop, drop-at, take-at, drop-append-add, length-take-le}
 use Rattle.bitset.specs.Relations.{joined}
 use Rattle.bitset.specs.Parts.{part}
 use Rattle.policy.specs.Basics.{each, All}
-use Rattle.policy.proofs.Lists.{each-length}
-use Rattle.table_laws.proofs.ListLaws.{all-take, all-each}
-use Rattle.policy.proofs.Gathered.{all-getD}
+use Rattle.table_laws.proofs.ListLaws.{all-take}
 use Rattle.table_laws.proofs.Pieces.{Wide, wide-length}
 use Rattle.table_reader.specs.Records.{records}
 
@@ -35,9 +33,6 @@ module _ {A : Type 0} (w : ℕ) (read : List ℕ → A) (t : List ℕ) where
 pub record Stands (t : List ℕ) (at : ℕ) (bytes : List ℕ) : Type 0 where
   pub rest : List ℕ
   pub here : drop at t ≡ bytes ++ rest
-
-pub stands-between : (before bytes behind : List ℕ) → Stands (before ++ (bytes ++ behind)) (length before) bytes
-stands-between before bytes behind = record { rest = behind; here = drop-at before (bytes ++ behind) (length before) refl }
 
 module _ {t : List ℕ} {at : ℕ} where
   pub stands-left : (x y : List ℕ) → Stands t at (x ++ y) → Stands t at x
@@ -95,12 +90,6 @@ set-part w ss wide k h s =
 
 -- READ BACK
 
-getD-each : {A : Type 0} (f : A → List ℕ) (l : List A) (k : ℕ) (d : A) → k < length l → getD (each f l) k [] ≡ f (getD l k d)
-unfolding each
-getD-each f [] k d h = absurd (omega arith)
-getD-each f (a ∷ l) zero d h = refl
-getD-each f (a ∷ l) (suc k) d h = getD-each f l k d (omega arith)
-
 -- records of w bytes, each of which is read back from the front of its bytes
 module _ {A : Type 0} (w : ℕ) (read : List ℕ → A) (bytes : A → List ℕ) (Good : A → Type 0)
     (wide : (a : A) → Good a → length (bytes a) ≡ w)
@@ -115,10 +104,3 @@ module _ {A : Type 0} (w : ℕ) (read : List ℕ → A) (bytes : A → List ℕ)
   -- all of them, where they stand
   pub records-part : {t : List ℕ} {at : ℕ} (l : List A) → All Good l → Stands t at (joined (each bytes l)) → records w read (length l) (drop at t) ≡ l
   records-part l g s = ap (records w read (length l)) (s .here) ∙ records-front l g (s .rest)
-
-  -- the one of number k, where it stands
-  pub record-part : {t : List ℕ} {at : ℕ} (l : List A) → All Good l → Stands t at (joined (each bytes l)) → (k : ℕ) (d : A) → k < length l → Good d
-      → read (drop (at + w * k) t) ≡ getD l k d
-  record-part l g s k d h good =
-      let p = stands-wide w (each bytes l) (all-each Good (λ (b : List ℕ). length b ≡ w) bytes wide l g) k (subst (λ (n : ℕ). k < n) (sym (each-length bytes l)) h) s in
-      ap read (p .here ∙ ap (λ (b : List ℕ). b ++ p .rest) (getD-each bytes l k d h)) ∙ back (getD l k d) (all-getD Good l k d g good) (p .rest)

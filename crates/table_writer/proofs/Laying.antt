@@ -6,12 +6,10 @@ use native.Mathlib.Omega.{arith}
 use lib.ListN.{length, set, length-append}
 use lib.Seq.{sets}
 use Rattle.bitset.specs.Parts.{put}
-use Rattle.bitset.proofs.PartLaws.{put-none, length-put}
+use Rattle.bitset.proofs.PartLaws.{put-none, length-put, put-put, sets-put}
 use Rattle.policy.specs.Basics.{le}
 use Rattle.policy.specs.Encode.{pairs}
 use Rattle.table_laws.proofs.LittleEndian.{le-length}
-use Rattle.symbols.proofs.AppendLaws.{put-sets}
-use Rattle.body_writer.proofs.Putting.{put-put}
 use Rattle.table_writer.specs.Putting.{Puts, pair}
 
 -- two writers, the second of which starts where the first ends
@@ -22,7 +20,7 @@ puts-then {t} {u} {v} {us} {vs} {o} {q} f g e = record {
       let room : o + length us ≤ length t = omega arith in
       let first : u ≡ put t o us = f .written room in
       let long : length u ≡ length t = ap length first ∙ length-put t o us room in
-      g .written (omega arith) ∙ ap₂ (λ (x : List ℕ) (n : ℕ). put x n vs) first e ∙ put-put t o us vs h;
+      g .written (omega arith) ∙ ap₂ (λ (x : List ℕ) (n : ℕ). put x n vs) first e ∙ put-put t o us vs room;
 }
 
 pub puts-same : {t u us vs : List ℕ} {o : ℕ} → us ≡ vs → Puts us t o u → Puts vs t o u
@@ -42,7 +40,7 @@ unfolding le
 four-bytes t o n = record {
   written = λ h.
       four-stores t o (n % 256) (n / 256 % 256) (n / 256 / 256 % 256) (n / 256 / 256 / 256 % 256)
-      ∙ put-sets t o (le 4 n) h;
+      ∙ sets-put t o (le 4 n) h;
 }
 
 -- no room

@@ -3,7 +3,7 @@ use Prim.Native.Nat.{ℕ}
 use mathlib.Core.Path.{_≡_, ap₂}
 use mathlib.Core.List.{List}
 use Rattle.policy.specs.Meaning.{Context}
-use Rattle.policy.specs.Deciding.{Question, Answer}
+use Rattle.policy.specs.Deciding.{Question}
 use Rattle.policy.specs.Questions.{changeOn}
 
 abbrev asking : ℕ → ℕ → Context → Context → Question

@@ -10,22 +10,19 @@ use Rattle.policy.specs.declared.Refusal as theRefusal
 use Rattle.policy.specs.declared.Compiling.{Compiling}
 use Rattle.policy.specs.Statements.{Policy}
 use Rattle.policy.specs.Reading.{Read, policy, refused}
-use Rattle.policy.specs.Deciding.{Question, Answer}
+use Rattle.policy.specs.Deciding.{Question}
 use Rattle.policy.specs.Answer.{answer}
-use Rattle.policy.specs.Answers.{refusalIn, changeOf, compilingOf}
-use Rattle.policy.specs.Image.{Image, imageOf}
+use Rattle.policy.specs.Answers.{refusalIn, changeOf}
+use Rattle.policy.specs.Image.{imageOf}
 use Rattle.policy.specs.Encode.{encode}
 use Rattle.policy.specs.Questions.{changeOn}
 use Rattle.policy.specs.Outcome as outcomes
-use Rattle.policy.specs.Outcome.{Input, policyOf, Compiled, compiled, fitted, Refusal, refusalOf, Outcome, accepted, rejected, outcomeOf, outcome}
+use Rattle.policy.specs.Outcome.{Input, policyOf, compiled, fitted, Refusal, refusalOf, Outcome, accepted, rejected, outcomeOf, outcome}
+use Rattle.policy.proofs.Outcomes.{isAccepted}
 use Rattle.compiler.specs.Promise.{Compiles}
 use Rattle.tegzhumbi.specs.declared.Decision as theDecision
 use Rattle.tegzhumbi.specs.Deciding as deciding
-use Rattle.tegzhumbi.specs.Deciding.{Decided, answered, decisionOf, answeredBy, decided, Decides}
-
-abbrev isAccepted : Outcome → Bool
-isAccepted (accepted n) = true
-isAccepted (rejected r) = false
+use Rattle.tegzhumbi.specs.Deciding.{Decided, answered, answeredBy, decided, Decides}
 
 -- an outcome that refuses, as a decision
 abbrev refusedAs : Outcome → Decided → Decided

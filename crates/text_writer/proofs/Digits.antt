@@ -10,8 +10,8 @@ use lib.ListN.{length, length-append, set, take}
 use lib.Seq.{sets, take-length}
 use borrow.Author.Tests.{lt-ltb, le-ltb}
 use Rattle.bitset.specs.Parts.{part, put}
+use Rattle.bitset.proofs.PartLaws.{sets-put, sets-append}
 use Rattle.policy.specs.Roll.{digits}
-use Rattle.symbols.proofs.AppendLaws.{put-sets, sets-append}
 use Rattle.text_writer.specs.Writing.{Appends}
 
 -- a number has as many digits as it may have, at most
@@ -40,10 +40,10 @@ digits-of (suc k) n b h e = by b e ∙ ap (λ (j : ℕ). digits-by j n b) (omega
 
 module _ (t : List ℕ) (at : ℕ) where
   by-sets : (s u : List ℕ) (past : ℕ) → at + length s ≤ length t → u ≡ sets t at s → past ≡ at + length s → Appends t at s u past
-  by-sets s u past h e f = record { written = e ∙ put-sets t at s h; ends = f }
+  by-sets s u past h e f = record { written = e ∙ sets-put t at s h; ends = f }
 
   as-sets : (s u : List ℕ) (past : ℕ) → at + length s ≤ length t → Appends t at s u past → u ≡ sets t at s
-  as-sets s u past h a = a .written ∙ sym (put-sets t at s h)
+  as-sets s u past h a = a .written ∙ sym (sets-put t at s h)
 
   -- no digit
   pub no-digit : (k n : ℕ) → at + k ≤ length t → k ≡ 0 → Appends t at (digits k n) t at

@@ -1,62 +1,23 @@
 -- Dots: which byte is one, what a word without dots is, and the parts of a word one after the other. Assumes nothing.
 use mathlib.Core.Path.{_≡_, refl, sym, ap, _∙_}
-use mathlib.Core.Bool.{Bool, true, false, not, _&&_, cond, or-false}
+use mathlib.Core.Bool.{Bool, true, false, not, _&&_}
 use mathlib.Core.List.{List, [], _∷_}
 use Prim.Native.Nat.{ℕ, zero, suc, _+_, _-_, _≤_, _<_}
 use native.Mathlib.Nat.{zero-add}
 use native.Mathlib.Omega.{arith}
-use borrow.Author.Tests.{eqb-true, eq-eqb, ne-eqb}
+use borrow.Author.Tests.{eq-eqb, ne-eqb}
 use lib.Dec.{eqb}
 use lib.ListN.{length, take, drop, drop-of-length-le}
 use lib.Seq.{drop-drop}
-use Rattle.lexer.specs.Class.{is, isBlank, isLetter, isDigit, classOf, isDot, onFirst, parts}
+use Rattle.lexer.specs.Class.{is, classOf, isDot, onFirst, parts}
 use Rattle.lexer.specs.Answers.{firstFrom}
-use Rattle.lexer.specs.declared.ByteClass.{ByteClass}
 use Rattle.lexer.proofs.Ends.{lies, bytes-there}
+use Rattle.lexer.proofs.Names.{dot-byte}
 use Rattle.policy.specs.Basics.{Name, any, isIn}
-use Rattle.policy.specs.Words.{reserved, isReserved, dotless}
+use Rattle.policy.specs.Words.{reserved, dotless}
 use Rattle.words.specs.Parts.{partEnd}
 
--- ---- a byte
-
-unless : (q : Bool) (j k : ByteClass) → isDot j ≡ false → isDot k ≡ false → isDot (cond q j k) ≡ false
-unless true j k e f = e
-unless false j k e f = f
-
--- the byte of the dot, and no other, is in the class of the dot
-pub dot-byte : (b : ℕ) → isDot (classOf b) ≡ is "." b
-unfolding classOf
-dot-byte b = go (is "." b) refl
-  where
-    go : (q : Bool) → is "." b ≡ q → isDot (classOf b) ≡ q
-    go true e = ap (λ (k : ℕ). isDot (classOf k)) (eqb-true b 46 e)
-    go false e =
-        rw e
-        (unless (isBlank b) _ _ refl
-        (unless (is ";" b) _ _ refl
-        (unless (is "(" b) _ _ refl
-        (unless (is ")" b) _ _ refl
-        (unless (isLetter b) _ _ refl
-        (unless (isDigit b) _ _ refl
-        (unless (is "\n" b) _ _ refl refl)))))))
-
 -- ---- a word without dots
-
--- is its only part
-pub one-part : (w : Name) → dotless w ≡ true → parts w ≡ w ∷ []
-unfolding dotless parts
-one-part [] e = refl
-one-part (b ∷ w) e = go (is "." b) (dot-byte b) e (one-part w)
-  where
-    go : (q : Bool) → isDot (classOf b) ≡ q → not q && dotless w ≡ true → (dotless w ≡ true → parts w ≡ w ∷ [])
-        → elim (isDot (classOf b)) [ true ↦ [] ∷ parts w | false ↦ onFirst b (parts w) ] ≡ (b ∷ w) ∷ []
-    go true d f i = absurd (let z : _≡_ {A = ℕ} 0 1 = cc in omega arith)
-    go false d f i = rw (d, i f)
-
--- and reserved where it is listed so
-pub reserved-alone : (w : Name) → dotless w ≡ true → isReserved w ≡ isIn w reserved
-unfolding isReserved any
-reserved-alone w e = rw (one-part w e) (or-false (isIn w reserved))
 
 -- a word has no dot exactly if the first one is past its end
 no-dot : (w : Name) (at : ℕ) → dotless w ≡ eqb (firstFrom w isDot at) (at + length w)

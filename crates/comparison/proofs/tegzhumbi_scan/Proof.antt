@@ -1,5 +1,5 @@
 -- The numbers of each arm are those of the scan's verdict: the scan is the definition's, and the arm says which it is.
-use mathlib.Core.Path.{_≡_, refl, sym}
+use mathlib.Core.Path.{refl, sym}
 use borrow.Author.Needs.{needs}
 use Rattle.comparison.proofs.tegzhumbi_scan.Statement.{statement}
 use Rattle.comparison.proofs.tegzhumbi_scan.Tie as tie

@@ -10,8 +10,8 @@ use Rattle.policy.specs.Words.{reserved, expressionWord}
 use Rattle.words.specs.Numbers.{keywords, words, wordOf}
 use Rattle.words.proofs.Meaning.{agreeing, agree}
 use Rattle.items.specs.Reads.{isSome}
+use Rattle.items.proofs.Counts.{none-of}
 use Rattle.constraint_grammar.specs.Heads.{joinsOf}
-use Rattle.constraint_grammar.proofs.Comparing.{none-of}
 use Rattle.constraint_grammar.proofs.joins.Statement.{statement}
 use Rattle.constraint_grammar.proofs.joins.Tie as tie
 

@@ -1,6 +1,4 @@
 -- `lexer::closed_at` meets its contract: no parenthesis is open, or some are. Assumes nothing.
-use mathlib.Core.Path.{sym}
-use borrow.Author.Needs.{needs}
 use borrow.Author.Tests.{eq-eqb, ne-eqb}
 use Rattle.lexer.proofs.closed_at.Statement.{statement}
 use Rattle.lexer.proofs.closed_at.Tie as tie

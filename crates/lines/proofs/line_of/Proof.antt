@@ -12,7 +12,7 @@ use borrow.Author.Tests.{le-leb, lt-leb}
 use borrow.Author.Needs.{needs}
 use Rattle.policy.specs.Outcome.{lineFeeds}
 use Rattle.policy.proofs.LineFeeds.{feed-here, no-feed-here}
-use Rattle.lines.proofs.Taking.{take-within}
+use Rattle.bitset.proofs.PartLaws.{take-cut}
 use Rattle.lines.proofs.line_of.Statement.{statement}
 use Rattle.lines.proofs.line_of.Tie as tie
 
@@ -47,7 +47,7 @@ returns-2 c =
     let within : leb (args .place) 65535 ≡ true = le-leb (args .place) 65535 (omega arith) in
     let all : c .before .loop .i ≡ min (args .place) (length (args .text .now)) = omega (arith, c .before .before .least .ensures) in
     rw within
-    (c .before .loop .inv .3 ∙ ap (λ (n : ℕ). 1 + lineFeeds (take n (args .text .now))) all ∙ ap (λ (s : List ℕ). 1 + lineFeeds s) (take-within (args .text .now) (args .place)))
+    (c .before .loop .inv .3 ∙ ap (λ (n : ℕ). 1 + lineFeeds (take n (args .text .now))) all ∙ ap (λ (s : List ℕ). 1 + lineFeeds s) (take-cut (args .place) (args .text .now)))
 
 pub line-of-spec : {M : Type 1} → statement M
 line-of-spec =

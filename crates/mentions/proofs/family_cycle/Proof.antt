@@ -4,9 +4,9 @@ use borrow.Author.Needs.{needs}
 use Rattle.policy.specs.Answers.{familyOf}
 use Rattle.mentions.specs.Closure.{closedOf}
 use Rattle.mentions.proofs.ClosureLaws.{own-row, no-own-row}
-use Rattle.code_reader.proofs.SetPasses.{seeks-nothing}
 use Rattle.mentions.proofs.family_cycle.Statement.{statement}
 use Rattle.mentions.proofs.family_cycle.Tie as tie
+use Rattle.mentions.proofs.Seeking.{seeks-nothing}
 
 returns : tie.Need-returns
 returns c =

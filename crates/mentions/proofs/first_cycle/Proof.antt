@@ -13,10 +13,11 @@ use Rattle.policy.specs.Statements.{Family, Policy}
 use Rattle.statement_code.specs.Code.{codeOf, attributeTag}
 use Rattle.set_code.specs.Evaluation.{setsIn}
 use Rattle.code_reader.proofs.Items.{items}
-use Rattle.code_reader.proofs.SetPasses.{start, Seeks, seeks-first, seeks-none, found-here, seeks-on, seeks-over}
+use Rattle.code_reader.proofs.SetPasses.{start}
 use Rattle.code_reader.proofs.Passes.{Through, finish}
 use Rattle.mentions.proofs.first_cycle.Statement.{statement}
 use Rattle.mentions.proofs.first_cycle.Tie as tie
+use Rattle.mentions.proofs.Seeking.{Seeks, seeks-first, seeks-none, found-here, seeks-on, seeks-over}
 
 abbrev Inv-loop : tie.InvT-loop
 Inv-loop code rows tag a₀ at₀ a at =

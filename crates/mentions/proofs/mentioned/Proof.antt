@@ -3,9 +3,10 @@ use Prim.Native.Nat.{_-_}
 use mathlib.Core.Logic.{⊎-elim}
 use lib.ListN.{length}
 use borrow.Author.Needs.{needs}
-use Rattle.code_reader.proofs.OperandLaws.{Collected, operands-tag, operands-past, collected-none, collected-over, collected-more, collected-all}
+use Rattle.code_reader.proofs.OperandLaws.{operands-tag, operands-past}
 use Rattle.mentions.proofs.mentioned.Statement.{statement}
 use Rattle.mentions.proofs.mentioned.Tie as tie
+use Rattle.mentions.proofs.Collecting.{Collected, collected-none, collected-over, collected-more, collected-all}
 
 abbrev Inv-loop : tie.InvT-loop
 Inv-loop code from out₀ at₀ out at = Collected code from out at

@@ -9,12 +9,13 @@ use Rattle.policy.specs.Accepted.{Accepted}
 use Rattle.policy.specs.Answers.{familyOf}
 use Rattle.statement_code.specs.Code.{codeOf, setTag}
 use Rattle.code_reader.specs.AttributeSets.{added}
-use Rattle.code_reader.proofs.Items.{items, mentions-items}
+use Rattle.code_reader.proofs.Items.{items}
 use Rattle.code_reader.proofs.Passes.{Through, finish}
 use Rattle.code_reader.proofs.RowLaws.{rowsOf, rows-none}
-use Rattle.code_reader.proofs.SetPasses.{start, add-step, over-step, named, mentioned-set}
+use Rattle.code_reader.proofs.SetPasses.{start, add-step, over-step}
 use Rattle.mentions.proofs.mentions.Statement.{statement}
 use Rattle.mentions.proofs.mentions.Tie as tie
+use Rattle.mentions.proofs.Seeking.{named, mentioned-set, mentions-items}
 
 abbrev Inv-loop : tie.InvT-loop
 Inv-loop code rows₀ tag at₀ rows at =

@@ -1,5 +1,5 @@
 -- `name_rows::keep_front` meets its contract: a store, or nothing where there is no room. Assumes nothing.
-use mathlib.Core.Path.{refl, sym}
+use mathlib.Core.Path.{sym}
 use borrow.Author.Needs.{needs}
 use Rattle.name_rows.proofs.Fronts.{set-past}
 use Rattle.name_rows.proofs.keep_front.Statement.{statement}

@@ -5,10 +5,11 @@ use lib.Bits.{xor-lt}
 use lib.Dec.{eqb}
 use mathlib.Core.Path.{_≡_}
 use native.Mathlib.Omega.{arith}
-use Rattle.bitset.proofs.AllLaws.{all-none, all-more, all-done, sameRule, same-bits}
+use Rattle.bitset.proofs.AllLaws.{all-none, all-more, all-done}
 use Rattle.bitset.specs.Sets.{allBelow, equal}
 use Rattle.set_operators.proofs.equal.Statement.{statement}
 use Rattle.set_operators.proofs.equal.Tie as tie
+use Rattle.set_operators.proofs.TestLaws.{sameRule, same-bits}
 
 abbrev Inv-loop : tie.InvT-loop
 Inv-loop a b longer differing₀ i₀ differing i = (i ≤ longer) × (eqb differing 0 ≡ allBelow (8 * i) (sameRule a b))

@@ -6,10 +6,11 @@ use lib.Dec.{eqb}
 use lib.ListN.{length}
 use mathlib.Core.Bool.{not}
 use mathlib.Core.Path.{_≡_, sym, ap, _∙_}
-use Rattle.bitset.proofs.AllLaws.{all-none, all-more, all-done, apartRule, apart-bits, meets-apart}
+use Rattle.bitset.proofs.AllLaws.{all-none, all-more, all-done}
 use Rattle.bitset.specs.Sets.{allBelow}
 use Rattle.set_operators.proofs.meets.Statement.{statement}
 use Rattle.set_operators.proofs.meets.Tie as tie
+use Rattle.set_operators.proofs.TestLaws.{apartRule, apart-bits, meets-apart}
 
 abbrev Inv-loop : tie.InvT-loop
 Inv-loop a b common₀ i₀ common i = (i ≤ length a) × (eqb common 0 ≡ allBelow (8 * i) (apartRule a b))

@@ -6,7 +6,8 @@ use mathlib.Core.List.{[], _∷_}
 use Rattle.items.proofs.Frames.{sees}
 use Rattle.items.proofs.Items.{alike}
 use Rattle.set_writer.specs.declared.SetWritten.{SetWritten}
-use Rattle.statement_writer.proofs.SetStatements.{startsPart, no-attribute, no-part, set-coded}
+use Rattle.lexer.proofs.Trim.{startsPart}
+use Rattle.statement_writer.proofs.SetStatements.{no-attribute, no-part, set-coded}
 use Rattle.statement_writer.proofs.write_attribute_set.Statement.{statement}
 use Rattle.statement_writer.proofs.write_attribute_set.Tie as tie
 

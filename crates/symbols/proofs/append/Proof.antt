@@ -1,7 +1,7 @@
 -- `symbols::append` meets its contract: the head's four stores and the copy of the name are one `put` of the entry's bytes (AppendLaws).
 -- Assumes nothing.
 use Rattle.symbols.proofs.PartLaws.{part-whole}
-use Rattle.symbols.proofs.AppendLaws.{appended, length-put}
+use Rattle.symbols.proofs.AppendLaws.{appended}
 use lib.ListN.{length-set}
 use native.Mathlib.Omega.{arith}
 use lib.ListN.{length}
@@ -9,7 +9,7 @@ use mathlib.Core.Path.{_≡_, sym, ap, subst, _∙_}
 use mathlib.Core.List.{List}
 use Prim.Native.Nat.{ℕ, _≤_}
 use Rattle.bitset.specs.Parts.{part, put}
-use Rattle.bitset.proofs.PartLaws.{length-part-le}
+use Rattle.bitset.proofs.PartLaws.{length-part-le, length-put}
 use borrow.Author.Needs.{needs}
 use Rattle.symbols.proofs.append.Statement.{statement}
 use Rattle.symbols.proofs.append.Tie as tie

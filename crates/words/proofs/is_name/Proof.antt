@@ -9,9 +9,9 @@ use denote.Ref.{now}
 use lib.ListN.{take, drop}
 use Rattle.policy.specs.Basics.{Name, isIn}
 use Rattle.policy.specs.Words.{reserved, isReserved, dotless}
+use Rattle.policy.proofs.Dotless.{reserved-alone}
 use Rattle.words.specs.Numbers.{mayBe}
 use Rattle.words.specs.declared.NameKind.{NameKind}
-use Rattle.words.proofs.Dots.{reserved-alone}
 use Rattle.words.proofs.is_name.Statement.{statement}
 use Rattle.words.proofs.is_name.Tie as tie
 

@@ -6,8 +6,8 @@ use borrow.Author.Tests.{eq-eqb, ne-eqb}
 use lib.ListN.{length}
 use Rattle.lexer.specs.Class.{isDot}
 use Rattle.lexer.proofs.Ends.{found, further, none-left}
+use Rattle.lexer.proofs.Names.{dot-byte}
 use Rattle.words.specs.Parts.{partEnd}
-use Rattle.words.proofs.Dots.{dot-byte}
 use Rattle.words.proofs.part_end.Statement.{statement}
 use Rattle.words.proofs.part_end.Tie as tie
 
