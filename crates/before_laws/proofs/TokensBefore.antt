@@ -13,7 +13,7 @@ use Rattle.lexer.specs.declared.Token.{Token}
 use Rattle.policy.specs.Words.{dotless}
 use Rattle.before_laws.specs.Before as before
 use Rattle.before_laws.specs.Before.{classBefore, tokensBefore, formsBefore}
-use Rattle.before_laws.proofs.Dotless.{first-and-rest}
+use Rattle.policy.proofs.Dotless.{first-and-rest}
 use Rattle.before_laws.proofs.ScanBefore.{class-as-before}
 
 -- but for the dot, a word goes on with the bytes of one part
