@@ -1,11 +1,11 @@
 #!/usr/bin/env python3
 """weave.py: the proof of a function with its facts by name, so that a change of the code costs no counting.
 
-usage: tools/weave.py loose CRATE FUNCTION           prints the proof with each `c .before .. .thing` as `c@thing`, and without its last declaration
-       tools/weave.py tight CRATE FUNCTION SOURCE    writes the proof from such a source: each `c@thing` as the way back from where it stands, and the last
+usage: tools/weave.py by-name CRATE FUNCTION           prints the proof with each `c .before .. .thing` as `c@thing`, and without its last declaration
+       tools/weave.py by-place CRATE FUNCTION SOURCE    writes the proof from such a source: each `c@thing` as the way back from where it stands, and the last
                                                      declaration, with the needs in their order (those that the source lacks are searched for)
 
-`tight` takes the ways from what `rt goals CRATE` wrote, so run that after the code was changed. `c@args` is the function's arguments. Functions that call
+`by-place` takes the ways from what `rt goals CRATE` wrote, so run that after the code was changed. `c@args` is the function's arguments. Functions that call
 themselves (their folders start with +) are not woven.
 """
 import glob
@@ -20,7 +20,7 @@ def proof_of(crate, function):
     return os.path.join(TOP, "crates", crate, "proofs", function, "Proof.antt")
 
 
-def loose(crate, function):
+def by_name(crate, function):
     text = open(proof_of(crate, function), encoding="utf8").read()
     text = text[: text.index(f"\npub {function.replace('_', '-')}-spec")]
     return re.sub(r"\bc(?: \.before)* \.([\w-]+)", r"c@\1", text).rstrip() + "\n"
@@ -48,7 +48,7 @@ def ways_of(crate, function):
     return ways
 
 
-def tight(crate, function, source):
+def by_place(crate, function, source):
     ways, need, given, lines = ways_of(crate, function), None, {}, []
     text = open(source, encoding="utf8").read()
     for line in text.rstrip().split("\n"):
@@ -68,9 +68,9 @@ def tight(crate, function, source):
         out.write("\n".join(lines) + ")\n")
 
 
-if sys.argv[1:2] == ["loose"] and len(sys.argv) == 4:
-    print(loose(*sys.argv[2:]), end="")
-elif sys.argv[1:2] == ["tight"] and len(sys.argv) == 5:
-    tight(*sys.argv[2:])
+if sys.argv[1:2] == ["by-name"] and len(sys.argv) == 4:
+    print(by_name(*sys.argv[2:]), end="")
+elif sys.argv[1:2] == ["by-place"] and len(sys.argv) == 5:
+    by_place(*sys.argv[2:])
 else:
     raise SystemExit(__doc__)

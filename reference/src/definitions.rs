@@ -162,7 +162,7 @@ fn opening(chapter: &Chapter) -> String {
     for line in cited {
         text.push_str(&format!("use {line}\n"));
     }
-    text.push_str("use Rattle.policy.specs.Opened.{computing}\n");
+    text.push_str("use Rattle.policy.specs.Computing.{computing}\n");
     text.push_str(chapter.before);
     text
 }

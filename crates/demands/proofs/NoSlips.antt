@@ -8,7 +8,7 @@ use Rattle.policy.specs.Reading.{Read, policy, refused}
 use Rattle.policy.specs.Deciding.{Question, Answer, refuses, unconsulted}
 use Rattle.policy.specs.Answer.{answer}
 use Rattle.policy.specs.Outcome.{ofText, policyOf, refusalAt, rejected, outcome}
-use Rattle.policy.specs.Opened.{computing}
+use Rattle.policy.specs.Computing.{computing}
 use Rattle.demands.specs.Slips.{Answers, NoSlip, sixDeep}
 use Rattle.demands.proofs.Demands.{demand-3}
 

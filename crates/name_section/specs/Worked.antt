@@ -8,7 +8,7 @@ use lib.ListN.{length, replicate}
 use Rattle.bitset.specs.Relations.{joined}
 use Rattle.bitset.specs.Sets.{tabulate}
 use Rattle.lexer.specs.Spell.{bytes}
-use Rattle.policy.specs.Opened.{computing}
+use Rattle.policy.specs.Computing.{computing}
 use Rattle.name_section.specs.declared.Counted.{Counted}
 use Rattle.name_section.specs.SoundNames.{soundNames, countedOf, permissionsAfter}
 

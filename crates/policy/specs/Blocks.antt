@@ -11,7 +11,7 @@ use Rattle.policy.specs.Names.{tries}
 use Rattle.policy.specs.Reading.{Read, policy, refused, readPolicy}
 use Rattle.policy.specs.Deciding.{isObject, asksRole}
 use Rattle.policy.specs.Sound.{isGood, isGoodPart}
-use Rattle.policy.specs.Opened.{computing}
+use Rattle.policy.specs.Computing.{computing}
 
 -- what is read of a text; what it declares, the full names of its roles; its last statement
 abbrev of : String → Read

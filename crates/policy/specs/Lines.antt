@@ -5,7 +5,7 @@ use mathlib.Core.Path.{_≡_, refl}
 use Rattle.lexer.specs.Spell.{bytes}
 use Rattle.policy.specs.Outcome.{ofText, lineAt, refusalAt, rejected, outcome}
 use Rattle.policy.specs.Roll.{printed}
-use Rattle.policy.specs.Opened.{computing}
+use Rattle.policy.specs.Computing.{computing}
 
 pub record Lines : Type 0 where
   -- the third line, of three

@@ -10,7 +10,7 @@ use Rattle.policy.specs.Statements.{users, roles, types, thingOf, attrib
 use Rattle.policy.specs.Deciding.{Given, validBy, Question, Answer, denied, refuses, unconsulted, ruledBy, answered}
 use Rattle.policy.specs.Questions.{validOn}
 use Rattle.policy.specs.Worked.{tableOf, context}
-use Rattle.policy.specs.Opened.{computing}
+use Rattle.policy.specs.Computing.{computing}
 
 -- role 1 is named `object_r`
 abbrev lease : List Declaration

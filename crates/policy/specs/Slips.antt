@@ -19,7 +19,7 @@ use Rattle.policy.specs.Encode.{encode}
 use Rattle.policy.specs.Questions.{changeOn, sideOf}
 use Rattle.policy.specs.Outcome.{ofText, compiles, refuses, compiled, policyOf}
 use Rattle.policy.specs.Worked.{firstSet, tableOf, toRight, context}
-use Rattle.policy.specs.Opened.{computing}
+use Rattle.policy.specs.Computing.{computing}
 
 -- what the statements of a text answer, and what its table answers
 abbrev fromText : List ℕ → Question → Answer

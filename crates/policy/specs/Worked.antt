@@ -16,7 +16,7 @@ use Rattle.bitset.specs.Sets.{setOf, tabulate}
 use Rattle.policy.specs.Outcome.{ofText, compiles, refuses, refusalAt, accepted, rejected, outcome, compiled, policyOf}
 use Rattle.policy.specs.Encode.{encode}
 use Rattle.policy.specs.Questions.{changeOn}
-use Rattle.policy.specs.Opened.{computing}
+use Rattle.policy.specs.Computing.{computing}
 
 -- "The printed roll": its text, and its statements as read
 abbrev pub rollText : List ℕ

@@ -4,7 +4,7 @@ use mathlib.Core.Path.{_≡_, refl}
 use mathlib.Core.List.{List, [], _∷_}
 use Rattle.lexer.specs.Spell.{bytes}
 use Rattle.policy.specs.Outcome.{ofText, refusalAt, accepted, rejected, outcome, after}
-use Rattle.policy.specs.Opened.{computing}
+use Rattle.policy.specs.Computing.{computing}
 
 -- so much is lent
 lent-0 : outcome (ofText (bytes "")) 0 ≡ rejected (refusalAt 10 68 0)

@@ -5,7 +5,7 @@ use mathlib.Core.List.{List, [], _∷_, _++_}
 use Rattle.lexer.specs.Spell.{bytes}
 use Rattle.policy.specs.Outcome.{ofText}
 use Rattle.policy.specs.Roll.{printed}
-use Rattle.policy.specs.Opened.{computing}
+use Rattle.policy.specs.Computing.{computing}
 
 -- the roll of document 01
 printed-0 : printed (ofText (bytes "(user u)(role a)(role b)(type t)(userrole u a)(roletype a t)")) ≡ bytes

@@ -4,7 +4,7 @@ use mathlib.Core.Path.{_≡_, refl}
 use mathlib.Core.List.{List, [], _∷_}
 use Rattle.lexer.specs.Spell.{bytes}
 use Rattle.policy.specs.Outcome.{ofText, refusalAt, rejected, outcome}
-use Rattle.policy.specs.Opened.{computing}
+use Rattle.policy.specs.Computing.{computing}
 
 -- reading 19
 refused-60 : outcome (ofText (bytes "(class c (p))(constrain (c ((p))) (eq u1 u2))")) 65536 ≡ rejected (refusalAt 3 13 1)

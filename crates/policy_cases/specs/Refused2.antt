@@ -4,7 +4,7 @@ use mathlib.Core.Path.{_≡_, refl}
 use mathlib.Core.List.{List, [], _∷_}
 use Rattle.lexer.specs.Spell.{bytes}
 use Rattle.policy.specs.Outcome.{ofText, refusalAt, rejected, outcome}
-use Rattle.policy.specs.Opened.{computing}
+use Rattle.policy.specs.Computing.{computing}
 
 -- reading 14
 refused-120 : outcome (ofText (bytes "(roletransition r t eq r)")) 65536 ≡ rejected (refusalAt 3 0 1)

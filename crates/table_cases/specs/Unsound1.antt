@@ -4,7 +4,7 @@ use mathlib.Core.Path.{_≡_, refl}
 use mathlib.Core.List.{List, [], _∷_}
 use mathlib.Core.Option.{none}
 use Rattle.policy.specs.Sound.{imageIn}
-use Rattle.policy.specs.Opened.{computing}
+use Rattle.policy.specs.Computing.{computing}
 
 -- constraints share rows
 unsound-60 : imageIn (1 ∷ 0 ∷ 8 ∷ 0 ∷ 68 ∷ 0 ∷ 0 ∷ 0 ∷ 10 ∷ 0 ∷ 0 ∷ 0 ∷ 78 ∷ 0 ∷ 0 ∷ 0 ∷ 0 ∷ 0 ∷ 0 ∷ 0 ∷ 78 ∷ 0 ∷ 0 ∷ 0 ∷ 0 ∷ 0 ∷ 0 ∷ 0 ∷ 78 ∷ 0 ∷

@@ -9,7 +9,7 @@ use Rattle.lexer.specs.Spell.{bytes}
 use Rattle.policy.specs.Deciding.{Reply, answered, refused}
 use Rattle.policy.specs.Questions.{Part, nameOn, entryOn}
 use Rattle.policy.specs.Worked.{rollText, tableOf}
-use Rattle.policy.specs.Opened.{computing}
+use Rattle.policy.specs.Computing.{computing}
 use Rattle.soundness.specs.IsSound.{isSound}
 use Rattle.table_parts.specs.ShownPart.{shownPart}
 
