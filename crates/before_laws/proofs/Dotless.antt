@@ -1,4 +1,4 @@
--- Bytes and words without a dot: such a word is one part, so it is reserved, and taken as a name, as document 01 says. Assumes nothing.
+-- Bytes and words without a dot: what is cut from them has none, and such a word is taken as a name as document 01 says. Assumes nothing.
 use Prim.Native.Nat.{ℕ, zero, suc, _≤_}
 use mathlib.Core.Path.{_≡_, refl}
 use mathlib.Core.Bool.{true, not}

@@ -1,4 +1,5 @@
--- Names: their parts read byte by byte, what a name that is under way asks of the bytes to come, and how long names are. Assumes nothing.
+-- Names: which byte is a dot, their parts read byte by byte, what a name that is under way asks of the bytes to come, how long names are, and their parts at
+-- the dots. Assumes nothing.
 use mathlib.Core.Path.{_≡_, refl, sym, ap, _∙_}
 use mathlib.Core.Bool.{Bool, true, false, not, _&&_, and-eq-true-iff, and-assoc, and-false, false≢true, cond}
 use mathlib.Core.List.{List, [], _∷_, _++_, append-assoc, append-nil}

@@ -1,4 +1,4 @@
--- What a cut of forms at some level leaves. Assumes nothing.
+-- What a cut of forms at some level leaves, and how a row starts. Assumes nothing.
 use mathlib.Core.Path.{_≡_, refl, sym, ap, ap₂, _∙_}
 use mathlib.Core.Bool.{Bool, true, false}
 use Prim.Native.Nat.{ℕ, zero, suc, _-_, _≤_}

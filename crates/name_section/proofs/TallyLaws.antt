@@ -16,13 +16,13 @@ use Rattle.policy.specs.Maxima.{maxOf, maxClasses}
 use Rattle.policy.specs.Encode.{sortCode}
 use Rattle.policy.proofs.Lists.{both-true, true-both, gather-over, gather-last, same-tests}
 use Rattle.policy.proofs.Sameness.{sort-self, sort-same}
-use Rattle.policy.proofs.Sorts.{code-below}
+use Rattle.policy.proofs.Sorts.{code-below, code-sort}
 use Rattle.policy.proofs.Counts.{count-same, count-more}
 use Rattle.symbols.proofs.ClassesFound.{classes-same, classes-more}
 use Rattle.name_section.specs.SoundNames.{countsOf, permissionCounts}
 use Rattle.name_section.specs.Declaring.{Kind, ofThing, ofClass, ofPermission, ofNothing, kindOf, Declaring, complete, opened, declared, closes, isPlaced, extended}
 use Rattle.name_section.specs.Tally.{mostOf, allows, counted, permitted, Zeros, openOf, Tallied, countsIn}
-use Rattle.name_section.proofs.DeclaringLaws.{KindIs, kind-is, kind-of-code, rises}
+use Rattle.name_section.proofs.DeclaringLaws.{KindIs, kind-is, rises}
 
 -- ---- which entry the counts allow
 
@@ -70,13 +70,9 @@ allows-placed c p d t sort n = by (kindOf sort) (kind-is sort) d t
 -- ---- one declaration more
 
 -- a sort is known by its code
-thing-injective : (s t : Sort) → ofThing s ≡ ofThing t → s ≡ t
-thing-injective s t h = cc
-
 other-code : (s t : Sort) → sameSort s t ≡ false → sortCode s ≡ sortCode t → ⊥
 other-code s t h e =
-    let q : t ≡ s = thing-injective t s (sym (kind-of-code t) ∙ ap kindOf (sym e) ∙ kind-of-code s) in
-    false≢true (sym h ∙ ap (sameSort s) q ∙ sort-self s)
+    false≢true (sym h ∙ ap (sameSort s) (code-sort t s (sym e)) ∙ sort-self s)
 
 permissions-same : (ds : List Declaration) (s : Sort) (w : Name) (k : ℕ) → permissions (ds ++ (plain s w ∷ [])) k ≡ permissions ds k
 unfolding permissions

@@ -1,5 +1,5 @@
 -- Declarations that pass `goodFrom` keep every maximum: of each sort, and of the permissions of each class. By induction on the
--- declarations, from what is declared before. Assumes nothing.
+-- declarations, from what is declared before; and what one declaration more adds to a count. Assumes nothing.
 use Prim.Native.Nat.{ℕ, _≤_, _<_, suc, _+_}
 use native.Mathlib.Omega.{arith}
 use mathlib.Core.Path.{_≡_, refl, sym, ap, subst, _∙_}

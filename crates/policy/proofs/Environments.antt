@@ -1,4 +1,5 @@
--- The environment of declarations: what a name stands for is declared, so its number is below how many of its sort there are. Assumes nothing.
+-- The environment of declarations: what a name stands for is declared, so its number is below how many of its sort there are; and a use that is tried
+-- once. Assumes nothing.
 use Prim.Native.Nat.{ℕ, suc, _<_}
 use native.Mathlib.Omega.{arith}
 use mathlib.Core.Path.{_≡_, refl, sym, subst}

@@ -23,6 +23,7 @@ pub record Holds (x : Input) (memory : List ℕ) (n : ℕ) : Type 0 where
   pub long : n ≡ length (encode image)
   pub prints : printed x ≡ roll image
 
+-- the refusal of an answer
 abbrev refusedBy : Outcome → Refusal → Refusal
 refusedBy (accepted n) d = d
 refusedBy (rejected r) d = r

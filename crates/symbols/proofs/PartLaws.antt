@@ -1,4 +1,4 @@
--- The laws of parts of a list: their length, their first bytes, parts of parts, and how two of them are compared byte by byte.
+-- The laws of parts of a list: their first bytes, parts of parts, and how two of them are compared byte by byte.
 -- Assumes nothing.
 use mathlib.Core.Path.{_≡_, refl, sym, ap, ap₂, _∙_}
 use mathlib.Core.Bool.{true, false, _&&_, and-false}

@@ -1,4 +1,4 @@
--- The records of each body are read back where they stand: all of them, or the one of a number. Assumes nothing.
+-- The records of each body are read back where they stand. Assumes nothing.
 use Prim.Native.Nat.{ℕ, _+_, _<_}
 use mathlib.Core.Path.{_≡_, sym, ap, ap₂, _∙_}
 use mathlib.Core.List.{List, [], _∷_, _++_, append-assoc}

@@ -1,4 +1,4 @@
--- Dots: which byte is one, what a word without dots is, and the parts of a word one after the other. Assumes nothing.
+-- Dots: whether a word has one, and the parts of a word one after the other. Assumes nothing.
 use mathlib.Core.Path.{_≡_, refl, sym, ap, _∙_}
 use mathlib.Core.Bool.{Bool, true, false, not, _&&_}
 use mathlib.Core.List.{List, [], _∷_}
