@@ -11,16 +11,16 @@ use Rattle.policy.specs.Words.{objectR}
 use Rattle.policy.specs.Image.{TransitionEntry}
 use Rattle.policy.specs.Sound.{transitionAt}
 use Rattle.policy.specs.Deciding.{Question}
+use Rattle.policy.specs.declared.NameCounts.{NameCounts}
 use Rattle.table_reader.specs.Records.{records, startIn, lengthIn}
 use Rattle.table_names.specs.TableNames.{nameAt, permissionIn, isFoundName, bears}
-use Rattle.table_names.specs.declared.Counts.{Counts}
 
 -- "number not declared in the table": a context's numbers are declared
-unfoldable pub declaresContext : Counts → Context → Bool
+unfoldable pub declaresContext : NameCounts → Context → Bool
 declaresContext n c = ltb (c .user) (n .users) && ltb (c .role) (n .roles) && ltb (c .type) (n .types)
 
 -- a question's numbers are declared
-unfoldable pub declaresQuestion : List ℕ → Counts → Question → Bool
+unfoldable pub declaresQuestion : List ℕ → NameCounts → Question → Bool
 declaresQuestion t n q =
     declaresContext n (q .source) && declaresContext n (q .target)
     && ltb (q .class) (n .classes) && isFoundName (permissionIn t (q .class) (q .perm))

@@ -4,6 +4,7 @@
 use policy::Attribute;
 use policy::Change;
 use policy::Denial;
+use policy::NameCounts;
 use policy::NewRole;
 use policy::Refusal;
 use policy::Role;
@@ -12,7 +13,6 @@ use policy::Sort;
 use policy::Transition;
 use policy::Type;
 use policy::Validity;
-use table_names::Counts;
 ghost use mathlib.Core.Path.{_≡_};
 ghost use mathlib.Core.Bool.{true};
 ghost use mathlib.Core.List.{List};
@@ -36,7 +36,7 @@ pub struct Context {
 }
 
 // Whether a context's numbers are declared.
-fn declares_context(counts: Counts, asked: Context) -> bool
+fn declares_context(counts: NameCounts, asked: Context) -> bool
     ensures { λ r. ⌜ r ≡ declaresContext counts (contextOf asked) ⌝ }
 {
     if counts.users <= asked.user {
@@ -183,7 +183,7 @@ pub fn new_role_in_sound(table: &[u8], role: usize, kind: usize, class: usize) -
 
 // Whether all numbers of a question are declared, where it is known of a declared class whether it has the permission.
 fn declares_question(
-    counts: Counts,
+    counts: NameCounts,
     has: bool,
     source: Context,
     target: Context,
@@ -240,7 +240,7 @@ fn few(attributes: usize) -> u16
 // What the constraints answer, where the table is sound. The sides are u1 u2 r1 r2 t1 t2.
 fn ask_constraints(
     table: &[u8],
-    counts: Counts,
+    counts: NameCounts,
     source: Context,
     target: Context,
     class: usize,
@@ -257,8 +257,8 @@ fn ask_constraints(
         source.kind,
         target.kind,
     ];
-    let users = few(counts.userattributes);
-    let roles = few(counts.roleattributes);
+    let users = few(counts.user_attributes);
+    let roles = few(counts.role_attributes);
     let bodies = constraints::locate(table, users, roles);
     constraints::first_failing(table, bodies, class, permission, &sides)
 }
@@ -267,7 +267,7 @@ fn ask_constraints(
 // order, then the constraints, with the number consulted.
 pub fn change_in_counted(
     table: &[u8],
-    counts: Counts,
+    counts: NameCounts,
     has: bool,
     source: Context,
     target: Context,

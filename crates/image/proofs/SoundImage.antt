@@ -16,6 +16,7 @@ use Rattle.policy.specs.Statements.{users, roles, types, thingOf, attributeOf, 
 use Rattle.policy.specs.Maxima.{maxTransitions, maxConstraints, maxRows}
 use Rattle.policy.specs.Rows.{balanced}
 use Rattle.policy.specs.Image.{Image, ConstraintEntry}
+use Rattle.policy.specs.declared.NameCounts.{NameCounts}
 use Rattle.policy.specs.Sound.{goodFrom, goodSets, goodTransition, goodConstraint, pieces, exactly, transitionAt, headAt, rowAt, assignRows, namesAt, wellFormed, bodiesIn, imageFrom, imageIn}
 use Rattle.policy.proofs.Lists.{both-true, true-both, same-tests}
 use Rattle.policy.proofs.Options.{given-some, given-passes}
@@ -23,7 +24,6 @@ use Rattle.table_laws.proofs.Constraints.{rowsIn}
 use Rattle.table_laws.proofs.ListLaws.{bound-then}
 use Rattle.table_laws.proofs.WellFormed.{formed}
 use Rattle.table_reader.specs.Records.{startIn, lengthIn}
-use Rattle.image_rows.specs.declared.Counts.{Counts}
 use Rattle.image_rows.specs.Totals.{Totals, totalsOf, totalsIn, Counted}
 use Rattle.image_rows.specs.SoundRows.{isSome, passes, fitsRow, fitsMask, fitsConstraint}
 use Rattle.name_section.specs.SoundNames.{soundNames}
@@ -181,7 +181,7 @@ image-names t i h =
 
 -- THE NUMBERS OF BODY 1 IN PLACE OF ITS NAMES
 
-module _ {ds : List Declaration} {c : Counts} {ps : List ℕ} (k : Counted ds c ps) where
+module _ {ds : List Declaration} {c : NameCounts} {ps : List ℕ} (k : Counted ds c ps) where
   -- only the permissions of declared classes are asked for
   mask-counted : (class mask : ℕ) → fitsMask (length (classNames ds)) (λ x. getD ps x 0) class mask ≡ fitsMask (length (classNames ds)) (totalsOf ds .permissions) class mask
   mask-counted class mask = by (ltb class (length (classNames ds))) refl
@@ -229,6 +229,6 @@ module _ (t : List ℕ) where
   names-not-sound e = image-sound t ∙ rw e (and-false (isSome (bodiesIn t)))
 
   -- it is laid out, and its names are sound: the other bodies decide
-  pub bodies-decide : {ds : List Declaration} {c : Counts} {ps : List ℕ} → isSome (bodiesIn t) ≡ true → soundNames (part t 68 (lengthIn t 0)) ≡ some ds → Counted ds c ps
+  pub bodies-decide : {ds : List Declaration} {c : NameCounts} {ps : List ℕ} → isSome (bodiesIn t) ≡ true → soundNames (part t 68 (lengthIn t 0)) ≡ some ds → Counted ds c ps
       → isSome (imageIn t) ≡ bodiesSound (totalsIn c ps) t
   bodies-decide e f k = image-sound t ∙ rw (e, f) (sym (counted-sound k t))

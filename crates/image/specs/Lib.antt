@@ -1,1 +1,2 @@
 pub mod SoundBodies
+pub mod FewSets

@@ -1,7 +1,7 @@
 // Whether the bodies of a table stand where its header says, and whether the bodies 2 to 8 are sound for what the names of body 1 declare.
 // Every function answers for every table, whatever its bytes are.
-use image_rows::Counts;
 use policy::Constraint;
+use policy::NameCounts;
 use policy::Role;
 use policy::Row;
 use policy::Section;
@@ -17,6 +17,7 @@ ghost use Rattle.bitset.specs.Parts.{part};
 ghost use Rattle.policy.specs.Sound.{bodiesIn, transitionAt};
 ghost use Rattle.image_rows.specs.Totals.{thingsOf, attributesOf, totalsIn};
 ghost use Rattle.image_rows.specs.SoundRows.{isSome};
+ghost use Rattle.image.specs.FewSets.{Few};
 ghost use Rattle.image.specs.SoundBodies.{follow, setsWithin, setsSound, fitsTransition, transitionsFit, transitionsSound, constraintsSound, attributesSound, bodiesSound};
 
 // ---- the layout
@@ -68,27 +69,28 @@ fn is_within_at(table: &[u8], place: usize, width: usize, total: usize) -> bool
 }
 
 // Whether so many sets of `width` bytes from `start` on have no number at or above total. The start is so low that no place overflows.
-fn sets_within(table: &[u8], start: usize, count: u16, width: u16, total: u16) -> bool
-    requires { ⌜ start < 1099511627776 ⌝ }
+fn sets_within(table: &[u8], start: usize, count: usize, width: usize, total: usize) -> bool
+    requires { ⌜ (start < 1099511627776) × (count < 65536) × (width < 65536) ⌝ }
     ensures { λ r. ⌜ r ≡ setsWithin count width total (drop start (now (table .entry))) ⌝ }
 {
     let mut place = start;
     let mut left = count;
     while 0 < left {
-        if !is_within_at(table, place, width as usize, total as usize) {
+        if !is_within_at(table, place, width, total) {
             return false;
         }
-        place += width as usize;
+        place += width;
         left -= 1;
     }
     true
 }
 
 // Whether a body, counted from 0, is so many sets of `width` bytes that have no number at or above total.
-fn sets_sound(table: &[u8], body: u8, count: u16, width: u16, total: u16) -> bool
+fn sets_sound(table: &[u8], body: u8, count: usize, width: usize, total: usize) -> bool
+    requires { ⌜ (count < 65536) × (width < 65536) ⌝ }
     ensures { λ r. ⌜ r ≡ setsSound body count width total (now (table .entry)) ⌝ }
 {
-    if table_reader::body_length(table, body) as usize != count as usize * (width as usize) {
+    if table_reader::body_length(table, body) as usize != count * width {
         return false;
     }
     sets_within(
@@ -103,29 +105,24 @@ fn sets_sound(table: &[u8], body: u8, count: u16, width: u16, total: u16) -> boo
 // ---- transitions
 
 // Whether the transition of this number, where the transitions of 82 bytes start at `start`, names nothing undeclared.
-fn fits_transition(table: &[u8], start: u32, number: u32, counts: Counts) -> bool
+fn fits_transition(table: &[u8], start: u32, number: u32, counts: NameCounts) -> bool
     ensures { λ r. ⌜ r ≡ fitsTransition (thingsOf counts) (counts .classes) (transitionAt (take 82 (drop (start + 82 * number) (now (table .entry))))) ⌝ }
 {
     let at = start as usize + Transition::BYTES * (number as usize);
-    if !is_within_at(table, at, Role::SET_BYTES, counts.roles as usize) {
+    if !is_within_at(table, at, Role::SET_BYTES, counts.roles) {
         return false;
     }
-    if !is_within_at(
-        table,
-        at + Role::SET_BYTES,
-        Type::SET_BYTES,
-        counts.types as usize,
-    ) {
+    if !is_within_at(table, at + Transition::TYPES_AT, Type::SET_BYTES, counts.types) {
         return false;
     }
-    if counts.classes <= table_reader::byte_at(table, at + 80) as u16 {
+    if counts.classes <= table_reader::byte_at(table, at + Transition::CLASS_AT) as usize {
         return false;
     }
-    (table_reader::byte_at(table, at + 81) as u16) < counts.roles
+    (table_reader::byte_at(table, at + Transition::NEW_ROLE_AT) as usize) < counts.roles
 }
 
 // Whether so many transitions from `start` on name nothing undeclared.
-fn transitions_fit(table: &[u8], start: u32, count: u32, counts: Counts) -> bool
+fn transitions_fit(table: &[u8], start: u32, count: u32, counts: NameCounts) -> bool
     ensures { λ r. ⌜ r ≡ transitionsFit (thingsOf counts) (counts .classes) count (drop start (now (table .entry))) ⌝ }
 {
     let mut number = 0;
@@ -139,7 +136,7 @@ fn transitions_fit(table: &[u8], start: u32, count: u32, counts: Counts) -> bool
 }
 
 // Whether body 5 is sound.
-fn transitions_sound(table: &[u8], counts: Counts) -> bool
+fn transitions_sound(table: &[u8], counts: NameCounts) -> bool
     ensures { λ r. ⌜ r ≡ transitionsSound (thingsOf counts) (counts .classes) (now (table .entry)) ⌝ }
 {
     let length = table_reader::body_length(table, Section::TRANSITIONS);
@@ -161,7 +158,7 @@ fn transitions_sound(table: &[u8], counts: Counts) -> bool
 // ---- constraints
 
 // Whether the bodies 6 and 7 are sound.
-fn constraints_sound(table: &[u8], counts: Counts, permissions: &[usize]) -> bool
+fn constraints_sound(table: &[u8], counts: NameCounts, permissions: &[usize]) -> bool
     ensures { λ r. ⌜ r ≡ constraintsSound (totalsIn counts (now (permissions .entry))) (now (table .entry)) ⌝ }
 {
     let heads = table_reader::body_length(table, Section::CONSTRAINTS);
@@ -188,12 +185,13 @@ fn constraints_sound(table: &[u8], counts: Counts, permissions: &[usize]) -> boo
 // ---- attributes, and all
 
 // Whether body 8 is sound.
-fn attributes_sound(table: &[u8], counts: Counts) -> bool
+fn attributes_sound(table: &[u8], counts: NameCounts) -> bool
+    requires { ⌜ Few counts ⌝ }
     ensures { λ r. ⌜ r ≡ attributesSound (thingsOf counts) (attributesOf counts) (now (table .entry)) ⌝ }
 {
-    let users = User::SET_BYTES * (counts.userattributes as usize);
-    let roles = Role::SET_BYTES * (counts.roleattributes as usize);
-    let types = Type::SET_BYTES * (counts.typeattributes as usize);
+    let users = User::SET_BYTES * counts.user_attributes;
+    let roles = Role::SET_BYTES * counts.role_attributes;
+    let types = Type::SET_BYTES * counts.type_attributes;
     if table_reader::body_length(table, Section::ATTRIBUTE_SETS) as usize != users + roles + types {
         return false;
     }
@@ -201,8 +199,8 @@ fn attributes_sound(table: &[u8], counts: Counts) -> bool
     if !sets_within(
         table,
         start,
-        counts.userattributes,
-        User::SET_BYTES as u16,
+        counts.user_attributes,
+        User::SET_BYTES,
         counts.users,
     ) {
         return false;
@@ -210,8 +208,8 @@ fn attributes_sound(table: &[u8], counts: Counts) -> bool
     if !sets_within(
         table,
         start + users,
-        counts.roleattributes,
-        Role::SET_BYTES as u16,
+        counts.role_attributes,
+        Role::SET_BYTES,
         counts.roles,
     ) {
         return false;
@@ -219,22 +217,23 @@ fn attributes_sound(table: &[u8], counts: Counts) -> bool
     sets_within(
         table,
         start + users + roles,
-        counts.typeattributes,
-        Type::SET_BYTES as u16,
+        counts.type_attributes,
+        Type::SET_BYTES,
         counts.types,
     )
 }
 
 // Whether the bodies 2 to 8 are sound, where body 1 declares so many things of each sort and `permissions` holds how many permissions each
 // class has.
-pub fn bodies_sound(table: &[u8], counts: Counts, permissions: &[usize]) -> bool
+pub fn bodies_sound(table: &[u8], counts: NameCounts, permissions: &[usize]) -> bool
+    requires { ⌜ Few counts ⌝ }
     ensures { λ r. ⌜ r ≡ bodiesSound (totalsIn counts (now (permissions .entry))) (now (table .entry)) ⌝ }
 {
     if !sets_sound(
         table,
         Section::USER_ROLES,
         counts.users,
-        Role::SET_BYTES as u16,
+        Role::SET_BYTES,
         counts.roles,
     ) {
         return false;
@@ -243,7 +242,7 @@ pub fn bodies_sound(table: &[u8], counts: Counts, permissions: &[usize]) -> bool
         table,
         Section::ROLE_TYPES,
         counts.roles,
-        Type::SET_BYTES as u16,
+        Type::SET_BYTES,
         counts.types,
     ) {
         return false;
@@ -252,7 +251,7 @@ pub fn bodies_sound(table: &[u8], counts: Counts, permissions: &[usize]) -> bool
         table,
         Section::ROLE_ROLES,
         counts.roles,
-        Role::SET_BYTES as u16,
+        Role::SET_BYTES,
         counts.roles,
     ) {
         return false;

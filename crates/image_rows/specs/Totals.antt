@@ -4,7 +4,7 @@ use mathlib.Core.Path.{_≡_}
 use mathlib.Core.List.{List}
 use lib.ListN.{length, getD}
 use Rattle.policy.specs.Statements.{Family, users, roles, types, thingOf, attributeOf, Declaration, count, classNames, permissions}
-use Rattle.image_rows.specs.declared.Counts.{Counts}
+use Rattle.policy.specs.declared.NameCounts.{NameCounts}
 
 pub record Totals : Type 0 where
   pub things : Family → ℕ
@@ -21,22 +21,22 @@ totalsOf ds = record {
   permissions = λ c. length (permissions ds c);
 }
 
--- those that the struct of src/ and the lent numbers of permissions stand for
-abbrev pub thingsOf : Counts → Family → ℕ
+-- those that the struct of counts and the lent numbers of permissions stand for
+abbrev pub thingsOf : NameCounts → Family → ℕ
 thingsOf c users = c .users
 thingsOf c roles = c .roles
 thingsOf c types = c .types
 
-abbrev pub attributesOf : Counts → Family → ℕ
-attributesOf c users = c .userattributes
-attributesOf c roles = c .roleattributes
-attributesOf c types = c .typeattributes
+abbrev pub attributesOf : NameCounts → Family → ℕ
+attributesOf c users = c .«user_attributes»
+attributesOf c roles = c .«role_attributes»
+attributesOf c types = c .«type_attributes»
 
-abbrev pub totalsIn : Counts → List ℕ → Totals
+abbrev pub totalsIn : NameCounts → List ℕ → Totals
 totalsIn c ps = record { things = thingsOf c; attributes = attributesOf c; classes = c .classes; permissions = λ k. getD ps k 0 }
 
 -- the struct and the lent numbers are those of the declarations
-pub record Counted (ds : List Declaration) (c : Counts) (ps : List ℕ) : Type 0 where
+pub record Counted (ds : List Declaration) (c : NameCounts) (ps : List ℕ) : Type 0 where
   pub things : (f : Family) → thingsOf c f ≡ count (thingOf f) ds
   pub attributes : (f : Family) → attributesOf c f ≡ count (attributeOf f) ds
   pub classes : c .classes ≡ length (classNames ds)

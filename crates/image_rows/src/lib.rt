@@ -2,6 +2,7 @@
 // stack of five as they may. Every function answers for every table, whatever its bytes are.
 use policy::Component;
 use policy::Constraint;
+use policy::NameCounts;
 use policy::Operator;
 use policy::Permission;
 use policy::Row;
@@ -17,21 +18,10 @@ ghost use Rattle.table_reader.specs.Records.{rowOf};
 ghost use Rattle.image_rows.specs.Totals.{thingsOf, attributesOf, totalsIn};
 ghost use Rattle.image_rows.specs.SoundRows.{isBare, comparesSides, namesOne, fitsRow, fitsMask, kept, rowsFit, constraintsFit};
 
-// How many things of each sort the names of a table declare.
-pub struct Counts {
-    pub users: u16,
-    pub roles: u16,
-    pub types: u16,
-    pub userattributes: u16,
-    pub roleattributes: u16,
-    pub typeattributes: u16,
-    pub classes: u16,
-}
-
 // ---- rows
 
 // How many things of the component's family there are.
-fn things_of(counts: Counts, component: u8) -> u16
+fn things_of(counts: NameCounts, component: u8) -> usize
     ensures { λ r. ⌜ r ≡ thingsOf counts (ofComp component) ⌝ }
 {
     if component < Component::R1 {
@@ -44,16 +34,16 @@ fn things_of(counts: Counts, component: u8) -> u16
 }
 
 // How many attributes of the component's family there are.
-fn attributes_of(counts: Counts, component: u8) -> u16
+fn attributes_of(counts: NameCounts, component: u8) -> usize
     ensures { λ r. ⌜ r ≡ attributesOf counts (ofComp component) ⌝ }
 {
     if component < Component::R1 {
-        return counts.userattributes;
+        return counts.user_attributes;
     }
     if component < Component::T1 {
-        return counts.roleattributes;
+        return counts.role_attributes;
     }
-    counts.typeattributes
+    counts.type_attributes
 }
 
 // Whether a row of kind 0, 1 or 2 has all other fields 0.
@@ -89,7 +79,7 @@ fn compares_sides(row: RowRecord) -> bool
 }
 
 // Whether a row of kind 4 or 5 is good, where so many things or attributes are declared.
-fn names_one(row: RowRecord, declared: u16) -> bool
+fn names_one(row: RowRecord, declared: usize) -> bool
     ensures { λ r. ⌜ r ≡ namesOne (rowOf row) declared ⌝ }
 {
     if Component::COUNT <= row.component {
@@ -98,11 +88,11 @@ fn names_one(row: RowRecord, declared: u16) -> bool
     if Operator::COUNT <= row.operator {
         return false;
     }
-    row.number < declared
+    (row.number as usize) < declared
 }
 
 // Whether a row is one that the forms of constraints allow, and names nothing undeclared.
-fn fits_row(row: RowRecord, counts: Counts) -> bool
+fn fits_row(row: RowRecord, counts: NameCounts) -> bool
     ensures { λ r. ⌜ r ≡ fitsRow (thingsOf counts) (attributesOf counts) (rowOf row) ⌝ }
 {
     let kind = row.kind;
@@ -152,7 +142,7 @@ fn depth_after(row: RowRecord, depth: u8) -> u8
 }
 
 // Whether `count` rows from row `first` on are good and run the stack as they may; the rows of 6 bytes start at `start`.
-fn rows_fit(table: &[u8], start: u32, first: u16, count: u16, counts: Counts) -> bool
+fn rows_fit(table: &[u8], start: u32, first: u16, count: u16, counts: NameCounts) -> bool
     ensures { λ r. ⌜ r ≡ rowsFit (fitsRow (thingsOf counts) (attributesOf counts)) (pieces count 6 (drop (start + 6 * first) (now (table .entry)))) 0 ⌝ }
 {
     let mut depth = 0;
@@ -179,8 +169,8 @@ fn rows_fit(table: &[u8], start: u32, first: u16, count: u16, counts: Counts) ->
 
 // ---- constraints
 
-// How many permissions a class has.
-fn permissions_of(permissions: &[usize], class: usize) -> usize
+// How many permissions a class has, where the numbers are those of all classes.
+pub fn permissions_of(permissions: &[usize], class: usize) -> usize
     ensures { λ r. ⌜ r ≡ getD (now (permissions .entry)) class 0 ⌝ }
 {
     if class < permissions.len() {
@@ -193,10 +183,10 @@ fn permissions_of(permissions: &[usize], class: usize) -> usize
 const MASK_BITS: usize = Permission::MAX;
 
 // Whether a constraint's class is declared, and its mask is not 0 and names only permissions of the class.
-fn fits_mask(constraint: ConstraintRecord, counts: Counts, permissions: &[usize]) -> bool
+fn fits_mask(constraint: ConstraintRecord, counts: NameCounts, permissions: &[usize]) -> bool
     ensures { λ r. ⌜ r ≡ fitsMask (counts .classes) (λ k. getD (now (permissions .entry)) k 0) (constraint .class) (constraint .mask) ⌝ }
 {
-    if counts.classes <= constraint.class {
+    if counts.classes <= constraint.class as usize {
         return false;
     }
     if constraint.mask == 0 {
@@ -217,7 +207,7 @@ pub fn constraints_fit(
     count: u32,
     start: u32,
     rows: u16,
-    counts: Counts,
+    counts: NameCounts,
     permissions: &[usize],
 ) -> bool
     ensures { λ r. ⌜ r ≡ constraintsFit (totalsIn counts (now (permissions .entry))) (each headAt (pieces count 10 (drop heads (now (table .entry))))) (pieces rows 6 (drop start (now (table .entry)))) ⌝ }

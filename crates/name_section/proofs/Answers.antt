@@ -5,14 +5,14 @@ use mathlib.Core.List.{List, []}
 use mathlib.Core.Option.{Option, none, some}
 use Prim.Native.Nat.{ℕ}
 use native.Mathlib.Omega.{arith}
-use lib.ListN.{length}
 use Rattle.policy.specs.Basics.{given}
-use Rattle.policy.specs.Statements.{users, roles, types, thingOf, attributeOf, Declaration, count, classNames}
+use Rattle.policy.specs.Statements.{Declaration}
 use Rattle.policy.specs.Sound.{namesAt, goodFrom}
+use Rattle.policy.specs.declared.NameCounts.{NameCounts}
 use Rattle.policy.proofs.Options.{given-some}
 use Rattle.table_laws.proofs.ListLaws.{bound}
 use Rattle.name_section.specs.declared.Counted.{Counted}
-use Rattle.name_section.specs.SoundNames.{soundNames, countedOf}
+use Rattle.name_section.specs.SoundNames.{soundNames, countsOf, countedOf}
 
 -- a body that is sound names good declarations
 pub sound-good : (body : List ℕ) (ds : List Declaration) → soundNames body ≡ some ds → (namesAt body ≡ some ds) × (goodFrom [] ds ≡ true)
@@ -26,29 +26,13 @@ pub answered-unsound : (o : Option (List Declaration)) → Counted.Unsound ≡ c
 answered-unsound none h = refl
 answered-unsound (some ds) h = let z : _≡_ {A = ℕ} 0 1 = cc in absurd (omega arith)
 
-module _ (us rs ts ua ra ta cs : ℕ) where
+module _ (n : NameCounts) where
   -- the declarations, with their counts
   pub record Named (o : Option (List Declaration)) : Type 0 where
     pub names : List Declaration
     pub are : o ≡ some names
-    pub of-users : us ≡ count (thingOf users) names
-    pub of-roles : rs ≡ count (thingOf roles) names
-    pub of-types : ts ≡ count (thingOf types) names
-    pub of-user-attributes : ua ≡ count (attributeOf users) names
-    pub of-role-attributes : ra ≡ count (attributeOf roles) names
-    pub of-type-attributes : ta ≡ count (attributeOf types) names
-    pub of-classes : cs ≡ length (classNames names)
+    pub counts : n ≡ countsOf names
 
-  pub answered-sound : (o : Option (List Declaration)) → Counted.Sound us rs ts ua ra ta cs ≡ countedOf o → Named o
+  pub answered-sound : (o : Option (List Declaration)) → Counted.Sound n ≡ countedOf o → Named o
   answered-sound none h = let z : _≡_ {A = ℕ} 0 1 = cc in absurd (omega arith)
-  answered-sound (some ds) h = record {
-    names = ds;
-    are = refl;
-    of-users = cc;
-    of-roles = cc;
-    of-types = cc;
-    of-user-attributes = cc;
-    of-role-attributes = cc;
-    of-type-attributes = cc;
-    of-classes = cc;
-  }
+  answered-sound (some ds) h = record { names = ds; are = refl; counts = cc }

@@ -29,6 +29,7 @@ use Rattle.symbols.proofs.ClassesFound.{class-found, permission-found}
 use Rattle.symbols.proofs.Declaring.{permissions-last}
 use Rattle.table_laws.specs.SoundTable.{Bytes}
 use Rattle.table_laws.proofs.ListLaws.{all-take, all-drop}
+use Rattle.policy.specs.declared.NameCounts.{NameCounts}
 use Rattle.name_section.specs.declared.Counted.{Counted}
 use Rattle.name_section.specs.SoundNames.{soundNames, countsOf, countedOf, permissionCounts, permissionsAfter}
 use Rattle.name_section.specs.Declaring.{Kind, ofThing, ofClass, ofPermission, ofNothing, kindOf, isPlaced, isGoodFor, isUnused, mayFollow}
@@ -285,15 +286,15 @@ module _ (r : Bool) (c p : List ℕ) (o : Option (List Declaration)) (h : judged
       by none e = (refl, refl)
       by (some ds) e = let z : _≡_ {A = ℕ} 0 1 = cc in absurd (omega arith)
 
-  pub answer-sound : r ≡ true → (countsIn c ≡ countedOf o) × (p ≡ permissionsAfter o before)
+  pub answer-sound : r ≡ true → (Counted.Sound (countsIn c) ≡ countedOf o) × (p ≡ permissionsAfter o before)
   answer-sound f = by o (sym (ap (λ (q : Bool). judgedOf q c p) f) ∙ h)
     where
-      first : (a b : Counted) (p q : List ℕ) → sound a p ≡ sound b q → a ≡ b
+      first : (a b : NameCounts) (p q : List ℕ) → sound a p ≡ sound b q → a ≡ b
       first a b p q e = cc
 
-      second : (a b : Counted) (p q : List ℕ) → sound a p ≡ sound b q → p ≡ q
+      second : (a b : NameCounts) (p q : List ℕ) → sound a p ≡ sound b q → p ≡ q
       second a b p q e = cc
 
-      by : (o : Option (List Declaration)) → sound (countsIn c) p ≡ judged o → (countsIn c ≡ countedOf o) × (p ≡ permissionsAfter o before)
+      by : (o : Option (List Declaration)) → sound (countsIn c) p ≡ judged o → (Counted.Sound (countsIn c) ≡ countedOf o) × (p ≡ permissionsAfter o before)
       by none e = let z : _≡_ {A = ℕ} 0 1 = cc in absurd (omega arith)
-      by (some ds) e = (first (countsIn c) (countsOf ds) p (permissionCounts ds) e, second (countsIn c) (countsOf ds) p (permissionCounts ds) e)
+      by (some ds) e = (ap Counted.Sound (first (countsIn c) (countsOf ds) p (permissionCounts ds) e), second (countsIn c) (countsOf ds) p (permissionCounts ds) e)

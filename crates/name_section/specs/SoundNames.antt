@@ -10,6 +10,7 @@ use Rattle.policy.specs.Basics.{_>>=_, given}
 use Rattle.policy.specs.Statements.{users, roles, types, thingOf, attributeOf, Declaration, count, classNames, permissions}
 use Rattle.policy.specs.Maxima.{maxClasses}
 use Rattle.policy.specs.Sound.{namesAt, goodFrom}
+use Rattle.policy.specs.declared.NameCounts.{NameCounts}
 use Rattle.name_section.specs.declared.Counted.{Counted}
 
 -- what the bytes of section 1 declare; none where they are not sound
@@ -17,19 +18,20 @@ unfoldable pub soundNames : List ℕ → Option (List Declaration)
 soundNames body = namesAt body >>= λ ds. given (goodFrom [] ds) ds
 
 -- how many things of each sort, and how many classes
-abbrev pub countsOf : List Declaration → Counted
-countsOf ds = Counted.Sound
-    (count (thingOf users) ds)
-    (count (thingOf roles) ds)
-    (count (thingOf types) ds)
-    (count (attributeOf users) ds)
-    (count (attributeOf roles) ds)
-    (count (attributeOf types) ds)
-    (length (classNames ds))
+abbrev pub countsOf : List Declaration → NameCounts
+countsOf ds = record {
+  users = count (thingOf users) ds;
+  roles = count (thingOf roles) ds;
+  types = count (thingOf types) ds;
+  «user_attributes» = count (attributeOf users) ds;
+  «role_attributes» = count (attributeOf roles) ds;
+  «type_attributes» = count (attributeOf types) ds;
+  classes = length (classNames ds);
+}
 
 abbrev pub countedOf : Option (List Declaration) → Counted
 countedOf none = Counted.Unsound
-countedOf (some ds) = countsOf ds
+countedOf (some ds) = Counted.Sound (countsOf ds)
 
 -- at c how many permissions class c has; 0 where there is no class c
 abbrev pub permissionCounts : List Declaration → List ℕ

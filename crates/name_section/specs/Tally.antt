@@ -13,7 +13,7 @@ use Rattle.policy.specs.Encode.{NameEntry, sortCode}
 use Rattle.symbols.specs.Lookup.{familyNumber, firstNamed}
 use Rattle.symbols.specs.Resolving.{isFound}
 use Rattle.name_spelling.specs.Spelling.{isSpelt}
-use Rattle.name_section.specs.declared.Counted.{Counted}
+use Rattle.policy.specs.declared.NameCounts.{NameCounts}
 use Rattle.name_section.specs.SoundNames.{countsOf, permissionCounts}
 use Rattle.name_section.specs.Declaring.{Declaring, complete, opened, declared}
 
@@ -76,7 +76,7 @@ pub record Tallied (c p : List ℕ) (d : Declaring) : Type 0 where
 
 -- what the walk says
 pub data Judged : Type 0 where
-  sound : Counted → List ℕ → Judged
+  sound : NameCounts → List ℕ → Judged
   unsound : Judged
 
 abbrev pub judged : Option (List Declaration) → Judged
@@ -84,8 +84,16 @@ judged none = unsound
 judged (some ds) = sound (countsOf ds) (permissionCounts ds)
 
 -- what it says where it ends with these counts; an unsound section leaves them as they are
-abbrev pub countsIn : List ℕ → Counted
-countsIn c = Counted.Sound (getD c 0 0) (getD c 1 0) (getD c 2 0) (getD c 3 0) (getD c 4 0) (getD c 5 0) (getD c 6 0)
+abbrev pub countsIn : List ℕ → NameCounts
+countsIn c = record {
+  users = getD c 0 0;
+  roles = getD c 1 0;
+  types = getD c 2 0;
+  «user_attributes» = getD c 3 0;
+  «role_attributes» = getD c 4 0;
+  «type_attributes» = getD c 5 0;
+  classes = getD c 6 0;
+}
 
 abbrev pub judgedOf : Bool → List ℕ → List ℕ → Judged
 judgedOf false c p = unsound

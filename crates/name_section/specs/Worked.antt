@@ -35,10 +35,15 @@ roll = named 0 0 "u" ++ (named 1 0 "a" ++ (named 1 1 "b" ++ named 2 0 "t"))
 abbrev classes : List ℕ
 classes = named 6 0 "a" ++ (named 7 0 "a" ++ (named 7 1 "b" ++ (named 0 0 "a" ++ (named 6 1 "b" ++ (named 7 32 "a" ++ named 3 0 "c")))))
 
+-- users, roles, types, their attributes, and classes
+abbrev sound : ℕ → ℕ → ℕ → ℕ → ℕ → ℕ → ℕ → Counted
+sound us rs ts ua ra ta cs = Counted.Sound
+    record { users = us; roles = rs; types = ts; «user_attributes» = ua; «role_attributes» = ra; «type_attributes» = ta; classes = cs }
+
 pub record Worked : Type 0 where
-  pub empty : countedOf (soundNames []) ≡ Counted.Sound 0 0 0 0 0 0 0
-  pub of-roll : countedOf (soundNames roll) ≡ Counted.Sound 1 2 1 0 0 0 0
-  pub of-classes : countedOf (soundNames classes) ≡ Counted.Sound 1 0 0 1 0 0 2
+  pub empty : countedOf (soundNames []) ≡ sound 0 0 0 0 0 0 0
+  pub of-roll : countedOf (soundNames roll) ≡ sound 1 2 1 0 0 0 0
+  pub of-classes : countedOf (soundNames classes) ≡ sound 1 0 0 1 0 0 2
   pub permissions-of : (before : List ℕ) → permissionsAfter (soundNames classes) before ≡ 2 ∷ 1 ∷ replicate 30 0
   -- "numbers in each sort rise from 0"; "unique in their families", things with attributes; "not reserved"; "good"
   pub gap : soundNames (named 1 0 "a" ++ named 1 2 "b") ≡ none
@@ -46,12 +51,12 @@ pub record Worked : Type 0 where
   pub reserved : soundNames (named 1 0 "h2") ≡ none
   pub bad : soundNames (named 1 0 "1a") ≡ none
   -- W-203: "the full dotted name without leading dot, at most 64 bytes and nine parts, a permission's one"; "A name with a reserved part counts as reserved"
-  pub dotted : countedOf (soundNames (named 1 0 "b.a" ++ named 1 1 "a")) ≡ Counted.Sound 0 2 0 0 0 0 0
+  pub dotted : countedOf (soundNames (named 1 0 "b.a" ++ named 1 1 "a")) ≡ sound 0 2 0 0 0 0 0
   pub leading-dot : soundNames (named 1 0 ".a") ≡ none
-  pub nine-parts : countedOf (soundNames (named 1 0 "b.b.b.b.b.b.b.b.a")) ≡ Counted.Sound 0 1 0 0 0 0 0
+  pub nine-parts : countedOf (soundNames (named 1 0 "b.b.b.b.b.b.b.b.a")) ≡ sound 0 1 0 0 0 0 0
   pub ten-parts : soundNames (named 1 0 "b.b.b.b.b.b.b.b.b.a") ≡ none
   pub reserved-part : soundNames (named 1 0 "b.all") ≡ none
-  pub dotted-class : countedOf (soundNames (named 6 0 "b.c" ++ named 7 0 "p")) ≡ Counted.Sound 0 0 0 0 0 0 1
+  pub dotted-class : countedOf (soundNames (named 6 0 "b.c" ++ named 7 0 "p")) ≡ sound 0 0 0 0 0 0 1
   pub dotted-permission : soundNames (named 6 0 "b.c" ++ named 7 0 "b.p") ≡ none
   -- "each class is followed by at least one permission and its permissions differ", "permissions directly after their class"
   pub alone : soundNames (named 6 0 "c") ≡ none
@@ -62,7 +67,7 @@ pub record Worked : Type 0 where
   pub stray : soundNames (roll ++ (0 ∷ [])) ≡ none
   pub cut : soundNames (0 ∷ 0 ∷ 0 ∷ 2 ∷ 97 ∷ []) ≡ none
   -- "roles 128"
-  pub most-roles : countedOf (soundNames (many 128)) ≡ Counted.Sound 0 128 0 0 0 0 0
+  pub most-roles : countedOf (soundNames (many 128)) ≡ sound 0 128 0 0 0 0 0
   pub one-more : soundNames (many 129) ≡ none
 
 pub worked : Worked

@@ -2,6 +2,7 @@
 // far, and a filter of the names so far: a name without its marks is new, and only of the few others are the entries before it asked.
 use name_spelling::NO_NAME;
 use policy::FullName;
+use policy::NameCounts;
 use policy::Sort;
 use symbols::Entry;
 use symbols::Found;
@@ -17,15 +18,7 @@ ghost use Rattle.name_section.specs.Tally.{mostOf, mostParts, allows, co
 
 // How many things of each sort a sound body 1 names.
 pub enum Counted {
-    Sound {
-        users: usize,
-        roles: usize,
-        types: usize,
-        user_attributes: usize,
-        role_attributes: usize,
-        type_attributes: usize,
-        classes: usize,
-    },
+    Sound(NameCounts),
     Unsound,
 }
 
@@ -191,13 +184,13 @@ pub fn check_names(
         return Counted::Unsound;
     }
     *permissions = found;
-    Counted::Sound {
-        users: counts[0],
-        roles: counts[1],
-        types: counts[2],
-        user_attributes: counts[3],
-        role_attributes: counts[4],
-        type_attributes: counts[5],
-        classes: counts[6],
-    }
+    Counted::Sound(NameCounts {
+        users: counts[Sort::USER],
+        roles: counts[Sort::ROLE],
+        types: counts[Sort::TYPE],
+        user_attributes: counts[Sort::USER_ATTRIBUTE],
+        role_attributes: counts[Sort::ROLE_ATTRIBUTE],
+        type_attributes: counts[Sort::TYPE_ATTRIBUTE],
+        classes: counts[Sort::CLASS],
+    })
 }

@@ -8,11 +8,7 @@ use policy::Change;
 use policy::NewRole;
 use policy::Refusal;
 use policy::Validity;
-use table_names::Counts;
 ghost use mathlib.Core.Path.{_≡_};
-ghost use Prim.Native.Nat.{_<_};
-ghost use lib.Dec.{ltb};
-ghost use lib.ListN.{getD};
 ghost use Rattle.policy.specs.Questions.{validOn, newRoleOn, changeOn};
 ghost use Rattle.policy.specs.Answers.{validityOf, newRoleOf, changeOf};
 ghost use Rattle.decisions.specs.Asked.{context, question};
@@ -29,20 +25,6 @@ pub fn valid(table: &[u8], user: usize, role: usize, kind: usize) -> Validity
     decisions::valid_in_sound(table, user, role, kind)
 }
 
-// Whether a class has a permission, where the numbers are how many each has. A class past them has none.
-fn has_permission(
-    permissions: &[usize; policy::Class::MAX],
-    class: usize,
-    permission: usize,
-) -> bool
-    ensures { λ r. ⌜ (class < 32 → r ≡ ltb permission (getD (now (permissions .entry)) class 0)) ⌝ }
-{
-    if policy::Class::MAX <= class {
-        return false;
-    }
-    permission < permissions[class]
-}
-
 // **Change**: granted or denied, with the number consulted.
 pub fn change(
     table: &[u8],
@@ -55,29 +37,12 @@ pub fn change(
 {
     let mut permissions = [0usize; policy::Class::MAX];
     let counted = soundness::count(table, &mut permissions);
-    let Counted::Sound {
-        users,
-        roles,
-        types,
-        user_attributes,
-        role_attributes,
-        type_attributes: _t,
-        classes,
-    } = counted
-    else {
+    let Counted::Sound(counts) = counted else {
         return Change::Refused {
             number: Refusal::NOT_SOUND,
         };
     };
-    let counts = Counts {
-        users,
-        roles,
-        types,
-        userattributes: user_attributes,
-        roleattributes: role_attributes,
-        classes,
-    };
-    let has = has_permission(&permissions, class, permission);
+    let has = permission < image_rows::permissions_of(&permissions, class);
     decisions::change_in_counted(table, counts, has, source, target, class, permission)
 }
 

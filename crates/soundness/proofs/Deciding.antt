@@ -1,7 +1,7 @@
 -- What the answers of the layout, the names and the other bodies say of the whole table, one after the other. Assumes nothing.
 use Prim.Native.Nat.{ℕ, _+_}
 use native.Mathlib.Omega.{arith}
-use mathlib.Core.Path.{_≡_, refl, sym, ap, _∙_}
+use mathlib.Core.Path.{_≡_, refl, sym, ap, subst, _∙_}
 use mathlib.Core.Bool.{Bool, true, false, false≢true}
 use mathlib.Core.List.{List, []}
 use mathlib.Core.Option.{Option}
@@ -10,19 +10,19 @@ use Rattle.bitset.specs.Parts.{part}
 use Rattle.bitset.proofs.SetLaws.{length-tabulate, getD-tabulate}
 use Rattle.policy.specs.Statements.{users, roles, types, thingOf, attributeOf, Declaration, permissions}
 use Rattle.policy.specs.Sound.{goodFrom, bodiesIn}
+use Rattle.policy.specs.declared.NameCounts.{NameCounts}
 use Rattle.policy.proofs.Counts.{few-of, few-classes}
 use Rattle.symbols.specs.Section.{between}
 use Rattle.name_section.specs.declared.Counted as counted
-use Rattle.name_section.specs.SoundNames.{soundNames, countedOf, permissionCounts, permissionsAfter}
+use Rattle.name_section.specs.SoundNames.{soundNames, countsOf, countedOf, permissionCounts, permissionsAfter}
 use Rattle.name_section.proofs.Answers.{sound-good, answered-unsound, Named, answered-sound}
 use Rattle.table_reader.specs.Records.{lengthIn}
-use Rattle.image_rows.specs.declared.Counts.{Counts}
 use Rattle.image_rows.specs.Totals.{totalsIn, Counted}
 use Rattle.image_rows.specs.SoundRows.{isSome}
 use Rattle.image.specs.SoundBodies.{bodiesSound}
+use Rattle.image.specs.FewSets.{Few}
 use Rattle.image.proofs.SoundImage.{not-laid-out, names-not-sound, bodies-decide}
 use Rattle.soundness.specs.IsSound.{isSound}
-use Rattle.soundness.specs.SmallCounts.{Small, Holds}
 use Rattle.soundness.specs.Telling.{Tells}
 
 -- what the count then tells
@@ -31,13 +31,13 @@ tells-not t ps h = record { refuses = λ f. refl; counts = λ f. absurd (false�
 
 -- and what is sound where it tells something or nothing
 module _ (t ps : List ℕ) {r : counted.Counted} (h : Tells t r ps) where
-  pub sound-by : {us rs ts ua ra ta cs : ℕ} → r ≡ counted.Counted.Sound us rs ts ua ra ta cs → true ≡ isSound t
-  sound-by {us} {rs} {ts} {ua} {ra} {ta} {cs} is = by (isSound t) refl
+  pub sound-by : {n : NameCounts} → r ≡ counted.Counted.Sound n → true ≡ isSound t
+  sound-by {n} is = by (isSound t) refl
     where
       by : (q : Bool) → isSound t ≡ q → true ≡ q
       by true e = refl
       by false e =
-          let other : counted.Counted.Sound us rs ts ua ra ta cs ≡ counted.Counted.Unsound = sym is ∙ h .refuses e in
+          let other : counted.Counted.Sound n ≡ counted.Counted.Unsound = sym is ∙ h .refuses e in
           let z : _≡_ {A = ℕ} 0 1 = cc in
           absurd (omega arith)
 
@@ -54,9 +54,9 @@ pub unlaid : (t : List ℕ) → isSome (bodiesIn t) ≡ false → false ≡ isSo
 unfolding isSound
 unlaid t h = sym (not-laid-out t h)
 
-module _ (t : List ℕ) {n : ℕ} (long : n ≡ lengthIn t 0) {r : counted.Counted} (answer : r ≡ countedOf (soundNames (between t 68 (68 + n)))) where
-  body : between t 68 (68 + n) ≡ part t 68 (lengthIn t 0)
-  body = ap (part t 68) (omega (arith, long))
+module _ (t : List ℕ) {end : ℕ} (ends : end ≡ 68 + lengthIn t 0) {r : counted.Counted} (answer : r ≡ countedOf (soundNames (between t 68 end))) where
+  body : between t 68 end ≡ part t 68 (lengthIn t 0)
+  body = ap (part t 68) (omega (arith, ends))
 
   answer-here : r ≡ countedOf (soundNames (part t 68 (lengthIn t 0)))
   answer-here = answer ∙ ap (λ (b : List ℕ). countedOf (soundNames b)) body
@@ -66,49 +66,46 @@ module _ (t : List ℕ) {n : ℕ} (long : n ≡ lengthIn t 0) {r : counted.Count
   unfolding isSound
   unnamed is = sym (names-not-sound t (answered-unsound (soundNames (part t 68 (lengthIn t 0))) (sym is ∙ answer-here)))
 
-  module _ {us rs ts ua ra ta cs : ℕ} (is : r ≡ counted.Counted.Sound us rs ts ua ra ta cs) where
-    named : Named us rs ts ua ra ta cs (soundNames (part t 68 (lengthIn t 0)))
-    named = answered-sound us rs ts ua ra ta cs (soundNames (part t 68 (lengthIn t 0))) (sym is ∙ answer-here)
+  module _ {n : NameCounts} (is : r ≡ counted.Counted.Sound n) where
+    named : Named n (soundNames (part t 68 (lengthIn t 0)))
+    named = answered-sound n (soundNames (part t 68 (lengthIn t 0))) (sym is ∙ answer-here)
 
     good : goodFrom [] (named .names) ≡ true
     good = sound-good (part t 68 (lengthIn t 0)) (named .names) (named .are) .1
 
     -- the counts of good names fit into two bytes
-    pub small : Small us rs ts ua ra ta cs
-    small = record {
-      users = omega (arith, named .of-users, few-of (thingOf users) (named .names) good);
-      roles = omega (arith, named .of-roles, few-of (thingOf roles) (named .names) good);
-      types = omega (arith, named .of-types, few-of (thingOf types) (named .names) good);
-      user-attributes = omega (arith, named .of-user-attributes, few-of (attributeOf users) (named .names) good);
-      role-attributes = omega (arith, named .of-role-attributes, few-of (attributeOf roles) (named .names) good);
-      type-attributes = omega (arith, named .of-type-attributes, few-of (attributeOf types) (named .names) good);
-      classes = omega (arith, named .of-classes, few-classes (named .names) good);
+    few-counted : Few (countsOf (named .names))
+    few-counted = record {
+      users = omega (arith, few-of (thingOf users) (named .names) good);
+      roles = omega (arith, few-of (thingOf roles) (named .names) good);
+      user-attributes = omega (arith, few-of (attributeOf users) (named .names) good);
+      role-attributes = omega (arith, few-of (attributeOf roles) (named .names) good);
+      type-attributes = omega (arith, few-of (attributeOf types) (named .names) good);
     }
 
-    module _ (before : List ℕ) {ps : List ℕ} (after : ps ≡ permissionsAfter (soundNames (between t 68 (68 + n))) before) where
+    pub few : Few n
+    few = subst Few (sym (named .counts)) few-counted
+
+    module _ (before : List ℕ) {ps : List ℕ} (after : ps ≡ permissionsAfter (soundNames (between t 68 end)) before) where
       permissions-counted : ps ≡ permissionCounts (named .names)
       permissions-counted = after ∙ ap (λ (o : Option (List Declaration)). permissionsAfter o before) (ap soundNames body ∙ named .are)
 
       pub permissions-length : length ps ≡ 32
       permissions-length = ap (λ (l : List ℕ). length l) permissions-counted ∙ length-tabulate 32 (λ c. length (permissions (named .names) c))
 
-      are-counted : (c : Counts) → Holds us rs ts ua ra ta cs c → Counted (named .names) c ps
-      are-counted c h = record {
-        things = λ f. elim f [ users ↦ h .users ∙ named .of-users | roles ↦ h .roles ∙ named .of-roles | types ↦ h .types ∙ named .of-types ];
-        attributes = λ f. elim f [
-          | users ↦ h .user-attributes ∙ named .of-user-attributes
-          | roles ↦ h .role-attributes ∙ named .of-role-attributes
-          | types ↦ h .type-attributes ∙ named .of-type-attributes
-        ];
-        classes = h .classes ∙ named .of-classes;
+      are-counted : Counted (named .names) (countsOf (named .names)) ps
+      are-counted = record {
+        things = λ f. elim f [ users ↦ refl | roles ↦ refl | types ↦ refl ];
+        attributes = λ f. elim f [ users ↦ refl | roles ↦ refl | types ↦ refl ];
+        classes = refl;
         permissions = λ k l. rw permissions-counted
             (getD-tabulate 32 (λ c. length (permissions (named .names) c)) k 0 (omega (arith, l, few-classes (named .names) good)));
       }
 
       -- the other bodies decide
-      pub decided : isSome (bodiesIn t) ≡ true → {c : Counts} → Holds us rs ts ua ra ta cs c → {b : Bool} → b ≡ bodiesSound (totalsIn c ps) t → b ≡ isSound t
+      pub decided : isSome (bodiesIn t) ≡ true → {b : Bool} → b ≡ bodiesSound (totalsIn n ps) t → b ≡ isSound t
       unfolding isSound
-      decided laid {c} h e = e ∙ sym (bodies-decide t laid (named .are) (are-counted c h))
+      decided laid e = e ∙ ap (λ (n : NameCounts). bodiesSound (totalsIn n ps) t) (named .counts) ∙ sym (bodies-decide t laid (named .are) are-counted)
 
       -- then the count tells what body 1 declares
       pub tells-so : true ≡ isSound t → Tells t r ps

@@ -1,3 +1,2 @@
 pub mod IsSound
-pub mod SmallCounts
 pub mod Telling

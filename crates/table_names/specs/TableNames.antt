@@ -14,7 +14,7 @@ use Rattle.policy.specs.Questions.{Part, nameFrom}
 use Rattle.symbols.specs.Section.{entriesAt}
 use Rattle.symbols.specs.Lookup.{countSort}
 use Rattle.table_reader.specs.Records.{lengthIn}
-use Rattle.table_names.specs.declared.Counts.{Counts}
+use Rattle.policy.specs.declared.NameCounts.{NameCounts}
 
 -- "the bodies follow from byte 68 in order": where body 1 ends, and its entries
 abbrev pub namesEnd : List ℕ → ℕ
@@ -31,13 +31,14 @@ countIn t s = countSort s (namesIn t)
 pub record Tallied (t counts : List ℕ) : Type 0 where
   pub of-sort : (s : ℕ) → s < 8 → getD counts s 0 ≡ countIn t s
 
-abbrev pub countsIn : List ℕ → Counts
+abbrev pub countsIn : List ℕ → NameCounts
 countsIn t = record {
   users = countIn t 0;
   roles = countIn t 1;
   types = countIn t 2;
-  userattributes = countIn t 3;
-  roleattributes = countIn t 4;
+  «user_attributes» = countIn t 3;
+  «role_attributes» = countIn t 4;
+  «type_attributes» = countIn t 5;
   classes = countIn t 6;
 }
 

@@ -1,5 +1,6 @@
 // What the names of a table say, whatever the bytes are: how many there are of each sort, and whether a thing has a word for its name.
 use policy::Class;
+use policy::NameCounts;
 use policy::Permission;
 use policy::Section;
 use policy::Sort;
@@ -13,20 +14,10 @@ ghost use Rattle.symbols.specs.Lookup.{replyOf};
 ghost use Rattle.table_names.specs.TableNames.{namesEnd, countsIn, Tallied, isFoundName, nameAt, permissionIn, bears, bearsOne, asksRoleIn};
 
 // Where the names end, as the header says.
-fn names_end(table: &[u8]) -> usize
+pub fn names_end(table: &[u8]) -> usize
     ensures { λ r. ⌜ r ≡ namesEnd (now (table .entry)) ⌝ }
 {
     Table::HEADER_BYTES + table_reader::body_length(table, Section::NAMES) as usize
-}
-
-// How many names of some sorts there are.
-pub struct Counts {
-    pub users: usize,
-    pub roles: usize,
-    pub types: usize,
-    pub userattributes: usize,
-    pub roleattributes: usize,
-    pub classes: usize,
 }
 
 // Counts the names of each sort in one walk, with counts that are 0 at first.
@@ -56,18 +47,19 @@ fn tally(table: &[u8], counts: &mut [usize])
     }
 }
 
-// How many names of each sort that a question asks for there are.
-pub fn count_names(table: &[u8]) -> Counts
+// How many names of each sort there are.
+pub fn count_names(table: &[u8]) -> NameCounts
     ensures { λ r. ⌜ r ≡ countsIn (now (table .entry)) ⌝ }
 {
     let mut counts = [0usize; Sort::COUNT];
     tally(table, &mut counts);
-    Counts {
+    NameCounts {
         users: counts[Sort::USER],
         roles: counts[Sort::ROLE],
         types: counts[Sort::TYPE],
-        userattributes: counts[Sort::USER_ATTRIBUTE],
-        roleattributes: counts[Sort::ROLE_ATTRIBUTE],
+        user_attributes: counts[Sort::USER_ATTRIBUTE],
+        role_attributes: counts[Sort::ROLE_ATTRIBUTE],
+        type_attributes: counts[Sort::TYPE_ATTRIBUTE],
         classes: counts[Sort::CLASS],
     }
 }

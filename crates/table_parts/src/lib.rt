@@ -24,19 +24,13 @@ ghost use Rattle.table_parts.specs.ShownPart.{shownPart};
 
 // ---- names
 
-// Where body 1, the names, ends.
-fn names_end(table: &[u8]) -> usize
-    ensures { λ r. ⌜ r ≡ 68 + lengthIn (now (table .entry)) 0 ⌝ }
-{
-    Table::HEADER_BYTES + table_reader::body_length(table, Section::NAMES) as usize
-}
-
 // Where the name of a sort and number stands in a sound table.
 pub fn name_place_in_sound(table: &[u8], sort: usize, number: usize) -> Place
     requires { ⌜ isSound (now table) ≡ true ⌝ }
     ensures { λ r. ⌜ placeOf r ≡ nameOn (now (table .entry)) sort number ⌝ }
 {
-    let found = symbols::name_of(table, Table::HEADER_BYTES, names_end(table), sort, number);
+    let end = table_names::names_end(table);
+    let found = symbols::name_of(table, Table::HEADER_BYTES, end, sort, number);
     match found {
         NamePlace::At { start, length } => Place::Part { start, length },
         NamePlace::Nowhere => Place::Refused {
@@ -101,7 +95,7 @@ fn attribute_place(table: &[u8], place: usize) -> Place
     requires { ⌜ isSound (now table) ≡ true ⌝ }
     ensures { λ r. ⌜ placeOf r ≡ entryOn (now (table .entry)) 8 place ⌝ }
 {
-    let end = names_end(table);
+    let end = table_names::names_end(table);
     let users = symbols::count(table, Table::HEADER_BYTES, end, Sort::USER_ATTRIBUTE);
     let roles = symbols::count(table, Table::HEADER_BYTES, end, Sort::ROLE_ATTRIBUTE);
     let types = symbols::count(table, Table::HEADER_BYTES, end, Sort::TYPE_ATTRIBUTE);

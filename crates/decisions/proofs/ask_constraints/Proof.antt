@@ -17,8 +17,8 @@ returns c = λ s counts.
     let a = c .before .before .before .before .before .before .args in
     let t = a .table .now in
     let laid = well-formed-laid (s .image) (s .formed) in
-    let us = ap (λ n. n .userattributes) counts in
-    let rs = ap (λ n. n .roleattributes) counts in
+    let us = ap (λ n. n .«user_attributes») counts in
+    let rs = ap (λ n. n .«role_attributes») counts in
     let placed = c .before .before .locate .ensures .image (s .image) (s .rest) (s .formed) (s .laid)
     (c .before .before .before .before .few .ensures (subst (λ (n : ℕ). n ≤ 64) (sym us) (few-attributes t s users)) ∙ us ∙ things-of t s (attributeOf users) ∙ sym (laid .userSets .many))
     (c .before .before .before .few2 .ensures (subst (λ (n : ℕ). n ≤ 64) (sym rs) (few-attributes t s roles)) ∙ rs ∙ things-of t s (attributeOf roles) ∙ sym (laid .roleSets .many)) in

@@ -63,13 +63,10 @@ pub bodies-sound-spec : {M : Type 1} → statement M
 bodies-sound-spec =
     tie.close
     (tie.spec
-    (λ c. search needs)
     (λ c κs. search needs)
     returns
-    (λ c. search needs)
     (λ c κs. search needs)
     returns-2
-    (λ c. search needs)
     (λ c κs. search needs)
     returns-3
     (λ c κs. search needs)

@@ -11,28 +11,28 @@ use Rattle.image.proofs.fits_transition.Tie as tie
 
 returns : tie.Need-returns
 returns c =
-    let a = c .before .before .before .before .args in
+    let a = c .before .before .before .args in
     sym
     (ap (fitsTransition (thingsOf (a .counts)) (a .counts .classes)) (transition-front (a .start + 82 * a .number) (a .table .now))
     ∙ rw (sym (c .before .is-within-at .ensures) ∙ not-true _ (c .if1 .taken)))
 
 returns-2 : tie.Need-returns-2
 returns-2 c =
-    let a = c .before .before .before .before .before .before .before .args in
+    let a = c .before .before .before .before .before .args in
     sym
     (ap (fitsTransition (thingsOf (a .counts)) (a .counts .classes)) (transition-front (a .start + 82 * a .number) (a .table .now))
     ∙ rw (
-      sym (c .before .before .before .before .is-within-at .ensures) ∙ not-false _ (c .before .before .before .if1 .left),
+      sym (c .before .before .before .is-within-at .ensures) ∙ not-false _ (c .before .before .if1 .left),
       sym (c .before .is-within-at2 .ensures) ∙ not-true _ (c .if2 .taken),
     ))
 
 returns-3 : tie.Need-returns-3
 returns-3 c =
-    let a = c .before .before .before .before .before .before .before .before .before .before .args in
+    let a = c .before .before .before .before .before .before .before .before .args in
     sym
     (ap (fitsTransition (thingsOf (a .counts)) (a .counts .classes)) (transition-front (a .start + 82 * a .number) (a .table .now))
     ∙ rw (
-      sym (c .before .before .before .before .before .before .before .is-within-at .ensures) ∙ not-false _ (c .before .before .before .before .before .before .if1 .left),
+      sym (c .before .before .before .before .before .before .is-within-at .ensures) ∙ not-false _ (c .before .before .before .before .before .if1 .left),
       sym (c .before .before .before .before .is-within-at2 .ensures) ∙ not-false _ (c .before .before .before .if2 .left),
       ← c .before .before .byte-at .ensures,
       le-ltb _ _ (c .if3 .taken),
@@ -40,11 +40,11 @@ returns-3 c =
 
 returns-4 : tie.Need-returns-4
 returns-4 c =
-    let a = c .before .before .before .before .before .before .before .before .before .before .before .before .args in
+    let a = c .before .before .before .before .before .before .before .before .before .before .args in
     sym
     (ap (fitsTransition (thingsOf (a .counts)) (a .counts .classes)) (transition-front (a .start + 82 * a .number) (a .table .now))
     ∙ rw (
-      sym (c .before .before .before .before .before .before .before .before .before .is-within-at .ensures) ∙ not-false _ (c .before .before .before .before .before .before .before .before .if1 .left),
+      sym (c .before .before .before .before .before .before .before .before .is-within-at .ensures) ∙ not-false _ (c .before .before .before .before .before .before .before .if1 .left),
       sym (c .before .before .before .before .before .before .is-within-at2 .ensures) ∙ not-false _ (c .before .before .before .before .before .if2 .left),
       ← c .before .before .before .before .byte-at .ensures,
       lt-ltb _ _ (c .before .before .if3 .left),
@@ -57,10 +57,8 @@ fits-transition-spec =
     (tie.spec
     (λ c. search needs)
     (λ c. search needs)
-    (λ c. search needs)
     (λ c κs. search needs)
     returns
-    (λ c. search needs)
     (λ c. search needs)
     (λ c κs. search needs)
     returns-2

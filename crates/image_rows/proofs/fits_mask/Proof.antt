@@ -39,6 +39,7 @@ pub fits-mask-spec : {M : Type 1} → statement M
 fits-mask-spec =
     tie.close
     (tie.spec
+    (λ c. search needs)
     returns
     returns-2
     (λ c. search needs)

@@ -1,5 +1,6 @@
 -- `image_rows::names_one` meets its contract: field by field. Assumes nothing.
 use borrow.Author.Tests.{lt-ltb, le-ltb}
+use borrow.Author.Needs.{needs}
 use Rattle.image_rows.proofs.names_one.Statement.{statement}
 use Rattle.image_rows.proofs.names_one.Tie as tie
 
@@ -14,4 +15,9 @@ returns-3 c = rw (lt-ltb _ _ (c .before .before .before .if1 .left), lt-ltb _ _ 
 
 pub names-one-spec : {M : Type 1} → statement M
 names-one-spec =
-    tie.close (tie.spec returns returns-2 returns-3)
+    tie.close
+    (tie.spec
+    returns
+    returns-2
+    (λ c. search needs)
+    returns-3)

@@ -1,38 +1,40 @@
 -- `questions::change` meets its contract: 11, then what a sound table answers. Assumes nothing.
 use Prim.Native.Nat.{_<_}
-use mathlib.Core.Path.{sym, _∙_}
+use mathlib.Core.Path.{sym, ap, _∙_}
+use lib.Dec.{ltb}
 use borrow.Author.Needs.{needs}
 use Rattle.table_laws.proofs.ListLaws.{all-places}
 use Rattle.soundness.proofs.Deciding.{unsound-by}
-use Rattle.decisions.proofs.CountedLaws.{is-sound, counts-are, has-permission}
+use Rattle.decisions.proofs.CountedLaws.{is-sound, counts-are, permissions-length, has-permission}
 use Rattle.questions.proofs.Unsound.{change-unsound}
 use Rattle.questions.proofs.change.Statement.{statement}
 use Rattle.questions.proofs.change.Tie as tie
 
-count-requires : tie.Need-count-requires
-count-requires c κs = search needs
-
-enum-known-counted : tie.Need-enum-known-counted
-enum-known-counted c = search needs
-
-enum-told : tie.Need-enum-told
-enum-told c = search needs
-
 returns : tie.Need-returns
 returns c = change-unsound _ (sym (unsound-by _ _ (c .before .before .count .ensures) (c .enum-told .given .1))) _
 
-has-permission-requires : tie.Need-has-permission-requires
-has-permission-requires c κs = search needs
+slice-aggregate-permissions-of : tie.Need-slice-aggregate-permissions-of
+slice-aggregate-permissions-of c =
+    let at-counted = c .before .before in
+    let at-count = at-counted .before .before in
+    let at-table = at-count .before .before in
+    let t = at-table .before .args .table .now in
+    let bytes = all-places (λ k. k < 256) t 0 (λ i l. at-table .shared-slice-known .given i .fits) in
+    sym (permissions-length t bytes (at-count .count .ensures) (at-counted .counted .given .1))
 
 change-in-counted-requires : tie.Need-change-in-counted-requires
 change-in-counted-requires c κs =
-    let t = c .before .before .before .before .before .before .before .before .args .table .now in
-    let bytes = all-places (λ k. k < 256) t 0 (λ i l. c .before .before .before .before .before .before .before .shared-slice-known .given i .fits) in
-    let told = c .before .before .before .before .before .count .ensures in
-    let is = c .before .before .before .counted .given .1 in (
+    let at-counted = c .before .before .before in
+    let at-count = at-counted .before .before in
+    let at-table = at-count .before .before in
+    let a = at-table .before .args in
+    let t = a .table .now in
+    let bytes = all-places (λ k. k < 256) t 0 (λ i l. at-table .shared-slice-known .given i .fits) in
+    let told = at-count .count .ensures in
+    let is = at-counted .counted .given .1 in (
       is-sound t bytes told is,
       counts-are t bytes told is,
-      λ l. let p = has-permission t bytes told is (c .before .before .before .before .before .before .before .before .args .class) (c .before .before .before .before .before .before .before .before .args .permission) l in c .has-permission .ensures (p .0) ∙ p .1,
+      λ l. ap (ltb (a .permission)) (c .permissions-of .ensures) ∙ has-permission t bytes told is (a .class) (a .permission) l,
     )
 
 returns-2 : tie.Need-returns-2
@@ -42,10 +44,11 @@ pub change-spec : {M : Type 1} → statement M
 change-spec =
     tie.close
     (tie.spec
-    count-requires
-    enum-known-counted
-    enum-told
+    (λ c κs. search needs)
+    (λ c. search needs)
+    (λ c. search needs)
     returns
-    has-permission-requires
+    slice-aggregate-permissions-of
+    (λ c κs. search needs)
     change-in-counted-requires
     returns-2)

@@ -15,8 +15,9 @@ returns c =
       users = n 0 (omega arith) i;
       roles = n 1 (omega arith) i;
       types = n 2 (omega arith) i;
-      userattributes = n 3 (omega arith) i;
-      roleattributes = n 4 (omega arith) i;
+      «user_attributes» = n 3 (omega arith) i;
+      «role_attributes» = n 4 (omega arith) i;
+      «type_attributes» = n 5 (omega arith) i;
       classes = n 6 (omega arith) i;
     }
 
@@ -26,6 +27,7 @@ count-names-spec =
     (tie.spec
     (λ c. search needs)
     tally-requires
+    (λ c. search needs)
     (λ c. search needs)
     (λ c. search needs)
     (λ c. search needs)
