@@ -112,7 +112,12 @@ fn fits_transition(table: &[u8], start: u32, number: u32, counts: NameCounts) ->
     if !is_within_at(table, at, Role::SET_BYTES, counts.roles) {
         return false;
     }
-    if !is_within_at(table, at + Transition::TYPES_AT, Type::SET_BYTES, counts.types) {
+    if !is_within_at(
+        table,
+        at + Transition::TYPES_AT,
+        Type::SET_BYTES,
+        counts.types,
+    ) {
         return false;
     }
     if counts.classes <= table_reader::byte_at(table, at + Transition::CLASS_AT) as usize {

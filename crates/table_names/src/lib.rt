@@ -67,7 +67,7 @@ pub fn count_names(table: &[u8]) -> NameCounts
 // ---- names
 
 // Where the name of a sort and number stands.
-fn name_place(table: &[u8], sort: usize, number: usize) -> NamePlace
+pub fn name_place(table: &[u8], sort: usize, number: usize) -> NamePlace
     ensures { λ r. ⌜ replyOf r ≡ nameAt (now (table .entry)) sort number ⌝ }
 {
     symbols::name_of(table, Table::HEADER_BYTES, names_end(table), sort, number)

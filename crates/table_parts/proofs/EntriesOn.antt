@@ -7,6 +7,7 @@ use lib.ListN.{length, getD, take}
 use Rattle.bitset.specs.Relations.{joined}
 use Rattle.policy.specs.Basics.{each}
 use Rattle.policy.specs.Statements.{users, roles, types, Sort, attributeOf, count}
+use Rattle.policy.specs.declared.NameCounts.{NameCounts}
 use Rattle.policy.specs.Maxima.{maxOf}
 use Rattle.policy.specs.Image.{Image}
 use Rattle.policy.specs.Encode.{transitionBytes, headBytes, headsFrom, sortCode, bodies}
@@ -14,7 +15,6 @@ use Rattle.policy.specs.Deciding.{refused}
 use Rattle.policy.specs.Questions.{Run, runOf, records, recordFrom, entryOf, asked, entryOn}
 use Rattle.policy.proofs.Lists.{each-length}
 use Rattle.policy.proofs.Counts.{few-of}
-use Rattle.symbols.specs.Section.{entriesAt}
 use Rattle.table_laws.proofs.Pieces.{wide-length}
 use Rattle.table_laws.proofs.Records.{head-wide}
 use Rattle.table_laws.proofs.ImageReadBack.{every-wide, transitions-wide}
@@ -23,7 +23,12 @@ use Rattle.table_laws.proofs.WellFormedLaid.{widths, well-formed-laid}
 use Rattle.table_reader.specs.Records.{startIn, lengthIn, bodyPlace}
 use Rattle.symbols.specs.Lookup.{countSort}
 use Rattle.symbols.proofs.CountLaws.{count-things}
+use Rattle.table_names.specs.TableNames.{countIn, countsIn}
 use Rattle.table_parts.proofs.HeldImage.{Held}
+
+-- body 8, "Sets of userattributes, roleattributes, typeattributes: 16, 16, 64 each"
+abbrev pub setRuns : NameCounts → List Run
+setRuns n = runOf (n .«user_attributes») 16 ∷ runOf (n .«role_attributes») 16 ∷ runOf (n .«type_attributes») 64 ∷ []
 
 module _ {t : List ℕ} (h : Held t) where
   abbrev i : Image
@@ -87,26 +92,31 @@ module _ {t : List ℕ} (h : Held t) where
 
   -- BODY 8
 
-  module _ {end : ℕ} (e : end ≡ 68 + lengthIn t 0) where
-    -- how many of a sort the names of the table declare
-    declared : (s : Sort) {n : ℕ} → n ≡ countSort (sortCode s) (entriesAt t 68 end) → n ≡ count s (i .names)
-    declared s d = d ∙ ap (λ (end : ℕ). countSort (sortCode s) (entriesAt t 68 end)) e ∙ ap (countSort (sortCode s)) (h .named) ∙ count-things s (i .names)
+  -- how many of a sort the names of the table declare
+  declared : (s : Sort) → countIn t (sortCode s) ≡ count s (i .names)
+  declared s = ap (countSort (sortCode s)) (h .named) ∙ count-things s (i .names)
 
-    pub few-declared : (s : Sort) {n : ℕ} → n ≡ countSort (sortCode s) (entriesAt t 68 end) → n ≤ maxOf s
-    few-declared s d = omega (arith, declared s d, few-of s (i .names) (h .good))
+  few-declared : (s : Sort) → countIn t (sortCode s) ≤ maxOf s
+  few-declared s = omega (arith, declared s, few-of s (i .names) (h .good))
 
-    module _ {ua ra ta : ℕ} (eu : ua ≡ countSort 3 (entriesAt t 68 end)) (er : ra ≡ countSort 4 (entriesAt t 68 end)) (et : ta ≡ countSort 5 (entriesAt t 68 end)) where
-      pub entry-8 : (k : ℕ) → recordFrom k (startIn t 7) (runOf ua 16 ∷ runOf ra 16 ∷ runOf ta 64 ∷ []) ≡ entryOn t 8 k
-      entry-8 k = entry-runs 7 k (omega arith) (runOf ua 16 ∷ runOf ra 16 ∷ runOf ta 64 ∷ []) (λ j. runOf (us j) 16 ∷ runOf (rs j) 16 ∷ runOf (ts j) 64 ∷ [])
-        where
-          us : length (i .userSets) ≡ ua
-          us = well-formed-laid i (h .formed) .userSets .many ∙ sym (declared (attributeOf users) eu)
+  pub few-sets : {n : NameCounts} → n ≡ countsIn t → (n .«user_attributes» ≤ 64) × (n .«role_attributes» ≤ 64) × (n .«type_attributes» ≤ 64)
+  few-sets e = (
+    omega (arith, ap (λ (n : NameCounts). n .«user_attributes») e, few-declared (attributeOf users)),
+    omega (arith, ap (λ (n : NameCounts). n .«role_attributes») e, few-declared (attributeOf roles)),
+    omega (arith, ap (λ (n : NameCounts). n .«type_attributes») e, few-declared (attributeOf types)),
+  )
 
-          rs : length (i .roleSets) ≡ ra
-          rs = well-formed-laid i (h .formed) .roleSets .many ∙ sym (declared (attributeOf roles) er)
+  pub entry-8 : (k : ℕ) → recordFrom k (startIn t 7) (setRuns (countsIn t)) ≡ entryOn t 8 k
+  entry-8 k = entry-runs 7 k (omega arith) (setRuns (countsIn t)) (λ j. runOf (us j) 16 ∷ runOf (rs j) 16 ∷ runOf (ts j) 64 ∷ [])
+    where
+      us : length (i .userSets) ≡ countIn t 3
+      us = well-formed-laid i (h .formed) .userSets .many ∙ sym (declared (attributeOf users))
 
-          ts : length (i .typeSets) ≡ ta
-          ts = well-formed-laid i (h .formed) .typeSets .many ∙ sym (declared (attributeOf types) et)
+      rs : length (i .roleSets) ≡ countIn t 4
+      rs = well-formed-laid i (h .formed) .roleSets .many ∙ sym (declared (attributeOf roles))
+
+      ts : length (i .typeSets) ≡ countIn t 5
+      ts = well-formed-laid i (h .formed) .typeSets .many ∙ sym (declared (attributeOf types))
 
   -- NO OTHER BODIES
 

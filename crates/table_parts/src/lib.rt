@@ -6,8 +6,6 @@ use policy::Refusal;
 use policy::Role;
 use policy::Row;
 use policy::Section;
-use policy::Sort;
-use policy::Table;
 use policy::Transition;
 use policy::Type;
 use policy::User;
@@ -29,8 +27,7 @@ pub fn name_place_in_sound(table: &[u8], sort: usize, number: usize) -> Place
     requires { ⌜ isSound (now table) ≡ true ⌝ }
     ensures { λ r. ⌜ placeOf r ≡ nameOn (now (table .entry)) sort number ⌝ }
 {
-    let end = table_names::names_end(table);
-    let found = symbols::name_of(table, Table::HEADER_BYTES, end, sort, number);
+    let found = table_names::name_place(table, sort, number);
     match found {
         NamePlace::At { start, length } => Place::Part { start, length },
         NamePlace::Nowhere => Place::Refused {
@@ -95,12 +92,15 @@ fn attribute_place(table: &[u8], place: usize) -> Place
     requires { ⌜ isSound (now table) ≡ true ⌝ }
     ensures { λ r. ⌜ placeOf r ≡ entryOn (now (table .entry)) 8 place ⌝ }
 {
-    let end = table_names::names_end(table);
-    let users = symbols::count(table, Table::HEADER_BYTES, end, Sort::USER_ATTRIBUTE);
-    let roles = symbols::count(table, Table::HEADER_BYTES, end, Sort::ROLE_ATTRIBUTE);
-    let types = symbols::count(table, Table::HEADER_BYTES, end, Sort::TYPE_ATTRIBUTE);
+    let counts = table_names::count_names(table);
     let start = table_reader::body_start(table, Section::ATTRIBUTE_SETS) as usize;
-    set_place(start, users, roles, types, place)
+    set_place(
+        start,
+        counts.user_attributes,
+        counts.role_attributes,
+        counts.type_attributes,
+        place,
+    )
 }
 
 // ---- entries

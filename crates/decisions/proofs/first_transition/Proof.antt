@@ -28,9 +28,6 @@ loop-holds c =
     let place : start + 82 * (count - count) ≡ start = omega arith in
     (omega arith, rw (place, c .before .body-start .ensures, c .body-length .ensures))
 
-sub-at : tie.Need-sub-at Inv-loop μ-loop
-sub-at c = c .before .loop .inv .0
-
 returns : tie.Need-returns Inv-loop μ-loop
 returns c =
     let l = c .before .before .before .before .loop in
@@ -67,7 +64,7 @@ first-transition-spec =
     (λ c. search needs)
     (λ c. search needs)
     loop-holds
-    sub-at
+    (λ c. omega (arith, c .before .loop .inv .0))
     (λ c. search needs)
     (λ c. search needs)
     (λ c. search needs)
