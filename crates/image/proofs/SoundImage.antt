@@ -12,11 +12,10 @@ use borrow.Author.Tests.{ltb-true}
 use Rattle.bitset.specs.Parts.{part}
 use Rattle.bitset.specs.Relations.{joined}
 use Rattle.policy.specs.Basics.{_>>=_, given, each, eachOf, every}
-use Rattle.policy.specs.Statements.{users, roles, types, thingOf, attributeOf, Declaration, count, classNames}
+use Rattle.policy.specs.Statements.{Family, users, roles, types, thingOf, attributeOf, Declaration, count, classNames, permissions}
 use Rattle.policy.specs.Maxima.{maxTransitions, maxConstraints, maxRows}
 use Rattle.policy.specs.Rows.{balanced}
 use Rattle.policy.specs.Image.{Image, ConstraintEntry}
-use Rattle.policy.specs.declared.NameCounts.{NameCounts}
 use Rattle.policy.specs.Sound.{goodFrom, goodSets, goodTransition, goodConstraint, pieces, exactly, transitionAt, headAt, rowAt, assignRows, namesAt, wellFormed, bodiesIn, imageFrom, imageIn}
 use Rattle.policy.proofs.Lists.{both-true, true-both, same-tests}
 use Rattle.policy.proofs.Options.{given-some, given-passes}
@@ -24,9 +23,9 @@ use Rattle.table_laws.proofs.Constraints.{rowsIn}
 use Rattle.table_laws.proofs.ListLaws.{bound-then}
 use Rattle.table_laws.proofs.WellFormed.{formed}
 use Rattle.table_reader.specs.Records.{startIn, lengthIn}
-use Rattle.image_rows.specs.Totals.{Totals, totalsOf, totalsIn, Counted}
+use Rattle.image_rows.specs.Totals.{Totals, totalsOf, thingsOf, attributesOf, totalsIn}
 use Rattle.image_rows.specs.SoundRows.{isSome, passes, fitsRow, fitsMask, fitsConstraint}
-use Rattle.name_section.specs.SoundNames.{soundNames}
+use Rattle.name_section.specs.SoundNames.{soundNames, countsOf}
 use Rattle.image.specs.SoundBodies.{setsSound, transitionsSound, attributesSound, bodiesSound}
 use Rattle.image.proofs.LayoutTest.{BodyAt, bodies-at}
 use Rattle.image.proofs.SoundBodyLaws.{set-body, transition-body, constraint-bodies, attribute-body}
@@ -181,7 +180,11 @@ image-names t i h =
 
 -- THE NUMBERS OF BODY 1 IN PLACE OF ITS NAMES
 
-module _ {ds : List Declaration} {c : NameCounts} {ps : List ℕ} (k : Counted ds c ps) where
+-- the lent numbers are those of the permissions of each class
+abbrev pub PermissionsOf : List Declaration → List ℕ → Type 0
+PermissionsOf ds ps = (k : ℕ) → k < length (classNames ds) → getD ps k 0 ≡ length (permissions ds k)
+
+module _ (ds : List Declaration) (ps : List ℕ) (of-class : PermissionsOf ds ps) where
   -- only the permissions of declared classes are asked for
   mask-counted : (class mask : ℕ) → fitsMask (length (classNames ds)) (λ x. getD ps x 0) class mask ≡ fitsMask (length (classNames ds)) (totalsOf ds .permissions) class mask
   mask-counted class mask = by (ltb class (length (classNames ds))) refl
@@ -189,20 +192,26 @@ module _ {ds : List Declaration} {c : NameCounts} {ps : List ℕ} (k : Counted d
       by : (b : Bool) → ltb class (length (classNames ds)) ≡ b
           → (b && ltb 0 mask && ltb mask (2 ^ getD ps class 0)) ≡ (b && ltb 0 mask && ltb mask (2 ^ totalsOf ds .permissions class))
       by false e = refl
-      by true e = ap (λ (n : ℕ). ltb 0 mask && ltb mask (2 ^ n)) (k .permissions class (ltb-true class (length (classNames ds)) e))
+      by true e = ap (λ (n : ℕ). ltb 0 mask && ltb mask (2 ^ n)) (of-class class (ltb-true class (length (classNames ds)) e))
 
   -- the counts of the declarations, with the lent numbers of permissions
   abbrev lent : Totals
   lent = record { things = totalsOf ds .things; attributes = totalsOf ds .attributes; classes = totalsOf ds .classes; permissions = λ x. getD ps x 0 }
 
-  counts-same : totalsIn c ps ≡ lent
-  counts-same = λ i. record { things = λ f. k .things f i; attributes = λ f. k .attributes f i; classes = k .classes i; permissions = λ x. getD ps x 0 }
+  counts-same : totalsIn (countsOf ds) ps ≡ lent
+  counts-same = λ i. record { things = λ f. things f i; attributes = λ f. attributes f i; classes = length (classNames ds); permissions = λ x. getD ps x 0 }
+    where
+      things : (f : Family) → thingsOf (countsOf ds) f ≡ count (thingOf f) ds
+      things f = elim f [ users ↦ refl | roles ↦ refl | types ↦ refl ]
+
+      attributes : (f : Family) → attributesOf (countsOf ds) f ≡ count (attributeOf f) ds
+      attributes f = elim f [ users ↦ refl | roles ↦ refl | types ↦ refl ]
 
   constraint-same : fitsConstraint lent ≡ fitsConstraint (totalsOf ds)
   constraint-same = λ i e. mask-counted (e .class) (e .mask) i && every (fitsRow (totalsOf ds .things) (totalsOf ds .attributes)) (e .rows) && balanced (e .rows) 0
 
   -- WHERE THE COUNTS ARE THOSE OF THE DECLARATIONS, SO IS THE TEST OF THE BODIES
-  pub counted-sound : (t : List ℕ) → bodiesSound (totalsIn c ps) t ≡ bodiesSound (totalsOf ds) t
+  pub counted-sound : (t : List ℕ) → bodiesSound (totalsIn (countsOf ds) ps) t ≡ bodiesSound (totalsOf ds) t
   unfolding bodiesSound
   counted-sound t =
       ap (λ (n : Totals). bodiesSound n t) counts-same
@@ -229,6 +238,6 @@ module _ (t : List ℕ) where
   names-not-sound e = image-sound t ∙ rw e (and-false (isSome (bodiesIn t)))
 
   -- it is laid out, and its names are sound: the other bodies decide
-  pub bodies-decide : {ds : List Declaration} {c : NameCounts} {ps : List ℕ} → isSome (bodiesIn t) ≡ true → soundNames (part t 68 (lengthIn t 0)) ≡ some ds → Counted ds c ps
-      → isSome (imageIn t) ≡ bodiesSound (totalsIn c ps) t
-  bodies-decide e f k = image-sound t ∙ rw (e, f) (sym (counted-sound k t))
+  pub bodies-decide : isSome (bodiesIn t) ≡ true → (ds : List Declaration) → soundNames (part t 68 (lengthIn t 0)) ≡ some ds → (ps : List ℕ) → PermissionsOf ds ps
+      → isSome (imageIn t) ≡ bodiesSound (totalsIn (countsOf ds) ps) t
+  bodies-decide e ds f ps k = image-sound t ∙ rw (e, f) (sym (counted-sound ds ps k t))

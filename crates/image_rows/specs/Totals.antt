@@ -1,6 +1,5 @@
 -- How many things of each sort the names of a table declare: all that the other bodies are held against. Assumes nothing.
-use Prim.Native.Nat.{ℕ, _<_}
-use mathlib.Core.Path.{_≡_}
+use Prim.Native.Nat.{ℕ}
 use mathlib.Core.List.{List}
 use lib.ListN.{length, getD}
 use Rattle.policy.specs.Statements.{Family, users, roles, types, thingOf, attributeOf, Declaration, count, classNames, permissions}
@@ -34,10 +33,3 @@ attributesOf c types = c .«type_attributes»
 
 abbrev pub totalsIn : NameCounts → List ℕ → Totals
 totalsIn c ps = record { things = thingsOf c; attributes = attributesOf c; classes = c .classes; permissions = λ k. getD ps k 0 }
-
--- the struct and the lent numbers are those of the declarations
-pub record Counted (ds : List Declaration) (c : NameCounts) (ps : List ℕ) : Type 0 where
-  pub things : (f : Family) → thingsOf c f ≡ count (thingOf f) ds
-  pub attributes : (f : Family) → attributesOf c f ≡ count (attributeOf f) ds
-  pub classes : c .classes ≡ length (classNames ds)
-  pub permissions : (k : ℕ) → k < length (classNames ds) → getD ps k 0 ≡ length (permissions ds k)

@@ -17,11 +17,11 @@ use Rattle.name_section.specs.declared.Counted as counted
 use Rattle.name_section.specs.SoundNames.{soundNames, countsOf, countedOf, permissionCounts, permissionsAfter}
 use Rattle.name_section.proofs.Answers.{sound-good, answered-unsound, Named, answered-sound}
 use Rattle.table_reader.specs.Records.{lengthIn}
-use Rattle.image_rows.specs.Totals.{totalsIn, Counted}
+use Rattle.image_rows.specs.Totals.{totalsIn}
 use Rattle.image_rows.specs.SoundRows.{isSome}
 use Rattle.image.specs.SoundBodies.{bodiesSound}
 use Rattle.image.specs.FewSets.{Few}
-use Rattle.image.proofs.SoundImage.{not-laid-out, names-not-sound, bodies-decide}
+use Rattle.image.proofs.SoundImage.{not-laid-out, names-not-sound, PermissionsOf, bodies-decide}
 use Rattle.soundness.specs.IsSound.{isSound}
 use Rattle.soundness.specs.Telling.{Tells}
 
@@ -93,19 +93,14 @@ module _ (t : List ℕ) {end : ℕ} (ends : end ≡ 68 + lengthIn t 0) {r : coun
       pub permissions-length : length ps ≡ 32
       permissions-length = ap (λ (l : List ℕ). length l) permissions-counted ∙ length-tabulate 32 (λ c. length (permissions (named .names) c))
 
-      are-counted : Counted (named .names) (countsOf (named .names)) ps
-      are-counted = record {
-        things = λ f. elim f [ users ↦ refl | roles ↦ refl | types ↦ refl ];
-        attributes = λ f. elim f [ users ↦ refl | roles ↦ refl | types ↦ refl ];
-        classes = refl;
-        permissions = λ k l. rw permissions-counted
-            (getD-tabulate 32 (λ c. length (permissions (named .names) c)) k 0 (omega (arith, l, few-classes (named .names) good)));
-      }
+      of-class : PermissionsOf (named .names) ps
+      of-class k l = rw permissions-counted
+          (getD-tabulate 32 (λ c. length (permissions (named .names) c)) k 0 (omega (arith, l, few-classes (named .names) good)))
 
       -- the other bodies decide
       pub decided : isSome (bodiesIn t) ≡ true → {b : Bool} → b ≡ bodiesSound (totalsIn n ps) t → b ≡ isSound t
       unfolding isSound
-      decided laid e = e ∙ ap (λ (n : NameCounts). bodiesSound (totalsIn n ps) t) (named .counts) ∙ sym (bodies-decide t laid (named .are) are-counted)
+      decided laid e = e ∙ ap (λ (n : NameCounts). bodiesSound (totalsIn n ps) t) (named .counts) ∙ sym (bodies-decide t laid (named .names) (named .are) ps of-class)
 
       -- then the count tells what body 1 declares
       pub tells-so : true ≡ isSound t → Tells t r ps

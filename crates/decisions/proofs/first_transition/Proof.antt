@@ -16,7 +16,10 @@ use Rattle.decisions.proofs.first_transition.Tie as tie
 abbrev Inv-loop : tie.InvT-loop
 Inv-loop table role kind class start count left₀ left =
     (left ≤ count)
-    × (firstTransition role kind class (records 82 transitionAt left (drop (start + 82 * (count - left)) table)) ≡ firstTransition role kind class (transitionsIn table))
+    × (
+    firstTransition role kind class (records 82 transitionAt left (drop (start + 82 * (count - left)) table))
+    ≡ firstTransition role kind class (transitionsIn table)
+    )
 
 abbrev μ-loop : tie.MeasureT-loop
 μ-loop table role kind class start count left₀ left = left
@@ -30,26 +33,42 @@ loop-holds c =
 
 returns : tie.Need-returns Inv-loop μ-loop
 returns c =
-    let l = c .before .before .before .before .loop in
-    let a = c .before .before .before .before .before .before .before .before .args in
-    let start = c .before .before .before .before .before .before .body-start .result in
-    let count = c .before .before .before .before .before .body-length .result / 82 in
-    c .byte-at .ensures ∙ transition-found (a .role) (a .kind) (a .class) (a .table .now) (start + 82 * (count - l .left)) (l .left) (omega arith) (sym (c .before .before .matches-at .ensures) ∙ c .before .if1 .taken) ∙ l .inv .1
+    let at-loop = c .before .before .before .before in
+    let at-length = at-loop .before in
+    let at-bytes = at-length .before in
+    let l = at-loop .loop in
+    let a = at-bytes .before .before .args in
+    let start = at-bytes .body-start .result in
+    let count = at-length .body-length .result / 82 in
+    c .byte-at .ensures
+    ∙ transition-found (a .role) (a .kind) (a .class) (a .table .now) (start + 82 * (count - l .left)) (l .left) (omega arith)
+    (sym (c .before .before .matches-at .ensures) ∙ c .before .if1 .taken)
+    ∙ l .inv .1
 
 loop-again : tie.Need-loop-again Inv-loop μ-loop
 loop-again c =
-    let l = c .before .before .before .loop in
-    let a = c .before .before .before .before .before .before .before .args in
-    let start = c .before .before .before .before .before .body-start .result in
-    let count = c .before .before .before .before .body-length .result / 82 in
-    (omega (arith, l .inv .0), transition-passed (a .role) (a .kind) (a .class) (a .table .now) (start + 82 * (count - l .left)) (l .left) (omega arith) (start + 82 * (count - (l .left - 1))) (omega (arith, l .inv .0)) (sym (c .before .matches-at .ensures) ∙ c .if1 .left) ∙ l .inv .1)
+    let at-loop = c .before .before .before in
+    let at-length = at-loop .before in
+    let at-bytes = at-length .before in
+    let l = at-loop .loop in
+    let a = at-bytes .before .before .args in
+    let start = at-bytes .body-start .result in
+    let count = at-length .body-length .result / 82 in (
+      omega (arith, l .inv .0),
+      transition-passed (a .role) (a .kind) (a .class) (a .table .now) (start + 82 * (count - l .left)) (l .left) (omega arith)
+          (start + 82 * (count - (l .left - 1))) (omega (arith, l .inv .0)) (sym (c .before .matches-at .ensures) ∙ c .if1 .left)
+          ∙ l .inv .1,
+    )
 
 returns-2 : tie.Need-returns-2 Inv-loop μ-loop
 returns-2 c =
-    let l = c .before .loop in
-    let a = c .before .before .before .before .before .args in
-    let start = c .before .before .before .body-start .result in
-    let count = c .before .before .body-length .result / 82 in
+    let at-loop = c .before in
+    let at-length = at-loop .before in
+    let at-bytes = at-length .before in
+    let l = at-loop .loop in
+    let a = at-bytes .before .before .args in
+    let start = at-bytes .body-start .result in
+    let count = at-length .body-length .result / 82 in
     transition-none (a .role) (a .kind) (a .class) (a .table .now) (start + 82 * (count - l .left)) (l .left) (omega arith) ∙ l .inv .1
 
 pub first-transition-spec : {M : Type 1} → statement M

@@ -28,26 +28,31 @@ returns-2 c =
 
 returns-3 : tie.Need-returns-3
 returns-3 c =
-    let a = c .before .before .before .before .before .before .before .before .args in
+    let at-if2 = c .before .before .before in
+    let at-if1 = at-if2 .before .before in
+    let a = at-if1 .before .before .before .args in
     sym
     (ap (fitsTransition (thingsOf (a .counts)) (a .counts .classes)) (transition-front (a .start + 82 * a .number) (a .table .now))
     ∙ rw (
-      sym (c .before .before .before .before .before .before .is-within-at .ensures) ∙ not-false _ (c .before .before .before .before .before .if1 .left),
-      sym (c .before .before .before .before .is-within-at2 .ensures) ∙ not-false _ (c .before .before .before .if2 .left),
+      sym (at-if1 .before .is-within-at .ensures) ∙ not-false _ (at-if1 .if1 .left),
+      sym (at-if2 .before .is-within-at2 .ensures) ∙ not-false _ (at-if2 .if2 .left),
       ← c .before .before .byte-at .ensures,
       le-ltb _ _ (c .if3 .taken),
     ))
 
 returns-4 : tie.Need-returns-4
 returns-4 c =
-    let a = c .before .before .before .before .before .before .before .before .before .before .args in
+    let at-if3 = c .before .before in
+    let at-if2 = at-if3 .before .before .before in
+    let at-if1 = at-if2 .before .before in
+    let a = at-if1 .before .before .before .args in
     sym
     (ap (fitsTransition (thingsOf (a .counts)) (a .counts .classes)) (transition-front (a .start + 82 * a .number) (a .table .now))
     ∙ rw (
-      sym (c .before .before .before .before .before .before .before .before .is-within-at .ensures) ∙ not-false _ (c .before .before .before .before .before .before .before .if1 .left),
-      sym (c .before .before .before .before .before .before .is-within-at2 .ensures) ∙ not-false _ (c .before .before .before .before .before .if2 .left),
-      ← c .before .before .before .before .byte-at .ensures,
-      lt-ltb _ _ (c .before .before .if3 .left),
+      sym (at-if1 .before .is-within-at .ensures) ∙ not-false _ (at-if1 .if1 .left),
+      sym (at-if2 .before .is-within-at2 .ensures) ∙ not-false _ (at-if2 .if2 .left),
+      ← at-if3 .before .before .byte-at .ensures,
+      lt-ltb _ _ (at-if3 .if3 .left),
       ← c .before .byte-at2 .ensures,
     ))
 
