@@ -401,7 +401,10 @@ fn asked_item(rule: &str, text: &[u8], list: &[Question]) -> Item {
     let table = table_of(text).expect("an accepted text");
     let mut claims = vec![("-written".to_string(), "tableOf CASE ≡ CASE-table".to_string())];
     for (number, question) in list.iter().enumerate().filter(|(_, question)| question[0] != 1) {
-        claims.push((format!("-{number}"), on_table("CASE-table", &table, question)));
+        let claim = on_table("CASE-table", &table, question);
+        if claims.iter().all(|(_, before)| *before != claim) {
+            claims.push((format!("-{number}"), claim));
+        }
     }
     let changes: Vec<Change<u64>> = list.iter().filter_map(asked_change).collect();
     match changes.as_slice() {

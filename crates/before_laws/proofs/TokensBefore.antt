@@ -1,43 +1,31 @@
 -- The tokens of bytes without a dot are document 01's: a word goes on with the same bytes. Assumes nothing.
 use Prim.Native.Nat.{ℕ, _+_}
-use mathlib.Core.Path.{_≡_, refl, sym, ap, _∙_}
-use mathlib.Core.Bool.{true, false, false≢true}
+use mathlib.Core.Path.{_≡_, refl, ap, _∙_}
+use mathlib.Core.Bool.{true, false}
 use mathlib.Core.List.{List, [], _∷_, _++_}
-use Rattle.lexer.specs.Class.{classOf, goesOn, isDot, inWord}
+use Rattle.lexer.specs.Class.{classOf, isDot}
 use Rattle.lexer.specs.Scan.{Mode, between, inComment, inName}
 use Rattle.lexer.specs.Token.{modeThen, ending, tokensFrom, tokensAt, tokens}
 use Rattle.lexer.specs.Forms.{Forms, build, framesAt, formsOf}
 use Rattle.lexer.specs.declared.ByteClass.{ByteClass}
-use Rattle.lexer.specs.declared.ByteClass.the-variants.{Blank, LineFeed, Comment, Open, Close, Letter, Digit, Dot, Wrong}
 use Rattle.lexer.specs.declared.Token.{Token}
+use Rattle.lexer.proofs.Names.{part-in-word}
 use Rattle.policy.specs.Words.{dotless}
 use Rattle.before_laws.specs.Before as before
 use Rattle.before_laws.specs.Before.{classBefore, tokensBefore, formsBefore}
 use Rattle.policy.proofs.Dotless.{first-and-rest}
 use Rattle.before_laws.proofs.ScanBefore.{class-as-before}
 
--- but for the dot, a word goes on with the bytes of one part
-word-as-before : (k : ByteClass) → isDot k ≡ false → inWord k ≡ goesOn k
-word-as-before Blank e = refl
-word-as-before LineFeed e = refl
-word-as-before Comment e = refl
-word-as-before Open e = refl
-word-as-before Close e = refl
-word-as-before Letter e = refl
-word-as-before Digit e = refl
-word-as-before Dot e = absurd (false≢true (sym e))
-word-as-before Wrong e = refl
-
 -- a byte ends the same tokens, and leads to the same mode
 ending-as-before : (mode : Mode) (at : ℕ) (k : ByteClass) → isDot k ≡ false → ending mode at k ≡ before.ending mode at (classBefore k)
 ending-as-before between at k e = rw (class-as-before k e)
 ending-as-before inComment at k e = refl
-ending-as-before (inName first len) at k e = rw (class-as-before k e, word-as-before k e)
+ending-as-before (inName first len) at k e = rw (class-as-before k e, part-in-word k e)
 
 mode-as-before : (mode : Mode) (at : ℕ) (k : ByteClass) → isDot k ≡ false → modeThen mode at k ≡ before.modeThen mode at (classBefore k)
 mode-as-before between at k e = rw (class-as-before k e)
 mode-as-before inComment at k e = rw (class-as-before k e)
-mode-as-before (inName first len) at k e = rw (class-as-before k e, word-as-before k e)
+mode-as-before (inName first len) at k e = rw (class-as-before k e, part-in-word k e)
 
 from-as-before : (bs : List ℕ) (mode : Mode) (at : ℕ) → dotless bs ≡ true → tokensFrom bs mode at ≡ before.tokensFrom bs mode at
 unfolding tokensFrom before.tokensFrom

@@ -1,7 +1,6 @@
 -- Finding an entry by its family and name, and by its sort and number. Assumes nothing.
 use mathlib.Core.Bool.{Bool, _&&_, cond}
 use mathlib.Core.List.{List, [], _∷_}
-use mathlib.Core.Option.{Option, none, some}
 use Prim.Native.Nat.{ℕ, _+_, _-_, _/_}
 use lib.Dec.{eqb, ltb}
 use Rattle.policy.specs.Basics.{Name, same}
@@ -25,11 +24,6 @@ isNamed f w e = eqb (familyNumber (e .sort) (e .number)) f && same w (e .name)
 unfoldable pub firstNamed : ℕ → Name → List NameEntry → Found
 firstNamed f w [] = Found.Missing
 firstNamed f w (e ∷ es) = cond (isNamed f w e) (Found.At (e .sort) (e .number)) (firstNamed f w es)
-
--- the name of a sort and number: that of the first entry that has them
-unfoldable pub nameNumbered : ℕ → ℕ → List NameEntry → Option Name
-nameNumbered s n [] = none
-nameNumbered s n (e ∷ es) = cond (eqb (e .sort) s && eqb (e .number) n) (some (e .name)) (nameNumbered s n es)
 
 -- "**Name of** a sort and number: the part of the lent table that holds the name", as policy's question answers it
 abbrev pub replyOf : NamePlace → Reply Part

@@ -708,10 +708,6 @@ asked-35-2 : validOn asked-35-table (context 0 0 0) ≡ answered true
 unfolding computing
 asked-35-2 = refl
 
-asked-35-4 : validOn asked-35-table (context 0 0 0) ≡ answered true
-unfolding computing
-asked-35-4 = refl
-
 asked-35-changes : changesOn asked-35-table ((record { source = context 0 0 0; target = context 0 0 0; class = 0; perm = 3 }) ∷ (record
     { source = context 0 0 0; target = context 0 0 0; class = 0; perm = 2 }) ∷ []) ≡ record { verdict = granted; consulted = 1 } ∷ record
     { verdict = granted; consulted = 2 } ∷ []
