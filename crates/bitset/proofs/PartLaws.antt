@@ -188,6 +188,11 @@ put-put t o us vs h =
     ∙ append-assoc (take o t) us (vs ++ drop (o + length (us ++ vs)) t)
     ∙ ap (λ (l : List ℕ). take o t ++ l) (sym (append-assoc us vs (drop (o + length (us ++ vs)) t)))
 
+-- the same of two that were put
+pub put-then : (t : List ℕ) (o : ℕ) (us vs : List ℕ) {u v : List ℕ} {q : ℕ} → o + length us ≤ length t → u ≡ put t o us → q ≡ o + length us → v ≡ put u q vs
+    → v ≡ put t o (us ++ vs)
+put-then t o us vs h e p f = f ∙ ap₂ (λ (l : List ℕ) (n : ℕ). put l n vs) e p ∙ put-put t o us vs h
+
 -- bytes stored one after the other are bytes put
 pub sets-put : (t : List ℕ) (o : ℕ) (s : List ℕ) → o + length s ≤ length t → sets t o s ≡ put t o s
 unfolding put

@@ -57,13 +57,6 @@ fn is_opened(text: &[u8], keys: &[u64], count: usize, parent: usize, name: &[u8]
     false
 }
 
-// A byte, as a number for the hash.
-fn wide(x: u8) -> usize
-    ensures { λ r. ⌜ r ≡ x ⌝ }
-{
-    x as usize
-}
-
 // The hash of a block: of the bytes of its name, and behind them of the number of the block around it.
 fn hash_of(parent: usize, name: &[u8]) -> usize
     ensures { λ r. ⌜ (r ≡ hashOf parent (now (name .entry))) × (r < 4294967296) ⌝ }
@@ -71,7 +64,7 @@ fn hash_of(parent: usize, name: &[u8]) -> usize
     let mut hash: usize = 0;
     let mut i: usize = 0;
     while i < name.len() {
-        hash = name_filter::step(hash, wide(name[i]));
+        hash = name_filter::step(hash, little_endian::wide(name[i]));
         i += 1;
     }
     name_filter::step(hash, parent)

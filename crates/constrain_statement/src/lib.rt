@@ -146,16 +146,10 @@ fn put_head(
     ensures { λ _. ⌜ now (constraints .exit) ≡ put (now (constraints .entry)) (10 * count) (headBytes (headWith class mask first rows)) ⌝ }
 {
     let at = 10 * count;
-    constraints[at] = (class % 256) as u8;
-    constraints[at + 1] = (class / 256 % 256) as u8;
-    constraints[at + 2] = (mask % 256) as u8;
-    constraints[at + 3] = (mask / 256 % 256) as u8;
-    constraints[at + 4] = (mask / 256 / 256 % 256) as u8;
-    constraints[at + 5] = (mask / 256 / 256 / 256 % 256) as u8;
-    constraints[at + 6] = (first % 256) as u8;
-    constraints[at + 7] = (first / 256 % 256) as u8;
-    constraints[at + 8] = (rows % 256) as u8;
-    constraints[at + 9] = (rows / 256 % 256) as u8;
+    little_endian::put2(constraints, at, class);
+    little_endian::put4(constraints, at + 2, mask as usize);
+    little_endian::put2(constraints, at + 6, first);
+    little_endian::put2(constraints, at + 8, rows);
 }
 
 // The record of a constraint whose names are declared and whose rows go from a row to before the next, if the maxima allow both and the stack

@@ -1,9 +1,9 @@
 -- Rows that are put one after the other: what is kept before them, and that together they are the bytes of all of them. Assumes nothing.
-use mathlib.Core.Path.{_≡_, refl, sym, ap, _∙_}
+use mathlib.Core.Path.{_≡_, refl, sym, ap, subst, _∙_}
 use mathlib.Core.List.{List, [], _∷_, _++_}
-use Prim.Native.Nat.{ℕ, suc, _+_, _*_, _/_, _%_, _≤_, _<_}
+use Prim.Native.Nat.{ℕ, suc, _+_, _*_, _/_, _≤_, _<_}
 use native.Mathlib.Omega.{arith}
-use lib.ListN.{length, take, set, length-append}
+use lib.ListN.{length, take, set, length-set, length-append}
 use lib.Seq.{sets, length-sets, take-set-le, take-take}
 use Rattle.bitset.specs.Parts.{put}
 use Rattle.bitset.specs.Relations.{joined}
@@ -43,23 +43,35 @@ take-sets n l i (a ∷ vs) h = take-sets n (set l i a) (suc i) vs (omega arith) 
 
 -- ---- one row
 
-six-stores : (t : List ℕ) (o k c p lo hi : ℕ)
-    → set (set (set (set (set (set t o k) (o + 1) c) (o + 2) p) (o + 3) 0) (o + 4) lo) (o + 5) hi ≡ sets t o (k ∷ c ∷ p ∷ 0 ∷ lo ∷ hi ∷ [])
-six-stores t o k c p lo hi =
+six-stores : (t : List ℕ) (o k c p : ℕ) (s : List ℕ)
+    → sets (set (set (set (set t o k) (o + 1) c) (o + 2) p) (o + 3) 0) (o + 4) s ≡ sets t o (k ∷ c ∷ p ∷ 0 ∷ s)
+six-stores t o k c p s =
     let e1 : o + 1 ≡ suc o = omega arith in
     let e2 : o + 2 ≡ suc (suc o) = omega arith in
     let e3 : o + 3 ≡ suc (suc (suc o)) = omega arith in
     let e4 : o + 4 ≡ suc (suc (suc (suc o))) = omega arith in
-    let e5 : o + 5 ≡ suc (suc (suc (suc (suc o)))) = omega arith in
-    rw (e1, e2, e3, e4, e5)
+    rw (e1, e2, e3, e4)
 
-pub stored : (t : List ℕ) (n k c p i : ℕ) → n < length t / 6
-    → Wrote t (set (set (set (set (set (set t (6 * n) k) (6 * n + 1) c) (6 * n + 2) p) (6 * n + 3) 0) (6 * n + 4) (i % 256)) (6 * n + 5) (i / 256 % 256)) n (row k c p i ∷ [])
-unfolding joined each le
-stored t n k c p i h = rw (six-stores t (6 * n) k c p (i % 256) (i / 256 % 256)) (record {
-  kept = record { long = length-sets t (6 * n) (bytesOf (row k c p i ∷ [])); front = take-sets (6 * n) t (6 * n) (bytesOf (row k c p i ∷ [])) (omega arith) };
-  put-there = λ g. sets-put t (6 * n) (bytesOf (row k c p i ∷ [])) (omega arith);
-})
+module _ (t : List ℕ) (n k c p i : ℕ) (h : n < length t / 6) where
+  -- what stands before the number
+  abbrev begun : List ℕ
+  begun = set (set (set (set t (6 * n) k) (6 * n + 1) c) (6 * n + 2) p) (6 * n + 3) 0
+
+  abbrev bytes : List ℕ
+  bytes = bytesOf (row k c p i ∷ [])
+
+  pub begun-long : length begun ≡ length t
+  begun-long = simp length-set
+
+  pub stored : (u : List ℕ) → u ≡ put begun (6 * n + 4) (le 2 i) → Wrote t u n (row k c p i ∷ [])
+  unfolding joined each le
+  stored u e =
+      let all : u ≡ sets t (6 * n) bytes =
+      e ∙ sym (sets-put begun (6 * n + 4) (le 2 i) (omega (arith, begun-long))) ∙ six-stores t (6 * n) k c p (le 2 i) in
+      subst (λ (x : List ℕ). Wrote t x n (row k c p i ∷ [])) (sym all) (record {
+        kept = record { long = length-sets t (6 * n) bytes; front = take-sets (6 * n) t (6 * n) bytes (omega arith) };
+        put-there = λ g. sets-put t (6 * n) bytes (omega arith);
+      })
 
 pub no-room : (t : List ℕ) (n : ℕ) (r : Row) → length t / 6 ≤ n → Wrote t t n (r ∷ [])
 no-room t n r h = record { kept = all-kept t n; put-there = λ g. absurd (omega arith) }

@@ -46,8 +46,7 @@ fn put_row(rows: &mut [u8], row: usize, kind: u8, component: u8, operator: u8, n
     rows[at + 1] = component;
     rows[at + 2] = operator;
     rows[at + 3] = 0;
-    rows[at + 4] = (number % 256) as u8;
-    rows[at + 5] = (number / 256 % 256) as u8;
+    little_endian::put2(rows, at + 4, number);
 }
 
 // The kind of an operator's row, by the number of its word; that of two sides for a word that is no operator.

@@ -5,8 +5,6 @@
 ghost use mathlib.Core.Path.{_≡_};
 ghost use Prim.Native.Nat.{_+_, _<_, _≤_};
 ghost use lib.ListN.{length};
-ghost use Rattle.bitset.specs.Parts.{part};
-ghost use Rattle.policy.specs.Basics.{unle};
 ghost use Rattle.name_index.specs.Index.{frontOf, wordIn, chainIn, chainWord, linkIn, linkWord, ChainFits, LinkFits, putWord, putNode, putNext, putLast, putMore};
 
 // ---- the words of the index
@@ -39,48 +37,13 @@ pub const CHAIN_BYTES: usize = symbols::NAME_BYTES + WORD_BYTES * CHAINS;
 // The memory of symbols with an index: 188,648 bytes.
 pub const SYMBOL_BYTES: usize = symbols::NAME_BYTES + WORD_BYTES * (ALL + 1);
 
-fn wide(x: u8) -> usize
-    ensures { λ r. ⌜ (r ≡ x) × (r < 256) ⌝ }
-{
-    x as usize
-}
-
-// The four bytes from a place on as one number, the lowest first.
-fn four(bytes: &[u8], at: usize) -> usize
-    requires { ⌜ at + 4 ≤ length (now bytes) ⌝ }
-    ensures { λ r. ⌜ (r ≡ unle (part (now (bytes .entry)) at 4)) × (r < 4294967296) ⌝ }
-{
-    wide(bytes[at])
-        + 256 * (wide(bytes[at + 1]) + 256 * (wide(bytes[at + 2]) + 256 * wide(bytes[at + 3])))
-}
-
-// How many bytes `four` reads.
-const FOUR: usize = 4;
-
-// What a number is multiplied by if its bytes stand behind four others.
-const FOUR_ON: usize = 4_294_967_296;
-
-// The bytes, at most eight, as one number, the lowest first.
-fn number_in(bytes: &[u8]) -> usize
-    requires { ⌜ length (now bytes) ≤ 8 ⌝ }
-    ensures { λ r. ⌜ r ≡ unle (now (bytes .entry)) ⌝ }
-{
-    let mut left = bytes.len();
-    let mut n: usize = 0;
-    while 0 < left {
-        left -= 1;
-        n = 256 * n + wide(bytes[left]);
-    }
-    n
-}
-
-// The number in a word of the index.
+// The number in a word of the index. It is read in two halves: whoever needs only the low one then reads no other.
 pub fn word(symbols: &[u8], k: usize) -> usize
     requires { ⌜ (k < 6445) × (188648 ≤ length (now symbols)) ⌝ }
     ensures { λ r. ⌜ r ≡ wordIn (now (symbols .entry)) k ⌝ }
 {
     let at = symbols::NAME_BYTES + WORD_BYTES * k;
-    four(symbols, at) + FOUR_ON * four(symbols, at + FOUR)
+    little_endian::get4(symbols, at) + little_endian::FOUR_ON * little_endian::get4(symbols, at + 4)
 }
 
 // Puts a number into a word of the index.
@@ -89,21 +52,7 @@ fn set_word(symbols: &mut [u8], k: usize, n: usize)
     ensures { λ _. ⌜ now (symbols .exit) ≡ putWord (now (symbols .entry)) k n ⌝ }
 {
     let at = symbols::NAME_BYTES + WORD_BYTES * k;
-    symbols[at] = (n % 256) as u8;
-    let b = n / 256;
-    symbols[at + 1] = (b % 256) as u8;
-    let c = b / 256;
-    symbols[at + 2] = (c % 256) as u8;
-    let d = c / 256;
-    symbols[at + 3] = (d % 256) as u8;
-    let e = d / 256;
-    symbols[at + 4] = (e % 256) as u8;
-    let f = e / 256;
-    symbols[at + 5] = (f % 256) as u8;
-    let g = f / 256;
-    symbols[at + 6] = (g % 256) as u8;
-    let h = g / 256;
-    symbols[at + 7] = (h % 256) as u8;
+    little_endian::put8(symbols, at, n);
 }
 
 // ---- chains and links
@@ -202,10 +151,10 @@ pub fn front_of(name: &[u8]) -> usize
     ensures { λ r. ⌜ r ≡ frontOf (now (name .entry)) ⌝ }
 {
     let first = bitset::part(name, 0, FRONT);
-    if first.len() < FOUR {
-        return number_in(first);
+    if first.len() < 4 {
+        return little_endian::number(first);
     }
-    four(first, 0) + FOUR_ON * number_in(&first[FOUR..])
+    little_endian::get4(first, 0) + little_endian::FOUR_ON * little_endian::number(&first[4..])
 }
 
 // ---- an entry more

@@ -20,12 +20,6 @@ struct Part {
     end: usize,
 }
 
-fn wide(x: u8) -> usize
-    ensures { λ r. ⌜ (r ≡ x) × (r < 256) ⌝ }
-{
-    x as usize
-}
-
 // ---- reserved words
 
 // A byte as a bit among 64: the bit of half its number, which few others share.
@@ -125,10 +119,10 @@ fn read_part(classes: &[u8; 256], table: &[u8], from: usize, past: usize, before
     requires { ⌜ Classes (now classes) × (from < past) × (past ≤ length (now table)) × (before < 4294967296) ⌝ }
     ensures { λ r. ⌜ PartRead (now (table .entry)) from past before r ⌝ }
 {
-    let mut hash = name_filter::step(before, wide(table[from]));
+    let mut hash = name_filter::step(before, little_endian::wide(table[from]));
     let mut i = from + 1;
     while goes_on(classes, table, i, past) {
-        hash = name_filter::step(hash, wide(table[i]));
+        hash = name_filter::step(hash, little_endian::wide(table[i]));
         i += 1;
     }
     Part { hash: hash, end: i }
@@ -163,7 +157,7 @@ fn spell_more(
         table,
         start,
         past,
-        name_filter::step(before, wide(table[dot])),
+        name_filter::step(before, little_endian::wide(table[dot])),
     );
     let end = part.end;
     let hash = if end < past {

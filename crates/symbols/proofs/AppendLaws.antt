@@ -45,32 +45,44 @@ copied t x at from i len h l e = rw e (sets-put t at (part x from len) (omega (a
 -- ---- append: the head of an entry, and then its name
 
 head-then : (t : List ℕ) (end s lo hi n : ℕ) (w : List ℕ)
-    → sets (set (set (set (set t end s) (end + 1) lo) (end + 2) hi) (end + 3) n) (end + 4) w ≡ sets t end (s ∷ lo ∷ hi ∷ n ∷ w)
+    → sets (set (set (set (set t end s) (end + 1) lo) (suc (end + 1)) hi) (end + 3) n) (end + 4) w ≡ sets t end (s ∷ lo ∷ hi ∷ n ∷ w)
 head-then t end s lo hi n w =
     let e1 : end + 1 ≡ suc end = omega arith in
-    let e2 : end + 2 ≡ suc (suc end) = omega arith in
     let e3 : end + 3 ≡ suc (suc (suc end)) = omega arith in
     let e4 : end + 4 ≡ suc (suc (suc (suc end))) = omega arith in
-    rw (e1, e2, e3, e4)
+    rw (e1, e3, e4)
 
-module _ (t : List ℕ) (end s n : ℕ) (w : List ℕ) (room : end + 4 + length w ≤ length t) where
-  length-headed : length (set (set (set (set t end s) (end + 1) (n % 256)) (end + 2) (n / 256 % 256)) (end + 3) (length w)) ≡ length t
-  length-headed = simp length-set
-
-  pub appended : (u : List ℕ)
-      → u ≡ put (set (set (set (set t end s) (end + 1) (n % 256)) (end + 2) (n / 256 % 256)) (end + 3) (length w)) (end + 4) (part w 0 (length w))
-      → (v : List ℕ) → w ≡ v → Appended t u end (nameEntry s n v) (end + 4 + length w)
+-- p is t with the sort and the number of the entry, and u has its length and name too
+module _ (t : List ℕ) (end s n : ℕ) (w : List ℕ) (room : end + 4 + length w ≤ length t) (p : List ℕ) (begun : p ≡ put (set t end s) (end + 1) (le 2 n)) where
+  fits : end + 1 + length (le 2 n) ≤ length (set t end s)
   unfolding le
-  appended u q v e = subst (λ (x : List ℕ). Appended t u end (nameEntry s n x) (end + 4 + length w)) e (record {
-    written =
-        q
-        ∙ ap (put _ (end + 4)) (part-whole w)
-        ∙ sym (sets-put _ (end + 4) w (omega (arith, length-headed)))
-        ∙ head-then t end s (n % 256) (n / 256 % 256) (length w) w
-        ∙ sets-put t end (entryBytes (nameEntry s n w)) (omega arith);
-    past = omega arith;
-    inside = omega arith;
-  })
+  fits = omega (arith, length-set t end s)
+
+  pub long-begun : length p ≡ length t
+  long-begun = ap length begun ∙ length-put (set t end s) (end + 1) (le 2 n) fits ∙ length-set t end s
+
+  pub long-headed : length (set p (end + 3) (length w)) ≡ length t
+  long-headed = length-set p (end + 3) (length w) ∙ long-begun
+
+  module _ (u : List ℕ) (q : u ≡ put (set p (end + 3) (length w)) (end + 4) (part w 0 (length w))) where
+    named : u ≡ put (set p (end + 3) (length w)) (end + 4) w
+    named = q ∙ ap (put (set p (end + 3) (length w)) (end + 4)) (part-whole w)
+
+    pub long-appended : length u ≡ length t
+    long-appended = ap length named ∙ length-put (set p (end + 3) (length w)) (end + 4) w (omega (arith, long-headed)) ∙ long-headed
+
+    pub appended : (v : List ℕ) → w ≡ v → Appended t u end (nameEntry s n v) (end + 4 + length w)
+    unfolding le
+    appended v e = subst (λ (x : List ℕ). Appended t u end (nameEntry s n x) (end + 4 + length w)) e (record {
+      written =
+          named
+          ∙ sym (sets-put (set p (end + 3) (length w)) (end + 4) w (omega (arith, long-headed)))
+          ∙ ap (λ (l : List ℕ). sets (set l (end + 3) (length w)) (end + 4) w) (begun ∙ sym (sets-put (set t end s) (end + 1) (le 2 n) fits))
+          ∙ head-then t end s (n % 256) (n / 256 % 256) (length w) w
+          ∙ sets-put t end (entryBytes (nameEntry s n w)) (omega arith);
+      past = omega arith;
+      inside = omega arith;
+    })
 
 -- what is put before a place is put into the bytes before it
 pub take-put : (n : ℕ) (t : List ℕ) (o : ℕ) (s : List ℕ) → o + length s ≤ n → n ≤ length t → take n (put t o s) ≡ put (take n t) o s

@@ -2,13 +2,15 @@
 use mathlib.Core.Path.{_≡_, refl, sym, ap, subst, _∙_}
 use mathlib.Core.Bool.{Bool, true, false}
 use mathlib.Core.List.{List}
-use Prim.Native.Nat.{ℕ, min, _+_, _-_, _*_, _≤_, _<_}
+use Prim.Native.Nat.{ℕ, min, _+_, _-_, _≤_, _<_}
 use native.Mathlib.Omega.{arith}
 use borrow.Author.Tests.{leb-true, leb-false}
 use lib.Dec.{leb}
-use lib.ListN.{length, getD}
+use lib.ListN.{length, getD, take, drop}
 use Rattle.bitset.specs.Parts.{part}
+use Rattle.policy.specs.Basics.{unle}
 use Rattle.policy.specs.Encode.{nameEntry}
+use Rattle.little_endian.proofs.WidthLaws.{unle-two}
 use Rattle.symbols.specs.Section.{entry, sectionIn, between, sectionAt, EntryIs}
 use Rattle.symbols.specs.declared.Entry.{Entry}
 use Rattle.symbols.proofs.PartLaws.{part-present}
@@ -32,17 +34,19 @@ module _ (t : List ℕ) (at end left : ℕ) (l : left ≡ min (end - at) (length
   pub is-cut : (n : ℕ) → (n ≡ getD t (at + 3) 0) × (n < 256) → 4 ≤ left → left - 4 < n → EntryIs t at end Entry.Broken
   is-cut n e h g = record { reads = at-cut t at end left l n (sym (e .0)) h g; within = tt }
 
-  pub is-named : (s lo hi n : ℕ) → (s ≡ getD t at 0) × (s < 256) → (lo ≡ getD t (at + 1) 0) × (lo < 256) → (hi ≡ getD t (at + 2) 0) × (hi < 256)
-      → (n ≡ getD t (at + 3) 0) × (n < 256) → 4 ≤ left → n ≤ left - 4 → EntryIs t at end (Entry.Named s (lo + 256 * hi) (at + 4 + n))
-  is-named s lo hi n a b c d h g = record {
-    reads = rw (a .0, b .0, c .0) (at-entry t at end left l n (sym (d .0)) h g);
+  pub is-named : (s num n : ℕ) → (s ≡ getD t at 0) × (s < 256) → (num ≡ unle (take 2 (drop (at + 1) t))) × (num < 65536)
+      → (n ≡ getD t (at + 3) 0) × (n < 256) → 4 ≤ left → n ≤ left - 4 → EntryIs t at end (Entry.Named s num (at + 4 + n))
+  is-named s num n a b d h g = record {
+    reads =
+        let second : at + 1 + 1 ≡ at + 2 = omega arith in
+        rw (a .0, b .0, unle-two (at + 1) t, second) (at-entry t at end left l n (sym (d .0)) h g);
     within = record {
       ahead = omega arith;
       near = omega arith;
       inside = omega arith;
       stored = omega arith;
       sort-byte = a .1;
-      number-two-bytes = omega arith;
+      number-two-bytes = b .1;
     };
   }
 

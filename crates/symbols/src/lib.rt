@@ -2,7 +2,7 @@
 // length in 1, and the name's bytes. The memory is the caller's; the same functions serve the compiler and finished tables.
 // Parts that reach past the end of a slice are cut there, so that the searches ask nothing of their caller; what writes asks for room.
 ghost use mathlib.Core.Path.{_≡_};
-ghost use Prim.Native.Nat.{min, _+_, _-_, _*_, _<_, _≤_};
+ghost use Prim.Native.Nat.{_+_, _-_, _*_, _<_, _≤_};
 ghost use lib.ListN.{length};
 ghost use Rattle.bitset.specs.Parts.{part, put};
 ghost use Rattle.policy.specs.Basics as basics;
@@ -35,22 +35,6 @@ pub enum NamePlace {
     Nowhere,
 }
 
-fn wide(x: u8) -> usize
-    ensures { λ r. ⌜ (r ≡ x) × (r < 256) ⌝ }
-{
-    x as usize
-}
-
-// The lesser of two places.
-fn lesser(a: usize, b: usize) -> usize
-    ensures { λ r. ⌜ r ≡ min a b ⌝ }
-{
-    if a < b {
-        return a;
-    }
-    b
-}
-
 // The entry at a place of the section that ends at end. Neither lies past the end of the table.
 fn entry_at(table: &[u8], at: usize, end: usize) -> Entry
     requires { ⌜ (at ≤ end) × (end ≤ length (now table)) ⌝ }
@@ -63,16 +47,13 @@ fn entry_at(table: &[u8], at: usize, end: usize) -> Entry
         }
         return Entry::Broken;
     }
-    let past = name + wide(table[at + 3]);
+    let past = name + little_endian::wide(table[at + 3]);
     if end < past {
         return Entry::Broken;
     }
-    let sort = wide(table[at]);
-    let low = wide(table[at + 1]);
-    let high = wide(table[at + 2]);
     Entry::Named {
-        sort,
-        number: low + 256 * high,
+        sort: little_endian::wide(table[at]),
+        number: little_endian::get2(table, at + 1),
         past,
     }
 }
@@ -81,7 +62,7 @@ fn entry_at(table: &[u8], at: usize, end: usize) -> Entry
 pub fn look(table: &[u8], at: usize, end: usize) -> Entry
     ensures { λ r. ⌜ EntryIs (now (table .entry)) at end r ⌝ }
 {
-    let last = lesser(end, table.len());
+    let last = bitset::least(end, table.len());
     if last < at {
         return Entry::Done;
     }
@@ -156,8 +137,7 @@ pub fn append(
     let name = bitset::part(text, from, len);
     let long = name.len();
     table[end] = sort as u8;
-    table[end + 1] = (number % 256) as u8;
-    table[end + 2] = (number / 256 % 256) as u8;
+    little_endian::put2(table, end + 1, number);
     table[end + 3] = long as u8;
     copy(table, end + 4, name, 0, long);
     end + 4 + long
@@ -167,8 +147,8 @@ pub fn append(
 pub fn name_of(table: &[u8], start: usize, end: usize, sort: usize, number: usize) -> NamePlace
     ensures { λ r. ⌜ replyOf r ≡ nameFrom sort number start (entriesAt (now (table .entry)) start end) ⌝ }
 {
-    let last = lesser(end, table.len());
-    let mut at = lesser(start, last);
+    let last = bitset::least(end, table.len());
+    let mut at = bitset::least(start, last);
     loop {
         let k = entry_at(table, at, last);
         match k {
@@ -201,8 +181,8 @@ pub fn count(table: &[u8], start: usize, end: usize, sort: usize) -> usize
     ensures { λ r. ⌜ r ≡ countSort sort (entriesAt (now (table .entry)) start end) ⌝ }
 {
     let mut count: usize = 0;
-    let last = lesser(end, table.len());
-    let mut at = lesser(start, last);
+    let last = bitset::least(end, table.len());
+    let mut at = bitset::least(start, last);
     loop {
         let k = entry_at(table, at, last);
         match k {

@@ -1,5 +1,4 @@
 -- Laws on lists of bytes, for the proofs of this crate and of those that read tables.
-pub mod LittleEndian
 pub mod Fields
 pub mod RecordLaws
 pub mod BodyRecords

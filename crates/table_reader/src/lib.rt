@@ -3,8 +3,8 @@
 use policy::Constraint;
 use policy::Row;
 ghost use mathlib.Core.Path.{_≡_};
-ghost use Prim.Native.Nat.{_+_, _*_};
-ghost use lib.ListN.{getD, take, drop};
+ghost use Prim.Native.Nat.{_+_, _-_, _*_};
+ghost use lib.ListN.{length, getD, take, drop};
 ghost use Rattle.policy.specs.Basics.{unle};
 ghost use Rattle.policy.specs.Sound.{headAt};
 ghost use Rattle.table_reader.specs.Records.{rowAt, rowOf, headOf, startIn, lengthIn};
@@ -32,27 +32,35 @@ pub fn byte_at(table: &[u8], at: usize) -> u8
     if at < table.len() { table[at] } else { 0 }
 }
 
+// How many bytes a table has from a place on.
+fn bytes_from(table: &[u8], at: usize) -> usize
+    ensures { λ r. ⌜ r ≡ length (now (table .entry)) - at ⌝ }
+{
+    if at < table.len() {
+        table.len() - at
+    } else {
+        0
+    }
+}
+
 // The number in the two bytes at a place.
 pub fn u16_at(table: &[u8], at: usize) -> u16
     ensures { λ r. ⌜ r ≡ unle (take 2 (drop at (now (table .entry)))) ⌝ }
 {
-    if table.len() <= at {
-        return 0;
+    if bytes_from(table, at) < 2 {
+        return byte_at(table, at) as u16;
     }
-    byte_at(table, at) as u16 + 256 * (byte_at(table, at + 1) as u16)
+    little_endian::get2(table, at) as u16
 }
 
 // The number in the four bytes at a place.
 pub fn u32_at(table: &[u8], at: usize) -> u32
     ensures { λ r. ⌜ r ≡ unle (take 4 (drop at (now (table .entry)))) ⌝ }
 {
-    if table.len() <= at {
-        return 0;
+    if bytes_from(table, at) < 4 {
+        return little_endian::number(bitset::part(table, at, 4)) as u32;
     }
-    if table.len() - at <= 2 {
-        return u16_at(table, at) as u32;
-    }
-    u16_at(table, at) as u32 + 65536 * (u16_at(table, at + 2) as u32)
+    little_endian::get4(table, at) as u32
 }
 
 // The constraint of this number, where the constraints of 10 bytes start at `start`.

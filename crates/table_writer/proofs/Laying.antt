@@ -1,12 +1,11 @@
 -- Bytes that are put one behind the other are put together; the header is laid so, pair by pair. Assumes nothing.
 use mathlib.Core.Path.{_≡_, sym, ap, ap₂, subst, _∙_}
 use mathlib.Core.List.{List, [], _∷_, _++_, append-assoc}
-use Prim.Native.Nat.{ℕ, suc, _+_, _-_, _/_, _%_, _≤_, _<_}
+use Prim.Native.Nat.{ℕ, _+_, _-_, _≤_, _<_}
 use native.Mathlib.Omega.{arith}
-use lib.ListN.{length, set, length-append}
-use lib.Seq.{sets}
+use lib.ListN.{length, length-append}
 use Rattle.bitset.specs.Parts.{put}
-use Rattle.bitset.proofs.PartLaws.{put-none, length-put, put-put, sets-put}
+use Rattle.bitset.proofs.PartLaws.{put-none, length-put, put-then}
 use Rattle.policy.specs.Basics.{le}
 use Rattle.policy.specs.Encode.{pairs}
 use Rattle.table_laws.proofs.LittleEndian.{le-length}
@@ -20,28 +19,11 @@ puts-then {t} {u} {v} {us} {vs} {o} {q} f g e = record {
       let room : o + length us ≤ length t = omega arith in
       let first : u ≡ put t o us = f .written room in
       let long : length u ≡ length t = ap length first ∙ length-put t o us room in
-      g .written (omega arith) ∙ ap₂ (λ (x : List ℕ) (n : ℕ). put x n vs) first e ∙ put-put t o us vs room;
+      put-then t o us vs room first e (g .written (omega arith));
 }
 
 pub puts-same : {t u us vs : List ℕ} {o : ℕ} → us ≡ vs → Puts us t o u → Puts vs t o u
 puts-same {t} {u} {us} {vs} {o} e f = subst (λ (xs : List ℕ). Puts xs t o u) e f
-
--- four stores
-four-stores : (t : List ℕ) (o a b c d : ℕ) → set (set (set (set t o a) (o + 1) b) (o + 2) c) (o + 3) d ≡ sets t o (a ∷ b ∷ c ∷ d ∷ [])
-four-stores t o a b c d =
-    let e1 : o + 1 ≡ suc o = omega arith in
-    let e2 : o + 2 ≡ suc (suc o) = omega arith in
-    let e3 : o + 3 ≡ suc (suc (suc o)) = omega arith in
-    rw (e1, e2, e3)
-
-pub four-bytes : (t : List ℕ) (o n : ℕ)
-    → Puts (le 4 n) t o (set (set (set (set t o (n % 256)) (o + 1) (n / 256 % 256)) (o + 2) (n / 256 / 256 % 256)) (o + 3) (n / 256 / 256 / 256 % 256))
-unfolding le
-four-bytes t o n = record {
-  written = λ h.
-      four-stores t o (n % 256) (n / 256 % 256) (n / 256 / 256 % 256) (n / 256 / 256 / 256 % 256)
-      ∙ sets-put t o (le 4 n) h;
-}
 
 -- no room
 pub no-room : {bytes t : List ℕ} {o : ℕ} → length t < o + length bytes → Puts bytes t o t

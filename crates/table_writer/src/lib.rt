@@ -114,10 +114,7 @@ fn put_u32(table: &mut [u8], at: usize, n: usize)
     if table.len() - 4 < at {
         return;
     }
-    table[at] = (n % 256) as u8;
-    table[at + 1] = (n / 256 % 256) as u8;
-    table[at + 2] = (n / 256 / 256 % 256) as u8;
-    table[at + 3] = (n / 256 / 256 / 256 % 256) as u8;
+    little_endian::put4(table, at, n);
 }
 
 // Writes the offset and the length of a body.

@@ -2,13 +2,12 @@
 use mathlib.Core.Path.{_≡_, refl, sym, ap, ap₂, _∙_}
 use mathlib.Core.Bool.{Bool, true, false, _&&_, cond}
 use mathlib.Core.List.{List, [], _∷_}
-use Prim.Native.Nat.{ℕ, zero, suc, _+_}
-use native.Mathlib.Nat.{zero-add}
+use Prim.Native.Nat.{ℕ, zero, suc, _+_, _≤_}
 use native.Mathlib.Omega.{arith}
 use borrow.Author.Tests.{eqb-true, eq-eqb, ltb-true}
 use lib.Dec.{eqb, ltb}
-use lib.ListN.{length, getD, take, drop}
-use Rattle.lexer.proofs.Marks.{tabulate}
+use lib.ListN.{length, take, drop, length-drop, drop-of-length-le}
+use lib.Seq.{take-all}
 use Rattle.policy.specs.Basics.{Name, same, every, unle}
 use Rattle.policy.specs.Words.{reserved}
 use Rattle.policy.proofs.Lists.{both-true, same-is}
@@ -59,22 +58,17 @@ pub by-keys : (w : Name) → Small w → numberBy (length w) (unle (take 8 w)) (
 unfolding every reserved keywords words numberOf numberBy
 by-keys w s = among words w 1 s refl
 
--- a word, letter by letter
-spelled : (w : Name) (f : ℕ → ℕ) (at : ℕ) → ((i : ℕ) → f (at + i) ≡ getD w i 0) → w ≡ tabulate f at (length w)
-spelled [] f at e = refl
-spelled (x ∷ w) f at e =
-    ap₂ (λ (c : ℕ) (r : Name). c ∷ r)
-    (sym (e 0) ∙ ap f (omega arith))
-    (spelled w f (suc at) (λ i. ap f (let d : suc at + i ≡ at + suc i = omega arith in d) ∙ e (suc i)))
+-- a word of at most eight letters
+pub short : (w : Name) (n low : ℕ) → length w ≡ n → n ≤ 8 → Small w → low ≡ unle (take n w) → numberBy n low 0 ≡ numberOf w
+unfolding unle
+short w n low l h s e =
+    let all : unle (take n w) ≡ unle (take 8 w) = ap unle (take-all n w (omega arith) ∙ sym (take-all 8 w (omega arith))) in
+    let none : unle (drop 8 w) ≡ 0 = ap unle (drop-of-length-le w {i = 8} (omega arith)) in
+    ap (λ (k : ℕ). numberBy k low 0) (sym l) ∙ ap₂ (numberBy (length w)) (e ∙ all) (sym none) ∙ by-keys w s
 
-module _ (w : Name) (n low high : ℕ) where
-  abbrev letters : Name
-  letters = tabulate (λ i. getD w i 0) 0 n
-
-  -- the number of a word of the length n, where the two numbers are given by its letters
-  pub number-by : length w ≡ n → Small w → low ≡ unle (take 8 letters) → high ≡ unle (drop 8 letters) → numberBy n low high ≡ numberOf w
-  number-by l s a b =
-      let e : w ≡ letters = spelled w (λ i. getD w i 0) 0 (λ i. rw zero-add) ∙ ap (λ (k : ℕ). tabulate (λ i. getD w i 0) 0 k) l in
-      let c : low ≡ unle (take 8 w) = a ∙ sym (ap (λ (v : Name). unle (take 8 v)) e) in
-      let d : high ≡ unle (drop 8 w) = b ∙ sym (ap (λ (v : Name). unle (drop 8 v)) e) in
-      rw (← l, c, d) (by-keys w s)
+-- a word of eight letters and n behind them
+pub long : (w : Name) (n low high : ℕ) → length w ≡ 8 + n → Small w → low ≡ unle (take 8 w) → high ≡ unle (take n (drop 8 w))
+    → numberBy (8 + n) low high ≡ numberOf w
+long w n low high l s e f =
+    let all : take n (drop 8 w) ≡ drop 8 w = take-all n (drop 8 w) (omega (arith, length-drop 8 w)) in
+    ap (λ (k : ℕ). numberBy k low high) (sym l) ∙ ap₂ (numberBy (length w)) e (f ∙ ap unle all) ∙ by-keys w s

@@ -1,32 +1,13 @@
 -- A word by its length and two numbers, little endian: that of its first eight letters and that of the letters behind them. Words of bytes are the same if
 -- and only if these are, so the numbers may be compared in place of the letters. Assumes nothing.
-use Prim.Native.Nat.{ℕ, _+_, _*_}
+use Prim.Native.Nat.{ℕ, _+_}
 use mathlib.Core.Bool.{_&&_, cond}
 use mathlib.Core.List.{List, [], _∷_}
 use lib.Dec.{eqb}
-use lib.ListN.{length, getD, take, drop}
+use lib.ListN.{length, take, drop}
 use Rattle.policy.specs.Basics.{Name, unle}
 use Rattle.policy.specs.Words.{reserved}
 use Rattle.words.specs.Numbers.{keywords, words}
-
--- the letters of w from a place on, as a number: two, three, four, five, six and eight of them
-abbrev pub twoAt : Name → ℕ → ℕ
-twoAt w at = getD w at 0 + 256 * getD w (at + 1) 0
-
-abbrev pub threeAt : Name → ℕ → ℕ
-threeAt w at = twoAt w at + 65536 * getD w (at + 2) 0
-
-abbrev pub fourAt : Name → ℕ → ℕ
-fourAt w at = twoAt w at + 65536 * twoAt w (at + 2)
-
-abbrev pub fiveAt : Name → ℕ → ℕ
-fiveAt w at = fourAt w at + 4294967296 * getD w (at + 4) 0
-
-abbrev pub sixAt : Name → ℕ → ℕ
-sixAt w at = fourAt w at + 4294967296 * twoAt w (at + 4)
-
-abbrev pub eightAt : Name → ℕ → ℕ
-eightAt w at = fourAt w at + 4294967296 * fourAt w (at + 4)
 
 -- the same as numberIn of specs/Numbers, by the length and the two numbers
 unfoldable pub numberAmong : List Name → ℕ → ℕ → ℕ → ℕ → ℕ

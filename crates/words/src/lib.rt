@@ -1,12 +1,17 @@
 // The keywords and the reserved words, by their numbers; and which words may be names.
+use little_endian::FOUR_ON;
+use little_endian::get2;
+use little_endian::get4;
+use little_endian::get8;
+use little_endian::wide;
 ghost use mathlib.Core.Path.{_≡_};
 ghost use Prim.Native.Nat.{_≤_, _<_, _+_};
 ghost use lib.ListN.{length, take, drop};
-ghost use Rattle.policy.specs.Basics.{isIn};
+ghost use Rattle.policy.specs.Basics.{isIn, unle};
 ghost use Rattle.policy.specs.Words.{reserved, isReserved, dotless};
 ghost use Rattle.words.specs.Numbers.{numberOf, mayBe};
 ghost use Rattle.words.specs.Parts.{partEnd};
-ghost use Rattle.words.specs.Keys.{twoAt, threeAt, fourAt, fiveAt, sixAt, eightAt, numberBy};
+ghost use Rattle.words.specs.Keys.{numberBy};
 
 // The number of a word: its place in the table of words, from 1.
 pub struct Word;
@@ -107,166 +112,151 @@ pub enum NameKind {
 struct Letters;
 
 impl Letters {
-    // What a number is multiplied by if its letters stand behind four others.
-    const FOUR_ON: u64 = 4_294_967_296;
-
     // Up to four letters.
-    const OR: u64 = b'o' as u64 + 256 * (b'r' as u64);
+    const OR: usize = b'o' as usize + 256 * (b'r' as usize);
 
-    const EQ: u64 = b'e' as u64 + 256 * (b'q' as u64);
+    const EQ: usize = b'e' as usize + 256 * (b'q' as usize);
 
-    const U1: u64 = b'u' as u64 + 256 * (b'1' as u64);
+    const U1: usize = b'u' as usize + 256 * (b'1' as usize);
 
-    const U2: u64 = b'u' as u64 + 256 * (b'2' as u64);
+    const U2: usize = b'u' as usize + 256 * (b'2' as usize);
 
-    const U3: u64 = b'u' as u64 + 256 * (b'3' as u64);
+    const U3: usize = b'u' as usize + 256 * (b'3' as usize);
 
-    const R1: u64 = b'r' as u64 + 256 * (b'1' as u64);
+    const R1: usize = b'r' as usize + 256 * (b'1' as usize);
 
-    const R2: u64 = b'r' as u64 + 256 * (b'2' as u64);
+    const R2: usize = b'r' as usize + 256 * (b'2' as usize);
 
-    const R3: u64 = b'r' as u64 + 256 * (b'3' as u64);
+    const R3: usize = b'r' as usize + 256 * (b'3' as usize);
 
-    const T1: u64 = b't' as u64 + 256 * (b'1' as u64);
+    const T1: usize = b't' as usize + 256 * (b'1' as usize);
 
-    const T2: u64 = b't' as u64 + 256 * (b'2' as u64);
+    const T2: usize = b't' as usize + 256 * (b'2' as usize);
 
-    const T3: u64 = b't' as u64 + 256 * (b'3' as u64);
+    const T3: usize = b't' as usize + 256 * (b'3' as usize);
 
-    const L1: u64 = b'l' as u64 + 256 * (b'1' as u64);
+    const L1: usize = b'l' as usize + 256 * (b'1' as usize);
 
-    const L2: u64 = b'l' as u64 + 256 * (b'2' as u64);
+    const L2: usize = b'l' as usize + 256 * (b'2' as usize);
 
-    const H1: u64 = b'h' as u64 + 256 * (b'1' as u64);
+    const H1: usize = b'h' as usize + 256 * (b'1' as usize);
 
-    const H2: u64 = b'h' as u64 + 256 * (b'2' as u64);
+    const H2: usize = b'h' as usize + 256 * (b'2' as usize);
 
-    const ALL: u64 = b'a' as u64 + 256 * (b'l' as u64 + 256 * (b'l' as u64));
+    const ALL: usize = b'a' as usize + 256 * (b'l' as usize + 256 * (b'l' as usize));
 
-    const AND: u64 = b'a' as u64 + 256 * (b'n' as u64 + 256 * (b'd' as u64));
+    const AND: usize = b'a' as usize + 256 * (b'n' as usize + 256 * (b'd' as usize));
 
-    const XOR: u64 = b'x' as u64 + 256 * (b'o' as u64 + 256 * (b'r' as u64));
+    const XOR: usize = b'x' as usize + 256 * (b'o' as usize + 256 * (b'r' as usize));
 
-    const NOT: u64 = b'n' as u64 + 256 * (b'o' as u64 + 256 * (b't' as u64));
+    const NOT: usize = b'n' as usize + 256 * (b'o' as usize + 256 * (b't' as usize));
 
-    const NEQ: u64 = b'n' as u64 + 256 * (b'e' as u64 + 256 * (b'q' as u64));
+    const NEQ: usize = b'n' as usize + 256 * (b'e' as usize + 256 * (b'q' as usize));
 
-    const DOM: u64 = b'd' as u64 + 256 * (b'o' as u64 + 256 * (b'm' as u64));
+    const DOM: usize = b'd' as usize + 256 * (b'o' as usize + 256 * (b'm' as usize));
 
-    const USER: u64 = b'u' as u64 + 256 * (b's' as u64 + 256 * (b'e' as u64 + 256 * (b'r' as u64)));
+    const USER: usize = b'u' as usize
+        + 256 * (b's' as usize + 256 * (b'e' as usize + 256 * (b'r' as usize)));
 
-    const ROLE: u64 = b'r' as u64 + 256 * (b'o' as u64 + 256 * (b'l' as u64 + 256 * (b'e' as u64)));
+    const ROLE: usize = b'r' as usize
+        + 256 * (b'o' as usize + 256 * (b'l' as usize + 256 * (b'e' as usize)));
 
-    const TYPE: u64 = b't' as u64 + 256 * (b'y' as u64 + 256 * (b'p' as u64 + 256 * (b'e' as u64)));
+    const TYPE: usize = b't' as usize
+        + 256 * (b'y' as usize + 256 * (b'p' as usize + 256 * (b'e' as usize)));
 
-    const DOMB: u64 = b'd' as u64 + 256 * (b'o' as u64 + 256 * (b'm' as u64 + 256 * (b'b' as u64)));
+    const DOMB: usize = b'd' as usize
+        + 256 * (b'o' as usize + 256 * (b'm' as usize + 256 * (b'b' as usize)));
 
-    const CLAS: u64 = b'c' as u64 + 256 * (b'l' as u64 + 256 * (b'a' as u64 + 256 * (b's' as u64)));
+    const CLAS: usize = b'c' as usize
+        + 256 * (b'l' as usize + 256 * (b'a' as usize + 256 * (b's' as usize)));
 
-    const BLOC: u64 = b'b' as u64 + 256 * (b'l' as u64 + 256 * (b'o' as u64 + 256 * (b'c' as u64)));
+    const BLOC: usize = b'b' as usize
+        + 256 * (b'l' as usize + 256 * (b'o' as usize + 256 * (b'c' as usize)));
 
-    const INCO: u64 = b'i' as u64 + 256 * (b'n' as u64 + 256 * (b'c' as u64 + 256 * (b'o' as u64)));
+    const INCO: usize = b'i' as usize
+        + 256 * (b'n' as usize + 256 * (b'c' as usize + 256 * (b'o' as usize)));
 
-    const ATTR: u64 = b'a' as u64 + 256 * (b't' as u64 + 256 * (b't' as u64 + 256 * (b'r' as u64)));
+    const ATTR: usize = b'a' as usize
+        + 256 * (b't' as usize + 256 * (b't' as usize + 256 * (b'r' as usize)));
 
-    const IBUT: u64 = b'i' as u64 + 256 * (b'b' as u64 + 256 * (b'u' as u64 + 256 * (b't' as u64)));
+    const IBUT: usize = b'i' as usize
+        + 256 * (b'b' as usize + 256 * (b'u' as usize + 256 * (b't' as usize)));
 
-    const ALLO: u64 = b'a' as u64 + 256 * (b'l' as u64 + 256 * (b'l' as u64 + 256 * (b'o' as u64)));
+    const ALLO: usize = b'a' as usize
+        + 256 * (b'l' as usize + 256 * (b'l' as usize + 256 * (b'o' as usize)));
 
-    const CONS: u64 = b'c' as u64 + 256 * (b'o' as u64 + 256 * (b'n' as u64 + 256 * (b's' as u64)));
+    const CONS: usize = b'c' as usize
+        + 256 * (b'o' as usize + 256 * (b'n' as usize + 256 * (b's' as usize)));
 
-    const TRAI: u64 = b't' as u64 + 256 * (b'r' as u64 + 256 * (b'a' as u64 + 256 * (b'i' as u64)));
+    const TRAI: usize = b't' as usize
+        + 256 * (b'r' as usize + 256 * (b'a' as usize + 256 * (b'i' as usize)));
 
-    const TRAN: u64 = b't' as u64 + 256 * (b'r' as u64 + 256 * (b'a' as u64 + 256 * (b'n' as u64)));
+    const TRAN: usize = b't' as usize
+        + 256 * (b'r' as usize + 256 * (b'a' as usize + 256 * (b'n' as usize)));
 
-    const SITI: u64 = b's' as u64 + 256 * (b'i' as u64 + 256 * (b't' as u64 + 256 * (b'i' as u64)));
+    const SITI: usize = b's' as usize
+        + 256 * (b'i' as usize + 256 * (b't' as usize + 256 * (b'i' as usize)));
 
-    const ESET: u64 = b'e' as u64 + 256 * (b's' as u64 + 256 * (b'e' as u64 + 256 * (b't' as u64)));
+    const ESET: usize = b'e' as usize
+        + 256 * (b's' as usize + 256 * (b'e' as usize + 256 * (b't' as usize)));
 
     // More letters: four, and those behind them.
-    const DOMBY: u64 = Letters::DOMB + Letters::FOUR_ON * (b'y' as u64);
+    const DOMBY: usize = Letters::DOMB + FOUR_ON * (b'y' as usize);
 
-    const CLASS: u64 = Letters::CLAS + Letters::FOUR_ON * (b's' as u64);
+    const CLASS: usize = Letters::CLAS + FOUR_ON * (b's' as usize);
 
-    const BLOCK: u64 = Letters::BLOC + Letters::FOUR_ON * (b'k' as u64);
+    const BLOCK: usize = Letters::BLOC + FOUR_ON * (b'k' as usize);
 
-    const INCOMP: u64 = Letters::INCO + Letters::FOUR_ON * (b'm' as u64 + 256 * (b'p' as u64));
+    const INCOMP: usize = Letters::INCO + FOUR_ON * (b'm' as usize + 256 * (b'p' as usize));
 
-    const USERROLE: u64 = Letters::USER + Letters::FOUR_ON * Letters::ROLE;
+    const USERROLE: usize = Letters::USER + FOUR_ON * Letters::ROLE;
 
-    const ROLETYPE: u64 = Letters::ROLE + Letters::FOUR_ON * Letters::TYPE;
+    const ROLETYPE: usize = Letters::ROLE + FOUR_ON * Letters::TYPE;
 
-    const ROLEALLO: u64 = Letters::ROLE + Letters::FOUR_ON * Letters::ALLO;
+    const ROLEALLO: usize = Letters::ROLE + FOUR_ON * Letters::ALLO;
 
-    const CONSTRAI: u64 = Letters::CONS + Letters::FOUR_ON * Letters::TRAI;
+    const CONSTRAI: usize = Letters::CONS + FOUR_ON * Letters::TRAI;
 
-    const USERATTR: u64 = Letters::USER + Letters::FOUR_ON * Letters::ATTR;
+    const USERATTR: usize = Letters::USER + FOUR_ON * Letters::ATTR;
 
-    const ROLEATTR: u64 = Letters::ROLE + Letters::FOUR_ON * Letters::ATTR;
+    const ROLEATTR: usize = Letters::ROLE + FOUR_ON * Letters::ATTR;
 
-    const TYPEATTR: u64 = Letters::TYPE + Letters::FOUR_ON * Letters::ATTR;
+    const TYPEATTR: usize = Letters::TYPE + FOUR_ON * Letters::ATTR;
 
-    const ROLETRAN: u64 = Letters::ROLE + Letters::FOUR_ON * Letters::TRAN;
+    const ROLETRAN: usize = Letters::ROLE + FOUR_ON * Letters::TRAN;
 
-    const IBUTE: u64 = Letters::IBUT + Letters::FOUR_ON * (b'e' as u64);
+    const IBUTE: usize = Letters::IBUT + FOUR_ON * (b'e' as usize);
 
-    const IBUTESET: u64 = Letters::IBUT + Letters::FOUR_ON * Letters::ESET;
+    const IBUTESET: usize = Letters::IBUT + FOUR_ON * Letters::ESET;
 
-    const SITION: u64 = Letters::SITI + Letters::FOUR_ON * (b'o' as u64 + 256 * (b'n' as u64));
+    const SITION: usize = Letters::SITI + FOUR_ON * (b'o' as usize + 256 * (b'n' as usize));
 }
 
-fn wide(x: u8) -> u64
-    ensures { λ r. ⌜ (r ≡ x) × (r < 256) ⌝ }
-{
-    x as u64
-}
-
-// The two letters of w from a place on, as a number; below the same for three letters and more.
-fn two(w: &[u8], at: usize) -> u64
-    requires { ⌜ at + 2 ≤ length (now w) ⌝ }
-    ensures { λ r. ⌜ (r ≡ twoAt (now (w .entry)) at) × (r < 65536) ⌝ }
-{
-    wide(w[at]) + 256 * wide(w[at + 1])
-}
-
-fn three(w: &[u8], at: usize) -> u64
+// The number of three letters of w from a place on; below the same for five and six.
+fn three(w: &[u8], at: usize) -> usize
     requires { ⌜ at + 3 ≤ length (now w) ⌝ }
-    ensures { λ r. ⌜ r ≡ threeAt (now (w .entry)) at ⌝ }
+    ensures { λ r. ⌜ r ≡ unle (take 3 (drop at (now (w .entry)))) ⌝ }
 {
-    two(w, at) + 65_536 * wide(w[at + 2])
+    get2(w, at) + 65_536 * wide(w[at + 2])
 }
 
-fn four(w: &[u8], at: usize) -> u64
-    requires { ⌜ at + 4 ≤ length (now w) ⌝ }
-    ensures { λ r. ⌜ (r ≡ fourAt (now (w .entry)) at) × (r < 4294967296) ⌝ }
-{
-    two(w, at) + 65_536 * two(w, at + 2)
-}
-
-fn five(w: &[u8], at: usize) -> u64
+fn five(w: &[u8], at: usize) -> usize
     requires { ⌜ at + 5 ≤ length (now w) ⌝ }
-    ensures { λ r. ⌜ r ≡ fiveAt (now (w .entry)) at ⌝ }
+    ensures { λ r. ⌜ r ≡ unle (take 5 (drop at (now (w .entry)))) ⌝ }
 {
-    four(w, at) + Letters::FOUR_ON * wide(w[at + 4])
+    get4(w, at) + FOUR_ON * wide(w[at + 4])
 }
 
-fn six(w: &[u8], at: usize) -> u64
+fn six(w: &[u8], at: usize) -> usize
     requires { ⌜ at + 6 ≤ length (now w) ⌝ }
-    ensures { λ r. ⌜ r ≡ sixAt (now (w .entry)) at ⌝ }
+    ensures { λ r. ⌜ r ≡ unle (take 6 (drop at (now (w .entry)))) ⌝ }
 {
-    four(w, at) + Letters::FOUR_ON * two(w, at + 4)
-}
-
-fn eight(w: &[u8], at: usize) -> u64
-    requires { ⌜ at + 8 ≤ length (now w) ⌝ }
-    ensures { λ r. ⌜ r ≡ eightAt (now (w .entry)) at ⌝ }
-{
-    four(w, at) + Letters::FOUR_ON * four(w, at + 4)
+    get4(w, at) + FOUR_ON * get2(w, at + 4)
 }
 
 // The number of a word of two letters; below those of the other lengths. `low` is the number of the first eight letters, `high` that of the letters behind
 // them.
-fn of_two(low: u64) -> usize
+fn of_two(low: usize) -> usize
     ensures { λ r. ⌜ r ≡ numberBy 2 low 0 ⌝ }
 {
     match low {
@@ -289,7 +279,7 @@ fn of_two(low: u64) -> usize
     }
 }
 
-fn of_three(low: u64) -> usize
+fn of_three(low: usize) -> usize
     ensures { λ r. ⌜ r ≡ numberBy 3 low 0 ⌝ }
 {
     match low {
@@ -303,7 +293,7 @@ fn of_three(low: u64) -> usize
     }
 }
 
-fn of_four(low: u64) -> usize
+fn of_four(low: usize) -> usize
     ensures { λ r. ⌜ r ≡ numberBy 4 low 0 ⌝ }
 {
     match low {
@@ -314,7 +304,7 @@ fn of_four(low: u64) -> usize
     }
 }
 
-fn of_five(low: u64) -> usize
+fn of_five(low: usize) -> usize
     ensures { λ r. ⌜ r ≡ numberBy 5 low 0 ⌝ }
 {
     match low {
@@ -325,7 +315,7 @@ fn of_five(low: u64) -> usize
     }
 }
 
-fn of_six(low: u64) -> usize
+fn of_six(low: usize) -> usize
     ensures { λ r. ⌜ r ≡ numberBy 6 low 0 ⌝ }
 {
     if low == Letters::INCOMP {
@@ -335,7 +325,7 @@ fn of_six(low: u64) -> usize
     }
 }
 
-fn of_eight(low: u64) -> usize
+fn of_eight(low: usize) -> usize
     ensures { λ r. ⌜ r ≡ numberBy 8 low 0 ⌝ }
 {
     match low {
@@ -345,7 +335,7 @@ fn of_eight(low: u64) -> usize
     }
 }
 
-fn of_nine(low: u64, last: u8) -> usize
+fn of_nine(low: usize, last: u8) -> usize
     ensures { λ r. ⌜ r ≡ numberBy 9 low last ⌝ }
 {
     match last {
@@ -363,7 +353,7 @@ fn of_nine(low: u64, last: u8) -> usize
     }
 }
 
-fn of_thirteen(low: u64, high: u64) -> usize
+fn of_thirteen(low: usize, high: usize) -> usize
     ensures { λ r. ⌜ r ≡ numberBy 13 low high ⌝ }
 {
     if high != Letters::IBUTE {
@@ -377,7 +367,7 @@ fn of_thirteen(low: u64, high: u64) -> usize
     }
 }
 
-fn of_fourteen(low: u64, high: u64) -> usize
+fn of_fourteen(low: usize, high: usize) -> usize
     ensures { λ r. ⌜ r ≡ numberBy 14 low high ⌝ }
 {
     if high != Letters::SITION {
@@ -390,7 +380,7 @@ fn of_fourteen(low: u64, high: u64) -> usize
     }
 }
 
-fn of_sixteen(low: u64, high: u64) -> usize
+fn of_sixteen(low: usize, high: usize) -> usize
     ensures { λ r. ⌜ r ≡ numberBy 16 low high ⌝ }
 {
     if high != Letters::IBUTESET {
@@ -409,16 +399,16 @@ pub fn number_of(w: &[u8]) -> usize
     ensures { λ r. ⌜ r ≡ numberOf (now (w .entry)) ⌝ }
 {
     match w.len() {
-        2 => of_two(two(w, 0)),
+        2 => of_two(get2(w, 0)),
         3 => of_three(three(w, 0)),
-        4 => of_four(four(w, 0)),
+        4 => of_four(get4(w, 0)),
         5 => of_five(five(w, 0)),
         6 => of_six(six(w, 0)),
-        8 => of_eight(eight(w, 0)),
-        9 => of_nine(eight(w, 0), w[8]),
-        13 => of_thirteen(eight(w, 0), five(w, 8)),
-        14 => of_fourteen(eight(w, 0), six(w, 8)),
-        16 => of_sixteen(eight(w, 0), eight(w, 8)),
+        8 => of_eight(get8(w, 0)),
+        9 => of_nine(get8(w, 0), w[8]),
+        13 => of_thirteen(get8(w, 0), five(w, 8)),
+        14 => of_fourteen(get8(w, 0), six(w, 8)),
+        16 => of_sixteen(get8(w, 0), get8(w, 8)),
         _ => Word::OTHER,
     }
 }

@@ -23,7 +23,7 @@ loop-again c =
     let at-loop = c .before .before .before .before in
     let s = at-loop .before .before in (
       c .step .ensures .1,
-      rw (c .step .ensures .0, c .before .wide .ensures)
+      rw (c .step .ensures .0, c .before .wide .ensures .0)
           (sym (hash-next (s .args .name .now) (at-loop .loop .i) (at-loop .loop .hash) (omega arith)) ∙ at-loop .loop .inv .1),
     )
 

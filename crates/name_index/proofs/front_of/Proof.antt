@@ -1,51 +1,46 @@
 -- `name_index::front_of` meets its contract: the number of a name's first bytes, or that of the first four and of those behind them (Words). Assumes nothing.
-use Prim.Native.Nat.{_-_, _<_}
+use Prim.Native.Nat.{_-_, _≤_, _<_}
 use mathlib.Core.Path.{_∙_}
 use native.Mathlib.Omega.{arith}
 use borrow.Author.Needs.{needs}
-use lib.ListN.{length}
+use lib.ListN.{length, take, drop}
 use Rattle.bitset.specs.Parts.{part}
 use Rattle.bitset.proofs.PartLaws.{length-part-le}
-use Rattle.name_index.proofs.Words.{front-short, front-is, front-joins, front-rest-fits}
+use Rattle.little_endian.proofs.NumberLaws.{fits-more}
+use Rattle.name_index.proofs.Words.{front-short, front-is, front-joins}
 use Rattle.name_index.proofs.front_of.Statement.{statement}
 use Rattle.name_index.proofs.front_of.Tie as tie
 
 returns : tie.Need-returns
 returns c =
     let at-part = c .before .before in
-    c .number-in .ensures ∙ front-is (at-part .before .before .args .name .now) (at-part .part .result .now) (at-part .part .ensures)
+    c .number .ensures .0 ∙ front-is (at-part .before .before .args .name .now) (at-part .part .result .now) (at-part .part .ensures)
 
-number-in-requires-2 : tie.Need-number-in-requires-2
+-- behind the first four bytes there are at most four
+rest-short : (c : tie.After-part) → length (take (length (c .part .result .now) - 4) (drop 4 (c .part .result .now))) ≤ 4
 unfolding part
-number-in-requires-2 c κs =
-    let at-part = c .before .before .before in
-    let first = at-part .part .result .now in
-    let short = front-short (at-part .before .before .args .name .now) first (at-part .part .ensures) in
-    omega (arith, length-part-le first 4 (length first - 4), short)
+rest-short c =
+    let first = c .part .result .now in
+    omega (arith, length-part-le first 4 (length first - 4), front-short (c .before .before .args .name .now) first (c .part .ensures))
 
--- the bytes behind the first four are at most four
-rest-fits : (c : tie.After-number-in2) → c .number-in2 .result < 4294967296
-unfolding part
-rest-fits c =
-    let at-part = c .before .before .before .before in
-    let known = at-part .before in
-    let fits = front-rest-fits (known .before .args .name .now) (at-part .part .result .now) (at-part .part .ensures)
-    (λ i. known .shared-slice-known .given i .fits) in
-    omega (arith, fits, c .number-in2 .ensures)
+number-requires-2 : tie.Need-number-requires-2
+number-requires-2 c κs = omega (arith, rest-short (c .before .before .before))
+
+rest-fits : (c : tie.After-number2) → c .number2 .result < 4294967296
+rest-fits c = fits-more _ 4 _ (c .number2 .ensures .1) (rest-short (c .before .before .before .before))
 
 mul-result : tie.Need-mul-result
 mul-result c = omega (arith, rest-fits c)
 
 add-result : tie.Need-add-result
-add-result c = omega (arith, rest-fits c, c .before .before .four .ensures .1)
+add-result c = omega (arith, rest-fits c, c .before .before .get4 .ensures .1)
 
 returns-2 : tie.Need-returns-2
-unfolding part
 returns-2 c =
-    let at-four = c .before .before in
-    let at-part = at-four .before .before in
-    let joins = front-joins (at-part .before .before .args .name .now) (at-part .part .result .now) (at-part .part .ensures) (at-four .before .if1 .left) in
-    omega (arith, joins, at-four .four .ensures .0, c .number-in2 .ensures)
+    let at-get = c .before .before in
+    let at-part = at-get .before .before in
+    let joins = front-joins (at-part .before .before .args .name .now) (at-part .part .result .now) (at-part .part .ensures) (at-get .before .if1 .left) in
+    omega (arith, joins, at-get .get4 .ensures .0, c .number2 .ensures .0)
 
 pub front-of-spec : {M : Type 1} → statement M
 front-of-spec =
@@ -58,7 +53,7 @@ front-of-spec =
     (λ c. search needs)
     (λ c. search needs)
     (λ c. search needs)
-    number-in-requires-2
+    number-requires-2
     mul-result
     add-result
     returns-2)

@@ -1,17 +1,18 @@
--- `name_index::word` meets its contract: four bytes, and behind them four (Words). Assumes nothing.
+-- `name_index::word` meets its contract: four bytes, and behind them four. Assumes nothing.
 use Prim.Native.Nat.{_+_, _*_}
 use native.Mathlib.Omega.{arith}
 use borrow.Author.Needs.{needs}
+use Rattle.bitset.specs.Parts.{part}
+use Rattle.little_endian.proofs.WidthLaws.{unle-split}
 use Rattle.name_index.specs.Index.{wordIn}
-use Rattle.name_index.proofs.Words.{four-on}
 use Rattle.name_index.proofs.word.Statement.{statement}
 use Rattle.name_index.proofs.word.Tie as tie
 
 returns : tie.Need-returns
-unfolding wordIn
+unfolding wordIn part
 returns c =
-    let s = c .before .before .before in
-    omega (arith, four-on (s .args .symbols .now) (137088 + 8 * s .args .k) 8 (omega arith) (omega arith), c .before .four .ensures .0, c .four2 .ensures .0)
+    let a = c .before .before .before .args in
+    omega (arith, unle-split 4 4 (137088 + 8 * a .k) (a .symbols .now), c .before .get4 .ensures .0, c .get42 .ensures .0)
 
 pub word-spec : {M : Type 1} → statement M
 word-spec =

@@ -17,7 +17,7 @@ use Rattle.name_filter.proofs.step.Reads as step-reads
 use Rattle.name_spelling.proofs.read_part.Reads as read-part-reads
 use Rattle.name_spelling.proofs.starts_part.Reads as starts-part-reads
 use Rattle.name_spelling.proofs.unless_reserved.Reads as unless-reserved-reads
-use Rattle.name_spelling.proofs.wide.Reads as wide-reads
+use Rattle.little_endian.proofs.wide.Reads as wide-reads
 use Rattle.name_spelling.proofs.+spell_more.{statement}
 use Rattle.name_spelling.proofs.+spell_more.Tie.{close}
 

@@ -1,16 +1,13 @@
--- `symbols::append` meets its contract: the head's four stores and the copy of the name are one `put` of the entry's bytes (AppendLaws).
--- Assumes nothing.
-use Rattle.symbols.proofs.PartLaws.{part-whole}
-use Rattle.symbols.proofs.AppendLaws.{appended}
-use lib.ListN.{length-set}
-use native.Mathlib.Omega.{arith}
-use lib.ListN.{length}
-use mathlib.Core.Path.{_≡_, sym, ap, subst, _∙_}
+-- `symbols::append` meets its contract: the head and the copy of the name are one `put` of the entry's bytes (AppendLaws). Assumes nothing.
+use mathlib.Core.Path.{_≡_, sym, subst}
 use mathlib.Core.List.{List}
-use Prim.Native.Nat.{ℕ, _≤_}
-use Rattle.bitset.specs.Parts.{part, put}
-use Rattle.bitset.proofs.PartLaws.{length-part-le, length-put}
+use Prim.Native.Nat.{ℕ, _+_, _≤_}
+use native.Mathlib.Omega.{arith}
 use borrow.Author.Needs.{needs}
+use lib.ListN.{length, length-set}
+use Rattle.bitset.specs.Parts.{part}
+use Rattle.bitset.proofs.PartLaws.{length-part-le}
+use Rattle.symbols.proofs.AppendLaws.{long-begun, long-headed, long-appended, appended}
 use Rattle.symbols.proofs.append.Statement.{statement}
 use Rattle.symbols.proofs.append.Tie as tie
 
@@ -18,87 +15,70 @@ use Rattle.symbols.proofs.append.Tie as tie
 short : (w x : List ℕ) (o n : ℕ) → w ≡ part x o n → length w ≤ n
 short w x o n e = subst (λ (v : List ℕ). length v ≤ n) (sym e) (length-part-le x o n)
 
-part-requires : tie.Need-part-requires
-part-requires c κs = search needs
+-- so there is room for it
+room : (c : tie.After-part)
+    → c .before .before .before .args .end + 4 + length (c .part .result .now) ≤ length (c .before .before .before .args .table .now)
+room c =
+    let s = c .before .before .before in
+    omega (arith, short _ (s .args .text .now) (s .args .from) (s .args .len) (c .part .ensures), s .pre .room)
 
-cast-table : tie.Need-cast-table
-cast-table c = search needs
-
-slice-write-table : tie.Need-slice-write-table
-slice-write-table c = search needs
+put2-requires : tie.Need-put2-requires
+put2-requires c κs = simp length-set (omega arith)
 
 cast-table-2 : tie.Need-cast-table-2
-cast-table-2 c = search needs
-
-add-table : tie.Need-add-table
-add-table c = search needs
+cast-table-2 c =
+    let at-part = c .before .before .before .before in
+    let a = at-part .before .before .before .args in
+    omega (arith, short _ (a .text .now) (a .from) (a .len) (at-part .part .ensures))
 
 slice-write-table-2 : tie.Need-slice-write-table-2
-slice-write-table-2 c = simp length-set (omega arith)
-
-cast-table-3 : tie.Need-cast-table-3
-cast-table-3 c = search needs
-
-add-table-2 : tie.Need-add-table-2
-add-table-2 c = search needs
-
-slice-write-table-3 : tie.Need-slice-write-table-3
-slice-write-table-3 c = simp length-set (omega arith)
-
-cast-table-4 : tie.Need-cast-table-4
-cast-table-4 c =
-    let s = c .before .before .before in
-    omega (arith, short _ (s .args .text .now) (s .args .from) (s .args .len) (c .part .ensures))
-
-add-table-3 : tie.Need-add-table-3
-add-table-3 c = search needs
-
-slice-write-table-4 : tie.Need-slice-write-table-4
-slice-write-table-4 c = simp length-set (omega arith)
-
-add-copy : tie.Need-add-copy
-add-copy c = search needs
+slice-write-table-2 c =
+    let at-put = c .before .before in
+    let at-part = at-put .before .before in
+    let a = at-part .before .before .before .args in
+    omega (arith, long-begun (a .table .now) (a .end) (a .sort) (a .number) (at-part .part .result .now) (room at-part) _ (at-put .put2 .ensures))
 
 copy-requires : tie.Need-copy-requires
 copy-requires c κs =
-    let s = c .before .before .before .before in
-    (simp length-set (omega (arith, short _ (s .args .text .now) (s .args .from) (s .args .len) (c .before .part .ensures))), omega arith)
-
-add-result : tie.Need-add-result
-add-result c = search needs
-
-add-result-2 : tie.Need-add-result-2
-add-result-2 c = search needs
+    let at-put = c .before .before .before in
+    let at-part = at-put .before .before in
+    let a = at-part .before .before .before .args in
+    let fits = room at-part in
+    (omega (arith, fits, long-headed (a .table .now) (a .end) (a .sort) (a .number) (at-part .part .result .now) fits _ (at-put .put2 .ensures)), omega arith)
 
 same-length : tie.Need-same-length
 same-length c =
-    let s = c .before .before .before .before .before .before .before in
-    ap length (c .before .before .copy .ensures ∙ ap (put _ _) (part-whole _)) ∙ length-put _ _ _ (simp length-set (omega (arith, short _ (s .args .text .now) (s .args .from) (s .args .len) (c .before .before .before .before .part .ensures)))) ∙ simp length-set
+    let at-copy = c .before .before in
+    let at-put = at-copy .before .before .before .before in
+    let at-part = at-put .before .before in
+    let a = at-part .before .before .before .args in
+    long-appended (a .table .now) (a .end) (a .sort) (a .number) (at-part .part .result .now) (room at-part) _ (at-put .put2 .ensures) _
+    (at-copy .copy .ensures)
 
 returns : tie.Need-returns
 returns c =
-    let s = c .before .before .before .before .before .before .before in
-    appended (s .args .table .now) (s .args .end) (s .args .sort) (s .args .number) _ (omega (arith, short _ (s .args .text .now) (s .args .from) (s .args .len) (c .before .before .before .before .part .ensures))) _ (c .before .before .copy .ensures) _ (c .before .before .before .before .part .ensures)
+    let at-copy = c .before .before in
+    let at-put = at-copy .before .before .before .before in
+    let at-part = at-put .before .before in
+    let a = at-part .before .before .before .args in
+    appended (a .table .now) (a .end) (a .sort) (a .number) (at-part .part .result .now) (room at-part) _ (at-put .put2 .ensures) _
+    (at-copy .copy .ensures) _ (at-part .part .ensures)
 
 pub append-spec : {M : Type 1} → statement M
 append-spec =
     tie.close
     (tie.spec
-    part-requires
-    cast-table
-    slice-write-table
+    (λ c κs. search needs)
+    (λ c. search needs)
+    (λ c. search needs)
+    (λ c. search needs)
+    put2-requires
     cast-table-2
-    add-table
+    (λ c. search needs)
     slice-write-table-2
-    cast-table-3
-    add-table-2
-    slice-write-table-3
-    cast-table-4
-    add-table-3
-    slice-write-table-4
-    add-copy
+    (λ c. search needs)
     copy-requires
-    add-result
-    add-result-2
+    (λ c. search needs)
+    (λ c. search needs)
     same-length
     returns)

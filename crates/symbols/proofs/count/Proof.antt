@@ -23,11 +23,11 @@ abbrev μ-loop : tie.MeasureT-loop
 loop-holds : tie.Need-loop-holds Inv-loop μ-loop
 loop-holds c =
     let s = c .before .before .before in
-    let same = begins (s .args .table .now) (s .args .end) _ (c .before .lesser .ensures) (s .args .start) _ (c .lesser2 .ensures) in
-    (omega arith, omega (arith, c .lesser2 .ensures), zero-add _ ∙ ap (λ (x : Section). countSort (s .args .sort) (entriesRead x)) same)
+    let same = begins (s .args .table .now) (s .args .end) _ (c .before .least .ensures) (s .args .start) _ (c .least2 .ensures) in
+    (omega arith, omega (arith, c .least2 .ensures), zero-add _ ∙ ap (λ (x : Section). countSort (s .args .sort) (entriesRead x)) same)
 
 entry-at-requires : tie.Need-entry-at-requires Inv-loop μ-loop
-entry-at-requires c κs = (c .loop .inv .1, omega (arith, c .before .before .lesser .ensures))
+entry-at-requires c κs = (c .loop .inv .1, omega (arith, c .before .before .least .ensures))
 
 loop-less : tie.Need-loop-less Inv-loop μ-loop
 loop-less c =

@@ -5,17 +5,17 @@ use Rattle.symbols.proofs.LookLaws.{stands, none-past}
 use Rattle.symbols.proofs.look.Statement.{statement}
 use Rattle.symbols.proofs.look.Tie as tie
 
-lesser-requires : tie.Need-lesser-requires
-lesser-requires c κs = search needs
+least-requires : tie.Need-least-requires
+least-requires c κs = search needs
 
 returns : tie.Need-returns
-returns c = none-past _ _ _ (c .before .lesser .ensures) _ (c .if1 .taken)
+returns c = none-past _ _ _ (c .before .least .ensures) _ (c .if1 .taken)
 
 entry-at-requires : tie.Need-entry-at-requires
-entry-at-requires c κs = (c .if1 .left, omega (arith, c .before .lesser .ensures))
+entry-at-requires c κs = (c .if1 .left, omega (arith, c .before .least .ensures))
 
 returns-2 : tie.Need-returns-2
-returns-2 c = stands _ _ _ (c .before .before .lesser .ensures) _ _ (c .entry-at .ensures)
+returns-2 c = stands _ _ _ (c .before .before .least .ensures) _ _ (c .entry-at .ensures)
 
 pub look-spec : {M : Type 1} → statement M
-look-spec = tie.close (tie.spec lesser-requires returns entry-at-requires returns-2)
+look-spec = tie.close (tie.spec least-requires returns entry-at-requires returns-2)

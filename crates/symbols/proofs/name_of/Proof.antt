@@ -18,21 +18,21 @@ Inv-loop table start end sort number last at₀ at =
 abbrev μ-loop : tie.MeasureT-loop
 μ-loop table start end sort number last at₀ at = last - at
 
-lesser-requires : tie.Need-lesser-requires Inv-loop μ-loop
-lesser-requires c κs = search needs
+least-requires : tie.Need-least-requires Inv-loop μ-loop
+least-requires c κs = search needs
 
-lesser-requires-2 : tie.Need-lesser-requires-2 Inv-loop μ-loop
-lesser-requires-2 c κs = search needs
+least-requires-2 : tie.Need-least-requires-2 Inv-loop μ-loop
+least-requires-2 c κs = search needs
 
 loop-holds : tie.Need-loop-holds Inv-loop μ-loop
 loop-holds c =
     let s = c .before .before .before in (
-      omega (arith, c .lesser2 .ensures),
-      name-begins (s .args .sort) (s .args .number) (s .args .table .now) (s .args .end) _ (c .before .lesser .ensures) (s .args .start) _ (c .lesser2 .ensures),
+      omega (arith, c .least2 .ensures),
+      name-begins (s .args .sort) (s .args .number) (s .args .table .now) (s .args .end) _ (c .before .least .ensures) (s .args .start) _ (c .least2 .ensures),
     )
 
 entry-at-requires : tie.Need-entry-at-requires Inv-loop μ-loop
-entry-at-requires c κs = (c .loop .inv .0, omega (arith, c .before .before .lesser .ensures))
+entry-at-requires c κs = (c .loop .inv .0, omega (arith, c .before .before .least .ensures))
 
 enum-known-k : tie.Need-enum-known-k Inv-loop μ-loop
 enum-known-k c = search needs
@@ -96,8 +96,8 @@ name-of-spec =
     (tie.spec
     Inv-loop
     μ-loop
-    lesser-requires
-    lesser-requires-2
+    least-requires
+    least-requires-2
     loop-holds
     entry-at-requires
     enum-known-k

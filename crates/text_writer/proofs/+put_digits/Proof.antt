@@ -3,12 +3,11 @@ use borrow.Author.Needs.{needs}
 use native.Mathlib.Omega.{arith}
 use lib.ListN.{length}
 use mathlib.Core.Path.{ap, _∙_}
-use Prim.Native.Nat.{_-_, _/_}
+use Prim.Native.Nat.{_-_, _/_, ℕ, _<_}
+use Rattle.bitset.proofs.PartLaws.{length-put}
 use Rattle.text_writer.proofs.Digits.{few-digits, no-digit, one-digit, last-digit}
-use Prim.Native.Nat.{ℕ, _<_}
 use borrow.Fn.Kinds.{In}
 use borrow.Fn.PlainCycle.{Measures, is, falls, and}
-use Rattle.bitset.proofs.PartLaws.{length-put}
 use Rattle.text_writer.proofs.put_digits.Reads as put-digits
 use Rattle.text_writer.proofs.put_digits.Kinds as put-digits-kinds
 use Rattle.text_writer.proofs.+put_digits.Lts-put_digits as lts

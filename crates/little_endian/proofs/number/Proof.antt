@@ -1,14 +1,14 @@
--- `name_index::number_in` meets its contract. The loop's invariant: the number so far is that of the bytes from `left` on (Words). The measure is how many are
--- left. Assumes nothing.
-use Prim.Native.Nat.{ℕ, _+_, _*_, _≤_}
-use mathlib.Core.Path.{_≡_, ap, _∙_}
+-- `little_endian::number` meets its contract. The loop's invariant: the number so far is that of the bytes from `left` on (NumberLaws).
+-- The measure is how many are left. Assumes nothing.
+use Prim.Native.Nat.{ℕ, _+_, _*_, _^_, _≤_, _<_}
+use mathlib.Core.Path.{_≡_, sym, ap, subst, _∙_}
 use native.Mathlib.Omega.{arith}
 use borrow.Author.Needs.{needs}
 use lib.ListN.{length, drop}
 use Rattle.policy.specs.Basics.{unle}
-use Rattle.name_index.proofs.Words.{number-starts, number-turn, number-fits, number-ends}
-use Rattle.name_index.proofs.number_in.Statement.{statement}
-use Rattle.name_index.proofs.number_in.Tie as tie
+use Rattle.little_endian.proofs.NumberLaws.{number-starts, number-turn, number-fits, number-ends, unle-fits}
+use Rattle.little_endian.proofs.number.Statement.{statement}
+use Rattle.little_endian.proofs.number.Tie as tie
 
 abbrev Inv-loop : tie.InvT-loop
 Inv-loop bytes left₀ n₀ left n = (left ≤ length bytes) × (n ≡ unle (drop left bytes))
@@ -53,10 +53,13 @@ loop-again c =
 returns : tie.Need-returns Inv-loop μ-loop
 returns c =
     let l = c .before .loop in
-    number-ends (c .before .before .before .args .bytes .now) (l .left) (l .n) (omega (arith, c .loop-test)) (l .inv .1)
+    let known = c .before .before in
+    let t = known .before .args .bytes .now in
+    let all = number-ends t (l .left) (l .n) (omega (arith, c .loop-test)) (l .inv .1) in
+    (all, subst (λ (n : ℕ). n < 256 ^ length t) (sym all) (unle-fits (length t) t (λ i. known .shared-slice-known .given i .fits) (omega arith)))
 
-pub number-in-spec : {M : Type 1} → statement M
-number-in-spec =
+pub number-spec : {M : Type 1} → statement M
+number-spec =
     tie.close
     (tie.spec
     Inv-loop
