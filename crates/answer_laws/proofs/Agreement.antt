@@ -82,5 +82,13 @@ module _ (g h : Given) (same : Agree g h) where
       by : (b : Bool) → declaredQuestion (g .names) q ≡ b → ruledBy g q r ≡ ruledBy h q s
       by true d =
           let parts = declared-parts (g .names) q d in
-          rw (d, ap (λ (ds : List Declaration). declaredQuestion ds q) (sym (same .names)) ∙ d, agree-valid (q .source) (parts .source), agree-valid (q .target) (parts .target), agree-may q parts, rest d)
+          rw (
+            d,
+            ap (λ (ds : List Declaration). declaredQuestion ds q) (sym (same .names)) ∙ d,
+            agree-valid (q .source) (parts .source),
+            agree-valid
+                (q .target) (parts .target),
+            agree-may q parts,
+            rest d,
+          )
       by false d = rw (d, ap (λ (ds : List Declaration). declaredQuestion ds q) (sym (same .names)) ∙ d)

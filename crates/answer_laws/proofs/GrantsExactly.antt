@@ -12,7 +12,7 @@ use lib.ListN.{take}
 use borrow.Author.Tests.{eqb-true, eq-eqb}
 use Rattle.policy.specs.Statements.{Policy, declarations, constrains}
 use Rattle.policy.specs.Meaning.{holds}
-use Rattle.policy.specs.Deciding.{validBy, mayBecome, ruledBy, Question, Verdict, granted, denied, fails, refuses, Answer, ruling, firstFailing, decide, declaredQuestion, roleMay}
+use Rattle.policy.specs.Deciding.{validBy, mayBecome, ruledBy, Question, Verdict, granted, denied, fails, refuses, Answer, consult, firstFailing, decide, declaredQuestion, roleMay}
 use Rattle.policy.specs.Answer.{givenBy, namesAsked, answer}
 use Rattle.policy.specs.Basics.{All}
 use Rattle.answer_laws.specs.Granting.{Grants, howMany, FirstFailing}
@@ -38,13 +38,13 @@ isFailure (fails m n) = true
 isFailure (refuses n at) = false
 
 -- one constraint, named or not, true or not, before the answer of the later ones
-ruling-grants : (n b : Bool) (i : ℕ) (later : Answer) → (n ≡ true → b ≡ true) → later .verdict ≡ granted → ruling n b i later .verdict ≡ granted
+ruling-grants : (n b : Bool) (i : ℕ) (later : Answer) → (n ≡ true → b ≡ true) → later .verdict ≡ granted → consult n b i later .verdict ≡ granted
 ruling-grants false b i later h k = k
 ruling-grants true false i later h k = absurd (false≢true (h refl))
 ruling-grants true true i later h k = k
 
-ruling-granted : (n b : Bool) (i : ℕ) (later : Answer) → ruling n b i later .verdict ≡ granted
-    → (n ≡ true → b ≡ true) × (later .verdict ≡ granted) × (ruling n b i later .consulted ≡ cond n 1 0 + later .consulted)
+ruling-granted : (n b : Bool) (i : ℕ) (later : Answer) → consult n b i later .verdict ≡ granted
+    → (n ≡ true → b ≡ true) × (later .verdict ≡ granted) × (consult n b i later .consulted ≡ cond n 1 0 + later .consulted)
 ruling-granted false b i later h = ((λ m. absurd (false≢true m)), h, omega arith)
 ruling-granted true false i later h = absurd (false≢true (ap isGrant h))
 ruling-granted true true i later h = ((λ m. refl), h, refl)
@@ -56,8 +56,8 @@ Here n b i j k = (n ≡ true) × (b ≡ false) × (j ≡ i) × (k ≡ 1)
 abbrev Later : Bool → Bool → ℕ → Answer → ℕ → Type 0
 Later n b j later k = (n ≡ true → b ≡ true) × (later .verdict ≡ fails 4 j) × (k ≡ cond n 1 0 + later .consulted)
 
-ruling-fails : (n b : Bool) (i j : ℕ) (later : Answer) → ruling n b i later .verdict ≡ fails 4 j
-    → Here n b i j (ruling n b i later .consulted) ⊎ Later n b j later (ruling n b i later .consulted)
+ruling-fails : (n b : Bool) (i j : ℕ) (later : Answer) → consult n b i later .verdict ≡ fails 4 j
+    → Here n b i j (consult n b i later .consulted) ⊎ Later n b j later (consult n b i later .consulted)
 ruling-fails false b i j later h = inr ((λ m. absurd (false≢true m)), h, omega arith)
 ruling-fails true false i j later h = inl (refl, refl, sym (ap failing h), refl)
 ruling-fails true true i j later h = inr ((λ m. refl), h, refl)
@@ -123,8 +123,8 @@ module _ {A : Type 0} (names holds : A → Bool) where
       later : Answer
       later = firstFailing names holds (i + 1) xs
 
-      by : Here (names x) (holds x) i j (ruling (names x) (holds x) i later .consulted) ⊎ Later (names x) (holds x) j later (ruling (names x) (holds x) i later .consulted)
-          → (later .verdict ≡ fails 4 j → Failed (i + 1) j xs (later .consulted)) → Failed i j (x ∷ xs) (ruling (names x) (holds x) i later .consulted)
+      by : Here (names x) (holds x) i j (consult (names x) (holds x) i later .consulted) ⊎ Later (names x) (holds x) j later (consult (names x) (holds x) i later .consulted)
+          → (later .verdict ≡ fails 4 j → Failed (i + 1) j xs (later .consulted)) → Failed i j (x ∷ xs) (consult (names x) (holds x) i later .consulted)
       by (inl g) rec = failed-here i j x xs _ g
       by (inr g) rec = failed-later i j x xs _ g (rec (g .1))
 

@@ -6,7 +6,9 @@ use mathlib.Core.Bool.{Bool, true, _&&_}
 use mathlib.Core.List.{List, [], _∷_, _++_, append-assoc, append-nil}
 use lib.Dec.{eqb}
 use Rattle.policy.specs.Basics.{each, isAmong, All}
-use Rattle.policy.specs.Statements.{Family, users, roles, types, thingOf, attributeOf, Reference, thing, attribute, Side, source, target, Op, eq, neq, dom, domby, incomp, Constraint, sidesE, nameE, notE, andE, orE, Policy, Constrain, constrains, declarations, count, Relation, userrole, roletype, roleallow, fromOf, toOf}
+use Rattle.policy.specs.Statements.{Family, users, roles, types, thingOf, attributeOf, Reference, thing, attribute, Side, source, target, Op, eq, neq, dom}
+use Rattle.policy.specs.Statements.{domby, incomp, Constraint, sidesE, nameE, notE, andE, orE, Policy, Constrain, constrains, declarations, count, Relation}
+use Rattle.policy.specs.Statements.{userrole, roletype, roleallow, fromOf, toOf}
 use Rattle.policy.specs.Meaning.{Set, Contexts, countIn, final, stands, related, part, compares, holds}
 use Rattle.policy.specs.Faults.{attributesIn}
 use Rattle.policy.specs.Deciding.{Question, contextsOf, firstFailing, declaredQuestion}
@@ -100,7 +102,8 @@ pub image-agrees : (p : Policy) → Fits p → Agree (givenIn (imageOf p)) (give
 unfolding imageOf countIn
 image-agrees p ok = record { names = refl; gives = by }
   where
-    by : (k : Relation) (x y : ℕ) → x < count (thingOf (fromOf k)) (declarations p) → y < count (thingOf (toOf k)) (declarations p) → inSet (givenSets (imageOf p) k) x y ≡ related p k x y
+    by : (k : Relation) (x y : ℕ) → x < count (thingOf (fromOf k)) (declarations p) → y < count (thingOf (toOf k)) (declarations p)
+        → inSet (givenSets (imageOf p) k) x y ≡ related p k x y
     by userrole x y h l = sets-law (count (thingOf users) (declarations p)) roles (related p userrole) x y h (omega (arith, ok .few roles))
     by roletype x y h l = sets-law (count (thingOf roles) (declarations p)) types (related p roletype) x y h (omega (arith, ok .few types))
     by roleallow x y h l = sets-law (count (thingOf roles) (declarations p)) roles (related p roleallow) x y h (omega (arith, ok .few roles))

@@ -51,6 +51,8 @@ module _ (p : Policy) (ok : Fits p) where
   pub image-new-role : (r y c : ℕ) → newRole (imageOf p) r y c ≡ newRoleBy p r y c
   unfolding newRole newRoleBy imageOf countIn asked
   image-new-role r y c = arm (asked r y c) _ _ (refused 12 0) λ h.
-      let front = both-true (ltb r (count (thingOf roles) (declarations p)) && ltb y (count (thingOf types) (declarations p))) (ltb c (length (classNames (declarations p)))) h .0 in
+      let front = both-true (ltb r (count (thingOf roles) (declarations p)) && ltb y (count (thingOf types) (declarations p)))
+      (ltb c (length (classNames (declarations p)))) h .0 in
       let each-one = both-true (ltb r (count (thingOf roles) (declarations p))) (ltb y (count (thingOf types) (declarations p))) front in
-      ap answered (same-first r y c (ltb-true r (count (thingOf roles) (declarations p)) (each-one .0)) (ltb-true y (count (thingOf types) (declarations p)) (each-one .1)) (transitions p))
+      ap answered (same-first r y c (ltb-true r (count (thingOf roles) (declarations p)) (each-one .0))
+      (ltb-true y (count (thingOf types) (declarations p)) (each-one .1)) (transitions p))

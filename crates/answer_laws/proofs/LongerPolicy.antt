@@ -7,7 +7,7 @@ use Rattle.policy.specs.Basics.{each}
 use Rattle.policy.proofs.Lists.{gather-over, gather-last, any-over, each-append}
 use Rattle.policy.specs.Statements.{Reference, constrain, Constraint, Statement, Line, Policy, declared, declarations, setFor, setsFor, Constrain, constrained, constrains}
 use Rattle.policy.specs.Meaning.{lineGives, stands, holds}
-use Rattle.policy.specs.Deciding.{Given, ruledBy, contextsOf, Question, Answer, oneMore, ruling, firstFailing, decide}
+use Rattle.policy.specs.Deciding.{Given, ruledBy, contextsOf, Question, Answer, oneMore, consult, firstFailing, decide}
 use Rattle.policy.specs.Answer.{givenBy, namesAsked, answer}
 use Rattle.answer_laws.specs.Longer.{said, OneConstrainMore, isDenied}
 use Rattle.answer_laws.proofs.SameSets.{SameSets, answerWith, answer-same-sets, answer-with}
@@ -26,7 +26,7 @@ module _ (p : Policy) (l : Line) (c : ℕ) (ps : List ℕ) (e : Constraint Refer
   unfolding constrains
   constrains-last = gather-last constrained p l _ (rw says)
 
-ruling-longer : (n b : Bool) (i : ℕ) (r s : Answer) → (isDenied (r .verdict) ≡ true → s ≡ r) → isDenied (ruling n b i r .verdict) ≡ true → ruling n b i s ≡ ruling n b i r
+ruling-longer : (n b : Bool) (i : ℕ) (r s : Answer) → (isDenied (r .verdict) ≡ true → s ≡ r) → isDenied (consult n b i r .verdict) ≡ true → consult n b i s ≡ consult n b i r
 ruling-longer false b i r s ih h = ih h
 ruling-longer true false i r s ih h = refl
 ruling-longer true true i r s ih h = ap oneMore (ih h)

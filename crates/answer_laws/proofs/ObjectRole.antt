@@ -11,7 +11,7 @@ use Rattle.policy.specs.Basics.{Name, same}
 use Rattle.policy.specs.Words.{objectR}
 use Rattle.policy.specs.Statements.{roles, thingOf, Declaration, namesOf, Policy, declarations, constrains}
 use Rattle.policy.specs.Meaning.{Context}
-use Rattle.policy.specs.Deciding.{Given, isObject, validBy, Question, Verdict, granted, denied, fails, refuses, Answer, ruling, firstFailing, decide, ruledBy}
+use Rattle.policy.specs.Deciding.{Given, isObject, validBy, Question, Verdict, granted, denied, fails, refuses, Answer, consult, firstFailing, decide, ruledBy}
 use Rattle.policy.specs.Answer.{givenBy, answer}
 use Rattle.policy.specs.Image.{Image}
 use Rattle.policy.specs.Questions.{givenIn, change}
@@ -26,7 +26,7 @@ nameless : same [] objectR ≡ false
 unfolding same
 nameless = refl
 
--- what stands at a place, and the given value where nothing does
+-- what is at a place, and the given value where nothing does
 found-there : {A : Type 0} (xs : List A) (k : ℕ) (d x : A) → getElem? xs k ≡ some x → getD xs k d ≡ x
 found-there [] k d x h = let z : _≡_ {A = ℕ} 0 1 = cc in absurd (omega arith)
 found-there (y ∷ ys) zero d x h = Option·some-injective y x h
@@ -105,7 +105,7 @@ unfolding firstFailing
 none-of-them names holds i [] = refl
 none-of-them names holds i (x ∷ xs) = by (names x) (holds x) (firstFailing names holds (i + 1) xs) (none-of-them names holds (i + 1) xs)
   where
-    by : (n b : Bool) (later : Answer) → denialOf (later .verdict) ≡ 0 → denialOf (ruling n b i later .verdict) ≡ 0
+    by : (n b : Bool) (later : Answer) → denialOf (later .verdict) ≡ 0 → denialOf (consult n b i later .verdict) ≡ 0
     by false b later h = h
     by true false later h = refl
     by true true later h = h

@@ -7,7 +7,8 @@ use mathlib.Core.Option.{Option, none, some}
 use Rattle.policy.specs.Basics.{Name}
 use Rattle.policy.specs.Statements.{Declaration, Policy, constrains, userrole, roletype}
 use Rattle.policy.specs.Meaning.{Context, stands, holds}
-use Rattle.policy.specs.Deciding.{Given, Reply, answered, refused, Question, contextsOf, refuses, Answer, unconsulted, firstFailing, decide, declaredContext, declaredQuestion, mayBecome}
+use Rattle.policy.specs.Deciding.{Given, Reply, answered, refused, Question, contextsOf, refuses, Answer, unconsulted, firstFailing, decide, declaredContext}
+use Rattle.policy.specs.Deciding.{declaredQuestion, mayBecome}
 use Rattle.policy.specs.Answer.{givenBy, namesAsked}
 use Rattle.policy.specs.Image.{Image}
 use Rattle.policy.specs.Sound.{imageIn}

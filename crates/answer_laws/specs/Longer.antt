@@ -39,7 +39,7 @@ isDenied (denied n) = true
 isDenied (fails n i) = true
 isDenied (refuses n at) = false
 
--- "its table denies every question that the first table denies", whatever stands behind each of them; and by the same denial, constraint's number and
+-- "its table denies every question that the first table denies", whatever is after each of them; and by the same denial, constraint's number and
 -- number consulted
 pub record KeepsDenials (first longer : List ℕ) : Type 0 where
   pub denies : (behind behind′ : List ℕ) (q : Question) → isDenied (changeOn (first ++ behind) q .verdict) ≡ true

@@ -11,7 +11,8 @@ ghost use Prim.Native.Nat.{_<_};
 ghost use Rattle.policy.specs.Answers.{compilingOf, validityOf, newRoleOf, changeOf, placeOf};
 ghost use Rattle.answer_numbers.specs.Numbers.{answerOf, compiledNumbers, validNumbers, changeNumbers, newRoleNumbers, partNumbers, CompiledFits, Fits, PartFits};
 
-// What compiling a text answers: the number 0, the length of its table and the line 0; or a refusal's number, place and line.
+// What compiling a text answers: the number 0, the length of its table and the line 0; or a refusal's number, place
+// and line.
 #[repr(C)]
 pub struct Compiled {
     pub number: u32,
@@ -19,8 +20,9 @@ pub struct Compiled {
     pub line: u32,
 }
 
-// What a question about a table answers. Outcome 0: granted, or valid; 1: denied, or not valid; 2: refused. `number` is that of the denial
-// or the refusal, or the new role; `constraint` that of denial 4; `consulted` says how many constraints were asked.
+// What a question about a table answers. Outcome 0: granted, or valid; 1: denied, or not valid; 2: refused. `number`
+// is that of the denial or the refusal, or the new role; `constraint` that of denial 4; `consulted` says how many
+// constraints were asked.
 #[repr(C)]
 pub struct Answer {
     pub outcome: u32,

@@ -7,7 +7,7 @@ use policy::Place;
 use policy::Refusal;
 use policy::Validity;
 
-// A word with a blank behind it, and a number.
+// A word with a blank after it, and a number.
 fn numbered(word: &[u8], number: usize) {
     io::write_all(STDOUT_FILENO, word);
     io::print_decimal(STDOUT_FILENO, number as u64);
@@ -47,7 +47,7 @@ pub fn show_compiling(answer: Compiling) {
     line_end();
 }
 
-// The same, and a checksum behind it.
+// The same, and a checksum after it.
 pub fn show_compiling_and(answer: Compiling, checksum: usize) {
     compiled(answer);
     numbered(b" ", checksum);

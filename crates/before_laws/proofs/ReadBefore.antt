@@ -1,4 +1,4 @@
--- A text without dots and blocks is read as document 01 reads it: its statements stand in no block, their names are what is written, and none
+-- A text without dots and blocks is read as document 01 reads it: its statements are in no block, their names are what is written, and none
 -- is too long. Assumes nothing.
 use Prim.Native.Nat.{ℕ}
 use mathlib.Core.Path.{_≡_, refl, ap, _∙_}
@@ -18,7 +18,7 @@ use Rattle.policy.specs.Statements.{declare, attributeset, gives, roletransitio
 use Rattle.policy.specs.Names.{Environment, environmentOf, refer, numberIn}
 use Rattle.policy.specs.Grammar.{written, isBlock}
 use Rattle.policy.specs.Scopes.{Scoped, scoped, scopedIn}
-use Rattle.policy.specs.Reading.{again, referS, referE, resolved, isShort, hasRoom, resolving, naming, judge, readFrom, afterScan, readPolicy}
+use Rattle.policy.specs.Reading.{again, referS, referE, resolved, isShort, hasRoom, judgeResolved, judgeStatement, judge, readFrom, afterScan, readPolicy}
 use Rattle.policy.specs.Reading.{Judged, reads, opens, fault, Read, refused}
 use Rattle.policy.proofs.IfAny.{IfAny, just, whatever}
 use Rattle.policy.proofs.Lists.{both-true}
@@ -56,7 +56,7 @@ resolved-short env (constrain c ps e) x =
     whatever (env .class c) _ λ c. whatever (eachOf (λ p. env .permission c p) ps) _ λ ps. whatever (referE env e) _ λ e. just tt
 
 -- so W-203's fault 6 is not found
-resolving-as-before : (p : Policy) (o : Option Statement) → IfAny Short o → resolving p o ≡ before.resolving p o
+resolving-as-before : (p : Policy) (o : Option Statement) → IfAny Short o → judgeResolved p o ≡ before.judgeResolved p o
 resolving-as-before p none h = refl
 resolving-as-before p (some (declare d)) h =
     let short : isShort d ≡ true = h .has (declare d) refl in
@@ -67,16 +67,16 @@ resolving-as-before p (some (roletransition r t c n)) h = refl
 resolving-as-before p (some (constrain c ps e)) h = refl
 
 -- a statement by its form: tried for faults 4 to 7 as before
-naming-as-before : (p : Policy) (o : Option Written) → IfAny (Names Plain) o → naming [] p o ≡ before.naming p o
+naming-as-before : (p : Policy) (o : Option Written) → IfAny (Names Plain) o → judgeStatement [] p o ≡ before.judgeStatement p o
 naming-as-before p none h = refl
 naming-as-before p (some w) h =
     let ds = declarations p in
     let env = environmentOf ds [] in
     let x : Names Plain w = h .has w refl in
-    ap (λ (v : Written). elim (again ds v) [ true ↦ fault 4 | false ↦ resolving p (resolved env v) ]) (in-no-blocks w)
+    ap (λ (v : Written). elim (again ds v) [ true ↦ fault 4 | false ↦ judgeResolved p (resolved env v) ]) (in-no-blocks w)
     ∙ ap (λ (j : Judged). elim (again ds w) [ true ↦ fault 4 | false ↦ j ])
     (resolving-as-before p (resolved env w) (resolved-short env w x)
-    ∙ ap (before.resolving p) (resolved-same Plain env (before.environmentOf ds) (names-as-before ds) w x))
+    ∙ ap (before.judgeResolved p) (resolved-same Plain env (before.environmentOf ds) (names-as-before ds) w x))
 
 -- ---- a row of statements
 
@@ -88,7 +88,7 @@ module _ (at : ℕ) (inner : Forms) (e : isBlock inner ≡ false) where
       ap (λ (o : Option Name). scoped at [] inner ∷ (elim o [ none ↦ [] | some b ↦ scopedIn (b ∷ []) inner ] ++ scopedIn [] after)) (no-block inner e)
 
   -- and it is tried as a statement
-  judged-as-before : (xs : List Scoped) (p : Policy) → Words Plain inner → judge xs p (scoped at [] inner) ≡ before.naming p (written inner)
+  judged-as-before : (xs : List Scoped) (p : Policy) → Words Plain inner → judge xs p (scoped at [] inner) ≡ before.judgeStatement p (written inner)
   unfolding judge
   judged-as-before xs p x = rw e (naming-as-before p (written inner) (written-names Plain inner x))
 
@@ -103,7 +103,7 @@ row-as-before (part at inner after) xs p h x =
     let e = not-true (isBlock inner) (both .0) in
     ap (λ (ys : List Scoped). readFrom xs ys p) (one-scoped at inner e after)
     ∙ ap here (judged-as-before at inner e xs p (x .0))
-    ∙ go (before.naming p (written inner)) (λ q. row-as-before after (xs ++ (scoped at [] inner ∷ [])) q (both .1) (x .1))
+    ∙ go (before.judgeStatement p (written inner)) (λ q. row-as-before after (xs ++ (scoped at [] inner ∷ [])) q (both .1) (x .1))
   where
     -- what today's reading makes of the statement's answer
     here : Judged → Read

@@ -36,7 +36,7 @@ class-as-before Wrong e = refl
 
 -- ---- a run of bytes that a name is made of
 
--- the bytes w are a run: they stand from the place `first` on, `len` of them, before the bytes bs that are left of the text
+-- the bytes w are a run: they are from the place `first` on, `len` of them, before the bytes bs that are left of the text
 record Run (t w bs : List ℕ) (first len : ℕ) : Type 0 where
   pub placed : drop first t ≡ w ++ bs
   pub long : length w ≡ len

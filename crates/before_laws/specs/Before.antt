@@ -97,23 +97,23 @@ fits p (gives r x y) = today.fits p (gives r x y)
 fits p (roletransition r t c n) = today.fits p (roletransition r t c n)
 fits p (constrain c ps e) = today.fits p (constrain c ps e)
 
-abbrev pub resolving : Policy → Option Statement → Judged
-resolving p none = fault 5
-resolving p (some s) = cond (fits p s) (cond (shallow s) (reads s) (fault 7)) (fault 6)
+abbrev pub judgeResolved : Policy → Option Statement → Judged
+judgeResolved p none = fault 5
+judgeResolved p (some s) = cond (fits p s) (cond (shallow s) (reads s) (fault 7)) (fault 6)
 
 -- the forms of statements are those of today: on words without dots they ask what document 01 asks (`words` below)
-abbrev pub naming : Policy → Option Written → Judged
-naming p none = fault 3
-naming p (some w) = elim (again (declarations p) w) [
+abbrev pub judgeStatement : Policy → Option Written → Judged
+judgeStatement p none = fault 3
+judgeStatement p (some w) = elim (again (declarations p) w) [
   | true ↦ fault 4
-  | false ↦ resolving p (resolved (environmentOf (declarations p)) w)
+  | false ↦ judgeResolved p (resolved (environmentOf (declarations p)) w)
 ]
 
 unfoldable pub readFrom : Forms → Policy → Read
 readFrom closed p = policy p
 readFrom ended p = policy p
 readFrom (word at w after) p = readFrom after p
-readFrom (part at inner after) p = elim (naming p (written inner)) [
+readFrom (part at inner after) p = elim (judgeStatement p (written inner)) [
   | reads s ↦ readFrom after (p ++ (record { place = at; says = s } ∷ []))
   | opens ↦ readFrom after p
   | fault n ↦ refused n at

@@ -1,4 +1,4 @@
--- A set cut at a total: the bytes behind the total's own become 0, and that one keeps its low bits. Assumes nothing.
+-- A set cut at a total: the bytes after the total's own become 0, and that one keeps its low bits. Assumes nothing.
 use mathlib.Core.Path.{_≡_, sym, ap, ap₂, _∙_}
 use mathlib.Core.Bool.{Bool, false, not, _&&_, and-false}
 use mathlib.Core.List.{List}

@@ -83,7 +83,7 @@ part-part t o W p v h =
     inner : (len : ℕ) → min v (min W (len - o) - p) ≡ min v (len - (o + p))
     inner len = omega arith
 
--- a part and what stands behind it
+-- a part and what is after it
 part-rest : (t : List ℕ) (o w : ℕ) → part t o w ++ drop (o + length (part t o w)) t ≡ drop o t
 unfolding part
 part-rest t o w =
@@ -92,7 +92,7 @@ part-rest t o w =
 
 -- ---- and what is put there
 
--- where s fits behind the offset
+-- where s fits after the offset
 module _ (t : List ℕ) (o : ℕ) (s : List ℕ) (h : o + length s ≤ length t) where
   head : length (take o t) ≡ o
   head = length-take-le o t (omega arith)
@@ -128,7 +128,7 @@ module _ (t : List ℕ) (o : ℕ) (s : List ℕ) (h : o + length s ≤ length t)
       ext-getD 0 (part (put t o s) o (length s)) s long
       (λ i l. getD-part (put t o s) o (length s) i (omega arith) ∙ getD-put-in i (omega arith))
 
-  -- a part that lies before or behind it is as it was
+  -- a part that lies before or after it is as it was
   pub part-put-before : (p v : ℕ) → p + v ≤ o → part (put t o s) p v ≡ part t p v
   part-put-before p v l =
       ext-getD 0 (part (put t o s) p v) (part t p v) (omega (arith, length-part-min (put t o s) p v, length-part-min t p v, length-put))
@@ -172,7 +172,7 @@ put-part t o w p s h =
     regroup : (n : ℕ) → o + (p + n) ≡ o + p + n
     regroup n = omega arith
 
--- what is put behind what was put is put with it
+-- what is put after what was put is put with it
 pub put-put : (t : List ℕ) (o : ℕ) (us vs : List ℕ) → o + length us ≤ length t → put (put t o us) (o + length us) vs ≡ put t o (us ++ vs)
 unfolding put
 put-put t o us vs h =

@@ -123,7 +123,8 @@ unfolding maskOf
 mask-part total i e =
     let p : bitByte total < 256 = bitByte-lt total in
     bits-eq 8 (bitByte total - 1) (λ k. ltb (8 * i + k) total) (omega arith)
-    (λ k l. ap (λ (b : ℕ). bit (b - 1) k) (sym (shift-byte total)) ∙ bit-ones (total % 8) k (omega arith) l ∙ ltb-same k (total % 8) (8 * i + k) total (λ h. omega arith) (λ h. omega arith))
+    (λ k l. ap (λ (b : ℕ). bit (b - 1) k) (sym (shift-byte total)) ∙ bit-ones (total % 8) k (omega arith) l ∙ ltb-same k (total % 8) (8 * i + k) total
+    (λ h. omega arith) (λ h. omega arith))
 
 pub mask-none : (total i : ℕ) → total / 8 < i → 0 ≡ maskOf total i
 unfolding maskOf

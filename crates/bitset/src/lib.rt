@@ -1,9 +1,10 @@
 // One set of numbers as bytes in lent memory: number n is bit n mod 8 (lowest is 0) of byte n div 8.
 //
-// A set is a slice of any length, and every function answers for every slice and every number. A number past the last byte is in no set,
-// and to insert it changes nothing. Of what other crates call, only to count asks for something: that eight times the bytes are a usize.
-// Two sets are combined and compared by `set_operators`; sets that stand in a larger slice are the matter of `set_rows`, but for `part` and
-// `clear_at`, which stand here because `complement` needs them.
+// A set is a slice of any length, and every function answers for every slice and every number. A number past the last
+// byte is in no set, and to insert it changes nothing. Of what other crates call, only to count asks for something:
+// that eight times the bytes are a usize. Two sets are combined and compared by `set_operators`; sets that are in a
+// larger slice are the matter of `set_rows`, but for `part` and `clear_at`, which are here because `complement` needs
+// them.
 ghost use mathlib.Core.Path.{_≡_};
 ghost use Prim.Native.Nat.{_+_, _*_, _≤_, _<_, min};
 ghost use lib.Count.{ones};
@@ -115,7 +116,7 @@ fn flip(set: &mut [u8])
     }
 }
 
-// The set keeps the numbers below total. One byte is cut, and those behind it become 0.
+// The set keeps the numbers below total. One byte is cut, and those after it become 0.
 fn keep_below(set: &mut [u8], total: usize)
     ensures { λ _. ⌜ now (set .exit) ≡ keptBelow total (now (set .entry)) ⌝ }
 {

@@ -1,4 +1,5 @@
-// Runs every function of `bitset` and `set_operators` on sets of several widths, and writes what each answers, a line for an answer.
+// Runs every function of `bitset` and `set_operators` on sets of several widths, and writes what each answers, a line
+// for an answer.
 
 // Numbers at the ends of bytes and of sets of 1, 2, 16 and 64 bytes, and past them.
 const NUMBERS: [usize; 12] = [

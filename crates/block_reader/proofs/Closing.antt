@@ -14,13 +14,13 @@ use Rattle.blocks.specs.Opened.{openedIn}
 use Rattle.blocks.specs.Names.{pathOf}
 use Rattle.blocks.proofs.FullNames.{Inside, path-whole, path-inside, rest-of}
 use Rattle.block_reader.specs.Within.{Within, ClosesBlock}
-use Rattle.block_reader.specs.declared.Open.{Open}
+use Rattle.block_reader.specs.declared.OpenBlocks.{OpenBlocks}
 
 good-less : {b : Name} {path : List Name} → GoodPath (b ∷ path) → GoodPath path
 unfolding every
 good-less {b} {path} g = record { names = both-true (isGoodPart b) (every isGoodPart path) (g .names) .1; few = omega (arith, g .few) }
 
-module _ {symbols symbolsAfter keys : List ℕ} {o : Open} {around : ℕ} (left : LeavesBlock symbols symbolsAfter)
+module _ {symbols symbolsAfter keys : List ℕ} {o : OpenBlocks} {around : ℕ} (left : LeavesBlock symbols symbolsAfter)
     (found : 0 < o .block → o .block ≤ length keys → around ≡ getD keys (o .block - 1) 0 % 65536) where
   module _ (t filter : List ℕ) (b : Name) (path names : List Name) (w : Within t keys filter symbols (b ∷ path) names o) where
     -- a block is open

@@ -22,7 +22,7 @@ use Rattle.blocks.specs.Opened.{Block, blockOf, openedIn, isOpened, Fits, Adds}
 use Rattle.blocks.specs.Names.{pathOf, fullNames, Opening, another}
 use Rattle.blocks.proofs.FullNames.{length-opened, path-last, opened-exactly}
 use Rattle.block_reader.specs.Within.{Within, OneMore, OpensBy, OpensBlock}
-use Rattle.block_reader.specs.declared.Open.{Open}
+use Rattle.block_reader.specs.declared.OpenBlocks.{OpenBlocks}
 use Rattle.block_reader.specs.declared.Opened.{Opened}
 use Rattle.block_reader.proofs.Judging.{judged-again, judged-deep, judged-long, judged-open}
 
@@ -31,22 +31,22 @@ good-more : {path : List Name} (b : Name) → isGoodPart b ≡ true → GoodPath
 unfolding every
 good-more {path} b h g l = record { names = true-both (isGoodPart b) (every isGoodPart path) h (g .names); few = omega arith }
 
--- a full name more, in front of those of the keys and behind those of the text
+-- a full name more, in front of those of the keys and after those of the text
 one-name : (w v : Name) (xs names : List Name) → isIn w xs ≡ isIn w names → isIn w (v ∷ xs) ≡ isIn w (names ++ (v ∷ []))
 unfolding isIn any
 one-name w v xs names e =
     ap (λ (q : Bool). same w v || q) e ∙ or-comm (same w v) (any (same w) names) ∙ ap (λ (q : Bool). any (same w) names || q) (sym (or-false (same w v)))
     ∙ sym (any-append (same w) names (v ∷ []))
 
--- where the reader stands in the block that it opens
-abbrev deeper : Open → Open
+-- where the reader is in the block that it opens
+abbrev deeper : OpenBlocks → OpenBlocks
 deeper o = record { count = o .count + 1; block = o .count + 1; depth = o .depth + 1 }
 
 -- what an answer promises, as a block is judged
-abbrev Judges : (t : List ℕ) (start len : ℕ) (keysAfter filterAfter symbolsAfter : List ℕ) → Open → Opened → List Name → List Name → Judged → Type 0
+abbrev Judges : (t : List ℕ) (start len : ℕ) (keysAfter filterAfter symbolsAfter : List ℕ) → OpenBlocks → Opened → List Name → List Name → Judged → Type 0
 Judges t start len keysAfter filterAfter symbolsAfter o r path names j = OpensBy (OneMore t keysAfter filterAfter symbolsAfter path names (part t start len) o) j r
 
-module _ (t : List ℕ) (start len : ℕ) {symbols keys keysAfter filter filterAfter : List ℕ} (o : Open) {a : Bool} (lent : length keys ≡ 8192)
+module _ (t : List ℕ) (start len : ℕ) {symbols keys keysAfter filter filterAfter : List ℕ} (o : OpenBlocks) {a : Bool} (lent : length keys ≡ 8192)
     (added : Adds t keys keysAfter filter filterAfter (o .count) (o .block) start len a) where
   -- what is asked of the text
   module _ (path names : List Name) (w : Within t keys filter symbols path names o) (good : isGoodPart (part t start len) ≡ true) (few : o .count < 8192) where

@@ -1,4 +1,4 @@
--- Where a reader stands at the beginning of a text, and past a statement, which opens no block. Assumes nothing.
+-- Where a reader is at the beginning of a text, and past a statement, which opens no block. Assumes nothing.
 use mathlib.Core.Path.{refl}
 use mathlib.Core.List.{List, []}
 use Prim.Native.Nat.{ℕ, _<_}
@@ -10,7 +10,7 @@ use Rattle.blocks.specs.Opened.{openedIn}
 use Rattle.blocks.specs.Names.{pathOf, fullNames, nothing}
 use Rattle.blocks.proofs.Filtering.{covers-nothing}
 use Rattle.block_reader.specs.Within.{noneOpen, Within}
-use Rattle.block_reader.specs.declared.Open.{Open}
+use Rattle.block_reader.specs.declared.OpenBlocks.{OpenBlocks}
 
 -- where a text begins, no block was opened, and a filter of zeros, with a word at least, covers none
 pub begins : {symbols : List ℕ} (t keys : List ℕ) (n : ℕ) → 0 < n → InScope symbols [] → Within t keys (replicate n 0) symbols [] [] noneOpen
@@ -28,7 +28,7 @@ begins t keys n some sc = record {
 }
 
 -- what keeps the scope keeps the blocks
-pub in-scope : {t keys filter symbols symbolsAfter : List ℕ} {path names : List Name} {o : Open} → Within t keys filter symbols path names o
+pub in-scope : {t keys filter symbols symbolsAfter : List ℕ} {path names : List Name} {o : OpenBlocks} → Within t keys filter symbols path names o
     → InScope symbolsAfter path → Within t keys filter symbolsAfter path names o
 in-scope w sc = record {
   scope = sc;

@@ -1,6 +1,8 @@
-// A block opened, and closed again, while a text is read (W-203): faults 4 and 6. Two parts of the lent memory know the blocks. The symbols have the full name of
-// the innermost one that is open, the scope, in which names are declared and used. The keys have every block that was opened, also those that are closed. Beside
-// them a filter has the marks of these, so that a new block is compared with those before it only where it shares all its marks with others.
+// A block opened, and closed again, while a text is read (W-203): faults 4 and 6. Two parts of the lent memory know
+// the blocks. The symbols have the full name of the innermost one that is open, the scope, in which names are
+// declared and used. The keys have every block that was opened, also those that are closed. Beside them a filter has
+// the marks of these, so that a new block is compared with those before it only where it shares all its marks with
+// others.
 use policy::Refusal;
 use scopes::SYMBOL_BYTES;
 ghost use mathlib.Core.Path.{_≡_};
@@ -10,12 +12,14 @@ ghost use Rattle.block_reader.specs.Within.{noneOpen, OpensBlock, Closes
 // The keys: a number for each block that a text can have.
 pub const BLOCKS: usize = blocks::Blocks::MAX;
 
-// The filter's words. A text has room for 7,281 blocks, and with so many few new ones share all their marks with others and are compared with those before them.
-// A text that is made for that can have nearly all its blocks compared, as without a filter.
+// The filter's words. A text has room for 7,281 blocks, and with so many few new ones share all their marks with
+// others and are compared with those before them. A text that is made for that can have nearly all its blocks
+// compared, as without a filter.
 pub const FILTER: usize = 1_024;
 
-// Where the reader stands: how many blocks were opened so far, the number of the innermost one that is open, or 0, and how many are open.
-pub struct Open {
+// Where the reader stands: how many blocks were opened so far, the number of the innermost one that is open, or 0,
+// and how many are open.
+pub struct OpenBlocks {
     pub count: usize,
     pub block: usize,
     pub depth: usize,
@@ -23,15 +27,15 @@ pub struct Open {
 
 // What opening a block comes to: where the reader stands then, or a fault, 4 or 6.
 pub enum Opened {
-    Read(Open),
+    Read(OpenBlocks),
     Fault(usize),
 }
 
 // Where a text begins.
-pub fn none_open() -> Open
+pub fn none_open() -> OpenBlocks
     ensures { λ r. ⌜ r ≡ noneOpen ⌝ }
 {
-    Open {
+    OpenBlocks {
         count: 0,
         block: 0,
         depth: 0,
@@ -46,7 +50,7 @@ pub fn open_block(
     symbols: &mut [u8; SYMBOL_BYTES],
     keys: &mut [u64; BLOCKS],
     filter: &mut [u64; FILTER],
-    stand: Open,
+    stand: OpenBlocks,
 ) -> Opened
     ensures { λ r. ⌜ OpensBlock (now (text .entry)) start len (now (keys .entry)) (now (keys .exit)) (now (filter .entry)) (now (filter .exit)) (now (symbols .entry)) (now (symbols .exit)) stand r ⌝ }
 {
@@ -59,7 +63,7 @@ pub fn open_block(
     if !scopes::enter_block(symbols, text, start, len) {
         return Opened::Fault(Refusal::MAXIMUM_PASSED);
     }
-    Opened::Read(Open {
+    Opened::Read(OpenBlocks {
         count: stand.count + 1,
         block: stand.count + 1,
         depth: stand.depth + 1,
@@ -77,11 +81,15 @@ fn one_less(n: usize) -> usize
 }
 
 // Closes the innermost block.
-pub fn close_block(symbols: &mut [u8; SYMBOL_BYTES], keys: &[u64; BLOCKS], stand: Open) -> Open
+pub fn close_block(
+    symbols: &mut [u8; SYMBOL_BYTES],
+    keys: &[u64; BLOCKS],
+    stand: OpenBlocks,
+) -> OpenBlocks
     ensures { λ r. ⌜ ClosesBlock (now (keys .entry)) (now (symbols .entry)) (now (symbols .exit)) stand r ⌝ }
 {
     scopes::leave_block(symbols);
-    Open {
+    OpenBlocks {
         count: stand.count,
         block: blocks::around(keys, stand.block),
         depth: one_less(stand.depth),

@@ -63,7 +63,7 @@ module _ {parent at len : ℕ} (fits : Fits parent at len) where
   key-place = omega (arith, fits .few, fits .short, fits .near)
 
 module _ (text keys : List ℕ) (count parent at len : ℕ) where
-  -- a store behind the first n blocks keeps them
+  -- a store after the first n blocks keeps them
   opened-kept : (v n : ℕ) → n ≤ count → openedIn text (set keys count v) n ≡ openedIn text keys n
   unfolding openedIn
   opened-kept v zero h = refl

@@ -12,11 +12,11 @@ use lib.Seq.{drop-cons}
 use borrow.Author.Tests.{eqb-true}
 use Rattle.policy.specs.Basics.{Name, same, any}
 use Rattle.policy.proofs.Lists.{both-true, either-true, same-is}
-use Rattle.name_filter.specs.Filter.{stepped, hashFrom, hashOf, isMarked, marked}
-use Rattle.name_filter.proofs.FilterLaws.{marked-long, covers-none, covers-more, unmarked}
+use Rattle.bloom_filter.specs.Filter.{stepped, hashFrom, hashOf, isMarked, marked}
+use Rattle.bloom_filter.proofs.FilterLaws.{marked-long, covers-none, covers-more, unmarked}
 use Rattle.blocks.specs.Opened.{Block, blockOf, isBlock, isOpened, CoversBlocks, Marks, Asks}
 
--- ---- the hash of the bytes of a name from the place i on, behind those that made the hash h
+-- ---- the hash of the bytes of a name from the place i on, after those that made the hash h
 
 module _ (w : Name) (i h : ℕ) where
   -- a byte is a step

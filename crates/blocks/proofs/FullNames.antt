@@ -53,7 +53,7 @@ path-parts (b ∷ bs) (another p q n o) k = either (eqb k (suc (length bs)))
     (λ e. rw e (true-both (isOnePart (b .name)) (every isOnePart (pathOf bs (b .parent))) q (path-parts bs o (b .parent))))
     (λ e. rw e (path-parts bs o k))
 
--- the block of a number that is not 0 has the path of the block around it behind its name
+-- the block of a number that is not 0 has the path of the block around it after its name
 pub record Inside (bs : List Block) (k parent : ℕ) : Type 0 where
   pub name : Name
   pub is : pathOf bs k ≡ name ∷ pathOf bs parent

@@ -9,7 +9,7 @@ use lib.Dec.{eqb}
 use lib.ListN.{length, getD}
 use Rattle.bitset.specs.Parts.{part}
 use Rattle.policy.specs.Basics.{Name, same, any}
-use Rattle.name_filter.specs.Filter.{isMarked, marked, Covers}
+use Rattle.bloom_filter.specs.Filter.{isMarked, marked, Covers}
 
 -- a block: the number of the one around it, and its own name
 pub record Block : Type 0 where

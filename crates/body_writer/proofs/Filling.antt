@@ -47,7 +47,7 @@ narrow users = omega arith
 narrow roles = omega arith
 narrow types = omega arith
 
--- the next of a family's sets is written behind the others
+-- the next of a family's sets is written after the others
 pub next-set : (p : Policy) (f : Family) (sets set : List ℕ) (width n : ℕ) (t u v : List ℕ) (at i j : ℕ) → sets ≡ finalSets p f → width ≡ image.width f → n < 64
     → set ≡ part sets (64 * n) 64 → Appended (relation n width (final p f)) t at u i → (width ≤ length set → Appended (take width set) u i v j)
     → Appended (relation (n + 1) width (final p f)) t at v j

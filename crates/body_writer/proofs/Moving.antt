@@ -1,4 +1,4 @@
--- Transitions are written one behind the other, in the order of the statements. Assumes nothing.
+-- Transitions are written one after the other, in the order of the statements. Assumes nothing.
 use mathlib.Core.Path.{_≡_, refl, sym, ap, ap₂, _∙_, subst}
 use mathlib.Core.List.{List, [], _∷_, _++_, append-nil}
 use Prim.Native.Nat.{ℕ, _+_, _*_, _≤_, _<_}
@@ -20,7 +20,7 @@ use Rattle.statement_code.specs.Code.{transitionTag}
 use Rattle.set_code.specs.Evaluation.{valueOf}
 use Rattle.clashes.specs.Clashes.{Codes}
 use Rattle.code_reader.specs.AttributeSets.{finalSets}
-use Rattle.code_reader.specs.declared.Move.{Move}
+use Rattle.code_reader.specs.declared.CodedTransition.{CodedTransition}
 use Rattle.code_reader.specs.Reading.{stepOf}
 use Rattle.code_reader.proofs.Items.{Item, moves, unitsOf, itemsCode, items, ItemIn, moveIn, transitions-items, tag-moves, tag-no-move}
 use Rattle.code_reader.proofs.Numbers.{items-declared}
@@ -34,8 +34,8 @@ use Rattle.body_writer.proofs.Standing.{set-stands, operand-at}
 
 -- ---- one transition
 
--- its two sets and its two numbers, one behind the other
-pub entry-written : (p : Policy) → Accepted p → (t : Transition) (m : Move) → Codes p t m → (rs ts : List ℕ) → rs ≡ finalSets p roles → ts ≡ finalSets p types
+-- its two sets and its two numbers, one after the other
+pub entry-written : (p : Policy) → Accepted p → (t : Transition) (m : CodedTransition) → Codes p t m → (rs ts : List ℕ) → rs ≡ finalSets p roles → ts ≡ finalSets p types
     → (first second : List ℕ) → first ≡ setOf 64 (valueOf rs (m .roles)) → second ≡ setOf 64 (valueOf ts (m .types))
     → {a b c d e : List ℕ} {g h i j k : ℕ} → (16 ≤ length first → Appended (take 16 first) a g b h) → (64 ≤ length second → Appended (take 64 second) b h c i)
     → Appended (m .class ∷ []) c i d j → Appended (m .new ∷ []) d j e k → Appended (transitionBytes (transitionEntry p t)) a g e k
@@ -43,9 +43,11 @@ entry-written p ok t m codes rs ts hr ht first second f s {a} {b} {c} {d} {e} {g
     let long : length first ≡ 64 = ap length f ∙ length-setOf 64 _ in
     let wide : length second ≡ 64 = ap length s ∙ length-setOf 64 _ in
     let role-set : take 16 first ≡ setOf 16 (stands p roles (t .role)) =
-    ap (take 16) f ∙ take-setOf 64 16 _ (omega arith) ∙ ap (λ (u : ℕ). setOf 16 (valueOf rs u)) (codes .role) ∙ set-stands p ok roles rs hr (t .role) (codes .roles-declared) 16 (omega arith) in
+    ap (take 16) f ∙ take-setOf 64 16 _ (omega arith) ∙ ap (λ (u : ℕ). setOf 16 (valueOf rs u)) (codes .role) ∙ set-stands p ok roles rs hr (t .role)
+    (codes .roles-declared) 16 (omega arith) in
     let type-set : take 64 second ≡ setOf 64 (stands p types (t .type)) =
-    ap (take 64) s ∙ take-setOf 64 64 _ (omega arith) ∙ ap (λ (u : ℕ). setOf 64 (valueOf ts u)) (codes .type) ∙ set-stands p ok types ts ht (t .type) (codes .types-declared) 64 (omega arith) in
+    ap (take 64) s ∙ take-setOf 64 64 _ (omega arith) ∙ ap (λ (u : ℕ). setOf 64 (valueOf ts u)) (codes .type) ∙ set-stands p ok types ts ht (t .type)
+    (codes .types-declared) 64 (omega arith) in
     subst (λ (bytes : List ℕ). Appended bytes a g e k)
     (ap₂ (λ (x y : List ℕ). x ++ y) role-set (ap₂ (λ (x y : List ℕ). x ++ y) type-set (ap₂ (λ (x y : ℕ). x ∷ y ∷ []) (codes .class) (codes .new))))
     (appended-then (one (omega arith)) (appended-then (two (omega arith)) (appended-then three four)))
@@ -75,11 +77,11 @@ module _ (p : Policy) where
       let two = length-append (setOf 64 (stands p types (t .type))) (t .class ∷ t .new ∷ []) in
       omega (arith, length-append (transitionBytes (transitionEntry p t)) (bytesOf ts), bytes-long ts, r, y, one, two)
 
--- a transition stands at a place
+-- a transition is at a place
 pub record Moved (p : Policy) (code : List ℕ) (at : ℕ) (i : Item) : Type 0 where
   pub the : Transition
   pub is : i ≡ moves the
-  pub codes : (m : Move) → Reads code at m → Codes p the m
+  pub codes : (m : CodedTransition) → Reads code at m → Codes p the m
   pub class-byte : the .class < 256
   pub new-byte : the .new < 256
 
@@ -97,7 +99,8 @@ module _ (p : Policy) (t : List ℕ) (to : ℕ) where
       let same = transitions-items p in
       subst (λ ts. Appended (bytesOf p ts) t to u r) (sym same) h .written (omega (arith, room, bytes-long p (transitions p)))
 
-  module _ (ok : Accepted p) (code : List ℕ) (at next : ℕ) (inside : at < length code) (e : next ≡ stepOf code at) (u : List ℕ) (r : ℕ) (through : Through (items p) code at (Bytes u r)) where
+  module _ (ok : Accepted p) (code : List ℕ) (at next : ℕ) (inside : at < length code) (e : next ≡ stepOf code at) (u : List ℕ) (r : ℕ)
+      (through : Through (items p) code at (Bytes u r)) where
     the-met : Met p (items p) code at (Bytes u r)
     the-met = meet p ok (items p) (items-declared p ok) code at (Bytes u r) inside through
 
@@ -123,8 +126,8 @@ module _ (p : Policy) (t : List ℕ) (to : ℕ) where
               new-byte = omega (arith, d .3, few-of (thingOf roles) (declarations p) (ok .names));
             }
 
-    -- a transition is written behind the others
-    pub move-more : getD code at 0 ≡ transitionTag → (m : Move) → Reads code at m → (rs ts : List ℕ) → rs ≡ finalSets p roles → ts ≡ finalSets p types
+    -- a transition is written after the others
+    pub move-more : getD code at 0 ≡ transitionTag → (m : CodedTransition) → Reads code at m → (rs ts : List ℕ) → rs ≡ finalSets p roles → ts ≡ finalSets p types
         → (v : List ℕ) (s : ℕ) → WritesTransition m rs ts u r v s → Through (items p) code next (Bytes v s)
     move-more h m reads rs ts hr ht v s told =
         let it = moved h in

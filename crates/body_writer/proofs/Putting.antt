@@ -1,4 +1,4 @@
--- Bytes put into a table: one run behind the other, a copy, a single byte, and again over what was put. Assumes nothing.
+-- Bytes put into a table: one run after the other, a copy, a single byte, and again over what was put. Assumes nothing.
 use mathlib.Core.Path.{_≡_, refl, sym, ap, ap₂, _∙_}
 use mathlib.Core.List.{List, [], _∷_, _++_}
 use Prim.Native.Nat.{ℕ, _+_, _%_, _≤_, _<_}
@@ -14,7 +14,7 @@ use Rattle.bitset.proofs.PartLaws.{length-part, small-part, length-put, put-non
 use Rattle.set_rows.proofs.GrantLaws.{member-take}
 use Rattle.body_writer.specs.Writing.{Appended, Copies}
 
--- ---- one run behind the other
+-- ---- one run after the other
 
 pub appended-then : {a b c : List ℕ} {i j k : ℕ} {us vs : List ℕ} → Appended us a i b j → Appended vs b j c k → Appended (us ++ vs) a i c k
 appended-then {a} {b} {c} {i} {j} {k} {us} {vs} g h = record { written = λ l. both l .0; past = λ l. both l .1 }

@@ -12,7 +12,8 @@ use Rattle.bitset.specs.Relations.{joined, relation, granted}
 use Rattle.bitset.proofs.PartLaws.{length-part, part-put-same}
 use Rattle.set_rows.proofs.RelationLaws.{relation-ext, length-relation, emptied-relation, granted-sets}
 use Rattle.policy.specs.Basics.{any, gather, keep}
-use Rattle.policy.specs.Statements.{thingOf, attributeOf, plain, class, Reference, Relation, userrole, roletype, roleallow, fromOf, toOf, Statement, declare, attributeset, gives, roletransition, constrain, Policy, declarations}
+use Rattle.policy.specs.Statements.{thingOf, attributeOf, plain, class, Reference, Relation, userrole, roletype, roleallow, fromOf, toOf, Statement, declare}
+use Rattle.policy.specs.Statements.{attributeset, gives, roletransition, constrain, Policy, declarations}
 use Rattle.policy.specs.Meaning.{Standing, sameRelation, lineGives, stands, related}
 use Rattle.policy.specs.Image as image
 use Rattle.policy.specs.Image.{setsOf}
@@ -165,7 +166,7 @@ module _ {code fs ts : List ℕ} {at many width size tag : ℕ} (p : Policy) (k 
     the-met : Met p (items p) code place (Body u)
     the-met = meet p (asked .ok) (items p) (items-declared p (asked .ok)) code place (Body u) inside through
 
-    -- a line of the relation adds what it gives, and the next statement stands behind its two operands
+    -- a line of the relation adds what it gives, and the next statement is after its two operands
     pub line-more : next ≡ place + 4 → getD code place 0 ≡ tag → (x y : ℕ) → x ≡ getD code (place + 2) 0 → y ≡ getD code (place + 3) 0 → (v : List ℕ)
         → v ≡ put u at (granted width (part u at size) (setOf 64 (valueOf fs x)) (setOf 64 (valueOf ts y))) → Through (items p) code next (Body v)
     line-more e h x y hx hy v told = go (tag-relates k (the-met .item) (sym (the-met .stand .tag) ∙ h ∙ asked .tagged))

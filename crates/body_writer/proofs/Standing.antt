@@ -20,6 +20,6 @@ module _ (p : Policy) (ok : Accepted p) (f : Family) (rows : List ℕ) (h : rows
   pub set-stands : (r : Reference) → ReferenceIn (declarations p) f r → (w : ℕ) → w ≤ 64 → setOf w (valueOf rows (referenceUnit r)) ≡ setOf w (stands p f r)
   set-stands r d w l = setOf-ext w (valueOf rows (referenceUnit r)) (stands p f r) (λ n k. value-stands p ok f rows h r d n (omega arith))
 
--- operand k of the statement that stands at a place
+-- operand k of the statement that is at a place
 pub operand-at : (code : List ℕ) (at : ℕ) (us : List ℕ) (k n : ℕ) → drop (at + 2) code ≡ us → n ≡ at + 2 + k → getD code n 0 ≡ getD us k 0
 operand-at code at us k n q e = ap (λ (i : ℕ). getD code i 0) e ∙ sym (getD-drop (at + 2) code k 0) ∙ ap (λ (l : List ℕ). getD l k 0) q

@@ -19,7 +19,7 @@ use Rattle.policy.specs.declared.Relation.{Relation}
 use Rattle.statement_code.specs.Code.{codeOf}
 use Rattle.code_reader.specs.AttributeSets.{finalSets}
 use Rattle.clashes.specs.Clashes.{Codes}
-use Rattle.code_reader.specs.declared.Move.{Move}
+use Rattle.code_reader.specs.declared.CodedTransition.{CodedTransition}
 use Rattle.body_writer.specs.Writing.{Appended}
 
 -- "2. Roles of each user, 16 bytes each. 3. Types of each role, 64 each. 4. Roles each role may become, 16 each."
@@ -35,7 +35,7 @@ pub record WritesTransitions (code roleSets typeSets before : List ℕ) (at : �
       → after ≡ put before at (joined (each transitionBytes (each (transitionEntry p) (transitions p))))
 
 -- one of them, from its operands
-pub record WritesTransition (m : Move) (roleSets typeSets before : List ℕ) (at : ℕ) (after : List ℕ) (r : ℕ) : Type 0 where
+pub record WritesTransition (m : CodedTransition) (roleSets typeSets before : List ℕ) (at : ℕ) (after : List ℕ) (r : ℕ) : Type 0 where
   pub entry : (p : Policy) (t : Transition) → Accepted p → Codes p t m → m .class < 256 → m .new < 256
       → roleSets ≡ finalSets p roles → typeSets ≡ finalSets p types → Appended (transitionBytes (transitionEntry p t)) before at after r
 

@@ -1,7 +1,8 @@
-// The bodies of a table that are made from the code of the statements and the final sets: relations, transitions, attribute sets. Each is written
-// straight into the lent table, from a place on.
+// The bodies of a table that are made from the code of the statements and the final sets: relations, transitions,
+// attribute sets. Each is written straight into the lent table, from a place on.
 //
-// Every function takes every place and every length. What is promised of the table holds where it has room; past its end nothing is written.
+// Every function takes every place and every length. What is promised of the table holds where it has room; past its
+// end nothing is written.
 ghost use mathlib.Core.Path.{_≡_};
 ghost use mathlib.Core.List.{[], _∷_};
 ghost use Prim.Native.Nat.{_<_, _≤_};
@@ -13,8 +14,8 @@ ghost use Rattle.bitset.specs.Relations.{granted};
 ghost use Rattle.set_code.specs.Evaluation.{valueOf};
 ghost use Rattle.body_writer.specs.Writing.{Appended, Copies};
 ghost use Rattle.body_writer.specs.Bodies.{WritesRelation, WritesTransition, WritesTransitions, WritesSets};
+use code_reader::CodedTransition;
 use code_reader::FAMILY_BYTES;
-use code_reader::Move;
 use policy::Attribute;
 use policy::Relation;
 use policy::Role;
@@ -24,14 +25,14 @@ use statement_code::Unit;
 
 // ---- bytes
 
-// The first len bytes of src stand in the table from a place on.
+// The first len bytes of src are in the table from a place on.
 pub fn copy(src: &[u8], len: usize, table: &mut [u8], at: usize)
     ensures { λ _. ⌜ Copies (now (src .entry)) len (now (table .entry)) at (now (table .exit)) ⌝ }
 {
     set_rows::copy_at(table, at, len, src);
 }
 
-// The same, and the answer is the place behind them, or the same place where there is no room.
+// The same, and the answer is the place after them, or the same place where there is no room.
 fn append(src: &[u8], len: usize, table: &mut [u8], at: usize) -> usize
     ensures { λ r. ⌜ (len ≤ length (now (src .entry)) → Appended (take len (now (src .entry))) (now (table .entry)) at (now (table .exit)) r) ⌝ }
 {
@@ -76,8 +77,9 @@ pub fn write_sets(sets: &[u8; FAMILY_BYTES], many: usize, width: usize, table: &
 
 // ---- relations
 
-// In the body of rows of width bytes that stands in the size bytes at a place, the row of one thing gains what a reference stands for.
-// A row that starts past the body's end gains nothing, and one that the end cuts gains as far as it reaches.
+// In the body of rows of width bytes that is in the size bytes at a place, the row of one thing gains what a
+// reference stands for. A row that starts past the body's end gains nothing, and one that the end cuts gains as far
+// as it reaches.
 fn grant_row(
     thing: usize,
     to: u16,
@@ -107,8 +109,8 @@ fn grant_row(
     set_rows::union_at(table, row, reach, &gained);
 }
 
-// The same for each row of a reference. The row of a single thing is found without a walk over all rows; a number that no set holds, or rows wider
-// than a set, are left to the walk.
+// The same for each row of a reference. The row of a single thing is found without a walk over all rows; a number
+// that no set holds, or rows wider than a set, are left to the walk.
 fn grant_line(
     from: u16,
     to: u16,
@@ -136,7 +138,8 @@ fn grant_line(
     set_rows::grant_at(table, at, size, &rows, &gained, width);
 }
 
-// Body 2, 3 or 4: so many sets, in so many bytes each. A statement of the relation has two operands, so the next one starts four units on.
+// Body 2, 3 or 4: so many sets, in so many bytes each. A statement of the relation has two operands, so the next one
+// starts four units on.
 pub fn write_relation(
     code: &[u16],
     relation: Relation,
@@ -173,9 +176,9 @@ pub fn write_relation(
 
 // ---- transitions
 
-// One entry of body 5. Answers the place behind it.
+// One entry of body 5. Answers the place after it.
 fn write_transition(
-    operands: Move,
+    operands: CodedTransition,
     role_sets: &[u8; FAMILY_BYTES],
     type_sets: &[u8; FAMILY_BYTES],
     table: &mut [u8],

@@ -13,11 +13,12 @@ use borrow.Author.Tests.{ltb-true}
 use Rattle.bitset.specs.Relations.{joined}
 use Rattle.policy.specs.Basics.{each, All}
 use Rattle.policy.specs.Statements.{roles, types, thingOf, count, classNames}
-use Rattle.policy.specs.Deciding.{Question, Verdict, granted, denied, fails, refuses, Answer, ruling, firstFailing, decide, ruledBy, Reply, answered, refused}
+use Rattle.policy.specs.Deciding.{Question, Verdict, granted, denied, fails, refuses, Answer, consult, firstFailing, decide, ruledBy, Reply, answered, refused}
 use Rattle.policy.specs.Image.{Image, TransitionEntry}
 use Rattle.policy.specs.Encode.{NameEntry, entries, entryBytes, transitionBytes, headBytes, headsFrom, bodies, firstBody}
 use Rattle.policy.specs.Sound.{wellFormed, imageIn, goodTransition}
-use Rattle.policy.specs.Questions.{change, changed, changeOn, matches, firstTransition, newRole, newRoleOn, asked, Part, nameFrom, nameOf, nameOn, Run, recordFrom, records, entryOf, entryOn}
+use Rattle.policy.specs.Questions.{change, changed, changeOn, matches, firstTransition, newRole, newRoleOn, asked, Part, nameFrom, nameOf, nameOn, Records}
+use Rattle.policy.specs.Questions.{recordFrom, records, entryOf, entryOn}
 use Rattle.policy.proofs.Lists.{both-true, each-length}
 use Rattle.policy.proofs.Counts.{few-of}
 use Rattle.policy.proofs.Gathered.{all-map}
@@ -66,7 +67,7 @@ module _ {A : Type 0} (names holds : A → Bool) where
   first-within i [] = record { fails = tt; consulted = omega arith }
   first-within i (x ∷ xs) = by (names x) (holds x) (firstFailing names holds (i + 1) xs) (first-within (i + 1) xs)
     where
-      by : (n b : Bool) (later : Answer) → Within (i + 1 + length xs) (length xs) later → Within (i + suc (length xs)) (suc (length xs)) (ruling n b i later)
+      by : (n b : Bool) (later : Answer) → Within (i + 1 + length xs) (length xs) later → Within (i + suc (length xs)) (suc (length xs)) (consult n b i later)
       by false b later h = record { fails = wider _ _ (later .verdict) (omega arith) (h .fails); consulted = omega (arith, h .consulted) }
       by true false later h = record { fails = (omega arith, omega arith); consulted = omega arith }
       by true true later h = record { fails = wider _ _ (later .verdict) (omega arith) (h .fails); consulted = omega (arith, h .consulted) }
@@ -160,19 +161,20 @@ name-in s n o (e ∷ es) = by (eqb (e .sort) s && eqb (e .number) n) (name-in s 
     by false h = part-wider _ _ (nameFrom s n (o + length (entryBytes e)) es) (omega (arith, length-append (entryBytes e) (joined (each entryBytes es)))) h
 
 -- the bytes of some runs of records
-abbrev total : List Run → ℕ
+abbrev total : List Records → ℕ
 total [] = 0
-total (r ∷ rs) = r .many * r .wide + total rs
+total (r ∷ rs) = r .number * r .width + total rs
 
-record-in : (k o : ℕ) (rs : List Run) → PartIn (o + total rs) (recordFrom k o rs)
+record-in : (k o : ℕ) (rs : List Records) → PartIn (o + total rs) (recordFrom k o rs)
 unfolding recordFrom
 record-in k o [] = omega arith
-record-in k o (r ∷ rs) = by (ltb k (r .many)) refl (record-in (k - r .many) (o + r .many * r .wide) rs)
+record-in k o (r ∷ rs) = by (ltb k (r .number)) refl (record-in (k - r .number) (o + r .number * r .width) rs)
   where
-    by : (b : Bool) → ltb k (r .many) ≡ b → PartIn (o + r .many * r .wide + total rs) (recordFrom (k - r .many) (o + r .many * r .wide) rs)
-        → PartIn (o + (r .many * r .wide + total rs)) (cond b (answered (record { start = o + k * r .wide; long = r .wide })) (recordFrom (k - r .many) (o + r .many * r .wide) rs))
-    by true e h = omega (arith, mul-le-mul-right {m = suc k} {n = r .many} (r .wide) (ltb-true k (r .many) e), suc-mul k (r .wide))
-    by false e h = part-wider _ _ (recordFrom (k - r .many) (o + r .many * r .wide) rs) (omega arith) h
+    by : (b : Bool) → ltb k (r .number) ≡ b → PartIn (o + r .number * r .width + total rs) (recordFrom (k - r .number) (o + r .number * r .width) rs)
+        → PartIn (o + (r .number * r .width + total rs))
+        (cond b (answered (record { start = o + k * r .width; long = r .width })) (recordFrom (k - r .number) (o + r .number * r .width) rs))
+    by true e h = omega (arith, mul-le-mul-right {m = suc k} {n = r .number} (r .width) (ltb-true k (r .number) e), suc-mul k (r .width))
+    by false e h = part-wider _ _ (recordFrom (k - r .number) (o + r .number * r .width) rs) (omega arith) h
 
 module _ (i : Image) (h : wellFormed i ≡ true) where
   table-bound : firstBody + length (joined (bodies i)) ≤ 179652
@@ -185,7 +187,7 @@ module _ (i : Image) (h : wellFormed i ≡ true) where
       (omega (arith, table-bound, joined-room (bodies i) 0))
       (name-in s n firstBody (entries (i .names)))
 
-  body-small : (b k : ℕ) (rs : List Run) → total rs ≤ length (getD (bodies i) b []) → SmallPart (recordFrom k (firstBody + length (joined (take b (bodies i)))) rs)
+  body-small : (b k : ℕ) (rs : List Records) → total rs ≤ length (getD (bodies i) b []) → SmallPart (recordFrom k (firstBody + length (joined (take b (bodies i)))) rs)
   body-small b k rs l = part-wider _ _ (recordFrom k (firstBody + length (joined (take b (bodies i)))) rs) (omega (arith, table-bound, joined-room (bodies i) b)) (record-in k _ rs)
 
   entry-small : (b k : ℕ) → SmallPart (entryOf i b k)

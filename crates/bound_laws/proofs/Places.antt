@@ -16,7 +16,8 @@ use Rattle.lexer.specs.Scan.{Mode, between, inComment, inName, State, going, st
 use Rattle.lexer.proofs.Clean.{clean-short}
 use Rattle.lexer.specs.Forms.{formsOf}
 use Rattle.policy.specs.Basics.{any, given, each, All}
-use Rattle.policy.specs.Statements.{Family, users, roles, types, attributeOf, Declaration, plain, class, sameSort, declare, attributeset, gives, roletransition, constrain, Statement, Line, Policy, Transition, transition, transitions}
+use Rattle.policy.specs.Statements.{Family, users, roles, types, attributeOf, Declaration, plain, class, sameSort, declare, attributeset, gives, roletransition}
+use Rattle.policy.specs.Statements.{constrain, Statement, Line, Policy, Transition, transition, transitions}
 use Rattle.policy.specs.Grammar.{isBlock}
 use Rattle.policy.specs.Scopes.{Scoped, scopedIn}
 use Rattle.policy.specs.Reading.{Read, policy, refused, readPolicy}
@@ -232,4 +233,5 @@ refusal-place x n at e = by (readPolicy (x .text)) refl e
 
     by : (r : Read) → readPolicy (x .text) ≡ r → elim r [ refused n at ↦ refused n at | policy p ↦ accept p ] ≡ refused n at → at ≤ maxText
     by (refused m b) h k = let same : b ≡ at = cc in subst (λ at. at ≤ maxText) same (read-place (x .text) m b h)
-    by (policy p) h k = subst (RefusedAt (λ at. at ≤ maxText)) k (accept-at (λ at. at ≤ maxText) p (cycle-at (λ at. at ≤ maxText) p (lines p h)) (clash-at (λ at. at ≤ maxText) p (lines p h)))
+    by (policy p) h k =
+        subst (RefusedAt (λ at. at ≤ maxText)) k (accept-at (λ at. at ≤ maxText) p (cycle-at (λ at. at ≤ maxText) p (lines p h)) (clash-at (λ at. at ≤ maxText) p (lines p h)))

@@ -25,7 +25,7 @@ use Rattle.meaning_laws.proofs.ListLaws.{decided, chosen}
 use Rattle.meaning_laws.proofs.WithinDeclared.{stands-within}
 use Rattle.meaning_laws.proofs.Splitting.{CutAt, cut-gathered}
 use Rattle.clashes.specs.Clashes.{sharesOf, clashesOf, Codes, Segment}
-use Rattle.code_reader.specs.declared.Move.{Move}
+use Rattle.code_reader.specs.declared.CodedTransition.{CodedTransition}
 use Rattle.code_reader.specs.Reading.{stepOf}
 use Rattle.code_reader.proofs.Items.{Item, moves, standsAt, unitsOf, itemsCode, itemOf, items, code-items, ItemIn, moveIn, transitions-items, tag-moves, tag-no-move}
 use Rattle.code_reader.proofs.Numbers.{few-things}
@@ -51,11 +51,12 @@ module _ (p : Policy) (ok : Accepted p) where
     unfolding sharesOf countIn
     shares-meet x y dx dy =
         meets-setOf 64 (valueOf rows (referenceUnit x)) (valueOf rows (referenceUnit y))
-        ∙ meet-ext 512 (valueOf rows (referenceUnit x)) (valueOf rows (referenceUnit y)) (stands p f x) (stands p f y) (value-stands p ok f rows h x dx) (value-stands p ok f rows h y dy)
+        ∙ meet-ext 512 (valueOf rows (referenceUnit x)) (valueOf rows (referenceUnit y)) (stands p f x) (stands p f y) (value-stands p ok f rows h x dx)
+        (value-stands p ok f rows h y dy)
         ∙ meet-bounded (countIn p f) 512 (stands p f x) (stands p f y) (few-things p ok f) (λ k l m. stands-not x dx k l)
 
   pub clash-same : (rs ts : List ℕ) → rs ≡ relation 64 64 (final p roles) → ts ≡ relation 64 64 (final p types)
-      → (t u : Transition) (a b : Move) → Codes p t a → Codes p u b → clashesOf rs ts a b ≡ clashes p t u
+      → (t u : Transition) (a b : CodedTransition) → Codes p t a → Codes p u b → clashesOf rs ts a b ≡ clashes p t u
   unfolding clashesOf clashes
   clash-same rs ts hr ht t u a b x y =
       rw (x .role, x .type, x .class, x .new, y .role, y .type, y .class, y .new)
@@ -66,10 +67,10 @@ module _ (p : Policy) (ok : Accepted p) where
 -- ---- a transition in the code
 
 -- what is read at a place
-abbrev pub Reads : List ℕ → ℕ → Move → Type 0
+abbrev pub Reads : List ℕ → ℕ → CodedTransition → Type 0
 Reads code at m = (m .roles ≡ getD code (at + 2) 0) × (m .types ≡ getD code (at + 3) 0) × (m .class ≡ getD code (at + 4) 0) × (m .new ≡ getD code (at + 5) 0)
 
-codes-here : (p : Policy) (code : List ℕ) (at : ℕ) (t : Transition) (rest : List ℕ) (m : Move) → ItemIn (declarations p) (moves t)
+codes-here : (p : Policy) (code : List ℕ) (at : ℕ) (t : Transition) (rest : List ℕ) (m : CodedTransition) → ItemIn (declarations p) (moves t)
     → drop (at + 2) code ≡ unitsOf (moves t) ++ rest → Reads code at m → Codes p t m
 codes-here p code at t rest m d q r =
     let a = here code (at + 2) (referenceUnit (t .role)) (referenceUnit (t .type) ∷ t .class ∷ t .new ∷ rest) q in
@@ -88,20 +89,23 @@ codes-here p code at t rest m d q r =
       types-declared = d .1;
     }
 
--- a transition stands at the place that is met
+-- a transition is at the place that is met
 pub record Moved (p : Policy) (code : List ℕ) (at : ℕ) (i : Item) : Type 0 where
   pub the : Transition
   pub is : i ≡ moves the
-  pub codes : (m : Move) → Reads code at m → Codes p the m
+  pub codes : (m : CodedTransition) → Reads code at m → Codes p the m
 
-moved : (p : Policy) (is : List Item) (code : List ℕ) (at : ℕ) (S : List Item → List Item → Type 0) (m : Met p is code at S) → getD code at 0 ≡ transitionTag → Moved p code at (m .item)
+moved : (p : Policy) (is : List Item) (code : List ℕ) (at : ℕ) (S : List Item → List Item → Type 0) (m : Met p is code at S) → getD code at 0 ≡ transitionTag
+    → Moved p code at (m .item)
 moved p is code at S m h = go (tag-moves (m .item) (sym (m .stand .tag) ∙ h))
   where
     go : (t : Transition) × (m .item ≡ moves t) → Moved p code at (m .item)
     go (t, e) = record {
       the = t;
       is = e;
-      codes = λ v r. codes-here p code at t (itemsCode (m .rest)) v (subst (ItemIn (declarations p)) e (m .declared)) (m .stand .units ∙ ap (λ i. unitsOf i ++ itemsCode (m .rest)) e) r;
+      codes =
+          λ v r. codes-here p code at t (itemsCode (m .rest)) v (subst (ItemIn (declarations p)) e (m .declared))
+          (m .stand .units ∙ ap (λ i. unitsOf i ++ itemsCode (m .rest)) e) r;
     }
 
 any-last : {A : Type 0} (c : A → Bool) (xs ys : List A) (x : A) → any c xs ≡ false → any c (xs ++ (x ∷ ys)) ≡ (c x || any c ys)
@@ -132,7 +136,7 @@ module _ (p : Policy) (ok : Accepted p) (part : Policy) (segment : Segment p par
         (ap (any (clashes p t)) (gather-over moveIn (met .done) (met .item) (tag-no-move (met .item) (λ q. h (met .stand .tag ∙ q)))) ∙ met .so-far)
 
     module _ (h : getD code at 0 ≡ transitionTag) (rs ts : List ℕ) (hr : rs ≡ relation 64 64 (final p roles)) (ht : ts ≡ relation 64 64 (final p types))
-        (later here : Move) (codes : Codes p t later) (reads : Reads code at here) where
+        (later here : CodedTransition) (codes : Codes p t later) (reads : Reads code at here) where
       it : Moved p code at (met .item)
       it = moved p (items part) code at (Apart p t) met h
 
@@ -161,7 +165,7 @@ abbrev pub Looks : Policy → Policy → List Item → List Item → Type 0
 Looks p part done left = firstClash p (gather moveIn done) (gather moveIn left) ≡ firstClash p [] (transitions part)
 
 -- what `clashes_earlier` answers of the first statements
-abbrev pub Earlier : List ℕ → Move → List ℕ → List ℕ → Bool → Type 0
+abbrev pub Earlier : List ℕ → CodedTransition → List ℕ → List ℕ → Bool → Type 0
 Earlier code m rs ts r = (p part : Policy) (t : Transition) → Accepted p → Segment p part → code ≡ codeOf part → Codes p t m
     → rs ≡ relation 64 64 (final p roles) → ts ≡ relation 64 64 (final p types) → r ≡ any (clashes p t) (transitions part)
 
@@ -188,7 +192,7 @@ module _ (p : Policy) (ok : Accepted p) (part : Policy) (segment : Segment p par
         ∙ met-here .so-far)
 
     module _ (h : getD code at 0 ≡ transitionTag) (rs ts : List ℕ) (hr : rs ≡ relation 64 64 (final p roles)) (ht : ts ≡ relation 64 64 (final p types))
-        (m : Move) (reads : Reads code at m) (r : Bool) (told : Earlier (take at code) m rs ts r) where
+        (m : CodedTransition) (reads : Reads code at m) (r : Bool) (told : Earlier (take at code) m rs ts r) where
       it-is : Moved p code at (met-here .item)
       it-is = moved p (items part) code at (Looks p part) met-here h
 
@@ -207,10 +211,12 @@ module _ (p : Policy) (ok : Accepted p) (part : Policy) (segment : Segment p par
       answered : r ≡ any (clashes p (it-is .the)) (gather moveIn (met-here .done))
       unfolding items
       answered =
-          told p (cut .before) (it-is .the) ok (segment-left p (cut .before) (cut .here ∷ cut .after) (subst (Segment p) (cut .whole) segment)) earlier-code (it-is .codes m reads) hr ht
+          told p (cut .before) (it-is .the) ok (segment-left p (cut .before) (cut .here ∷ cut .after) (subst (Segment p) (cut .whole) segment)) earlier-code
+          (it-is .codes m reads) hr ht
           ∙ ap (any (clashes p (it-is .the))) (transitions-items (cut .before) ∙ ap (gather moveIn) (cut .earlier))
 
-      chosen-here : cond r (some (it-is .the .place)) (firstClash p (gather moveIn (met-here .done) ++ (it-is .the ∷ [])) (gather moveIn (met-here .rest))) ≡ firstClash p [] (transitions part)
+      chosen-here : cond r (some (it-is .the .place)) (firstClash p (gather moveIn (met-here .done) ++ (it-is .the ∷ [])) (gather moveIn (met-here .rest))) ≡
+          firstClash p [] (transitions part)
       unfolding firstClash gather
       chosen-here =
           ap (λ (b : Bool). cond b (some (it-is .the .place)) (firstClash p (gather moveIn (met-here .done) ++ (it-is .the ∷ [])) (gather moveIn (met-here .rest)))) answered
@@ -228,6 +234,7 @@ module _ (p : Policy) (ok : Accepted p) (part : Policy) (segment : Segment p par
       pub looks-on : (next : ℕ) → next ≡ stepOf code at → r ≡ false → Through (items part) code next (Looks p part)
       looks-on next n e =
           onward p (items part) code at (Looks p part) (Looks p part) next n met-here
-          (ap (λ (xs : List Transition). firstClash p xs (gather moveIn (met-here .rest))) (gather-last moveIn (met-here .done) (met-here .item) (it-is .the) (ap moveIn (it-is .is)))
+          (ap (λ (xs : List Transition). firstClash p xs (gather moveIn (met-here .rest)))
+          (gather-last moveIn (met-here .done) (met-here .item) (it-is .the) (ap moveIn (it-is .is)))
           ∙ ap (λ (b : Bool). cond b (some (it-is .the .place)) (firstClash p (gather moveIn (met-here .done) ++ (it-is .the ∷ [])) (gather moveIn (met-here .rest)))) (sym e)
           ∙ chosen-here)

@@ -1,4 +1,4 @@
--- Lines of a policy that stand one behind the other, and a pass that leaves out those before the first transition. Assumes nothing.
+-- Lines of a policy that are one after the other, and a pass that leaves out those before the first transition. Assumes nothing.
 use Prim.Native.Nat.{ℕ, _<_, _≤_}
 use mathlib.Core.Path.{_≡_, refl, sym, ap, ap₂, _∙_, subst}
 use mathlib.Core.List.{List, [], _∷_, _++_, append-assoc, append-nil}

@@ -11,22 +11,22 @@ use Rattle.policy.specs.Statements.{roles, types, Policy, declarations, Transit
 use Rattle.policy.specs.Accepted.{ReferenceIn}
 use Rattle.statement_code.specs.Code.{referenceUnit, codeOf}
 use Rattle.set_code.specs.Evaluation.{valueOf}
-use Rattle.code_reader.specs.declared.Move.{Move}
+use Rattle.code_reader.specs.declared.CodedTransition.{CodedTransition}
 
 -- the references of two units stand for one thing
 unfoldable pub sharesOf : List ℕ → ℕ → ℕ → Bool
 sharesOf sets x y = meets (setOf 64 (valueOf sets x)) (setOf 64 (valueOf sets y))
 
-unfoldable pub clashesOf : List ℕ → List ℕ → Move → Move → Bool
+unfoldable pub clashesOf : List ℕ → List ℕ → CodedTransition → CodedTransition → Bool
 clashesOf roleSets typeSets a b =
     eqb (a .class) (b .class) && not (eqb (a .new) (b .new)) && sharesOf roleSets (a .roles) (b .roles) && sharesOf typeSets (a .types) (b .types)
 
--- the operands of the transition that stands at a place of the code
-abbrev pub moveAt : List ℕ → ℕ → Move
+-- the operands of the transition that is at a place of the code
+abbrev pub moveAt : List ℕ → ℕ → CodedTransition
 moveAt code at = record { roles = getD code (at + 2) 0; types = getD code (at + 3) 0; class = getD code (at + 4) 0; new = getD code (at + 5) 0 }
 
 -- these are the operands of a transition that names what the policy declares
-pub record Codes (p : Policy) (t : Transition) (m : Move) : Type 0 where
+pub record Codes (p : Policy) (t : Transition) (m : CodedTransition) : Type 0 where
   pub role : m .roles ≡ referenceUnit (t .role)
   pub type : m .types ≡ referenceUnit (t .type)
   pub class : m .class ≡ t .class
@@ -34,7 +34,7 @@ pub record Codes (p : Policy) (t : Transition) (m : Move) : Type 0 where
   pub roles-declared : ReferenceIn (declarations p) roles (t .role)
   pub types-declared : ReferenceIn (declarations p) types (t .type)
 
--- these lines stand in the policy, one behind the other
+-- these lines are in the policy, one after the other
 pub record Segment (p part : Policy) : Type 0 where
   pub before : Policy
   pub after : Policy

@@ -1,7 +1,7 @@
 // Fault 9: the first role transition that clashes with an earlier one.
+use code_reader::CodedTransition;
 use code_reader::FAMILY_BYTES;
 use code_reader::Found;
-use code_reader::Move;
 use policy::Type;
 use statement_code::Unit;
 ghost use mathlib.Core.Path.{_≡_};
@@ -60,8 +60,8 @@ fn share(sets: &[u8; FAMILY_BYTES], x: u16, y: u16) -> bool
 
 // Whether two transitions share a role, a type and the class, and their new roles differ.
 fn clash_between(
-    a: Move,
-    b: Move,
+    a: CodedTransition,
+    b: CodedTransition,
     role_sets: &[u8; FAMILY_BYTES],
     type_sets: &[u8; FAMILY_BYTES],
 ) -> bool
@@ -79,11 +79,11 @@ fn clash_between(
     false
 }
 
-// Whether a transition clashes with the one that stands at a place.
+// Whether a transition clashes with the one that is at a place.
 fn clashes_at(
     earlier: &[u16],
     at: usize,
-    later: Move,
+    later: CodedTransition,
     role_sets: &[u8; FAMILY_BYTES],
     type_sets: &[u8; FAMILY_BYTES],
 ) -> bool
@@ -100,7 +100,7 @@ fn clashes_at(
 // Whether a transition clashes with one of the earlier statements, whose code is given.
 fn clashes_earlier(
     earlier: &[u16],
-    later: Move,
+    later: CodedTransition,
     role_sets: &[u8; FAMILY_BYTES],
     type_sets: &[u8; FAMILY_BYTES],
 ) -> bool
@@ -164,8 +164,8 @@ fn first_transition(code: &[u16]) -> usize
     code.len()
 }
 
-// Fault 9: the first transition that clashes with an earlier one. The earlier code is read again for each transition, so the code before the
-// first is left out.
+// Fault 9: the first transition that clashes with an earlier one. The earlier code is read again for each transition,
+// so the code before the first is left out.
 pub fn clash(code: &[u16], role_sets: &[u8; FAMILY_BYTES], type_sets: &[u8; FAMILY_BYTES]) -> Found
     ensures { λ r. ⌜ ((p : Policy) → Accepted p → now (code .entry) ≡ codeOf p
         → now («role_sets» .entry) ≡ finalSets p statements.roles → now («type_sets» .entry) ≡ finalSets p statements.types

@@ -30,7 +30,7 @@ pub code-longer : (before : List Scoped) (p : Policy) (x : Scoped) (s : Statemen
 code-longer before p x s h =
     rw (code-last p (line (x .place) s), length-append (codeOf p) (statementCode (x .place) s)) (omega (arith, statement-fits before p x s h))
 
--- a row with nothing behind it has no more tokens than it has itself
+-- a row with nothing after it has no more tokens than it has itself
 then-ended : (f : Forms) → weight (f then ended) ≤ weight f
 unfolding weight
 then-ended closed = omega arith
@@ -38,7 +38,7 @@ then-ended ended = omega arith
 then-ended (word at w r) = omega (arith, then-ended r)
 then-ended (part at i r) = omega (arith, then-ended r)
 
--- the code of a row f that is read after p leaves room for the row g behind it
+-- the code of a row f that is read after p leaves room for the row g after it
 abbrev pub Fits : List Name → Forms → Forms → Type 0
 Fits path f g = (before : List Scoped) (p q : Policy) → readFrom before (scopedIn path f) p ≡ policy q → length (codeOf q) + weight g ≤ length (codeOf p) + weight (f then g)
 

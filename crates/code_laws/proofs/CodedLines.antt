@@ -101,7 +101,7 @@ pub texts-determined : (t u : List ℕ) (p q : Policy) → readPolicy t ≡ poli
 texts-determined t u p q h k = code-determines p q (read-readable t p h) (read-readable u q k)
 
 -- A READER'S NEXT STATEMENT
--- where more stands than what is behind the code, a statement starts
+-- where more stands than what is after the code, a statement starts
 pub record Next (cs : List Coded) (u : ℕ) (us rest : List ℕ) : Type 0 where
   pub first : Coded
   pub others : List Coded

@@ -6,7 +6,8 @@ use mathlib.Core.Bool.{Bool, _||_}
 use mathlib.Core.List.{List, [], _∷_}
 use mathlib.Core.Option.{Option, none, some}
 use Rattle.policy.specs.Basics.{_>>=_, any, gather, keep}
-use Rattle.policy.specs.Statements.{Family, thingOf, attributeOf, Declaration, plain, class, Relation, Statement, declare, attributeset, gives, roletransition, constrain, Line, Policy, setFor, setsFor, transition, transitions}
+use Rattle.policy.specs.Statements.{Family, thingOf, attributeOf, Declaration, plain, class, Relation, Statement, declare, attributeset, gives, roletransition}
+use Rattle.policy.specs.Statements.{constrain, Line, Policy, setFor, setsFor, transition, transitions}
 use Rattle.policy.specs.Meaning.{Standing, lineGives, stands, related}
 use Rattle.policy.specs.Faults.{declaresA, placeOf, places}
 use Rattle.reading_laws.proofs.ReadThen.{line}

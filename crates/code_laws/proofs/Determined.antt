@@ -1,4 +1,4 @@
--- The code determines the statements that have code: S by its code and what stands behind it, then one statement after the other. By induction on S
+-- The code determines the statements that have code: S by its code and what is after it, then one statement after the other. By induction on S
 -- and on the statements, with the one-step laws for the other side. Assumes nothing.
 use Prim.Native.Nat.{ℕ}
 use mathlib.Core.Path.{_≡_, refl, sym, ap, ap₂, _∙_, subst}
@@ -20,7 +20,7 @@ reference-determined r q h k e = sym (reference-back r h) ∙ ap referenceOf e �
 tail-same : (u : ℕ) (xs ys : List ℕ) → u ∷ xs ≡ u ∷ ys → xs ≡ ys
 tail-same u xs ys e = cc
 
--- an S that has the code of s is s, and what stands behind the two is the same
+-- an S that has the code of s is s, and what is after the two is the same
 pub record Determined (s : SetExpr Reference) : Type 0 where
   pub only : (t : SetExpr Reference) (xs ys : List ℕ) → Readable t → setCode s ++ xs ≡ setCode t ++ ys → (s ≡ t) × (xs ≡ ys)
 

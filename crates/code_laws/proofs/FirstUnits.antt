@@ -1,4 +1,4 @@
--- The first unit of S tells its form, the first unit of a statement its tag, and what stands after it is the code of its parts: one step of a reader
+-- The first unit of S tells its form, the first unit of a statement its tag, and what is after it is the code of its parts: one step of a reader
 -- that goes through the code from left to right. By cases. Assumes nothing.
 use Prim.Native.Nat.{ℕ, _+_, _-_, _<_, _≤_}
 use native.Mathlib.Omega.{arith}
@@ -6,8 +6,10 @@ use mathlib.Core.Path.{_≡_, refl, sym, ap, subst}
 use mathlib.Core.List.{List, [], _∷_, _++_, append-assoc}
 use lib.Dec.{eqb}
 use borrow.Author.Tests.{lt-ltb, le-ltb, ne-eqb}
-use Rattle.policy.specs.Statements.{Family, users, roles, types, Reference, thing, attribute, SetExpr, nameS, allS, notS, andS, orS, xorS, unionS, emptyS, Relation, userrole, roletype, roleallow}
-use Rattle.statement_code.specs.Code.{referenceUnit, allUnit, notUnit, andUnit, orUnit, xorUnit, unionUnit, endUnit, setCode, rowCode, attributeTag, setTag, relationTag, transitionTag}
+use Rattle.policy.specs.Statements.{Family, users, roles, types, Reference, thing, attribute, SetExpr, nameS, allS, notS, andS, orS, xorS, unionS, emptyS}
+use Rattle.policy.specs.Statements.{Relation, userrole, roletype, roleallow}
+use Rattle.statement_code.specs.Code.{referenceUnit, allUnit, notUnit, andUnit, orUnit, xorUnit, unionUnit, endUnit, setCode, rowCode, attributeTag, setTag}
+use Rattle.statement_code.specs.Code.{relationTag, transitionTag}
 use Rattle.code_laws.specs.Shape.{IsRow, Rowed}
 use Rattle.statement_code.specs.Numbered.{NumberedR, Numbered}
 use Rattle.statement_code.proofs.Numbers.{family-few, relation-few, reference-below}

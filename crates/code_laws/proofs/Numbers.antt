@@ -4,7 +4,8 @@ use mathlib.Core.Path.{_≡_}
 use mathlib.Core.Bool.{true}
 use mathlib.Core.List.{List, []}
 use Rattle.policy.specs.Basics.{All}
-use Rattle.policy.specs.Statements.{roles, types, thingOf, attributeOf, Declaration, Statement, declare, attributeset, gives, roletransition, constrain, fromOf, toOf, Line, Policy, declarations}
+use Rattle.policy.specs.Statements.{roles, types, thingOf, attributeOf, Declaration, Statement, declare, attributeset, gives, roletransition, constrain, fromOf}
+use Rattle.policy.specs.Statements.{toOf, Line, Policy, declarations}
 use Rattle.policy.specs.Sound.{goodFrom}
 use Rattle.policy.specs.Accepted.{StatementIn, Accepted}
 use Rattle.policy.proofs.Counts.{few-of, few-classes}
@@ -25,4 +26,5 @@ abbrev pub LineNumbered : Line → Type 0
 LineNumbered l = StatementNumbered (l .says)
 
 pub accepted-numbered : (p : Policy) → Accepted p → All LineNumbered p
-accepted-numbered p a = all-map (λ (l : Line). StatementIn (declarations p) (l .says)) LineNumbered (λ l h. statement-numbered (declarations p) (a .names) (l .says) h) p (a .statements)
+accepted-numbered p a =
+    all-map (λ (l : Line). StatementIn (declarations p) (l .says)) LineNumbered (λ l h. statement-numbered (declarations p) (a .names) (l .says) h) p (a .statements)

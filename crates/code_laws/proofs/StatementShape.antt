@@ -9,7 +9,8 @@ use lib.ListN.{length}
 use Rattle.lexer.specs.Forms.{Forms, closed, ended, word, part}
 use Rattle.policy.specs.Basics.{Name, more, ofOne, ofTwo, eachOf}
 use Rattle.policy.specs.Words.{asName, asPart, Keyword, declareK, classK, setK, relationK, transitionK, constrainK, keywordOf}
-use Rattle.policy.specs.Statements.{roles, types, thingOf, attributeOf, Declaration, plain, class, Relation, StatementOf, declare, attributeset, gives, roletransition, constrain, fromOf, toOf, Written, Statement, Policy, declarations}
+use Rattle.policy.specs.Statements.{roles, types, thingOf, attributeOf, Declaration, plain, class, Relation, StatementOf, declare, attributeset, gives}
+use Rattle.policy.specs.Statements.{roletransition, constrain, fromOf, toOf, Written, Statement, Policy, declarations}
 use Rattle.policy.specs.Grammar.{atClose, wordThen, partThen, wordAndPart, expressionIn, rowOf, oneOrMore, classIn, ofFour, formed, written}
 use Rattle.policy.specs.Names.{refer, Environment, environmentOf, numberIn}
 use Rattle.policy.specs.Scopes.{Scoped}
@@ -69,7 +70,7 @@ module _ {n k : ℕ} (l : suc n < k) where
   four-shaped (r ∷ t ∷ c ∷ m ∷ []) h = just (record { rowed = tt; room = omega arith })
   four-shaped (r ∷ t ∷ c ∷ m ∷ x ∷ xs) h = nothing
 
--- whatever stands in the row, if nothing needs to be known of it
+-- whatever is in the row, if nothing needs to be known of it
 module _ {A : Type 0} {P : A → Type 0} where
   word-then : (f : Forms) (g : Name → Forms → Option A) → ((w : Name) (r : Forms) → weight f ≡ weight r + 1 → IfAny P (g w r)) → IfAny P (wordThen f g)
   unfolding weight

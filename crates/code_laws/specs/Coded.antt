@@ -5,7 +5,8 @@ use mathlib.Core.List.{List, [], _∷_, _++_}
 use mathlib.Core.Option.{Option, none, some}
 use Rattle.bitset.specs.Relations.{joined}
 use Rattle.policy.specs.Basics.{each, gather}
-use Rattle.policy.specs.Statements.{Family, thingOf, attributeOf, Declaration, plain, class, Reference, SetExpr, Relation, declare, attributeset, gives, roletransition, constrain, Line, Policy}
+use Rattle.policy.specs.Statements.{Family, thingOf, attributeOf, Declaration, plain, class, Reference, SetExpr, Relation, declare, attributeset, gives}
+use Rattle.policy.specs.Statements.{roletransition, constrain, Line, Policy}
 use Rattle.statement_code.specs.Code.{referenceUnit, setCode, attributeTag, setTag, relationTag, transitionTag}
 use Rattle.statement_code.specs.Numbered.{NumberedR}
 use Rattle.code_laws.specs.Kinds.{Readable, Tag, attributeT, setT, relationT, transitionT, noT, tagOf}
@@ -52,7 +53,7 @@ CodedReadable (setAt f at a s) = Readable s
 CodedReadable (relationAt k at x y) = NumberedR x × NumberedR y
 CodedReadable (transitionAt at r t c n) = NumberedR r × NumberedR t
 
--- what the statement is, by its tag; us are the units after the tag, rest those behind the statement
+-- what the statement is, by its tag; us are the units after the tag, rest those after the statement
 pub record AttributeParts (f : Family) (s : Coded) (us rest : List ℕ) : Type 0 where
   pub place : ℕ
   pub is : s ≡ attributeAt f place

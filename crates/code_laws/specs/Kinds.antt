@@ -4,12 +4,13 @@ use mathlib.Core.Path.{_≡_}
 use mathlib.Core.Bool.{Bool, true, false, cond}
 use mathlib.Core.List.{List, [], _∷_, _++_}
 use lib.Dec.{ltb, eqb}
-use Rattle.policy.specs.Statements.{Family, users, roles, types, Reference, thing, attribute, SetExpr, nameS, allS, notS, andS, orS, xorS, unionS, emptyS, Relation, userrole, roletype, roleallow}
+use Rattle.policy.specs.Statements.{Family, users, roles, types, Reference, thing, attribute, SetExpr, nameS, allS, notS, andS, orS, xorS, unionS, emptyS}
+use Rattle.policy.specs.Statements.{Relation, userrole, roletype, roleallow}
 use Rattle.statement_code.specs.Code.{allUnit, notUnit, andUnit, orUnit, xorUnit, unionUnit, endUnit, setCode, rowCode, attributeTag, setTag, relationTag, transitionTag}
 use Rattle.code_laws.specs.Shape.{IsRow}
 use Rattle.statement_code.specs.Numbered.{NumberedR}
 
--- S that its code tells apart from every other: its numbers are small, and the operands of a union stand in a row
+-- S that its code tells apart from every other: its numbers are small, and the operands of a union are in a row
 abbrev pub Readable : SetExpr Reference → Type 0
 Readable (nameS r) = NumberedR r
 Readable allS = Unit {0}
@@ -48,7 +49,7 @@ pub record One (e : SetExpr Reference) (us rest : List ℕ) : Type 0 where
   pub readable : Readable operand
   pub units : us ≡ setCode operand ++ (endUnit ∷ rest)
 
--- what S is, by the kind of its first unit; us are the units after that one, rest those behind S
+-- what S is, by the kind of its first unit; us are the units after that one, rest those after S
 abbrev pub PartsS : Kind → SetExpr Reference → List ℕ → List ℕ → Type 0
 PartsS (nameK r) e us rest = (e ≡ nameS r) × (us ≡ rest)
 PartsS allK e us rest = (e ≡ allS) × (us ≡ endUnit ∷ rest)

@@ -1,8 +1,9 @@
--- The shape of S and of a statement, whether names or numbers stand in it: how many units its code has, and that the operands after the first of a
--- union stand in a row. Assumes nothing.
+-- The shape of S and of a statement, whether names or numbers are in it: how many units its code has, and that the operands after the first of a
+-- union are in a row. Assumes nothing.
 use Prim.Native.Nat.{ℕ, _+_}
 use mathlib.Core.List.{List, [], _∷_}
-use Rattle.policy.specs.Statements.{thingOf, attributeOf, Declaration, plain, class, SetExpr, nameS, allS, notS, andS, orS, xorS, unionS, emptyS, StatementOf, declare, attributeset, gives, roletransition, constrain}
+use Rattle.policy.specs.Statements.{thingOf, attributeOf, Declaration, plain, class, SetExpr, nameS, allS, notS, andS, orS, xorS, unionS, emptyS, StatementOf}
+use Rattle.policy.specs.Statements.{declare, attributeset, gives, roletransition, constrain}
 
 module _ {R : Type 0} where
   -- operands one after the other, up to the last
@@ -16,7 +17,7 @@ module _ {R : Type 0} where
   IsRow (unionS x y) = Unit {0}
   IsRow emptyS = Unit {0}
 
-  -- "one or more operands (their union)": what stands after an operand of a union is a row of operands, as `operandRow` makes it
+  -- "one or more operands (their union)": what is after an operand of a union is a row of operands, as `operandRow` makes it
   abbrev pub Rowed : SetExpr R → Type 0
   Rowed (nameS r) = Unit {0}
   Rowed allS = Unit {0}

@@ -11,7 +11,9 @@ use lib.Dec.{eqb}
 use lib.ListN.{length}
 use Rattle.bitset.specs.Relations.{joined}
 use Rattle.policy.specs.Basics.{any, each, gather, keep, given}
-use Rattle.policy.specs.Statements.{Family, users, roles, types, thingOf, attributeOf, Declaration, plain, class, Reference, SetExpr, Relation, fromOf, toOf, Statement, declare, attributeset, gives, roletransition, constrain, sameFamily, Line, Policy, count, classNames, setFor, setsFor, Transition, transition, transitions}
+use Rattle.policy.specs.Statements.{Family, users, roles, types, thingOf, attributeOf, Declaration, plain, class, Reference, SetExpr, Relation, fromOf, toOf}
+use Rattle.policy.specs.Statements.{Statement, declare, attributeset, gives, roletransition, constrain, sameFamily, Line, Policy, count, classNames, setFor}
+use Rattle.policy.specs.Statements.{setsFor, Transition, transition, transitions}
 use Rattle.policy.specs.Faults.{placeOf, places}
 use Rattle.policy.specs.Accepted.{ReferenceIn, SetIn, StatementIn}
 use Rattle.statement_code.specs.Code.{referenceUnit, setCode, familyNumber, attributeTag, setTag, relationTag, transitionTag, statementCode, codeOf}

@@ -1,4 +1,4 @@
--- One pass over the code, item by item: what is read at a place, and what a loop knows of the items behind it and ahead. Assumes nothing.
+-- One pass over the code, item by item: what is read at a place, and what a loop knows of the items after it and ahead. Assumes nothing.
 use Prim.Native.Nat.{ℕ, _+_, _<_, _≤_}
 use native.Mathlib.Omega.{arith}
 use mathlib.Core.Path.{_≡_, refl, sym, ap, _∙_, subst}
@@ -22,7 +22,7 @@ use Rattle.code_reader.proofs.Numbers.{small-units}
 abbrev pub nextAt : List ℕ → ℕ → ℕ
 nextAt code at = at + 2 + length (operandsOf (drop (at + 2) code))
 
--- an item stands at a place
+-- an item is at a place
 pub record Stands (code : List ℕ) (at : ℕ) (i : Item) (left : List Item) : Type 0 where
   pub tag : getD code at 0 ≡ tagOf i
   pub place : getD code (at + 1) 0 ≡ standsAt i
@@ -73,7 +73,8 @@ step-next code at i left s = go (leb 4102 (getD code at 0)) (ltb (getD code at 0
     go : (a b c : Bool) → leb 4102 (getD code at 0) ≡ a → ltb (getD code at 0) 4105 ≡ b → eqb (getD code at 0) 4105 ≡ c
         → cond (a && b) (at + 4) (cond c (at + 6) (nextAt code at)) ≡ nextAt code at
     go true true c h l e =
-        let units = two-operands i (subst (λ (n : ℕ). 4102 ≤ n) (s .tag) (leb-true 4102 (getD code at 0) h)) (subst (λ (n : ℕ). n < 4105) (s .tag) (ltb-true (getD code at 0) 4105 l)) in
+        let units = two-operands i (subst (λ (n : ℕ). 4102 ≤ n) (s .tag) (leb-true 4102 (getD code at 0) h))
+        (subst (λ (n : ℕ). n < 4105) (s .tag) (ltb-true (getD code at 0) 4105 l)) in
         omega (arith, units, ap length (s .operands))
     go true false true h l e = omega (arith, four-operands i (sym (s .tag) ∙ eqb-true (getD code at 0) 4105 e), ap length (s .operands))
     go true false false h l e = refl
@@ -115,7 +116,7 @@ meet p ok is named code at S l t = go (t .left) (t .whole) (t .ahead) (t .so-far
         let here = all-right (ItemIn (declarations p)) (t .done) (i ∷ rest) (subst (All (ItemIn (declarations p))) w named) .0 in
         record { done = t .done; item = i; rest = rest; whole = w; reached = t .reached; declared = here; stand = stands p ok code at i rest here a; so-far = s }
 
--- and the pass behind it
+-- and the pass after it
 code-last : (is : List Item) (i : Item) → length (itemsCode (is ++ (i ∷ []))) ≡ length (itemsCode is) + 2 + length (unitsOf i)
 unfolding itemsCode
 code-last [] i = omega (arith, length-append (unitsOf i) [])

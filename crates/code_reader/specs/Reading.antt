@@ -16,7 +16,7 @@ operandsOf (u ∷ us) = cond (ltb u 4096) (u ∷ operandsOf us) []
 abbrev pub isRelation : ℕ → Bool
 isRelation tag = leb 4102 tag && ltb tag 4105
 
--- where the statement behind the one at a place stands: a relation has a place and two operands behind its tag, a transition a place and four; any other ends
+-- where the statement after the one at a place stands: a relation has a place and two operands after its tag, a transition a place and four; any other ends
 -- where the next tag stands
 abbrev pub stepOf : List ℕ → ℕ → ℕ
 stepOf code at = cond (isRelation (getD code at 0)) (at + 4) (cond (eqb (getD code at 0) 4105) (at + 6) (at + 2 + length (operandsOf (drop (at + 2) code))))

@@ -1,6 +1,8 @@
-// The code of the statements, read one statement after the other; and the sets of a family's attributes, to which they are added.
+// The code of the statements, read one statement after the other; and the sets of a family's attributes, to which
+// they are added.
 //
-// A family has at most 64 attributes. What is kept of each is a set of 64 bytes, one after the other, 4,096 bytes for a family.
+// A family has at most 64 attributes. What is kept of each is a set of 64 bytes, one after the other, 4,096 bytes for
+// a family.
 use policy::Attribute;
 use policy::Type;
 use statement_code::Unit;
@@ -21,7 +23,7 @@ pub enum Found {
 
 // ---- the code
 
-// The unit so many behind a place, and 0 past the end.
+// The unit so many after a place, and 0 past the end.
 pub fn unit(code: &[u16], at: usize, k: usize) -> u16
     ensures { λ r. ⌜ r ≡ getD (now (code .entry)) (at + k) 0 ⌝ }
 {
@@ -34,7 +36,8 @@ pub fn unit(code: &[u16], at: usize, k: usize) -> u16
     code[at + k]
 }
 
-// Where the operands of a statement end: at the next tag, or at the end of the code. Tags are numbered from DECLARE_ATTRIBUTE on.
+// Where the operands of a statement end: at the next tag, or at the end of the code. Tags are numbered from
+// DECLARE_ATTRIBUTE on.
 fn statement_end(code: &[u16], from: usize) -> usize
     ensures { λ r. ⌜ r ≡ from + length (operandsOf (drop from (now (code .entry)))) ⌝ }
 {
@@ -58,7 +61,8 @@ fn is_relation(tag: u16) -> bool
     tag < Unit::TRANSITION
 }
 
-// Where the statement behind the one at a place stands. A relation has two operands and a transition four, so that nothing is looked for behind them.
+// Where the statement after the one at a place stands. A relation has two operands and a transition four, so that
+// nothing is looked for after them.
 pub fn next_statement(code: &[u16], at: usize) -> usize
     requires { ⌜ at < length (now code) ⌝ }
     ensures { λ r. ⌜ (r ≡ stepOf (now (code .entry)) at) × (at < r) ⌝ }
@@ -86,19 +90,19 @@ pub fn add_row(rows: &mut [u8; FAMILY_BYTES], a: u16, set: &[u8; Type::SET_BYTES
 // ---- a role transition
 
 // The operands of a role transition: two references, the class and the new role.
-pub struct Move {
+pub struct CodedTransition {
     pub roles: u16,
     pub types: u16,
     pub class: u16,
     pub new: u16,
 }
 
-// The operands of the transition that stands at a place.
-pub fn transition(code: &[u16], at: usize) -> Move
+// The operands of the transition that is at a place.
+pub fn transition(code: &[u16], at: usize) -> CodedTransition
     ensures { λ r. ⌜ (r .roles ≡ getD (now (code .entry)) (at + 2) 0) × (r .types ≡ getD (now (code .entry)) (at + 3) 0)
         × (r .class ≡ getD (now (code .entry)) (at + 4) 0) × (r .new ≡ getD (now (code .entry)) (at + 5) 0) ⌝ }
 {
-    Move {
+    CodedTransition {
         roles: unit(code, at, 2),
         types: unit(code, at, 3),
         class: unit(code, at, 4),

@@ -60,7 +60,7 @@ module _ {p : Policy} {us rs ts : List ℕ} {r : Resolved} (resolves : Resolves 
   refused-9 {a} place e answer =
       subst (λ (x : Read). Gives (compiledBy x (length before)) before before a) (sym (ap (readOf p) e) ∙ resolves .answer) (refuse 9 place answer)
 
-  pub passes : {after : List ℕ} {a : Passed} → r ≡ Resolved.Sound → Gives (compiledBy (policy p) (length before)) before after a
+  pub passes : {after : List ℕ} {a : Passed} → r ≡ Resolved.NoFault → Gives (compiledBy (policy p) (length before)) before after a
       → Gives (compiledBy (accept p) (length before)) before after a
   passes {after} {a} e g =
       subst (λ (x : Read). Gives (compiledBy x (length before)) before after a) (sym (ap (readOf p) e) ∙ resolves .answer) g
@@ -93,7 +93,9 @@ read-scanned text s e = ap (λ (x : Scanned). afterScan x (readAll (scopedIn [] 
 -- what the parser finds
 module _ {text : List ℕ} {lent now : Memory} {r : Parsed} (parses : Parses text lent now r) (clean : scan text ≡ Scanned.Clean) where
   pub refused-read : (n at : ℕ) → r ≡ Parsed.Refused n at → readPolicy text ≡ refused n at
-  refused-read n at e = read-scanned text Scanned.Clean (sym clean) ∙ by (readAll (scopedIn [] (formsOf text))) (subst (λ (x : Parsed). Reads (readAll (scopedIn [] (formsOf text))) lent now x) e (parses .reads clean))
+  refused-read n at e =
+      read-scanned text Scanned.Clean (sym clean) ∙ by (readAll (scopedIn [] (formsOf text)))
+      (subst (λ (x : Parsed). Reads (readAll (scopedIn [] (formsOf text))) lent now x) e (parses .reads clean))
     where
       by : (x : Read) → Reads x lent now (Parsed.Refused n at) → x ≡ refused n at
       by (policy p) h = absurd h

@@ -9,7 +9,7 @@ use Rattle.policy.specs.Outcome as outcomes
 use Rattle.policy.specs.Outcome.{Input, outcome}
 use Rattle.demand_laws.specs.ByText.{TableAnswers}
 
--- the answer is that of the rules, refusals with their numbers, places and lines among them; the lent memory holds the table and behind it what was there,
+-- the answer is that of the rules, refusals with their numbers, places and lines among them; the lent memory holds the table and after it what was there,
 -- and after a refusal what was there; and an accepted table "gives the answer that the statements give, never a refusal"
 pub record Compiles (x : Input) (before after : List ℕ) (r : Compiling) : Type 0 where
   pub answer : compilingOf r ≡ outcome x (length before)

@@ -1,5 +1,5 @@
-// The passes in their order: text and lent memory in, the answer out. What one pass leaves for the next stands in local arrays, and the lent memory is
-// written to only when all refusals are past.
+// The passes in their order: text and lent memory in, the answer out. What one pass leaves for the next is in local
+// arrays, and the lent memory is written to only when all refusals are past.
 ghost use mathlib.Core.Path.{_≡_};
 ghost use mathlib.Core.Bool.{cond};
 ghost use Prim.Native.Nat.{_≤_};
@@ -124,7 +124,7 @@ fn resolve_and_write(
     match resolved {
         Resolved::Cycle(place) => stop(Refusal::CYCLE, place),
         Resolved::Clash(place) => stop(Refusal::CLASH, place),
-        Resolved::Sound => write_fitting(
+        Resolved::NoFault => write_fitting(
             sizes,
             symbols,
             code,
@@ -207,7 +207,8 @@ fn refusal(text: &[u8], number: usize, place: usize) -> Refusal
     }
 }
 
-// Compiles a text: its table stands at the start of the lent memory, or a refusal 1 to 10 is answered and the lent memory is as it was.
+// Compiles a text: its table is at the start of the lent memory, or a refusal 1 to 10 is answered and the lent memory
+// is as it was.
 pub fn compile(text: &[u8], table: &mut [u8]) -> Compiling
     ensures { λ r. ⌜ Compiles (ofText (now (text .entry))) (now (table .entry)) (now (table .exit)) r ⌝ }
 {

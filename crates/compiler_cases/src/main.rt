@@ -1,6 +1,7 @@
-// Compiles the texts of a corpus on standard input, and writes a line for each: the answer, and a checksum of all the memory that was lent. A case is the length of
-// the lent memory and that of the text, 4 bytes each, little endian, and then the text. Byte i of the memory holds (i * 7 + 3) mod 256
-// beforehand. The corpus ends with the input, or with a case that is cut short or longer than the memory here.
+// Compiles the texts of a corpus on standard input, and writes a line for each: the answer, and a checksum of all the
+// memory that was lent. A case is the length of the lent memory and that of the text, 4 bytes each, little endian,
+// and then the text. Byte i of the memory holds (i * 7 + 3) mod 256 beforehand. The corpus ends with the input, or
+// with a case that is cut short or longer than the memory here.
 ghost use mathlib.Core.Path.{_≡_};
 ghost use Prim.Native.Nat.{_<_};
 ghost use lib.ListN.{length};

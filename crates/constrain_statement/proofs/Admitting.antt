@@ -14,14 +14,14 @@ both-fit : (count next : ℕ) → count < 128 → next ≤ 2048 → fitsBefore c
 both-fit count next h k = rw (lt-ltb count 128 h, le-leb next 2048 k)
 
 module _ {before : List ℕ} {count class mask row next need : ℕ} where
-  pub many-constraints : 128 ≤ count → Admits before before count class mask row next need Constrained.Full
+  pub many-constraints : 128 ≤ count → Admits before before count class mask row next need Constrained.MaximumPassed
   many-constraints h = record { says = rw (le-ltb count 128 h) }
 
-  pub many-rows : 2048 < next → Admits before before count class mask row next need Constrained.Full
+  pub many-rows : 2048 < next → Admits before before count class mask row next need Constrained.MaximumPassed
   many-rows h = record { says = rw (lt-leb next 2048 h) (and-false (ltb count 128)) }
 
   module _ (h : count < 128) (k : next ≤ 2048) where
-    pub deep : 5 < need → Admits before before count class mask row next need Constrained.Deep
+    pub deep : 5 < need → Admits before before count class mask row next need Constrained.StackTooSmall
     deep d = record { says = (both-fit count next h k, lt-leb need 5 d) }
 
     pub admitted : need ≤ 5 → {after : List ℕ} → after ≡ put before (10 * count) (headBytes (headWith class mask row (next - row)))

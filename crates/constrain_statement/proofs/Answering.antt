@@ -36,7 +36,7 @@ use Rattle.constraint_writer.proofs.Resolving.{told}
 use Rattle.constrain_statement.specs.Scopes.{numbersOf, ScopeForm, Scoped, Scopes}
 use Rattle.constrain_statement.specs.Constraining.{headWith, fitsBefore, Answers, WritesConstrain, AdmitsBy, Admits}
 use Rattle.constrain_statement.specs.declared.Constrained.{Constrained}
-use Rattle.constrain_statement.specs.declared.Scope.{Scope}
+use Rattle.constrain_statement.specs.declared.ClassAndPermissions.{ClassAndPermissions}
 use Rattle.constrain_statement.proofs.Masking.{tag}
 use Rattle.constrain_statement.proofs.Shapes.{Shape, shape}
 use Rattle.constrain_statement.proofs.Scoping.{not-there, no-part, same-parts}
@@ -116,10 +116,10 @@ module _ (before after rowsBefore rowsAfter : List ℕ) (count class mask row n 
         next-row = g .3 ∙ q;
       }
   by-answer Constrained.Undeclared g = g
-  by-answer Constrained.Full g = as-fits count n (row + size x) q g
-  by-answer Constrained.Deep g = (as-fits count n (row + size x) q (g .0), as-shallow (need x) deep p (g .1))
+  by-answer Constrained.MaximumPassed g = as-fits count n (row + size x) q g
+  by-answer Constrained.StackTooSmall g = (as-fits count n (row + size x) q (g .0), as-shallow (need x) deep p (g .1))
 
--- ---- what stands where, by the form
+-- ---- what is where, by the form
 
 -- the levels that are left in the statement's row
 abbrev levels : ℕ
@@ -143,7 +143,7 @@ module _ {t : List ℕ} {at p j : ℕ} (l : Looked t at (Item.Open p j)) {w : Wr
   expression-there {q} {x} {z} e l2 =
       ap expressionIn (same-parts (sym (by-part (λ f. f) levels (rowEnd t z) l2 refl (λ z. omega arith)) ∙ part-behind q e) .0) ∙ s .expressed
 
-scope-told : {t : List ℕ} {at : ℕ} {table : List ℕ} {r k : Scope} → Scopes t at table r → r ≡ k → Scopes t at table k
+scope-told : {t : List ℕ} {at : ℕ} {table : List ℕ} {r k : ClassAndPermissions} → Scopes t at table r → r ≡ k → Scopes t at table k
 scope-told {t} {at} {table} u e = subst (Scopes t at table) e u
 
 -- ---- the answers
@@ -154,22 +154,24 @@ module _ {t : List ℕ} {at : ℕ} {table : List ℕ} {before : List ℕ} {count
       → WritesConstrain t at table before after count rowsBefore rowsAfter row Constrained.Undeclared
   undeclared-by {after} {rowsAfter} h = record {
     says = λ env w y a f.
-        subst (λ (o : Option Statement). Answers o before after count rowsBefore rowsAfter row Constrained.Undeclared) (sym (h env w y (shape (trim (framesAt t at .here) levels) w f))) tt;
+        subst (λ (o : Option Statement). Answers o before after count rowsBefore rowsAfter row Constrained.Undeclared)
+        (sym (h env w y (shape (trim (framesAt t at .here) levels) w f))) tt;
   }
 
   pub past-rows : {after rowsAfter : List ℕ} {r : Constrained} → 2048 < row → WritesConstrain t at table before after count rowsBefore rowsAfter row r
   past-rows h = record { says = λ env w y a f. absurd (omega (arith, h, a)) }
 
-  pub scope-missing : {k : Item} → k ≡ itemAt t at → OneOf (0 ∷ 2 ∷ 3 ∷ []) (tag k) → WritesConstrain t at table before before count rowsBefore rowsBefore row Constrained.Undeclared
+  pub scope-missing : {k : Item} → k ≡ itemAt t at → OneOf (0 ∷ 2 ∷ 3 ∷ []) (tag k)
+      → WritesConstrain t at table before before count rowsBefore rowsBefore row Constrained.Undeclared
   scope-missing e o = undeclared-by (λ env w y s. not-there startsPart t at levels _ (s .row) refl (0 ∷ 2 ∷ 3 ∷ []) no-part e o)
 
-  module _ {p j : ℕ} (l : Looked t at (Item.Open p j)) {r : Scope} (u : Scopes t j table r) where
-    pub scope-undeclared : r ≡ Scope.Undeclared → WritesConstrain t at table before before count rowsBefore rowsBefore row Constrained.Undeclared
+  module _ {p j : ℕ} (l : Looked t at (Item.Open p j)) {r : ClassAndPermissions} (u : Scopes t j table r) where
+    pub scope-undeclared : r ≡ ClassAndPermissions.Undeclared → WritesConstrain t at table before before count rowsBefore rowsBefore row Constrained.Undeclared
     scope-undeclared e = undeclared-by (λ env w y s.
         ap (resolved env) (s .written)
         ∙ scope-none env (s .class) (s .permissions) (s .body) (scope-told u e .says env (s .class) (s .permissions) y (scope-there l s)))
 
-    module _ {class mask q : ℕ} (e : r ≡ Scope.Of class mask q) where
+    module _ {class mask q : ℕ} (e : r ≡ ClassAndPermissions.Of class mask q) where
       pub expression-missing : {k : Item} → k ≡ itemAt t q → OneOf (0 ∷ 2 ∷ 3 ∷ []) (tag k)
           → WritesConstrain t at table before before count rowsBefore rowsBefore row Constrained.Undeclared
       expression-missing d o = undeclared-by (λ env w y s.

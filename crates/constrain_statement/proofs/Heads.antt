@@ -1,4 +1,4 @@
--- The four fields of a constraint's record, put one behind the other, are one `put` of the record. Assumes nothing.
+-- The four fields of a constraint's record, put one after the other, are one `put` of the record. Assumes nothing.
 use mathlib.Core.Path.{_≡_}
 use mathlib.Core.List.{List, _++_}
 use Prim.Native.Nat.{ℕ, _+_, _≤_}

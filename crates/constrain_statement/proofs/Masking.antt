@@ -30,7 +30,7 @@ use Rattle.items.proofs.Items.{Looked, word-lent, alike-here}
 use Rattle.items.proofs.Item.{the-type}
 use Rattle.constraint_writer.proofs.Resolving.{never}
 use Rattle.constrain_statement.specs.Scopes.{numbersOf, Masks}
-use Rattle.constrain_statement.specs.declared.Masked.{Masked}
+use Rattle.constrain_statement.specs.declared.PermissionMask.{PermissionMask}
 use Rattle.constrain_statement.proofs.Bits.{gained, gained-of-none, gained-nothing, gained-one}
 
 -- the mask with the numbers that are there
@@ -141,7 +141,7 @@ module _ {t : List ℕ} {at : ℕ} {table : List ℕ} {family i m : ℕ} (g : Go
           };
     }
 
-    pub not-of-class : r ≡ Found.Missing → Masks t at table family Masked.Undeclared
+    pub not-of-class : r ≡ Found.Missing → Masks t at table family PermissionMask.Undeclared
     unfolding eachOf
     not-of-class d = record {
       place = tt;
@@ -156,7 +156,7 @@ module _ {t : List ℕ} {at : ℕ} {table : List ℕ} {family i m : ℕ} (g : Go
           ∙ from-none (numbersOf env c ps);
     }
 
-  pub finished : {q : ℕ} → Looked t i (Item.Close q) → Masks t at table family (Masked.Mask m q)
+  pub finished : {q : ℕ} → Looked t i (Item.Close q) → Masks t at table family (PermissionMask.Mask m q)
   unfolding rowOf eachOf
   finished l = record {
     place = sym (g .same-row) ∙ l .end;
@@ -169,7 +169,7 @@ module _ {t : List ℕ} {at : ℕ} {table : List ℕ} {family i m : ℕ} (g : Go
         ∙ from-none (numbersOf env c ps);
   }
 
-  pub no-names : {k : Item} → k ≡ itemAt t i → OneOf (1 ∷ 3 ∷ []) (tag k) → Masks t at table family Masked.Undeclared
+  pub no-names : {k : Item} → k ≡ itemAt t i → OneOf (1 ∷ 3 ∷ []) (tag k) → Masks t at table family PermissionMask.Undeclared
   unfolding rowOf
   no-names {k} e o = record {
     place = tt;

@@ -27,8 +27,8 @@ use Rattle.items.specs.declared.Item.{Item}
 use Rattle.items.proofs.Items.{Looked, word-lent, Alike, alike, by-word, by-part}
 use Rattle.items.proofs.Counts.{trim-names}
 use Rattle.constrain_statement.specs.Scopes.{numbersOf, maskIn, Masks, ScopeForm, Scopes}
-use Rattle.constrain_statement.specs.declared.Masked.{Masked}
-use Rattle.constrain_statement.specs.declared.Scope.{Scope}
+use Rattle.constrain_statement.specs.declared.PermissionMask.{PermissionMask}
+use Rattle.constrain_statement.specs.declared.ClassAndPermissions.{ClassAndPermissions}
 use Rattle.constrain_statement.proofs.Masking.{tag}
 
 -- ---- what a row starts with
@@ -55,7 +55,7 @@ no-part = (λ s b f. refl, tt, refl, refl)
 no-close : Alike isClosed (λ f. false) (0 ∷ 1 ∷ 3 ∷ [])
 no-close = (λ s b f. refl, λ x f g. refl, tt, refl)
 
--- ---- what stands where, by the form
+-- ---- what is where, by the form
 
 -- the levels that are left in the part that holds them
 abbrev levels : ℕ
@@ -109,7 +109,7 @@ no-mask none e = refl
 no-mask (some ns) e = absurd (let z : _≡_ {A = ℕ} 0 1 = cc in omega arith)
 
 module _ {t : List ℕ} {at : ℕ} {table : List ℕ} where
-  pub word-missing : {k : Item} → k ≡ itemAt t at → OneOf (1 ∷ 2 ∷ 3 ∷ []) (tag k) → Scopes t at table Scope.Undeclared
+  pub word-missing : {k : Item} → k ≡ itemAt t at → OneOf (1 ∷ 2 ∷ 3 ∷ []) (tag k) → Scopes t at table ClassAndPermissions.Undeclared
   word-missing e o = record {
     place = tt;
     says = λ env c ps y h. not-there startsWord t at levels _ (h .row) refl (1 ∷ 2 ∷ 3 ∷ []) no-word e o;
@@ -119,7 +119,7 @@ module _ {t : List ℕ} {at : ℕ} {table : List ℕ} where
     f : LooksClass table (take n (drop s t)) r
     f = subst (λ (w : Name). LooksClass table w r) (word-lent t s n) lent
 
-    pub class-undeclared : r ≡ Found.Missing → Scopes t at table Scope.Undeclared
+    pub class-undeclared : r ≡ Found.Missing → Scopes t at table ClassAndPermissions.Undeclared
     class-undeclared d = record {
       place = tt;
       says = λ env c ps y h.
@@ -132,25 +132,25 @@ module _ {t : List ℕ} {at : ℕ} {table : List ℕ} where
       class-is : {env : Environment} {c : Name} {ps : List Name} → Symbols table env → ScopeForm (trim (framesAt t at .here) levels) c ps → env .class c ≡ some number
       class-is {env} y h = ap (λ (w : Name). env .class w) (sym (behind-word l h .0)) ∙ class-number y (take n (drop s t)) f d
 
-      pub class-too-far : 32 ≤ number → Scopes t at table Scope.Undeclared
+      pub class-too-far : 32 ≤ number → Scopes t at table ClassAndPermissions.Undeclared
       class-too-far g = record {
         place = tt;
         says = λ env c ps y h.
             absurd (omega (arith, g, class-below y (take n (drop s t)) f number (class-number y (take n (drop s t)) f d)));
       }
 
-      pub part-missing : {k : Item} → k ≡ itemAt t q → OneOf (0 ∷ 2 ∷ 3 ∷ []) (tag k) → Scopes t at table Scope.Undeclared
+      pub part-missing : {k : Item} → k ≡ itemAt t q → OneOf (0 ∷ 2 ∷ 3 ∷ []) (tag k) → Scopes t at table ClassAndPermissions.Undeclared
       part-missing e o = record {
         place = tt;
         says = λ env c ps y h. not-there startsPart t q levels _ (behind-word l h .1) refl (0 ∷ 2 ∷ 3 ∷ []) no-part e o;
       }
 
       module _ {p j : ℕ} (l2 : Looked t q (Item.Open p j)) where
-        numbers-there : {m : Masked} → Masks t j table (4 + number) m → {env : Environment} {c : Name} {ps : List Name} → Symbols table env
+        numbers-there : {m : PermissionMask} → Masks t j table (4 + number) m → {env : Environment} {c : Name} {ps : List Name} → Symbols table env
             → ScopeForm (trim (framesAt t at .here) levels) c ps → maskIn m ≡ (numbersOf env number ps >>= λ ns. some (maskOf ns))
         numbers-there m {env} {c} {ps} y h = m .says env number ps y refl (names-there l h l2)
 
-        pub permission-undeclared : {x : Masked} → Masks t j table (4 + number) x → x ≡ Masked.Undeclared → Scopes t at table Scope.Undeclared
+        pub permission-undeclared : {x : PermissionMask} → Masks t j table (4 + number) x → x ≡ PermissionMask.Undeclared → Scopes t at table ClassAndPermissions.Undeclared
         permission-undeclared m e = record {
           place = tt;
           says = λ env c ps y h.
@@ -158,17 +158,17 @@ module _ {t : List ℕ} {at : ℕ} {table : List ℕ} where
               ∙ no-mask (numbersOf env number ps) (sym (ap maskIn e) ∙ numbers-there m y h);
         }
 
-        module _ {x : Masked} {mask o : ℕ} (m : Masks t j table (4 + number) x) (e : x ≡ Masked.Mask mask o) where
-          told : Masks t j table (4 + number) (Masked.Mask mask o)
+        module _ {x : PermissionMask} {mask o : ℕ} (m : Masks t j table (4 + number) x) (e : x ≡ PermissionMask.Mask mask o) where
+          told : Masks t j table (4 + number) (PermissionMask.Mask mask o)
           told = subst (Masks t j table (4 + number)) e m
 
-          pub close-missing : {k : Item} → k ≡ itemAt t o → OneOf (0 ∷ 1 ∷ 3 ∷ []) (tag k) → Scopes t at table Scope.Undeclared
+          pub close-missing : {k : Item} → k ≡ itemAt t o → OneOf (0 ∷ 1 ∷ 3 ∷ []) (tag k) → Scopes t at table ClassAndPermissions.Undeclared
           close-missing d i = record {
             place = tt;
             says = λ env c ps y h. not-there isClosed t o levels _ (close-there l h l2 o (told .place)) refl (0 ∷ 1 ∷ 3 ∷ []) no-close d i;
           }
 
-          pub scoped : {z : ℕ} → Looked t o (Item.Close z) → Scopes t at table (Scope.Of number mask z)
+          pub scoped : {z : ℕ} → Looked t o (Item.Close z) → Scopes t at table (ClassAndPermissions.Of number mask z)
           scoped l3 = record {
             place = l .end ∙ l2 .end ∙ ap (rowEnd t) (told .place) ∙ l3 .end;
             says = λ env c ps y h.

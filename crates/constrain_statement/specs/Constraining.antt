@@ -35,7 +35,7 @@ headOf c ps e row = headWith c (maskOf ps) row (size e)
 abbrev pub fitsBefore : ℕ → ℕ → Bool
 fitsBefore count next = ltb count maxConstraints && leb next maxRows
 
--- its record and its rows stand in the memory as they will in the table
+-- its record and its rows are in the memory as they will in the table
 pub record Adds (c : ℕ) (ps : List ℕ) (e : Constraint Reference) (before after : List ℕ) (count : ℕ) (rowsBefore rowsAfter : List ℕ) (row next : ℕ) : Type 0 where
   pub fits : fitsBefore count (row + size e) ≡ true
   pub shallow : leb (need e) maxStack ≡ true
@@ -47,12 +47,12 @@ pub record Adds (c : ℕ) (ps : List ℕ) (e : Constraint Reference) (before aft
 abbrev pub Answers : Option Statement → List ℕ → List ℕ → ℕ → List ℕ → List ℕ → ℕ → Constrained → Type 0
 Answers none before after count rowsBefore rowsAfter row (Constrained.Next n) = ⊥
 Answers none before after count rowsBefore rowsAfter row Constrained.Undeclared = Unit {0}
-Answers none before after count rowsBefore rowsAfter row Constrained.Full = ⊥
-Answers none before after count rowsBefore rowsAfter row Constrained.Deep = ⊥
+Answers none before after count rowsBefore rowsAfter row Constrained.MaximumPassed = ⊥
+Answers none before after count rowsBefore rowsAfter row Constrained.StackTooSmall = ⊥
 Answers (some (constrain c ps e)) before after count rowsBefore rowsAfter row (Constrained.Next n) = Adds c ps e before after count rowsBefore rowsAfter row n
 Answers (some (constrain c ps e)) before after count rowsBefore rowsAfter row Constrained.Undeclared = ⊥
-Answers (some (constrain c ps e)) before after count rowsBefore rowsAfter row Constrained.Full = fitsBefore count (row + size e) ≡ false
-Answers (some (constrain c ps e)) before after count rowsBefore rowsAfter row Constrained.Deep =
+Answers (some (constrain c ps e)) before after count rowsBefore rowsAfter row Constrained.MaximumPassed = fitsBefore count (row + size e) ≡ false
+Answers (some (constrain c ps e)) before after count rowsBefore rowsAfter row Constrained.StackTooSmall =
     (fitsBefore count (row + size e) ≡ true) × (leb (need e) maxStack ≡ false)
 Answers (some (declare d)) before after count rowsBefore rowsAfter row r = Unit {0}
 Answers (some (attributeset f a s)) before after count rowsBefore rowsAfter row r = Unit {0}
@@ -70,8 +70,8 @@ abbrev pub AdmitsBy : List ℕ → List ℕ → ℕ → ℕ → ℕ → ℕ → 
 AdmitsBy before after count class mask row next deep (Constrained.Next n) =
     (fitsBefore count next ≡ true) × (leb deep maxStack ≡ true) × (after ≡ put before (10 * count) (headBytes (headWith class mask row (next - row)))) × (n ≡ next)
 AdmitsBy before after count class mask row next deep Constrained.Undeclared = ⊥
-AdmitsBy before after count class mask row next deep Constrained.Full = fitsBefore count next ≡ false
-AdmitsBy before after count class mask row next deep Constrained.Deep = (fitsBefore count next ≡ true) × (leb deep maxStack ≡ false)
+AdmitsBy before after count class mask row next deep Constrained.MaximumPassed = fitsBefore count next ≡ false
+AdmitsBy before after count class mask row next deep Constrained.StackTooSmall = (fitsBefore count next ≡ true) × (leb deep maxStack ≡ false)
 
 pub record Admits (before after : List ℕ) (count class mask row next deep : ℕ) (r : Constrained) : Type 0 where
   pub says : AdmitsBy before after count class mask row next deep r

@@ -12,25 +12,25 @@ use Rattle.policy.specs.Image.{maskOf}
 use Rattle.policy.specs.Names.{Environment}
 use Rattle.scopes.specs.Symbols.{Symbols}
 use Rattle.items.specs.Looks.{rowEnd}
-use Rattle.constrain_statement.specs.declared.Masked.{Masked}
-use Rattle.constrain_statement.specs.declared.Scope.{Scope}
+use Rattle.constrain_statement.specs.declared.PermissionMask.{PermissionMask}
+use Rattle.constrain_statement.specs.declared.ClassAndPermissions.{ClassAndPermissions}
 
 -- the numbers of some permissions of class c, "each P a permission of C"; none where one is "not declared before, or of the wrong sort"
 abbrev pub numbersOf : Environment → ℕ → List Name → Option (List ℕ)
 numbersOf env c ps = eachOf (λ p. env .permission c p) ps
 
 -- the mask that is answered: "permission mask 4"
-abbrev pub maskIn : Masked → Option ℕ
-maskIn (Masked.Mask m q) = some m
-maskIn Masked.Undeclared = none
+abbrev pub maskIn : PermissionMask → Option ℕ
+maskIn (PermissionMask.Mask m q) = some m
+maskIn PermissionMask.Undeclared = none
 
--- the place that is answered is behind the close of the row at the place at
-abbrev pub MaskPlace : List ℕ → ℕ → Masked → Type 0
-MaskPlace t at (Masked.Mask m q) = rowEnd t at ≡ q
-MaskPlace t at Masked.Undeclared = Unit {0}
+-- the place that is answered is after the close of the row at the place at
+abbrev pub MaskPlace : List ℕ → ℕ → PermissionMask → Type 0
+MaskPlace t at (PermissionMask.Mask m q) = rowEnd t at ≡ q
+MaskPlace t at PermissionMask.Undeclared = Unit {0}
 
 -- "repeats of P are harmless": the mask of a row of permissions of class c, whose names are the family 4 + c
-pub record Masks (t : List ℕ) (at : ℕ) (table : List ℕ) (family : ℕ) (r : Masked) : Type 0 where
+pub record Masks (t : List ℕ) (at : ℕ) (table : List ℕ) (family : ℕ) (r : PermissionMask) : Type 0 where
   pub place : MaskPlace t at r
   pub says : (env : Environment) (c : ℕ) (ps : List Name) → Symbols table env → family ≡ 4 + c → rowOf asPart (framesAt t at .here) ≡ some ps
       → maskIn r ≡ (numbersOf env c ps >>= λ ns. some (maskOf ns))
@@ -51,16 +51,16 @@ pub record Scoped (env : Environment) (c : Name) (ps : List Name) (class mask : 
   pub mask-is : mask ≡ maskOf numbers
 
 -- the numbers, or fault 5: "name not declared before, or of the wrong sort"
-abbrev pub ScopeAnswers : Environment → Name → List Name → Scope → Type 0
-ScopeAnswers env c ps (Scope.Of class mask q) = Scoped env c ps class mask
-ScopeAnswers env c ps Scope.Undeclared = (env .class c >>= λ n. numbersOf env n ps) ≡ none
+abbrev pub ScopeAnswers : Environment → Name → List Name → ClassAndPermissions → Type 0
+ScopeAnswers env c ps (ClassAndPermissions.Of class mask q) = Scoped env c ps class mask
+ScopeAnswers env c ps ClassAndPermissions.Undeclared = (env .class c >>= λ n. numbersOf env n ps) ≡ none
 
-abbrev pub ScopePlace : List ℕ → ℕ → Scope → Type 0
-ScopePlace t at (Scope.Of class mask q) = rowEnd t at ≡ q
-ScopePlace t at Scope.Undeclared = Unit {0}
+abbrev pub ScopePlace : List ℕ → ℕ → ClassAndPermissions → Type 0
+ScopePlace t at (ClassAndPermissions.Of class mask q) = rowEnd t at ≡ q
+ScopePlace t at ClassAndPermissions.Undeclared = Unit {0}
 
 -- of the row at the place at, in every environment that the symbols have
-pub record Scopes (t : List ℕ) (at : ℕ) (table : List ℕ) (r : Scope) : Type 0 where
+pub record Scopes (t : List ℕ) (at : ℕ) (table : List ℕ) (r : ClassAndPermissions) : Type 0 where
   pub place : ScopePlace t at r
   pub says : (env : Environment) (c : Name) (ps : List Name) → Symbols table env → ScopeForm (trim (framesAt t at .here) (maxLevel - 2)) c ps
       → ScopeAnswers env c ps r

@@ -1,5 +1,5 @@
-// `(constrain (C (P ...)) E)` with its names resolved: the record of body 6 and the rows of body 7 as they will stand in the table; faults 5, 6
-// and 7. Its form is known to be good where this is called.
+// `(constrain (C (P ...)) E)` with its names resolved: the record of body 6 and the rows of body 7 as they will are
+// in the table; faults 5, 6 and 7. Its form is known to be good where this is called.
 ghost use mathlib.Core.Path.{_≡_};
 ghost use mathlib.Core.Bool.{_||_};
 ghost use Prim.Native.Nat.{_+_, _*_, _%_, _≤_};
@@ -24,22 +24,25 @@ pub const CONSTRAINTS_BYTES: usize = Constraint::MAX * Constraint::BYTES;
 
 pub const ROWS_BYTES: usize = Row::MAX * Row::BYTES;
 
-// The number of the row behind the statement's rows; or the fault: a name is not declared, 5; a maximum is passed, 6; the stack need is, 7.
+// The number of the row after the statement's rows; or the fault: a name is not declared, 5; a maximum is passed, 6;
+// the stack need is, 7.
 pub enum Constrained {
     Next(usize),
     Undeclared,
-    Full,
-    Deep,
+    MaximumPassed,
+    StackTooSmall,
 }
 
-// A bit for each permission of a row of them, and the place behind the row's close; or one of them is not a permission of the class.
-enum Masked {
+// A bit for each permission of a row of them, and the place after the row's close; or one of them is not a permission
+// of the class.
+enum PermissionMask {
     Mask { mask: u32, next: usize },
     Undeclared,
 }
 
-// What a constraint is asked of: a class and a bit for each of its permissions; and the place behind both. Or a name is not declared.
-enum Scope {
+// What a constraint is asked of: a class and a bit for each of its permissions; and the place after both. Or a name
+// is not declared.
+enum ClassAndPermissions {
     Of {
         class: usize,
         mask: u32,
@@ -61,14 +64,14 @@ fn with_permission(mask: u32, number: usize) -> u32
     mask | (1u32 << (number % Permission::MAX))
 }
 
-// The permissions of a row of names, of one family, as a mask. A name that stands there again changes nothing.
-fn permission_mask(text: &[u8], at: usize, symbols: &[u8], family: usize) -> Masked
+// The permissions of a row of names, of one family, as a mask. A name that is there again changes nothing.
+fn permission_mask(text: &[u8], at: usize, symbols: &[u8], family: usize) -> PermissionMask
     ensures { λ r. ⌜ Masks (now (text .entry)) at (now (symbols .entry)) family r ⌝ }
 {
     let mut i = at;
     let mut mask: u32 = 0;
     loop {
-        let item = items::look(text, i);
+        let item = items::next_item(text, i);
         match item {
             Item::Word {
                 start,
@@ -80,22 +83,22 @@ fn permission_mask(text: &[u8], at: usize, symbols: &[u8], family: usize) -> Mas
                 let name = &text[start..end];
                 let found = scopes::lookup_permission(symbols, family, name);
                 let Found::At { number, .. } = found else {
-                    return Masked::Undeclared;
+                    return PermissionMask::Undeclared;
                 };
                 mask = with_permission(mask, number);
                 i = next;
             }
-            Item::Close { next } => return Masked::Mask { mask, next },
-            Item::Open { .. } | Item::End => return Masked::Undeclared,
+            Item::Close { next } => return PermissionMask::Mask { mask, next },
+            Item::Open { .. } | Item::End => return PermissionMask::Undeclared,
         }
     }
 }
 
-// The class and the permissions, behind the open parenthesis before them: C (P ...), and the close.
-fn scope_of(text: &[u8], at: usize, symbols: &[u8]) -> Scope
+// The class and the permissions, after the open parenthesis before them: C (P ...), and the close.
+fn class_and_permissions(text: &[u8], at: usize, symbols: &[u8]) -> ClassAndPermissions
     ensures { λ r. ⌜ Scopes (now (text .entry)) at (now (symbols .entry)) r ⌝ }
 {
-    let first = items::look(text, at);
+    let first = items::next_item(text, at);
     let Item::Word {
         start,
         len,
@@ -103,30 +106,30 @@ fn scope_of(text: &[u8], at: usize, symbols: &[u8]) -> Scope
         ..
     } = first
     else {
-        return Scope::Undeclared;
+        return ClassAndPermissions::Undeclared;
     };
     let end = start + len;
     let name = &text[start..end];
     let found = scopes::lookup_class(symbols, name);
     let Found::At { number, .. } = found else {
-        return Scope::Undeclared;
+        return ClassAndPermissions::Undeclared;
     };
     if Class::MAX <= number {
-        return Scope::Undeclared;
+        return ClassAndPermissions::Undeclared;
     }
-    let second = items::look(text, next);
+    let second = items::next_item(text, next);
     let Item::Open { next, .. } = second else {
-        return Scope::Undeclared;
+        return ClassAndPermissions::Undeclared;
     };
     let masked = permission_mask(text, next, symbols, PERMISSIONS + number);
-    let Masked::Mask { mask, next } = masked else {
-        return Scope::Undeclared;
+    let PermissionMask::Mask { mask, next } = masked else {
+        return ClassAndPermissions::Undeclared;
     };
-    let last = items::look(text, next);
+    let last = items::next_item(text, next);
     let Item::Close { next } = last else {
-        return Scope::Undeclared;
+        return ClassAndPermissions::Undeclared;
     };
-    Scope::Of {
+    ClassAndPermissions::Of {
         class: number,
         mask,
         next,
@@ -134,7 +137,7 @@ fn scope_of(text: &[u8], at: usize, symbols: &[u8]) -> Scope
 }
 
 // Writes the record of a constraint: class 2, permission mask 4, first row 2, row count 2.
-fn put_head(
+fn put_record(
     constraints: &mut [u8],
     count: usize,
     class: usize,
@@ -152,8 +155,8 @@ fn put_head(
     little_endian::put2(constraints, at + 8, rows);
 }
 
-// The record of a constraint whose names are declared and whose rows go from a row to before the next, if the maxima allow both and the stack
-// need of its expression.
+// The record of a constraint whose names are declared and whose rows go from a row to before the next, if the maxima
+// allow both and the stack need of its expression.
 fn admit(
     constraints: &mut [u8; CONSTRAINTS_BYTES],
     count: usize,
@@ -167,15 +170,15 @@ fn admit(
     ensures { λ r. ⌜ Admits (now (constraints .entry)) (now (constraints .exit)) count class mask row next need r ⌝ }
 {
     if Constraint::MAX <= count {
-        return Constrained::Full;
+        return Constrained::MaximumPassed;
     }
     if Row::MAX < next {
-        return Constrained::Full;
+        return Constrained::MaximumPassed;
     }
     if Constraint::MAX_STACK < need {
-        return Constrained::Deep;
+        return Constrained::StackTooSmall;
     }
-    put_head(constraints, count, class, mask, row, next - row);
+    put_record(constraints, count, class, mask, row, next - row);
     Constrained::Next(next)
 }
 
@@ -192,17 +195,17 @@ pub fn write_constrain(
     ensures { λ r. ⌜ WritesConstrain (now (text .entry)) at (now (symbols .entry)) (now (constraints .entry)) (now (constraints .exit)) count (now (rows .entry)) (now (rows .exit)) row r ⌝ }
 {
     if Row::MAX < row {
-        return Constrained::Full;
+        return Constrained::MaximumPassed;
     }
-    let first = items::look(text, at);
+    let first = items::next_item(text, at);
     let Item::Open { next, .. } = first else {
         return Constrained::Undeclared;
     };
-    let scope = scope_of(text, next, symbols);
-    let Scope::Of { class, mask, next } = scope else {
+    let scope = class_and_permissions(text, next, symbols);
+    let ClassAndPermissions::Of { class, mask, next } = scope else {
         return Constrained::Undeclared;
     };
-    let second = items::look(text, next);
+    let second = items::next_item(text, next);
     let Item::Open { next, .. } = second else {
         return Constrained::Undeclared;
     };

@@ -141,7 +141,7 @@ headed t at Item.End e =
 pub heads : {t : List ℕ} {at : ℕ} {r : Head} → r ≡ headOf at (itemAt t at) → Headed t at r
 heads {t} {at} e = subst (λ (x : Head). Headed t at x) (sym e) (headed t at (itemAt t at) refl)
 
--- what is read of a comparison behind its first word
+-- what is read of a comparison after its first word
 pub both-read : {t : List ℕ} {at : ℕ} {h : Head} (n : ℕ) (r : Parsed) → Headed t at h → h .wanted ≡ 0
     → Reads t (h .next) (bothSides (h .word) (framesAt t (h .next) .here)) r → Reads t at (isSome (expressionIn (trim (framesAt t at .here) n))) r
 both-read n (Parsed.Next j) h e g =

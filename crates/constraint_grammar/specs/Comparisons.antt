@@ -29,7 +29,7 @@ comparisonOf o v w = o >>= λ o. v >>= λ x. compared o x w (componentOf w)
 unfoldable pub comparing : ℕ → ℕ → Name → Bool
 comparing op x w = isSome (comparisonOf (opOf (wordOf op)) (componentOf (wordOf x)) w)
 
--- the last word of a comparison, and the close; both words behind its operator
+-- the last word of a comparison, and the close; both words after its operator
 abbrev pub secondSide : ℕ → ℕ → Forms → Bool
 secondSide op x closed = false
 secondSide op x ended = false

@@ -16,8 +16,8 @@ use items::Wanted;
 use words::NameKind;
 use words::Word;
 
-// How a constraint expression begins: how many operands its operator joins, 0 for a comparison; the number of its first word; and where it
-// goes on.
+// How a constraint expression begins: how many operands its operator joins, 0 for a comparison; the number of its
+// first word; and where it goes on.
 struct Head {
     wanted: usize,
     word: usize,
@@ -92,7 +92,8 @@ fn are_sides(x: usize, y: usize) -> bool
     false
 }
 
-// Whether a comparison may have these three words: (op x name), (op u1 u2), (op t1 t2), (rop r1 r2). Of the last one, `named` says whether it is a name.
+// Whether a comparison may have these three words: (op x name), (op u1 u2), (op t1 t2), (rop r1 r2). Of the last one,
+// `named` says whether it is a name.
 fn compares(op: usize, x: usize, y: usize, named: bool) -> bool
     ensures { λ r. ⌜ ((w : Name) → numberOf w ≡ y → named ≡ not (isReserved w) → r ≡ comparing op x w) ⌝ }
 {
@@ -115,7 +116,7 @@ fn compares(op: usize, x: usize, y: usize, named: bool) -> bool
 fn second_side(text: &[u8], at: usize, op: usize, x: usize) -> Parsed
     ensures { λ r. ⌜ Reads (now (text .entry)) at (secondSide op x (framesAt (now (text .entry)) at .here)) r ⌝ }
 {
-    let item = items::look(text, at);
+    let item = items::next_item(text, at);
     match item {
         Item::Word {
             start,
@@ -137,7 +138,7 @@ fn second_side(text: &[u8], at: usize, op: usize, x: usize) -> Parsed
 fn both_sides(text: &[u8], at: usize, op: usize) -> Parsed
     ensures { λ r. ⌜ Reads (now (text .entry)) at (bothSides op (framesAt (now (text .entry)) at .here)) r ⌝ }
 {
-    let item = items::look(text, at);
+    let item = items::next_item(text, at);
     match item {
         Item::Word { number, next, .. } => second_side(text, next, op, number),
         Item::Open { .. } | Item::Close { .. } | Item::End => Parsed::Bad,
@@ -148,7 +149,7 @@ fn both_sides(text: &[u8], at: usize, op: usize) -> Parsed
 fn head_of(text: &[u8], at: usize) -> Head
     ensures { λ r. ⌜ r ≡ headOf at (itemAt (now (text .entry)) at) ⌝ }
 {
-    let item = items::look(text, at);
+    let item = items::next_item(text, at);
     match item {
         Item::Word { number, next, .. } => Head {
             wanted: joins(number),
@@ -163,7 +164,8 @@ fn head_of(text: &[u8], at: usize) -> Head
     }
 }
 
-// What the parentheses of a constraint expression hold. It calls itself on each operand; the number that falls is the levels left.
+// What the parentheses of a constraint expression hold. It calls itself on each operand; the number that falls is the
+// levels left.
 pub fn constraint_form(text: &[u8], at: usize, levels: usize) -> Parsed
     ensures { λ r. ⌜ Reads (now (text .entry)) at (isSome (expressionIn (trim (framesAt (now (text .entry)) at .here) levels))) r ⌝ }
 {
@@ -174,7 +176,7 @@ pub fn constraint_form(text: &[u8], at: usize, levels: usize) -> Parsed
     }
     let mut count: usize = 0;
     loop {
-        let item = items::look(text, i);
+        let item = items::next_item(text, i);
         match item {
             Item::Open { next, .. } => {
                 if levels == 0 {

@@ -19,7 +19,7 @@ use Rattle.constraint_writer.specs.Writing.{Writes}
 use Rattle.constraint_writer.specs.declared.RowsWritten.{RowsWritten}
 use Rattle.constraint_writer.proofs.Resolving.{resolved, unresolved}
 
--- the names of an expression are declared, its rows are counted, and they stand in the memory if there is room
+-- the names of an expression are declared, its rows are counted, and they are in the memory if there is room
 pub record Resolved (env : Environment) (e : Constraint Name) (before after : List ℕ) (row n : ℕ) : Type 0 where
   pub expression : Constraint Reference
   pub refers : referE env e ≡ some expression

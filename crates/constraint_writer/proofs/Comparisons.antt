@@ -55,7 +55,8 @@ side-first x y b e = go (x .side) refl
     go target d = false-true (rw d at e)
 
 module _ (env : Environment) (u : Name) where
-  of-sides : (o : Op) (x y : Component) (e : Constraint Name) → compared o x u (some y) ≡ some e → rowsNamed env e ≡ rowBy (opCode o) (compCode (x .family) (x .side)) (Operand.Is 3 0)
+  of-sides : (o : Op) (x y : Component) (e : Constraint Name) → compared o x u (some y) ≡ some e
+      → rowsNamed env e ≡ rowBy (opCode o) (compCode (x .family) (x .side)) (Operand.Is 3 0)
   unfolding referE rowsOf
   of-sides o x y e h =
       let b = given-some (areSides x y && (isPlain o || isRoles (x .family))) (sidesE (x .family) o) e h in
@@ -116,7 +117,7 @@ module _ (w : Name) where
       no-close : Alike (λ f. comparison w (word s v (word r u f))) (λ f. none) (0 ∷ 1 ∷ 3 ∷ [])
       no-close = (λ a b f. nothing (opOf w) _ (λ o. refl), λ x f g. nothing (opOf w) _ (λ o. refl), tt, nothing (opOf w) _ (λ o. refl))
 
--- what stands where a comparison has its first word, its second, its close
+-- what is where a comparison has its first word, its second, its close
 abbrev tag : Item → ℕ
 tag k = tagOf the-type k
 
@@ -130,7 +131,8 @@ module _ {t : List ℕ} {at : ℕ} (w : Name) where
         let v = take n (drop s t) in
         ap (comparison w) (here-of l) ∙ alike-here (λ f. comparison w (word s v f)) (λ f. none) t p i (1 ∷ 2 ∷ 3 ∷ []) (no-second w s v) d h
 
-    pub close-missing : {r k y q : ℕ} → FramesSeen t p (Item.Word r k y q) → {i : Item} → i ≡ itemAt t q → OneOf (0 ∷ 1 ∷ 3 ∷ []) (tag i) → comparison w (framesAt t at .here) ≡ none
+    pub close-missing : {r k y q : ℕ} → FramesSeen t p (Item.Word r k y q) → {i : Item} → i ≡ itemAt t q → OneOf (0 ∷ 1 ∷ 3 ∷ []) (tag i)
+        → comparison w (framesAt t at .here) ≡ none
     close-missing {r} {k} {y} {q} l2 {i} d h =
         let v = take n (drop s t) in
         let u = take k (drop r t) in
@@ -139,7 +141,8 @@ module _ {t : List ℕ} {at : ℕ} (w : Name) where
 
 -- ---- a cut changes nothing in a comparison
 
-cut-alike : {B : Type 0} (q : Forms → B) (b : B) → q ended ≡ b → ((x : ℕ) (f g : Forms) → q (part x f g) ≡ b) → (x : ℕ) (f g : Forms) (n : ℕ) → q (trim (part x f g) n) ≡ q (part x f g)
+cut-alike : {B : Type 0} (q : Forms → B) (b : B) → q ended ≡ b → ((x : ℕ) (f g : Forms) → q (part x f g) ≡ b) → (x : ℕ) (f g : Forms) (n : ℕ)
+    → q (trim (part x f g) n) ≡ q (part x f g)
 unfolding trim
 cut-alike q b e h x f g n = go (eqb n 0)
   where
@@ -163,7 +166,8 @@ cut-comparison w (word s v (word r u (part x f g))) n =
 
 -- ---- two words and a close
 
-module _ {t : List ℕ} {at s n x p r k y q j : ℕ} (l : FramesSeen t at (Item.Word s n x p)) (l2 : FramesSeen t p (Item.Word r k y q)) (l3 : FramesSeen t q (Item.Close j)) (w : Name) where
+module _ {t : List ℕ} {at s n x p r k y q j : ℕ} (l : FramesSeen t at (Item.Word s n x p)) (l2 : FramesSeen t p (Item.Word r k y q))
+    (l3 : FramesSeen t q (Item.Close j)) (w : Name) where
   in-words : comparison w (framesAt t at .here) ≡ byWords (opOf w) (componentOf (take n (drop s t))) (take k (drop r t)) (componentOf (take k (drop r t)))
   in-words = ap (comparison w) (here-of l ∙ ap (word s (take n (drop s t))) (here-of l2 ∙ ap (word r (take k (drop r t))) (here-of l3)))
 
@@ -182,7 +186,8 @@ module _ {t : List ℕ} {at s n x p r k y q j : ℕ} (l : FramesSeen t at (Item.
         (λ f i d. c .operand env f i h (side-is ∙ d) ∙ ap (λ (z : Option Component). operandOf z (refer env f (take k (drop r t)))) (sym component-is-2))
         ∙ ap (λ (i : ℕ). rowBy (operatorOf (opOf w)) i o) (sym side-is)
 
-    pub not-declared : {before : List ℕ} {first : ℕ} → Compares (take k (drop r t)) y side symbols Operand.Undeclared → Writes t at (comparison w (framesAt t at .here)) symbols before before first RowsWritten.Undeclared
+    pub not-declared : {before : List ℕ} {first : ℕ} → Compares (take k (drop r t)) y side symbols Operand.Undeclared
+        → Writes t at (comparison w (framesAt t at .here)) symbols before before first RowsWritten.Undeclared
     not-declared {before} {first} c = record {
       kept = all-kept before first;
       reads = tt;
@@ -190,7 +195,8 @@ module _ {t : List ℕ} {at s n x p r k y q j : ℕ} (l : FramesSeen t at (Item.
       rows = λ env e h g. unsettled env e before before first (one-row c env e h g);
     }
 
-    pub compared-row : {before after : List ℕ} {first kind number operator : ℕ} → Compares (take k (drop r t)) y side symbols (Operand.Is kind number) → operator ≡ operatorOf (opOf w)
+    pub compared-row : {before after : List ℕ} {first kind number operator : ℕ} → Compares (take k (drop r t)) y side symbols (Operand.Is kind number)
+        → operator ≡ operatorOf (opOf w)
         → Wrote before after first (row kind side operator number ∷ [])
         → Writes t at (comparison w (framesAt t at .here)) symbols before after first (RowsWritten.Next j (first + 1) 1)
     compared-row {before} {after} {first} {kind} {number} {operator} c b u = record {

@@ -156,7 +156,8 @@ module _ {t : List ℕ} {at s k number q : ℕ} (l : FramesSeen t at (Item.Word 
     }
 
     -- with a comparison's word
-    by-comparison : (w : Name) (f : Forms) (c : Option Connective) (es : Option (List (Constraint Name))) (e : Constraint Name) → kindOf c ≡ 3 → connected w f c es ≡ some e → comparison w f ≡ some e
+    by-comparison : (w : Name) (f : Forms) (c : Option Connective) (es : Option (List (Constraint Name))) (e : Constraint Name) → kindOf c ≡ 3
+        → connected w f c es ≡ some e → comparison w f ≡ some e
     by-comparison w f none es e h g = g
     by-comparison w f (some c) none e h g = never g
     by-comparison w f (some allC) (some xs) e h g = never g
@@ -244,7 +245,7 @@ module _ {env : Environment} {e : Constraint Name} {f : Forms} {kind first n : �
 -- ---- the turns of the loop
 
 module _ {t symbols before now : List ℕ} {at levels kind first i n count d : ℕ} (g : Loop t at levels symbols kind first before i n count d now) where
-  -- what stands at the place is no operand
+  -- what is at the place is no operand
   pub no-operand : expressions (trim (framesAt t i .here) levels) ≡ none
       → Writes t at (expressionIn (trim (framesAt t at .here) levels)) symbols before now first RowsWritten.Undeclared
   no-operand o = record { kept = g .kept; reads = tt; needs = λ e h. tt; rows = λ env e y h. never (sym o ∙ g .so-far env e y h .reads) }

@@ -53,7 +53,7 @@ six-stores t o k c p s =
     rw (e1, e2, e3, e4)
 
 module _ (t : List ℕ) (n k c p i : ℕ) (h : n < length t / 6) where
-  -- what stands before the number
+  -- what is before the number
   abbrev begun : List ℕ
   begun = set (set (set (set t (6 * n) k) (6 * n + 1) c) (6 * n + 2) p) (6 * n + 3) 0
 
@@ -76,7 +76,7 @@ module _ (t : List ℕ) (n k c p i : ℕ) (h : n < length t / 6) where
 pub no-room : (t : List ℕ) (n : ℕ) (r : Row) → length t / 6 ≤ n → Wrote t t n (r ∷ [])
 no-room t n r h = record { kept = all-kept t n; put-there = λ g. absurd (omega arith) }
 
--- ---- rows behind rows
+-- ---- rows after rows
 
 pub none-wrote : (t : List ℕ) (n : ℕ) → Wrote t t n []
 unfolding joined each

@@ -98,7 +98,7 @@ module _ {t symbols before after : List ℕ} {at first : ℕ} where
   pub no-form : {m : Option (Constraint Name)} → Kept before after first → m ≡ none → Writes t at m symbols before after first RowsWritten.Undeclared
   no-form k e = record { kept = k; reads = tt; needs = λ x h. tt; rows = λ env x y h. never (sym e ∙ h) }
 
-  -- what is said of an expression at a place behind another where the rows around are the same
+  -- what is said of an expression at a place after another where the rows around are the same
   pub moved : {q : ℕ} {m o : Option (Constraint Name)} {r : RowsWritten} → framesAt t q .around ≡ framesAt t at .around → at < q
       → ((e : Constraint Name) → m ≡ some e → o ≡ some e) → Writes t q o symbols before after first r → Writes t at m symbols before after first r
   moved {q} {m} {o} {r} a h f w = record {

@@ -1,4 +1,4 @@
--- What the writing of a constraint expression promises: its rows stand in the lent memory as document 01's body 7 has them, "Rows of 6 bytes,
+-- What the writing of a constraint expression promises: its rows are in the lent memory as document 01's body 7 has them, "Rows of 6 bytes,
 -- operands before operators, left first", and its stack need is told; or a name of it is not declared, fault 5. Assumes nothing.
 use Prim.Native.Nat.{ℕ, _+_, _-_, _*_, _<_, _≤_}
 use mathlib.Core.Path.{_≡_}
@@ -17,12 +17,12 @@ use Rattle.policy.specs.Names.{Environment}
 use Rattle.scopes.specs.Symbols.{Symbols}
 use Rattle.constraint_writer.specs.declared.RowsWritten.{RowsWritten}
 
--- each row of an expression has a byte of the text of its own, so that with so many bytes behind the place at the numbers of the rows from a row on
+-- each row of an expression has a byte of the text of its own, so that with so many bytes after the place at the numbers of the rows from a row on
 -- fit a usize
 abbrev pub Countable : List ℕ → ℕ → ℕ → Type 0
 Countable t at row = row + (length t - at) ≤ 18446744073709551615
 
--- the memory is as long as it was, and what stands before a row is as it was
+-- the memory is as long as it was, and what is before a row is as it was
 pub record Kept (before after : List ℕ) (row : ℕ) : Type 0 where
   pub long : length after ≡ length before
   pub front : take (6 * row) after ≡ take (6 * row) before
@@ -61,7 +61,7 @@ abbrev pub Reads : List ℕ → ℕ → ℕ → RowsWritten → Type 0
 Reads t at row (RowsWritten.Next q n d) = Past t at row q n d
 Reads t at row RowsWritten.Undeclared = Unit {0}
 
--- m is the expression that stands at the place at, if its form is good. If it is not, the answer is free: promised is only what is kept, and that a
+-- m is the expression that is at the place at, if its form is good. If it is not, the answer is free: promised is only what is kept, and that a
 -- place that is answered is past the close
 pub record Writes (t : List ℕ) (at : ℕ) (m : Option (Constraint Name)) (symbols : List ℕ) (before after : List ℕ) (row : ℕ) (r : RowsWritten) : Type 0 where
   pub kept : Kept before after row

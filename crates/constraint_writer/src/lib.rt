@@ -17,7 +17,8 @@ use policy::Sort;
 use symbols::Found;
 use words::Word;
 
-// The place past the close of the expression, the number of the row after its rows and its stack need; or that a name of it is not declared.
+// The place past the close of the expression, the number of the row after its rows and its stack need; or that a name
+// of it is not declared.
 pub enum RowsWritten {
     Next { at: usize, row: usize, need: usize },
     Undeclared,
@@ -141,7 +142,7 @@ fn operand_of(name: &[u8], number: usize, side: u8, symbols: &[u8]) -> Operand
     }
 }
 
-// A comparison behind its operator's word, of which it has the number: two words and the close, and one row.
+// A comparison after its operator's word, of which it has the number: two words and the close, and one row.
 fn comparison(
     text: &[u8],
     at: usize,
@@ -151,14 +152,15 @@ fn comparison(
     row: usize,
 ) -> RowsWritten
     requires { ⌜ Countable (now text) at row ⌝ }
-    ensures { λ r. ⌜ Writes (now (text .entry)) at (grammar.comparison (wordOf operator) (framesAt (now (text .entry)) at .here)) (now (symbols .entry)) (now (rows .entry)) (now (rows .exit)) row r ⌝ }
+    ensures { λ r. ⌜ Writes (now (text .entry)) at (grammar.comparison (wordOf operator) (framesAt (now (text .entry)) at .here))
+        (now (symbols .entry)) (now (rows .entry)) (now (rows .exit)) row r ⌝ }
 {
-    let first = items::look(text, at);
+    let first = items::next_item(text, at);
     let Item::Word { number, next, .. } = first else {
         return RowsWritten::Undeclared;
     };
     let side = component_of(number);
-    let second = items::look(text, next);
+    let second = items::next_item(text, next);
     let Item::Word {
         start,
         len,
@@ -168,7 +170,7 @@ fn comparison(
     else {
         return RowsWritten::Undeclared;
     };
-    let last = items::look(text, next);
+    let last = items::next_item(text, next);
     let Item::Close { next } = last else {
         return RowsWritten::Undeclared;
     };
@@ -196,9 +198,9 @@ fn larger(a: usize, b: usize) -> usize
     a
 }
 
-// Writes the rows of a constraint expression, behind its open parenthesis, from a row on. It calls itself on each operand; the number that
-// falls is the levels left. Rows for which there is no room are counted and not written. An operand is worked out with the values of those
-// before it on the stack, so it needs as many more.
+// Writes the rows of a constraint expression, after its open parenthesis, from a row on. It calls itself on each
+// operand; the number that falls is the levels left. Rows for which there is no room are counted and not written. An
+// operand is worked out with the values of those before it on the stack, so it needs as many more.
 pub fn write_constraint(
     text: &[u8],
     at: usize,
@@ -210,7 +212,7 @@ pub fn write_constraint(
     requires { ⌜ Countable (now text) at row ⌝ }
     ensures { λ r. ⌜ Writes (now (text .entry)) at (grammar.expressionIn (trim (framesAt (now (text .entry)) at .here) levels)) (now (symbols .entry)) (now (rows .entry)) (now (rows .exit)) row r ⌝ }
 {
-    let first = items::look(text, at);
+    let first = items::next_item(text, at);
     let Item::Word { number, next, .. } = first else {
         return RowsWritten::Undeclared;
     };
@@ -223,7 +225,7 @@ pub fn write_constraint(
     let mut count: usize = 0;
     let mut need: usize = 0;
     loop {
-        let item = items::look(text, i);
+        let item = items::next_item(text, i);
         match item {
             Item::Open { next: inside, .. } => {
                 if levels == 0 {

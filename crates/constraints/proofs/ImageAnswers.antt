@@ -1,4 +1,4 @@
--- On the table of a well-formed image, whatever stands behind it, the bytes say of the constraints what the image says: their sets, their
+-- On the table of a well-formed image, whatever is after it, the bytes say of the constraints what the image says: their sets, their
 -- rows, what each names and whether it holds; so the first that fails and the number consulted are the image's. Assumes nothing.
 use mathlib.Core.Path.{_≡_, refl, sym, ap, ap₂, _∙_, subst}
 use mathlib.Core.Bool.{Bool, true, false, _&&_, cond}
@@ -18,7 +18,7 @@ use Rattle.policy.specs.Image.{Image, ConstraintEntry, width}
 use Rattle.policy.specs.Encode.{headsFrom, headBytes, rowBytes, bodies, encode}
 use Rattle.policy.specs.Sound.{ofComp, goodRow, goodConstraint, headAt, wellFormed}
 use Rattle.policy.specs.Questions.{setsIn, viewOf, entryNames, entryHolds}
-use Rattle.policy.specs.Deciding.{Answer, ruling, firstFailing}
+use Rattle.policy.specs.Deciding.{Answer, consult, firstFailing}
 use Rattle.policy.specs.Answers.{changeOf}
 use Rattle.policy.specs.declared.Change.{Change}
 use Rattle.policy.proofs.Lists.{both-true, all-left, all-right, each-append, each-length, joined-append}
@@ -58,7 +58,8 @@ module _ (i : Image) (t : List ℕ) (b : Bodies) (laid : Laid i)
 
   -- the family by two tests, as `ofComp` tells it
   set-of : (x y : Bool) (a : ℕ) → a < count (attributeOf (cond x users (cond y roles types))) (i .names)
-      → part t (cond x (b .sets + 16 * a) (cond y (b .sets + 16 * (b .userattributes + a)) (b .sets + 16 * (b .userattributes + b .roleattributes) + 64 * a))) (width (cond x users (cond y roles types)))
+      → part t (cond x (b .sets + 16 * a) (cond y (b .sets + 16 * (b .userattributes + a)) (b .sets + 16 * (b .userattributes + b .roleattributes) + 64 * a)))
+      (width (cond x users (cond y roles types)))
       ≡ getD (setsIn i (cond x users (cond y roles types))) a []
   set-of true y a h = set-part 16 (i .userSets) (laid .userSets .wide) a (omega (arith, laid .userSets .many)) users-stand
   set-of false true a h =
@@ -118,8 +119,9 @@ module _ (i : Image) (t : List ℕ) (b : Bodies) (on : Contexts) (class permissi
       wide-length 6 (each rowBytes (c .rows)) (every-wide 6 rowBytes row-wide (c .rows)) ∙ ap (λ (k : ℕ). k * 6) (each-length rowBytes (c .rows)) in
       let next : b .rows + 6 * r + length (joined (each rowBytes (c .rows))) ≡ b .rows + 6 * (r + length (c .rows)) = omega arith in
       let named : headNames class permission (record { class = c .class; mask = c .mask; first = r; rows = length (c .rows) }) ≡ entryNames class permission c = refl in
-      rw named (ap₂ (λ (x : Bool) (y : Answer). ruling (entryNames class permission c) x n y)
-      (head-holds c (sound-rows (i .names) c (good .0)) (all-left SmallRow (c .rows) later small) r (stands-left (joined (each rowBytes (c .rows))) (joined (each rowBytes later)) both))
+      rw named (ap₂ (λ (x : Bool) (y : Answer). consult (entryNames class permission c) x n y)
+      (head-holds c (sound-rows (i .names) c (good .0)) (all-left SmallRow (c .rows) later small) r
+      (stands-left (joined (each rowBytes (c .rows))) (joined (each rowBytes later)) both))
       (heads-answer cs (good .1) (all-right SmallRow (c .rows) later small) (r + length (c .rows))
       (subst (λ (k : ℕ). Stands t k (joined (each rowBytes later))) next (stands-right (joined (each rowBytes (c .rows))) (joined (each rowBytes later)) both)) (n + 1)))
 

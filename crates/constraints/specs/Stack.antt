@@ -8,7 +8,7 @@ use Rattle.bitset.specs.Sets.{one}
 use Rattle.policy.specs.Maxima.{maxStack}
 use Rattle.policy.specs.Rows.{Row, View, notTop, andTop, orTop, opTest, isSame}
 
--- the stack as the bits of a number: the top is bit 0, and a 1 stands above the oldest
+-- the stack as the bits of a number: the top is bit 0, and a 1 is above the oldest
 abbrev pub code : List Bool → ℕ
 code [] = 1
 code (b ∷ s) = one b + 2 * code s

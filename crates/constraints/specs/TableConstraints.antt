@@ -79,7 +79,7 @@ pub record Located (t : List ℕ) (us rs : ℕ) (b : Bodies) : Type 0 where
   pub image : (i : Image) (rest : List ℕ) → wellFormed i ≡ true → t ≡ encode i ++ rest → us ≡ length (i .userSets) → rs ≡ length (i .roleSets) → Placed i b
 
 -- what a table answers to a class, a permission and six numbers: on any bytes what its bytes say, and on the table of a well-formed image,
--- whatever stands behind it, what the image says
+-- whatever is after it, what the image says
 pub record Decides (t : List ℕ) (b : Bodies) (class permission : ℕ) (sides : List ℕ) (r : Change) : Type 0 where
   pub bytes : changeOf r ≡ firstFailing (headNames class permission) (headHolds t b sides) 0 (headsIn t b)
   pub image : (i : Image) (rest : List ℕ) (on : Contexts) → wellFormed i ≡ true → t ≡ encode i ++ rest → Placed i b → sides ≡ sidesOf on

@@ -1,5 +1,5 @@
-// The constraints of a table: rows run on a stack of five, and the first constraint that fails. Every function answers for every table,
-// sound or not, and for all numbers.
+// The constraints of a table: rows run on a stack of five, and the first constraint that fails. Every function
+// answers for every table, sound or not, and for all numbers.
 use policy::Change;
 use policy::Constraint;
 use policy::Operator;
@@ -25,8 +25,8 @@ ghost use Rattle.constraints.specs.Stack as stack;
 ghost use Rattle.constraints.specs.Stack.{code, boundedTurn, boundedRun};
 ghost use Rattle.constraints.specs.TableConstraints.{setStart, viewIn, headsIn, headNames, rowsIn, headHolds, Located, Decides};
 
-// Where the bodies 6, 7 and 8 of a table start; how many constraints body 6 has; and how many sets of userattributes and of
-// roleattributes come before the other sets of body 8.
+// Where the bodies 6, 7 and 8 of a table start; how many constraints body 6 has; and how many sets of userattributes
+// and of roleattributes come before the other sets of body 8.
 pub struct Bodies {
     pub constraints: u32,
     pub count: u32,
@@ -36,7 +36,8 @@ pub struct Bodies {
     pub roleattributes: u16,
 }
 
-// Where the header of a table says that these bodies stand; how many userattributes and roleattributes there are, its names say.
+// Where the header of a table says that these bodies stand; how many userattributes and roleattributes there are, its
+// names say.
 pub fn locate(table: &[u8], userattributes: u16, roleattributes: u16) -> Bodies
     ensures { λ r. ⌜ Located (now (table .entry)) userattributes roleattributes r ⌝ }
 {
@@ -52,7 +53,7 @@ pub fn locate(table: &[u8], userattributes: u16, roleattributes: u16) -> Bodies
 
 // ---- the stack
 
-// A stack of at most five Booleans: the top is bit 0, and a 1 stands above the oldest.
+// A stack of at most five Booleans: the top is bit 0, and a 1 is above the oldest.
 struct Stack {
     bits: u8,
 }
@@ -301,8 +302,9 @@ fn scan(table: &[u8], bodies: Bodies, class: usize, permission: usize, sides: &[
     }
 }
 
-// The first constraint that names the class and the permission and fails for these sides, u1 u2 r1 r2 t1 t2, with its number; or granted. With it
-// goes the number consulted: the constraints that name them, up to and including the first that fails.
+// The first constraint that names the class and the permission and fails for these sides, u1 u2 r1 r2 t1 t2, with its
+// number; or granted. With it goes the number consulted: the constraints that name them, up to and including the
+// first that fails.
 pub fn first_failing(
     table: &[u8],
     bodies: Bodies,

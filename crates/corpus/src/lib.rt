@@ -1,4 +1,5 @@
-// Reads the cases of a corpus from standard input: numbers of 4 and 8 bytes, little endian, and bytes after their length.
+// Reads the cases of a corpus from standard input: numbers of 4 and 8 bytes, little endian, and bytes after their
+// length.
 ghost use mathlib.Core.Path.{_≡_};
 ghost use Prim.Native.Nat.{_+_, _*_, _<_};
 ghost use lib.ListN.{length};

@@ -11,15 +11,15 @@ use Rattle.bitset.specs.Parts.{part}
 use Rattle.bitset.proofs.SetLaws.{length-tabulate, getD-tabulate}
 use Rattle.policy.specs.Statements.{users, roles, types, thingOf, attributeOf, Declaration, classNames, permissions}
 use Rattle.policy.specs.declared.NameCounts.{NameCounts}
-use Rattle.name_section.specs.declared.Counted as counted
-use Rattle.name_section.specs.SoundNames.{soundNames, countsOf, permissionsAfter}
-use Rattle.name_section.proofs.Answers.{answered-sound}
+use Rattle.sound_names.specs.declared.Counted as counted
+use Rattle.sound_names.specs.SoundNames.{soundNames, countsOf, permissionsAfter}
+use Rattle.sound_names.proofs.Answers.{answered-sound}
 use Rattle.table_reader.specs.Records.{lengthIn}
-use Rattle.image.proofs.SoundImage.{image-names}
+use Rattle.sound_bodies.proofs.SoundImage.{image-names}
 use Rattle.table_laws.specs.SoundTable.{Bytes, Sound}
 use Rattle.table_laws.proofs.SoundLaws.{sound-read}
 use Rattle.soundness.specs.IsSound.{isSound}
-use Rattle.soundness.specs.Telling.{Tells}
+use Rattle.soundness.specs.TableCounts.{Tells}
 use Rattle.soundness.proofs.Deciding.{sound-by}
 use Rattle.table_names.specs.TableNames.{countsIn, permissionIn, isFoundName}
 use Rattle.decisions.proofs.SoundLaws.{sound-table, things-of, classes-of}

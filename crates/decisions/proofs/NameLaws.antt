@@ -17,13 +17,13 @@ use Rattle.policy.specs.Deciding.{isObject, Question, declaredContext, declared
 use Rattle.policy.specs.Questions.{Part, nameFrom, nameOf}
 use Rattle.policy.proofs.Lists.{both-true, at-place, under, any-ext}
 use Rattle.policy.proofs.Counts.{few-permissions-of, few-classes}
-use Rattle.image_rows.specs.SoundRows.{isSome}
+use Rattle.sound_constraints.specs.SoundRows.{isSome}
 use Rattle.table_laws.specs.SoundTable.{Sound}
 use Rattle.table_laws.specs.Shown.{shown, orTwelve, nameIn}
 use Rattle.table_laws.proofs.NameShown.{name-shown}
 use Rattle.table_laws.proofs.WellFormed.{formed}
 use Rattle.decisions.specs.TableAnswers.{declaresQuestion}
-use Rattle.table_names.specs.TableNames.{countsIn, nameAt, permissionIn, isFoundName, bears, asksRoleIn}
+use Rattle.table_names.specs.TableNames.{countsIn, nameAt, permissionIn, isFoundName, hasName, asksRoleIn}
 use Rattle.decisions.proofs.SoundLaws.{names-of, classes-of, declares-context}
 
 -- WHAT IS SHOWN
@@ -40,7 +40,7 @@ module _ (t : List ℕ) where
   found-by (refused n k) none h = refl
   found-by (refused n k) (some v) h = let z : _≡_ {A = ℕ} 0 1 = cc in absurd (omega arith)
 
-  bears-by : (r : Reply Part) (o : Option Name) → shown t r ≡ orTwelve o → (w : Name) → bears t r w ≡ isNamed o w
+  bears-by : (r : Reply Part) (o : Option Name) → shown t r ≡ orTwelve o → (w : Name) → hasName t r w ≡ isNamed o w
   unfolding part
   bears-by (answered p) none h w = let z : _≡_ {A = ℕ} 0 1 = cc in absurd (omega arith)
   bears-by (answered p) (some v) h w = ap (λ (x : List ℕ). same x w) (answered-injective (take (p .long) (drop (p .start) t)) v h)
@@ -129,12 +129,12 @@ module _ (t : List ℕ) (s : Sound t) where
       let ds = s .image .names in
       ap₂ _&&_
       (bears-by t (nameAt t 6 c) (getElem? (classNames ds) c) (class-at c) process ∙ ap (λ (o : Option Name). isNamed o process) (at-place (classNames ds) c [] h))
-      (any-ext (bears t (permissionIn t c k)) (same (getD (permissions ds c) k [])) transitionWords
+      (any-ext (hasName t (permissionIn t c k)) (same (getD (permissions ds c) k [])) transitionWords
       (λ w. bears-by t (permissionIn t c k) (getElem? (permissions ds c) k) (permission-at c k (class-below c h) (omega (arith, few-in-class c))) w
       ∙ ap (λ (o : Option Name). isNamed o w) (at-place (permissions ds c) k [] l)))
 
   -- "role is named `object_r`"
-  pub object-of : (r : ℕ) → r < count (thingOf roles) (s .image .names) → bears t (nameAt t 1 r) objectR ≡ isObject (s .image .names) r
+  pub object-of : (r : ℕ) → r < count (thingOf roles) (s .image .names) → hasName t (nameAt t 1 r) objectR ≡ isObject (s .image .names) r
   unfolding isObject count
   object-of r h =
       let names = namesOf (thingOf roles) (s .image .names) in

@@ -25,7 +25,7 @@ use Rattle.policy.proofs.Counts.{few-of}
 use Rattle.policy.proofs.Sorts.{max-small}
 use Rattle.symbols.specs.Section.{between}
 use Rattle.symbols.proofs.Written.{entries-written}
-use Rattle.image_rows.specs.SoundRows.{isSome}
+use Rattle.sound_constraints.specs.SoundRows.{isSome}
 use Rattle.table_laws.specs.SoundTable.{Bytes, Sound}
 use Rattle.table_laws.proofs.Pieces.{Wide}
 use Rattle.table_laws.proofs.ImageReadBack.{Laid}

@@ -13,7 +13,7 @@ use Rattle.policy.specs.Sound.{transitionAt}
 use Rattle.policy.specs.Deciding.{Question}
 use Rattle.policy.specs.declared.NameCounts.{NameCounts}
 use Rattle.table_reader.specs.Records.{records, startIn, lengthIn}
-use Rattle.table_names.specs.TableNames.{nameAt, permissionIn, isFoundName, bears}
+use Rattle.table_names.specs.TableNames.{nameAt, permissionIn, isFoundName, hasName}
 
 -- "number not declared in the table": a context's numbers are declared
 unfoldable pub declaresContext : NameCounts → Context → Bool
@@ -35,7 +35,7 @@ isGivenIn t c = setHas t 1 16 (c .user) (c .role) && setHas t 2 64 (c .role) (c 
 
 -- or the "role is named `object_r`" (document 02, W-201); 1 is the sort of roles
 unfoldable pub isValidIn : List ℕ → Context → Bool
-isValidIn t c = isGivenIn t c || bears t (nameAt t 1 (c .role)) objectR
+isValidIn t c = isGivenIn t c || hasName t (nameAt t 1 (c .role)) objectR
 
 -- "Transitions in text order: role set 16, type set 64, class 1, new role 1"
 abbrev pub transitionsIn : List ℕ → List TransitionEntry

@@ -1,6 +1,7 @@
-// Three questions on a sound table: valid context, new role, change. All numbers are answered: 12 where one is not declared, tried before
-// anything else. The inner functions say what the bytes of any table say, but for the constraints, which speak of sound tables; that on a sound
-// table all this is what its image says, the three questions promise.
+// Three questions on a sound table: valid context, new role, change. All numbers are answered: 12 where one is not
+// declared, tried before anything else. The inner functions say what the bytes of any table say, but for the
+// constraints, which speak of sound tables; that on a sound table all this is what its image says, the three
+// questions promise.
 use policy::Attribute;
 use policy::Change;
 use policy::Denial;
@@ -100,8 +101,8 @@ fn is_valid(table: &[u8], asked: Context) -> bool
     table_names::is_named(table, Sort::ROLE, asked.role, &word)
 }
 
-// **Valid context**: whether the role is among the user's, and the type, `kind`, among the role's, or the role is `object_r`. The table is one that `isSound`
-// finds sound.
+// **Valid context**: whether the role is among the user's, and the type, `kind`, among the role's, or the role is
+// `object_r`. The table is one that `isSound` finds sound.
 pub fn valid_in_sound(table: &[u8], user: usize, role: usize, kind: usize) -> Validity
     requires { ⌜ isSound (now table) ≡ true ⌝ }
     ensures { λ r. ⌜ validityOf r ≡ validOn (now (table .entry)) (context user role kind) ⌝ }
@@ -121,7 +122,8 @@ pub fn valid_in_sound(table: &[u8], user: usize, role: usize, kind: usize) -> Va
 
 // ---- new role
 
-// Whether the transition at a place is for the role, the type and the class. The place is so low that none behind it overflows.
+// Whether the transition at a place is for the role, the type and the class. The place is so low that none after it
+// overflows.
 fn matches_at(table: &[u8], at: usize, role: usize, kind: usize, class: usize) -> bool
     requires { ⌜ at ≤ 1099511627776 ⌝ }
     ensures { λ r. ⌜ r ≡ matches role kind class (transitionAt (drop at (now (table .entry)))) ⌝ }
@@ -152,8 +154,8 @@ fn first_transition(table: &[u8], role: usize, kind: usize, class: usize) -> usi
     role
 }
 
-// **New role**: that of the first transition for the role, the type and the class, else the role given. It is a proposal; the change is still
-// asked.
+// **New role**: that of the first transition for the role, the type and the class, else the role given. It is a
+// proposal; the change is still asked.
 pub fn new_role_in_sound(table: &[u8], role: usize, kind: usize, class: usize) -> NewRole
     requires { ⌜ isSound (now table) ≡ true ⌝ }
     ensures { λ r. ⌜ newRoleOf r ≡ newRoleOn (now (table .entry)) role kind class ⌝ }
@@ -206,7 +208,8 @@ fn declares_question(
 
 // ---- change: the role
 
-// Whether the role stays, or may become the other, or nothing asks for it. The names come last, since they are found by a walk.
+// Whether the role stays, or may become the other, or nothing asks for it. The names come last, since they are found
+// by a walk.
 fn role_may(table: &[u8], source: usize, target: usize, class: usize, permission: usize) -> bool
     ensures { λ r. ⌜ r ≡ roleMay (asksRoleIn (now (table .entry)) class permission) source target (setHas (now (table .entry)) 3 16 source target) ⌝ }
 {
@@ -263,8 +266,8 @@ fn ask_constraints(
     constraints::first_failing(table, bodies, class, permission, &sides)
 }
 
-// **Change** on a table whose names are counted, and of which it is known whether the class, if it is declared, has the permission: denials 1 to 3 in their
-// order, then the constraints, with the number consulted.
+// **Change** on a table whose names are counted, and of which it is known whether the class, if it is declared, has
+// the permission: denials 1 to 3 in their order, then the constraints, with the number consulted.
 pub fn change_in_counted(
     table: &[u8],
     counts: NameCounts,

@@ -1,4 +1,4 @@
--- What declaring a class comes to: a permission that stands twice and its full name among the classes are fault 4, the length of that name and the count of the
+-- What declaring a class comes to: a permission that is twice and its full name among the classes are fault 4, the length of that name and the count of the
 -- classes and of its permissions fault 6, and otherwise its entries have room and are written. Assumes nothing.
 use mathlib.Core.Path.{_≡_, refl, sym, ap, subst, _∙_}
 use mathlib.Core.Bool.{true, false, not, and-false, false≢true}
@@ -36,7 +36,7 @@ use Rattle.declarations.specs.Entering.{Entered, Fitting, Enters, answer
 use Rattle.declarations.specs.Declaring.{Holds, Declares, DeclaresAt, DeclaresClass}
 use Rattle.declarations.specs.declared.Declared.{Declared}
 use Rattle.declarations.specs.declared.Added.{Added}
-use Rattle.declarations.specs.declared.Standing.{Standing}
+use Rattle.declarations.specs.declared.NameStatus.{NameStatus}
 use Rattle.declarations.proofs.Holding.{long-missing, room-for}
 use Rattle.declarations.proofs.EnteringLaws.{bytes-append, entered-then}
 use Rattle.declarations.proofs.NewPermissions.{permissions-indexable}
@@ -64,14 +64,14 @@ module _ (v : Name) (ps : List Name) (before : List ℕ) (end : ℕ) where
   found ds = firstNamed (familyNumber 6 0) v (entries ds)
 
   -- "name declared again in its family"
-  pub class-taken : Stands before 6 v Standing.Taken → DeclaresClass v ps before before end Declared.Again
+  pub class-taken : Stands before 6 v NameStatus.Declared → DeclaresClass v ps before before end Declared.DeclaredAgain
   class-taken q = record {
     says = λ ds y once good.
         let has : isIn v (classNames ds) ≡ true = sym (class-found ds v) ∙ taken-found (found ds) (length (classNames ds)) (q .classes end ds y refl) in
         (rw has, refl);
   }
 
-  module _ (number : ℕ) (q : Stands before 6 v (Standing.Free number)) where
+  module _ (number : ℕ) (q : Stands before 6 v (NameStatus.Undeclared number)) where
     is-free : {ds : List Declaration} → Holds before end ds → (isFound (found ds) ≡ false) × (length (classNames ds) ≡ number)
     is-free {ds} y = free-missing (found ds) (length (classNames ds)) number (q .classes end ds y refl)
 
@@ -81,15 +81,15 @@ module _ (v : Name) (ps : List Name) (before : List ℕ) (end : ℕ) where
     count-is : {ds : List Declaration} → Holds before end ds → length (classNames ds) ≡ number
     count-is y = is-free y .1
 
-    no-room : ((ds : List Declaration) → Holds before end ds → hasRoom ds (class v ps) ≡ false) → DeclaresClass v ps before before end Declared.Full
+    no-room : ((ds : List Declaration) → Holds before end ds → hasRoom ds (class v ps) ≡ false) → DeclaresClass v ps before before end Declared.MaximumPassed
     no-room n = record { says = λ ds y once good. (is-new y once, rw (n ds y), refl) }
 
     -- "classes 32"
-    pub class-full : 32 ≤ number → DeclaresClass v ps before before end Declared.Full
+    pub class-full : 32 ≤ number → DeclaresClass v ps before before end Declared.MaximumPassed
     class-full l = no-room (λ ds y. rw (le-ltb (length (classNames ds)) 32 (omega (arith, count-is y))))
 
     -- "permissions 32 per class"
-    pub class-too-many : 32 < length ps → DeclaresClass v ps before before end Declared.Full
+    pub class-too-many : 32 < length ps → DeclaresClass v ps before before end Declared.MaximumPassed
     class-too-many l = no-room (λ ds y. rw (lt-leb (length ps) 32 l) (and-false (ltb (length (classNames ds)) 32)))
 
     abbrev one : List NameEntry
@@ -167,7 +167,7 @@ module _ (v : Name) (ps : List Name) (before : List ℕ) (end : ℕ) where
         pub class-added : (a : Added) (r : Declared) → Enters mid after past others a → r ≡ answerOf a → DeclaresClass v ps before after end r
         class-added a r e z = record { says = λ ds y once good. subst (Declares before after end ds (class v ps)) (sym z) (added a e ds y once good) }
 
--- ---- a class as it stands in the text
+-- ---- a class as it is in the text
 
 module _ (t : List ℕ) (at : ℕ) (before : List ℕ) (end : ℕ) where
   pub no-class : (after : List ℕ) (r : Declared) → WordIs t at NextWord.Missing → DeclaresAt t at classK before after end r
@@ -181,21 +181,21 @@ module _ (t : List ℕ) (at : ℕ) (before : List ℕ) (end : ℕ) where
     names = wordsIn (framesAt t row .here)
 
     -- "permission twice in a class"
-    pub class-repeats : not (differ names) ≡ true → DeclaresAt t at classK before before end Declared.Again
+    pub class-repeats : not (differ names) ≡ true → DeclaresAt t at classK before before end Declared.DeclaredAgain
     class-repeats q = record {
       says = λ ds path d y sc gp g f.
-          subst (λ (x : Declaration). Declares before before end ds (fullDeclaration path x) Declared.Again) (sym (class-here h i d g f .0))
+          subst (λ (x : Declaration). Declares before before end ds (fullDeclaration path x) Declared.DeclaredAgain) (sym (class-here h i d g f .0))
           (rw (not-true (differ names) q) (and-false (not (isIn (full path w) (classNames ds)))), refl);
     }
 
     module _ (once : not (differ names) ≡ false) where
       -- "6 for a full name too long": none of the names before it is so long, so it is new
-      pub class-too-long : ((path : List Name) → InScope before path → 64 < length (full path w)) → DeclaresAt t at classK before before end Declared.Full
+      pub class-too-long : ((path : List Name) → InScope before path → 64 < length (full path w)) → DeclaresAt t at classK before before end Declared.MaximumPassed
       class-too-long l = record {
         says = λ ds path d y sc gp g f.
             let v = full path w in
             let missing : isIn v (classNames ds) ≡ false = sym (class-found ds v) ∙ ap isFound (long-missing 3 v y (l path sc)) in
-            subst (λ (x : Declaration). Declares before before end ds (fullDeclaration path x) Declared.Full) (sym (class-here h i d g f .0)) (
+            subst (λ (x : Declaration). Declares before before end ds (fullDeclaration path x) Declared.MaximumPassed) (sym (class-here h i d g f .0)) (
               true-both (not (isIn v (classNames ds))) (differ names) (ap not missing) (not-false (differ names) once),
               rw (lt-leb (length v) 64 (l path sc)) (and-false (hasRoom ds (class v names))),
               refl,

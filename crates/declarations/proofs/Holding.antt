@@ -1,4 +1,4 @@
--- The memory holds the symbols of declarations: they are the symbol table, one more declaration's entries behind them are the symbols with it, and
+-- The memory holds the symbols of declarations: they are the symbol table, one more declaration's entries after them are the symbols with it, and
 -- for a declaration that the maxima allow there is room. Assumes nothing.
 use mathlib.Core.Path.{_≡_, refl, sym, ap, _∙_}
 use mathlib.Core.Bool.{true}

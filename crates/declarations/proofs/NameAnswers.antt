@@ -34,18 +34,18 @@ use Rattle.declarations.specs.Entering.{Entered, Enters, answerOf, Index
 use Rattle.declarations.specs.Declaring.{Holds, Declares, DeclaresName, DeclaresPlain}
 use Rattle.declarations.specs.declared.Declared.{Declared}
 use Rattle.declarations.specs.declared.Added.{Added}
-use Rattle.declarations.specs.declared.Standing.{Standing}
+use Rattle.declarations.specs.declared.NameStatus.{NameStatus}
 use Rattle.declarations.proofs.Holding.{long-missing, room-for}
 use Rattle.declarations.proofs.Formed.{plain-has-word, plain-here}
 use Rattle.declarations.proofs.FullNames.{FullIs}
 
 -- ---- what the lookup said
 
-pub taken-found : (f : Found) (c : ℕ) → Standing.Taken ≡ standing f c → isFound f ≡ true
+pub taken-found : (f : Found) (c : ℕ) → NameStatus.Declared ≡ standing f c → isFound f ≡ true
 taken-found (Found.At s n) c h = refl
 taken-found Found.Missing c h = absurd (let z : _≡_ {A = ℕ} 0 1 = cc in omega arith)
 
-pub free-missing : (f : Found) (c n : ℕ) → Standing.Free n ≡ standing f c → (isFound f ≡ false) × (c ≡ n)
+pub free-missing : (f : Found) (c n : ℕ) → NameStatus.Undeclared n ≡ standing f c → (isFound f ≡ false) × (c ≡ n)
 free-missing (Found.At s k) c n h = absurd (let z : _≡_ {A = ℕ} 0 1 = cc in omega arith)
 free-missing Found.Missing c n h = (refl, let z : c ≡ n = cc in z)
 
@@ -60,12 +60,12 @@ is-in sort s e ds v = ap (λ (n : ℕ). isFound (firstNamed n v (entries ds))) (
 
 module _ (sort : ℕ) (v : Name) (before : List ℕ) (end : ℕ) where
   -- "name declared again in its family"
-  pub name-taken : Stands before sort v Standing.Taken → DeclaresPlain sort v before before end Declared.Again
+  pub name-taken : Stands before sort v NameStatus.Declared → DeclaresPlain sort v before before end Declared.DeclaredAgain
   name-taken q = record {
     says = λ ds s e y good. (ap not (sym (is-in sort s e ds v) ∙ taken-found (found sort ds v) (count s ds) (q .names end ds s y e)), refl);
   }
 
-  module _ {number most : ℕ} (q : Stands before sort v (Standing.Free number)) (m : MostIs sort most) where
+  module _ {number most : ℕ} (q : Stands before sort v (NameStatus.Undeclared number)) (m : MostIs sort most) where
     is-free : (s : Sort) → sort ≡ sortCode s → {ds : List Declaration} → Holds before end ds → (isFound (found sort ds v) ≡ false) × (count s ds ≡ number)
     is-free s e {ds} y = free-missing (found sort ds v) (count s ds) number (q .names end ds s y e)
 
@@ -76,7 +76,7 @@ module _ (sort : ℕ) (v : Name) (before : List ℕ) (end : ℕ) where
     count-is s e y = is-free s e y .1
 
     -- "one of the other maxima passed"
-    pub name-full : most ≤ number → DeclaresPlain sort v before before end Declared.Full
+    pub name-full : most ≤ number → DeclaresPlain sort v before before end Declared.MaximumPassed
     name-full l = record {
       says = λ ds s e y good. (is-new s e y, rw (le-ltb (count s ds) (maxOf s) (omega (arith, count-is s e y, m .is s e))), refl);
     }
@@ -121,10 +121,10 @@ module _ (sort : ℕ) (v : Name) (before : List ℕ) (end : ℕ) where
       pub name-added : (a : Added) (r : Declared) → Enters before after end (nameEntry sort number v ∷ []) a → r ≡ answerOf a → DeclaresPlain sort v before after end r
       name-added a r n z = record { says = λ ds s e y good. subst (Declares before after end ds (plain s v)) (sym z) (added a n s e ds y good) }
 
--- ---- a thing or an attribute as it stands in the text
+-- ---- a thing or an attribute as it is in the text
 
 module _ (t : List ℕ) (at sort : ℕ) (before : List ℕ) (end : ℕ) where
-  -- no sort of things or attributes has such a number; no name stands there
+  -- no sort of things or attributes has such a number; no name is there
   pub no-sort : (after : List ℕ) (r : Declared) → 6 ≤ sort → DeclaresName t at sort before after end r
   no-sort after r h = record { of = λ s e. absurd (omega (arith, code-below s)) }
 
@@ -136,14 +136,14 @@ module _ (t : List ℕ) (at sort : ℕ) (before : List ℕ) (end : ℕ) where
     w = part t start len
 
     -- "6 for a full name too long": none of the names before it is so long, so it is new
-    pub name-too-long : ((path : List Name) → InScope before path → 64 < length (full path w)) → DeclaresName t at sort before before end Declared.Full
+    pub name-too-long : ((path : List Name) → InScope before path → 64 < length (full path w)) → DeclaresName t at sort before before end Declared.MaximumPassed
     name-too-long l = record {
       of = λ s e. record {
         says = λ ds path d y sc gp g f.
             let v = full path w in
             let missing : isIn v (familyNames (familyOf s) ds) ≡ false =
             sym (is-in sort s e ds v) ∙ ap isFound (long-missing (familyNumber sort 0) v y (l path sc)) in
-            subst (λ (x : Declaration). Declares before before end ds (fullDeclaration path x) Declared.Full) (sym (plain-here h s d g f .0))
+            subst (λ (x : Declaration). Declares before before end ds (fullDeclaration path x) Declared.MaximumPassed) (sym (plain-here h s d g f .0))
             (ap not missing, rw (lt-leb (length v) 64 (l path sc)) (and-false (hasRoom ds (plain s v))), refl);
       };
     }

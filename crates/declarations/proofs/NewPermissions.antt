@@ -22,7 +22,7 @@ module _ (ds : List Declaration) (v : Name) (small : length (classNames ds) < 32
   sofar-long : (qs : List Name) → length (sofar qs) ≡ length (entries ds) + 1 + length qs
   sofar-long qs = omega (arith, length-append (entries ds) (nameEntry 6 number v ∷ permissionEntries (number * 32) qs), permissions-length (number * 32) qs)
 
-  -- the permissions qs stand before; ps are the others
+  -- the permissions qs are before; ps are the others
   permissions-after : (qs ps : List Name) → length (qs ++ ps) ≤ 32 → Indexable (sofar qs) (permissionEntries (number * 32 + length qs) ps)
   unfolding Indexable permissionEntries
   permissions-after qs [] h = tt

@@ -16,7 +16,7 @@ use Rattle.name_chains.specs.declared.Tried.{Tried}
 use Rattle.symbols.specs.declared.Found.{Found}
 use Rattle.symbols.proofs.CountLaws.{count-things, count-classes}
 use Rattle.declarations.specs.Counting.{standing, Counts, Stands}
-use Rattle.declarations.specs.declared.Standing.{Standing}
+use Rattle.declarations.specs.declared.NameStatus.{NameStatus}
 use Rattle.declarations.specs.Declaring.{Holds}
 
 -- ---- counts
@@ -44,18 +44,18 @@ module _ {t : List ℕ} (sort : ℕ) {family : ℕ} {w : Name} {tried : Tried} (
   looked : (end : ℕ) (ds : List Declaration) → Holds t end ds → tried .found ≡ firstNamed (familyNumber sort 0) w (entries ds)
   looked end ds y = h .tries end (entries ds) (y .chained) .finds ∙ ap (λ (n : ℕ). firstNamed n w (entries ds)) f
 
-  pub is-taken : (s n : ℕ) → tried .found ≡ Found.At s n → Stands t sort w Standing.Taken
+  pub is-taken : (s n : ℕ) → tried .found ≡ Found.At s n → Stands t sort w NameStatus.Declared
   is-taken s n e = record {
     names = λ end ds k y q. ap (λ (x : Found). standing x (statements.count k ds)) (sym e ∙ looked end ds y);
     classes = λ end ds y q. ap (λ (x : Found). standing x (length (classNames ds))) (sym e ∙ looked end ds y);
   }
 
-  pub is-free : {r : ℕ} → tried .found ≡ Found.Missing → Counts t sort r → Stands t sort w (Standing.Free r)
+  pub is-free : {r : ℕ} → tried .found ≡ Found.Missing → Counts t sort r → Stands t sort w (NameStatus.Undeclared r)
   is-free e c = record {
-    names = λ end ds k y q. ap Standing.Free (c .things end ds k y q) ∙ ap (λ (x : Found). standing x (statements.count k ds)) (sym e ∙ looked end ds y);
-    classes = λ end ds y q. ap Standing.Free (c .classes end ds y q) ∙ ap (λ (x : Found). standing x (length (classNames ds))) (sym e ∙ looked end ds y);
+    names = λ end ds k y q. ap NameStatus.Undeclared (c .things end ds k y q) ∙ ap (λ (x : Found). standing x (statements.count k ds)) (sym e ∙ looked end ds y);
+    classes = λ end ds y q. ap NameStatus.Undeclared (c .classes end ds y q) ∙ ap (λ (x : Found). standing x (length (classNames ds))) (sym e ∙ looked end ds y);
   }
 
 -- what a caller of `stands` knows of the answer k
-pub stands-told : {t : List ℕ} {sort : ℕ} {w : Name} {r k : Standing} → Stands t sort w r → r ≡ k → Stands t sort w k
+pub stands-told : {t : List ℕ} {sort : ℕ} {w : Name} {r k : NameStatus} → Stands t sort w r → r ≡ k → Stands t sort w k
 stands-told {t} {sort} {w} h e = subst (Stands t sort w) e h

@@ -11,7 +11,7 @@ use Rattle.policy.specs.Encode.{sortCode, entries}
 use Rattle.symbols.specs.Lookup.{familyNumber, firstNamed}
 use Rattle.symbols.specs.declared.Found.{Found}
 use Rattle.declarations.specs.Declaring.{Holds}
-use Rattle.declarations.specs.declared.Standing.{Standing}
+use Rattle.declarations.specs.declared.NameStatus.{NameStatus}
 
 -- "Things are numbered from 0 in text order within their sort": so many of a sort are declared; sort 6 is class
 pub record Counts (table : List ℕ) (sort r : ℕ) : Type 0 where
@@ -23,12 +23,12 @@ pub record MostIs (sort r : ℕ) : Type 0 where
   pub is : (s : Sort) → sort ≡ sortCode s → r ≡ maxOf s
 
 -- a name that is found is taken; one that is not may be declared, as the next of its sort
-abbrev pub standing : Found → ℕ → Standing
-standing (Found.At s n) k = Standing.Taken
-standing Found.Missing k = Standing.Free k
+abbrev pub standing : Found → ℕ → NameStatus
+standing (Found.At s n) k = NameStatus.Declared
+standing Found.Missing k = NameStatus.Undeclared k
 
 -- what the symbols say of the name w, in the family of a sort
-pub record Stands (table : List ℕ) (sort : ℕ) (w : Name) (r : Standing) : Type 0 where
+pub record Stands (table : List ℕ) (sort : ℕ) (w : Name) (r : NameStatus) : Type 0 where
   pub names : (end : ℕ) (ds : List Declaration) (s : Sort) → Holds table end ds → sort ≡ sortCode s
       → r ≡ standing (firstNamed (familyNumber sort 0) w (entries ds)) (statements.count s ds)
   pub classes : (end : ℕ) (ds : List Declaration) → Holds table end ds → sort ≡ 6 → r ≡ standing (firstNamed (familyNumber sort 0) w (entries ds)) (length (classNames ds))

@@ -31,7 +31,7 @@ pub record Holds (table : List ℕ) (end : ℕ) (ds : List Declaration) : Type 0
   pub good : goodFrom [] ds ≡ true
   pub chained : Chained table end (entries ds)
 
--- the entries of d are written behind those of ds, nothing else is changed before the chains, and the chains have them: neither fault 4 nor fault 6
+-- the entries of d are written after those of ds, nothing else is changed before the chains, and the chains have them: neither fault 4 nor fault 6
 pub record Adds (before after : List ℕ) (end past : ℕ) (ds : List Declaration) (d : Declaration) : Type 0 where
   pub new : isNew ds d ≡ true
   pub room : hasRoom ds d && isShort d ≡ true
@@ -46,10 +46,10 @@ pub record Adds (before after : List ℕ) (end past : ℕ) (ds : List Declaratio
 -- the memory as it was
 abbrev pub Declares : List ℕ → List ℕ → ℕ → List Declaration → Declaration → Declared → Type 0
 Declares before after end ds d (Declared.Next past) = Adds before after end past ds d
-Declares before after end ds d Declared.Again = (isNew ds d ≡ false) × (after ≡ before)
-Declares before after end ds d Declared.Full = (isNew ds d ≡ true) × (hasRoom ds d && isShort d ≡ false) × (after ≡ before)
+Declares before after end ds d Declared.DeclaredAgain = (isNew ds d ≡ false) × (after ≡ before)
+Declares before after end ds d Declared.MaximumPassed = (isNew ds d ≡ true) × (hasRoom ds d && isShort d ≡ false) × (after ≡ before)
 
--- the declaration behind the keyword k at a place of the text, under its full name in the blocks of a path
+-- the declaration after the keyword k at a place of the text, under its full name in the blocks of a path
 pub record DeclaresAt (t : List ℕ) (at : ℕ) (k : Keyword) (before after : List ℕ) (end : ℕ) (r : Declared) : Type 0 where
   pub says : (ds : List Declaration) (path : List Name) (d : Declaration) → Holds before end ds → InScope before path → GoodPath path
       → namesGood (framesAt t at .here) ≡ true → formed k (framesAt t at .here) ≡ some (declare d) → Declares before after end ds (fullDeclaration path d) r
@@ -62,6 +62,6 @@ pub record DeclaresName (t : List ℕ) (at sort : ℕ) (before after : List ℕ)
 pub record DeclaresPlain (sort : ℕ) (w : Name) (before after : List ℕ) (end : ℕ) (r : Declared) : Type 0 where
   pub says : (ds : List Declaration) (s : Sort) → sort ≡ sortCode s → Holds before end ds → isGood w ≡ true → Declares before after end ds (plain s w) r
 
--- a class of the full name w and the permissions ps, where none of them stands twice and the names are good
+-- a class of the full name w and the permissions ps, where none of them is twice and the names are good
 pub record DeclaresClass (w : Name) (ps : List Name) (before after : List ℕ) (end : ℕ) (r : Declared) : Type 0 where
   pub says : (ds : List Declaration) → Holds before end ds → differ ps ≡ true → goodNames (class w ps) ≡ true → Declares before after end ds (class w ps) r

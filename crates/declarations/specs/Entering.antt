@@ -13,13 +13,13 @@ use Rattle.scopes.specs.Scope.{InScope}
 use Rattle.declarations.specs.declared.Declared.{Declared}
 use Rattle.declarations.specs.declared.Added.{Added}
 
--- there is room in the index for the entries es behind the entries xs, and a chain for each of them: their numbers fit 2 bytes, and their families are
+-- there is room in the index for the entries es after the entries xs, and a chain for each of them: their numbers fit 2 bytes, and their families are
 -- among the 36
 unfoldable pub Indexable : List NameEntry → List NameEntry → Type 0
 Indexable xs [] = Unit {0}
 Indexable xs (e ∷ es) = (length xs < 2048) × (e .number < 65536) × (familyNumber (e .sort) (e .number) < 36) × Indexable (xs ++ (e ∷ [])) es
 
--- the bytes of some entries stand at the end, nothing else is changed before the index, and past is the place behind them. The chains have them, if they
+-- the bytes of some entries are at the end, nothing else is changed before the index, and past is the place after them. The chains have them, if they
 -- had the entries before them and there is room; and the scope is kept
 pub record Entered (before after : List ℕ) (end : ℕ) (es : List NameEntry) (past : ℕ) : Type 0 where
   pub room : 188648 ≤ length before
@@ -46,4 +46,4 @@ pub record Enters (before after : List ℕ) (end : ℕ) (es : List NameEntry) (r
 -- where there is no room for a declaration's entries, a maximum is passed
 abbrev pub answerOf : Added → Declared
 answerOf (Added.Past past) = Declared.Next past
-answerOf Added.NoRoom = Declared.Full
+answerOf Added.NoRoom = Declared.MaximumPassed

@@ -1,8 +1,8 @@
-// Declarations of names and classes, put into the symbol table under their full names: faults 4 and 6. The form of a statement is known to be good where it is
-// declared here, so that a row that should be of names is one.
+// Declarations of names and classes, put into the symbol table under their full names: faults 4 and 6. The form of a
+// statement is known to be good where it is declared here, so that a row that should be of names is one.
 use name_rows::NextWord;
 use policy::Sort;
-use scopes::FullName;
+use scopes::ComposedName;
 use symbols::Found;
 ghost use mathlib.Core.Path.{_≡_};
 ghost use mathlib.Core.List.{[], _∷_};
@@ -16,21 +16,21 @@ ghost use Rattle.name_rows.specs.WordRows.{wordsIn};
 ghost use Rattle.declarations.specs.Entering.{Enters, answerOf};
 ghost use Rattle.declarations.specs.Declaring.{DeclaresAt, DeclaresName, DeclaresPlain, DeclaresClass};
 
-// The memory of the symbols: their entries, behind the room for them their chains, and behind these the scope. With no names the chains are empty
-// (`name_chains::clear`), and with no block open so is the scope (`scopes::start`).
+// The memory of the symbols: their entries, after the room for them their chains, and after these the scope. With no
+// names the chains are empty (`name_chains::clear`), and with no block open so is the scope (`scopes::start`).
 pub const SYMBOL_BYTES: usize = scopes::SYMBOL_BYTES;
 
 // What declaring a name comes to: the new end of the symbols, fault 4, or fault 6.
 pub enum Declared {
     Next(usize),
-    Again,
-    Full,
+    DeclaredAgain,
+    MaximumPassed,
 }
 
 // What the symbols say of a name: its family has it, or else how many its sort has.
-enum Standing {
-    Taken,
-    Free(usize),
+enum NameStatus {
+    Declared,
+    Undeclared(usize),
 }
 
 // The place past the entries that were written, or that there is no room for them.
@@ -69,15 +69,15 @@ fn most(sort: usize) -> usize
 }
 
 // What the symbols say of a full name: its family has it, or how many its sort has.
-fn stands(symbols: &[u8], sort: usize, name: &[u8]) -> Standing
+fn status_of(symbols: &[u8], sort: usize, name: &[u8]) -> NameStatus
     ensures { λ r. ⌜ Stands (now (symbols .entry)) sort (now (name .entry)) r ⌝ }
 {
     let family = symbols::family_of(sort, 0);
     let tried = name_chains::find(symbols, family, name);
     let found = tried.found;
     match found {
-        Found::At { .. } => Standing::Taken,
-        Found::Missing => Standing::Free(count(symbols, sort)),
+        Found::At { .. } => NameStatus::Declared,
+        Found::Missing => NameStatus::Undeclared(count(symbols, sort)),
     }
 }
 
@@ -105,7 +105,7 @@ fn answer(added: Added) -> Declared
 {
     match added {
         Added::Past(past) => Declared::Next(past),
-        Added::NoRoom => Declared::Full,
+        Added::NoRoom => Declared::MaximumPassed,
     }
 }
 
@@ -114,17 +114,17 @@ fn add_name(symbols: &mut [u8], end: usize, sort: usize, name: &[u8]) -> Declare
     requires { ⌜ (sort < 6) × (188648 ≤ length (now symbols)) ⌝ }
     ensures { λ r. ⌜ DeclaresPlain sort (now (name .entry)) (now (symbols .entry)) (now (symbols .exit)) end r ⌝ }
 {
-    let known = stands(symbols, sort, name);
-    let Standing::Free(number) = known else {
-        return Declared::Again;
+    let known = status_of(symbols, sort, name);
+    let NameStatus::Undeclared(number) = known else {
+        return Declared::DeclaredAgain;
     };
     if most(sort) <= number {
-        return Declared::Full;
+        return Declared::MaximumPassed;
     }
     answer(add(symbols, end, sort, number, name))
 }
 
-// `(user U)` and the like, behind the keyword, by the number of the sort.
+// `(user U)` and the like, after the keyword, by the number of the sort.
 pub fn declare(
     text: &[u8],
     at: usize,
@@ -135,11 +135,11 @@ pub fn declare(
     ensures { λ r. ⌜ DeclaresName (now (text .entry)) at sort (now (symbols .entry)) (now (symbols .exit)) end r ⌝ }
 {
     if Sort::CLASS <= sort {
-        return Declared::Full;
+        return Declared::MaximumPassed;
     }
     let name = name_rows::word_at(text, at);
     let NextWord::At { start, len } = name else {
-        return Declared::Full;
+        return Declared::MaximumPassed;
     };
     // Outside of blocks the name is its own full name, and nothing is copied.
     if !scopes::in_block(symbols) {
@@ -147,14 +147,14 @@ pub fn declare(
     }
     let mut whole = [0u8; lexer::Name::MAX];
     let named = scopes::full_name(symbols, text, start, len, &mut whole);
-    let FullName::Long(long) = named else {
-        return Declared::Full;
+    let ComposedName::Length(long) = named else {
+        return Declared::MaximumPassed;
     };
     add_name(symbols, end, sort, bitset::part(&whole, 0, long))
 }
 
-// Writes the entries of a class's permissions, the names in the row at a place, numbered from a first number on. The caller
-// counts them before: a class with too many is refused with nothing written. Permissions take no block's name.
+// Writes the entries of a class's permissions, the names in the row at a place, numbered from a first number on. The
+// caller counts them before: a class with too many is refused with nothing written. Permissions take no block's name.
 fn add_permissions(symbols: &mut [u8], end: usize, first: usize, text: &[u8], at: usize) -> Added
     requires { ⌜ (first ≤ 1024) × (end ≤ 137088) × (188648 ≤ length (now symbols)) × (length (wordsIn (framesAt (now text) at .here)) ≤ 32) ⌝ }
     ensures { λ r. ⌜ Enters (now (symbols .entry)) (now (symbols .exit)) end (permissionEntries first (wordsIn (framesAt (now (text .entry)) at .here))) r ⌝ }
@@ -178,30 +178,31 @@ fn add_permissions(symbols: &mut [u8], end: usize, first: usize, text: &[u8], at
     }
 }
 
-// A class by its full name and the row of its permissions, none of which stands twice. What may refuse it is tested before the first entry is written, so that
-// a refused class leaves the symbols as they were; a class that passes has room for all of its entries.
+// A class by its full name and the row of its permissions, none of which is twice. What may refuse it is tested
+// before the first entry is written, so that a refused class leaves the symbols as they were; a class that passes has
+// room for all of its entries.
 fn add_class(symbols: &mut [u8], end: usize, name: &[u8], text: &[u8], row: usize) -> Declared
     requires { ⌜ 188648 ≤ length (now symbols) ⌝ }
     ensures { λ r. ⌜ DeclaresClass (now (name .entry)) (wordsIn (framesAt (now (text .entry)) row .here)) (now (symbols .entry)) (now (symbols .exit)) end r ⌝ }
 {
-    let known = stands(symbols, Sort::CLASS, name);
-    let Standing::Free(number) = known else {
-        return Declared::Again;
+    let known = status_of(symbols, Sort::CLASS, name);
+    let NameStatus::Undeclared(number) = known else {
+        return Declared::DeclaredAgain;
     };
     if policy::Class::MAX <= number {
-        return Declared::Full;
+        return Declared::MaximumPassed;
     }
     if policy::Permission::MAX < name_rows::count_names(text, row) {
-        return Declared::Full;
+        return Declared::MaximumPassed;
     }
     let added = add(symbols, end, Sort::CLASS, number, name);
     let Added::Past(past) = added else {
-        return Declared::Full;
+        return Declared::MaximumPassed;
     };
     answer(add_permissions(symbols, past, number * policy::Permission::MAX, text, row))
 }
 
-// `(class C (P ...))`, behind the keyword. A permission that stands twice is fault 4 also where the full name is too long.
+// `(class C (P ...))`, after the keyword. A permission that is twice is fault 4 also where the full name is too long.
 pub fn declare_class(
     text: &[u8],
     at: usize,
@@ -212,11 +213,11 @@ pub fn declare_class(
 {
     let name = name_rows::word_at(text, at);
     let NextWord::At { start, len } = name else {
-        return Declared::Full;
+        return Declared::MaximumPassed;
     };
     let row = name_rows::inside(text, start + len);
     if name_rows::repeats(text, row) {
-        return Declared::Again;
+        return Declared::DeclaredAgain;
     }
     // Outside of blocks the name is its own full name, and nothing is copied.
     if !scopes::in_block(symbols) {
@@ -224,8 +225,8 @@ pub fn declare_class(
     }
     let mut whole = [0u8; lexer::Name::MAX];
     let named = scopes::full_name(symbols, text, start, len, &mut whole);
-    let FullName::Long(long) = named else {
-        return Declared::Full;
+    let ComposedName::Length(long) = named else {
+        return Declared::MaximumPassed;
     };
     add_class(symbols, end, bitset::part(&whole, 0, long), text, row)
 }

@@ -12,7 +12,7 @@ use Rattle.policy.specs.Basics.{each}
 use Rattle.policy.specs.Statements.{Policy, Line, Statement, constrain, declarations, constrains}
 use Rattle.policy.specs.Reading.{Read, policy, refused}
 use Rattle.policy.specs.Meaning.{Context}
-use Rattle.policy.specs.Deciding.{Question, granted, refuses, Answer, ruling, firstFailing, decide, declaredQuestion, validBy, ruledBy, validReply}
+use Rattle.policy.specs.Deciding.{Question, granted, refuses, Answer, consult, firstFailing, decide, declaredQuestion, validBy, ruledBy, validReply}
 use Rattle.policy.specs.Answer.{givenBy, answer}
 use Rattle.policy.specs.Accepted.{Accepted}
 use Rattle.policy.specs.Image.{Image, imageOf}
@@ -47,7 +47,7 @@ module _ (x : Input) (p : Policy) (read : policyOf x ≡ policy p) (rest : List 
   pub read-well-formed : wellFormed (imageOf p) ≡ true
   read-well-formed = image-well-formed p reads
 
-  -- the table holds the image of the statements, whatever stands behind it
+  -- the table holds the image of the statements, whatever is after it
   pub table-read : imageIn (encode (imageOf p) ++ rest) ≡ some (imageOf p)
   table-read = table-back (imageOf p) read-well-formed rest
 
@@ -77,7 +77,7 @@ unfolding firstFailing
 unrefused names truth i [] = refl
 unrefused names truth i (x ∷ xs) = by (names x) (truth x) (firstFailing names truth _ xs) (unrefused names truth _ xs)
   where
-    by : (n b : Bool) (later : Answer) → isRefusal (later .verdict) ≡ false → isRefusal (ruling n b i later .verdict) ≡ false
+    by : (n b : Bool) (later : Answer) → isRefusal (later .verdict) ≡ false → isRefusal (consult n b i later .verdict) ≡ false
     by false b later h = h
     by true false later h = refl
     by true true later h = h
@@ -94,7 +94,7 @@ unfolding answer ruledBy
 declared-unrefused p q h = rw h (decided (validBy (givenBy p) (q .source)) (validBy (givenBy p) (q .target)) _ _ (unrefused _ _ 0 (constrains p)))
 
 -- "Add one constrain statement at the end: if the longer policy is accepted, its table denies every question that the first table denies",
--- and by the same denial, constraint and number consulted; wherever the statements stand in the two texts
+-- and by the same denial, constraint and number consulted; wherever the statements are in the two texts
 pub longer-table-denies : (x y : Input) (p p′ : Policy) → OneConstrainMore p p′ → policyOf x ≡ policy p → policyOf y ≡ policy p′
     → KeepsDenials (encode (imageOf p)) (encode (imageOf p′))
 longer-table-denies x y p p′ m read read′ =
@@ -105,11 +105,13 @@ longer-table-denies x y p p′ m read read′ =
     same rest rest′ q h =
         rw (table-answers y p′ read′ rest′ q, table-answers x p read rest q) (denied-longer p p′ m q (rw (table-answers x p read rest q) at h))
 
--- a line feed and the bytes of one constrain behind a text: where both are read, the second says what the first says, then one constrain
-pub constrain-added : (text more : List ℕ) (p p′ : Policy) → ConstrainText more → policyOf (ofText text) ≡ policy p → policyOf (ofText (text ++ (10 ∷ more))) ≡ policy p′ → OneConstrainMore p p′
+-- a line feed and the bytes of one constrain after a text: where both are read, the second says what the first says, then one constrain
+pub constrain-added : (text more : List ℕ) (p p′ : Policy) → ConstrainText more → policyOf (ofText text) ≡ policy p
+    → policyOf (ofText (text ++ (10 ∷ more))) ≡ policy p′ → OneConstrainMore p p′
 unfolding said each
 constrain-added text more p p′ c read read′ =
-    let m = one-statement-more text more p p′ (c .place) (c .inner) (constrain (c .class) (c .perms) (c .body)) (policy-read (ofText text) p read) (policy-read _ p′ read′) (c .alone) (c .form) in
+    let m = one-statement-more text more p p′ (c .place) (c .inner) (constrain (c .class) (c .perms) (c .body)) (policy-read (ofText text) p read)
+    (policy-read _ p′ read′) (c .alone) (c .form) in
     let s = resolved-constrain (environmentOf (declarations p) []) (c .class) (c .perms) (c .body) .has (m .statement) (m .resolves) in
     record {
       class = s .class;
@@ -119,7 +121,7 @@ constrain-added text more p p′ c read read′ =
           ∙ ap (λ (x : Statement). each (λ (l : Line). l .says) p ++ (x ∷ [])) (s .says);
     }
 
--- the first n bytes of a list that n bytes stand in front of
+-- the first n bytes of a list that n bytes are in front of
 front : (xs ys : List ℕ) → take (length xs) (xs ++ ys) ≡ xs
 front [] ys = refl
 front (x ∷ xs) ys = ap {B = List ℕ} (λ r. x ∷ r) (front xs ys)
@@ -128,7 +130,7 @@ compiled-by : (x : Input) (lent : ℕ) (r : Read) → policyOf x ≡ r → compi
 unfolding compiled
 compiled-by x lent r e = ap (λ (s : Read). compiledBy s lent) e
 
--- accepted, so it fits: the length is the table's, and the table stands in front
+-- accepted, so it fits: the length is the table's, and the table is in front
 fitting : (x : Input) (i : Image) (lent : List ℕ) (n : ℕ) → outcomeOf x (fitted (length lent) i) ≡ accepted n
     → (n ≡ length (encode i)) × (afterOf (fitted (length lent) i) lent ≡ encode i ++ drop (length (encode i)) lent)
 fitting x i lent n h = by (leb (length (encode i)) (length lent)) h

@@ -17,7 +17,8 @@ use Rattle.policy.specs.Questions.{validOn, newRoleOn, changeOn}
 use Rattle.policy.specs.Computing.{computing}
 use Rattle.answer_laws.specs.Longer.{OneConstrainMore, ConstrainText, KeepsDenials}
 use Rattle.demand_laws.specs.ByText.{isRefusal}
-use Rattle.demand_laws.proofs.Demand3.{Accepts, accepted-table, table-read, table-answers, table-valid, table-new-role, table-grants-only, table-grants-when, declared-unrefused, longer-table-denies, constrain-added}
+use Rattle.demand_laws.proofs.Demand3.{Accepts, accepted-table, table-read, table-answers, table-valid, table-new-role, table-grants-only, table-grants-when}
+use Rattle.demand_laws.proofs.Demand3.{declared-unrefused, longer-table-denies, constrain-added}
 use Rattle.compiler.specs.Promise.{Compiles}
 use Rattle.demands.specs.Demands.{Demand3}
 
@@ -40,7 +41,8 @@ module _ {text before now : List ℕ} {n : ℕ} (c : Compiles (ofText text) befo
   moved f behind = ap (λ (t : List ℕ). f (t ++ behind)) written
 
 -- a text that says the same and then one constrain, compiled too
-keeps : {text before now text′ before′ now′ : List ℕ} {n n′ : ℕ} (c : Compiles (ofText text) before now (Compiling.Accepted n)) (c′ : Compiles (ofText text′) before′ now′ (Compiling.Accepted n′))
+keeps : {text before now text′ before′ now′ : List ℕ} {n n′ : ℕ} (c : Compiles (ofText text) before now (Compiling.Accepted n))
+    (c′ : Compiles (ofText text′) before′ now′ (Compiling.Accepted n′))
     → OneConstrainMore (accepts c .statements) (accepts c′ .statements) → KeepsDenials (take n now) (take n′ now′)
 keeps {text} {before} {now} {text′} c c′ m =
     rw (written c, written c′) (longer-table-denies (ofText text) (ofText text′) (accepts c .statements) (accepts c′ .statements) m (accepts c .read) (accepts c′ .read))
@@ -49,7 +51,8 @@ pub demand-3 : {text before now : List ℕ} {n : ℕ} → Compiles (ofText text)
 demand-3 {text} {before} {now} {n} c =
     let p = accepts c .statements in
     let r = accepts c .read in
-    let answers : (behind : List ℕ) (q : Question) → changeOn (take n now ++ behind) q ≡ _ = λ behind q. moved c (λ t. changeOn t q) behind ∙ table-answers (ofText text) p r behind q in
+    let answers : (behind : List ℕ) (q : Question)
+    → changeOn (take n now ++ behind) q ≡ _ = λ behind q. moved c (λ t. changeOn t q) behind ∙ table-answers (ofText text) p r behind q in
     record {
       statements = p;
       read = r;

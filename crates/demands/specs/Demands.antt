@@ -35,7 +35,7 @@ pub record Demand3 (text table : List ℕ) : Type 0 where
   pub grants-only : (behind : List ℕ) (q : Question) → changeOn (table ++ behind) q .verdict ≡ granted → Grants statements q
   pub grants-when : (behind : List ℕ) (q : Question) → declaredQuestion (declarations statements) q ≡ true → Grants statements q → changeOn (table ++ behind) q .verdict ≡ granted
   -- "Add one constrain statement at the end: if the longer policy is accepted, its table denies every question that the first table denies": of every text
-  -- that says the same statements in order, wherever they stand in it, and then one constrain
+  -- that says the same statements in order, wherever they are in it, and then one constrain
   pub longer-denies : (longer before now : List ℕ) (n : ℕ) → Compiles (ofText longer) before now (Compiling.Accepted n) → (said : Policy) → policyOf (ofText longer) ≡ policy said
       → OneConstrainMore statements said → KeepsDenials table (take n now)
   -- and of the bytes: this text, a line feed, and the bytes of one constrain

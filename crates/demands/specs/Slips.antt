@@ -15,7 +15,7 @@ use Rattle.policy.specs.Outcome.{ofText, refusalAt, rejected}
 use Rattle.policy.specs.Worked.{context}
 use Rattle.compiler.specs.Promise.{Compiles}
 
--- every table that compile can write for the text answers so, whatever the memory held and whatever stands behind the table
+-- every table that compile can write for the text answers so, whatever the memory held and whatever is after the table
 abbrev pub Answers : List ℕ → Question → Answer → Type 0
 Answers text q a = (before now behind : List ℕ) (n : ℕ) → Compiles (ofText text) before now (Compiling.Accepted n) → changeOn (take n now ++ behind) q ≡ a
 
@@ -27,7 +27,7 @@ asking r s c k = record { source = context 0 r 0; target = context 0 s 0; class 
 abbrev pub lateMember : List ℕ
 lateMember = bytes "(user u)(role a)(type t)(class c (p))(roleattribute x)(userrole u x)(roletype x t)(roleattributeset x (a))"
 
--- role b is declared behind the statement that it is a member by
+-- role b is declared after the statement that it is a member by
 abbrev pub lateRole : List ℕ
 lateRole = bytes "(user u)(role a)(type t)(class c (p))(roleattribute x)(roleattributeset x (not a))(role b)(userrole u x)(roletype b t)"
 

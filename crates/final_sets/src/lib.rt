@@ -20,7 +20,8 @@ ghost use Rattle.set_code.specs.Evaluation.{setsIn};
 ghost use Rattle.statement_code.specs.Numbered.{Numbered};
 ghost use Rattle.code_reader.specs.AttributeSets.{added, finalSets};
 
-// The set of attribute a gains that of the S whose code stands at a place, in which attributes stand for their sets of before.
+// The set of attribute a gains that of the S whose code is at a place, in which attributes stand for their sets of
+// before.
 fn add_set(
     code: &[u16],
     from: usize,
@@ -37,7 +38,8 @@ fn add_set(
     code_reader::add_row(after, a, &set);
 }
 
-// One round: each attribute of a family becomes the union of the S in its statements, in which attributes stand for their sets of before.
+// One round: each attribute of a family becomes the union of the S in its statements, in which attributes stand for
+// their sets of before.
 pub fn round(
     code: &[u16],
     family: Family,

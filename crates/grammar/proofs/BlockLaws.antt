@@ -36,7 +36,7 @@ block-at t at {first} e = by-item first (sees e refl)
 
 -- ---- its header
 
--- the header of a block by the first word behind `block`
+-- the header of a block by the first word after `block`
 module _ (t : List ℕ) (at : ℕ) {s n k q : ℕ} {first : Item} (e : first ≡ itemAt t at) (f : first ≡ Item.Word s n k q) where
   abbrev name : Name
   name = take n (drop s t)

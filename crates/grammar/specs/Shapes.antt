@@ -94,7 +94,7 @@ startsBlock (Item.Open p q) = false
 startsBlock (Item.Close q) = false
 startsBlock Item.End = false
 
--- what follows the word `block` at a place of the text: the name, at its place, and parts alone behind it; or that the block is of no form
+-- what follows the word `block` at a place of the text: the name, at its place, and parts alone after it; or that the block is of no form
 abbrev pub HeaderBy : List ℕ → ℕ → Header → Type 0
 HeaderBy t at (Header.Name s n) =
     (headerIn (framesAt t at .here) ≡ some (take n (drop s t))) × (framesAt t at .here ≡ word s (take n (drop s t)) (framesAt t (s + n) .here))

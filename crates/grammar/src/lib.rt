@@ -18,8 +18,8 @@ use policy::Relation;
 use words::NameKind;
 use words::Word;
 
-// What a statement is by its first word: it declares a thing, an attribute or a class, fills an attribute, relates two names, is a role transition or a
-// constraint. Or the word is no keyword.
+// What a statement is by its first word: it declares a thing, an attribute or a class, fills an attribute, relates
+// two names, is a role transition or a constraint. Or the word is no keyword.
 pub enum Keyword {
     Thing(Family),
     Attribute(Family),
@@ -38,8 +38,8 @@ enum Content {
     Constraint,
 }
 
-// What follows a keyword: so many names of a kind; a name and permissions; a name and a set expression; a class with permissions and a constraint
-// expression. Or the word is no keyword.
+// What follows a keyword: so many names of a kind; a name and permissions; a name and a set expression; a class with
+// permissions and a constraint expression. Or the word is no keyword.
 enum Shape {
     Names(NameKind, usize),
     Class,
@@ -112,7 +112,7 @@ fn content_form(text: &[u8], at: usize, content: Content, levels: usize) -> Pars
 fn only_part(text: &[u8], at: usize, content: Content, levels: usize) -> Parsed
     ensures { λ r. ⌜ Reads (now (text .entry)) at (onlyPart content (trim (framesAt (now (text .entry)) at .here) levels)) r ⌝ }
 {
-    let item = items::look(text, at);
+    let item = items::next_item(text, at);
     match item {
         Item::Open { next, .. } => {
             if levels == 0 {
@@ -132,7 +132,7 @@ fn only_part(text: &[u8], at: usize, content: Content, levels: usize) -> Parsed
 fn name_and_part(text: &[u8], at: usize, kind: NameKind, content: Content, levels: usize) -> Parsed
     ensures { λ r. ⌜ Reads (now (text .entry)) at (nameAndPart kind content (trim (framesAt (now (text .entry)) at .here) levels)) r ⌝ }
 {
-    let item = items::look(text, at);
+    let item = items::next_item(text, at);
     match item {
         Item::Word {
             start,
@@ -153,7 +153,7 @@ fn name_and_part(text: &[u8], at: usize, kind: NameKind, content: Content, level
 fn constrain_form(text: &[u8], at: usize, levels: usize) -> Parsed
     ensures { λ r. ⌜ Reads (now (text .entry)) at (classAndConstraint (trim (framesAt (now (text .entry)) at .here) levels)) r ⌝ }
 {
-    let item = items::look(text, at);
+    let item = items::next_item(text, at);
     match item {
         Item::Open { next, .. } => {
             if levels == 0 {
@@ -182,7 +182,8 @@ fn shape_form(text: &[u8], at: usize, shape: Shape, levels: usize) -> Parsed
     }
 }
 
-// What the parentheses of a statement hold, by the first item behind the open one: the place past the close, or that the statement is of no form.
+// What the parentheses of a statement hold, by the first item after the open one: the place past the close, or that
+// the statement is of no form.
 pub fn statement_form(text: &[u8], first: Item) -> Parsed
     ensures { λ r. ⌜ ((at : ℕ) → first ≡ itemAt (now (text .entry)) at
         → Reads (now (text .entry)) at (isSome (written (trim (framesAt (now (text .entry)) at .here) (maxLevel - 1)))) r) ⌝ }
@@ -196,7 +197,7 @@ pub fn statement_form(text: &[u8], first: Item) -> Parsed
     }
 }
 
-// Whether the first item behind an open parenthesis says that it opens a block.
+// Whether the first item after an open parenthesis says that it opens a block.
 pub fn starts_block(first: Item) -> bool
     ensures { λ r. ⌜ r ≡ startsBlock first ⌝ }
 {
@@ -210,7 +211,7 @@ pub fn starts_block(first: Item) -> bool
 pub fn block_form(text: &[u8], at: usize) -> Header
     ensures { λ r. ⌜ HeaderIs (now (text .entry)) at r ⌝ }
 {
-    let item = items::look(text, at);
+    let item = items::next_item(text, at);
     let Item::Word {
         start,
         len,

@@ -1,5 +1,6 @@
-// Asks of the tables of a corpus on standard input whether they are sound, and writes a line for each. A case is the length of a table, 4 bytes,
-// little endian, and then the table. The corpus ends with the input, or with a case that is cut short or longer than the memory here.
+// Asks of the tables of a corpus on standard input whether they are sound, and writes a line for each. A case is the
+// length of a table, 4 bytes, little endian, and then the table. The corpus ends with the input, or with a case that
+// is cut short or longer than the memory here.
 use corpus::Next;
 use libc::STDOUT_FILENO;
 

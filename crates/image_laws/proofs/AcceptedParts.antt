@@ -2,7 +2,8 @@
 use Prim.Native.Nat.{ℕ}
 use mathlib.Core.Option.{Option}
 use Rattle.policy.specs.Basics.{gather, All}
-use Rattle.policy.specs.Statements.{Statement, declare, attributeset, gives, roletransition, constrain, Line, Policy, declarations, Transition, transition, transitions, Constrain, constrained, constrains}
+use Rattle.policy.specs.Statements.{Statement, declare, attributeset, gives, roletransition, constrain, Line, Policy, declarations, Transition, transition}
+use Rattle.policy.specs.Statements.{transitions, Constrain, constrained, constrains}
 use Rattle.policy.specs.Accepted.{StatementIn, Accepted}
 use Rattle.policy.proofs.Gathered.{OfValue, all-gather}
 

@@ -2,7 +2,8 @@
 -- All of it follows from what reading leaves of the statements. Assumes nothing.
 use Prim.Native.Nat.{ℕ, _*_, _≤_, _<_}
 use lib.ListN.{length}
-use Rattle.policy.specs.Statements.{Family, users, roles, types, thingOf, Reference, thing, attribute, Constraint, sidesE, nameE, notE, andE, orE, Policy, Constrain, constrains, declarations, permissions}
+use Rattle.policy.specs.Statements.{Family, users, roles, types, thingOf, Reference, thing, attribute, Constraint, sidesE, nameE, notE, andE, orE, Policy}
+use Rattle.policy.specs.Statements.{Constrain, constrains, declarations, permissions}
 use Rattle.policy.specs.Meaning.{countIn}
 use Rattle.policy.specs.Faults.{attributesIn}
 use Rattle.policy.specs.Image.{width}

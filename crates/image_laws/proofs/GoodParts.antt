@@ -7,7 +7,8 @@ use lib.ListN.{length}
 use borrow.Author.Tests.{lt-ltb, eq-eqb}
 use Rattle.bitset.specs.Sets.{tabulate, setOf}
 use Rattle.policy.specs.Basics.{each, every, All}
-use Rattle.policy.specs.Statements.{Family, roles, types, thingOf, Relation, toOf, Policy, count, classNames, permissions, declarations, Transition, transitions, Constrain, constrains}
+use Rattle.policy.specs.Statements.{Family, roles, types, thingOf, Relation, toOf, Policy, count, classNames, permissions, declarations, Transition}
+use Rattle.policy.specs.Statements.{transitions, Constrain, constrains}
 use Rattle.policy.specs.Meaning.{Set, countIn, stands, related, final}
 use Rattle.policy.specs.Image.{width, setsOf, maskOf, transitionEntry, constraintEntry}
 use Rattle.policy.specs.Sound.{goodSet, goodSets, goodTransition, goodConstraint}

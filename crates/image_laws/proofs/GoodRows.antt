@@ -6,7 +6,8 @@ use mathlib.Core.List.{List, [], _∷_, _++_}
 use lib.Dec.{ltb}
 use borrow.Author.Tests.{lt-ltb}
 use Rattle.policy.specs.Basics.{every}
-use Rattle.policy.specs.Statements.{Family, users, roles, types, thingOf, attributeOf, Declaration, Reference, thing, attribute, Side, source, target, Op, eq, neq, dom, domby, incomp, Constraint, sidesE, nameE, notE, andE, orE, count}
+use Rattle.policy.specs.Statements.{Family, users, roles, types, thingOf, attributeOf, Declaration, Reference, thing, attribute, Side, source, target, Op, eq}
+use Rattle.policy.specs.Statements.{neq, dom, domby, incomp, Constraint, sidesE, nameE, notE, andE, orE, count}
 use Rattle.policy.specs.Words.{isPlain}
 use Rattle.policy.specs.Grammar.{isRoles}
 use Rattle.policy.specs.Rows.{Row, row, compCode, opCode, nameRow, rowsOf}

@@ -1,1 +1,1 @@
-// Theorems alone: they stand in proofs/, and the one definition that they add in specs/.
+// Theorems alone: they are in proofs/, and the one definition that they add in specs/.

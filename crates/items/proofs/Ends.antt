@@ -1,4 +1,4 @@
--- Where a row ends: the end of a row that holds another goes on behind that one, and what the text reads as there is what stands around the row; it is found
+-- Where a row ends: the end of a row that holds another goes on after that one, and what the text reads as there is what is around the row; it is found
 -- token by token, and lies in the text. Each by one induction over the tokens to come. Assumes nothing.
 use mathlib.Core.Path.{_≡_, refl, sym, ap, subst, _∙_}
 use mathlib.Core.List.{List, [], _∷_}
@@ -20,7 +20,7 @@ rest [] = []
 rest (k ∷ ks) = ks
 
 module _ (t : List ℕ) where
-  -- the tokens behind the first
+  -- the tokens after the first
   behind : (k : Token) (ks : List Token) (at : ℕ) → tokensAt t at ≡ k ∷ ks → tokensBy t k ≡ k ∷ ks
   unfolding tokenAt
   behind k ks at e = ap (tokensBy t) (sym (ap firstOf e)) ∙ sym (tokens-by t at) ∙ e
@@ -72,7 +72,7 @@ module _ (t : List ℕ) where
 
   -- ---- the laws
 
-  -- behind the close of a row stands what is around it
+  -- after the close of a row stands what is around it
   pub leaves : (at : ℕ) → out (framesAt t at) ≡ framesAt t (rowEnd t at)
   unfolding framesAt rowEnd
   leaves at = left (tokensAt t at) at refl 0

@@ -15,7 +15,7 @@ use Rattle.items.specs.declared.Item.{Item}
 use Rattle.items.proofs.Items as items
 use Rattle.items.proofs.Items.{Ahead}
 
--- the frames at a place by the item there and the frames behind it
+-- the frames at a place by the item there and the frames after it
 abbrev pub seen : List ℕ → Item → Frames
 seen t (Item.Word s n k q) = record { here = word s (take n (drop s t)) (framesAt t q .here); around = framesAt t q .around }
 seen t (Item.Open p q) = record { here = part p (framesAt t q .here) (head (framesAt t q .around)); around = tail (framesAt t q .around) }

@@ -13,7 +13,7 @@ use Rattle.items.specs.declared.Item.{Item}
 use Rattle.items.specs.declared.Parsed.{Parsed}
 use Rattle.items.proofs.Items.{Looked}
 
--- b holds of the row at the place at, and q is the place behind its close
+-- b holds of the row at the place at, and q is the place after its close
 pub record Past (t : List ℕ) (at : ℕ) (b : Bool) (q : ℕ) : Type 0 where
   pub good : b ≡ true
   pub end : rowEnd t at ≡ q
@@ -53,7 +53,7 @@ at-close {t} {at} {q} {b} r d e f g h l = subst (λ (x : Parsed). Reads t at b x
     go true f = give f g h l
     go false f = refuse f
 
--- what is read behind a place from which the row ends at the same place
+-- what is read after a place from which the row ends at the same place
 moved : {t : List ℕ} {i q : ℕ} {b d : Bool} (r : Parsed) → rowEnd t i ≡ rowEnd t q → i < q → b ≡ d → Reads t q d r → Reads t i b r
 moved (Parsed.Next j) a h e g = record { answer = g .answer ∙ rw (e, a); ahead = (omega (arith, g .ahead), g .ahead .1) }
 moved Parsed.Bad a h e g = record { answer = g .answer ∙ rw (e, a); ahead = tt }

@@ -1,4 +1,4 @@
--- What stands at a place of a text, and where the row at hand ends. Assumes nothing.
+-- What is at a place of a text, and where the row at hand ends. Assumes nothing.
 use Prim.Native.Nat.{ℕ, zero, suc, _+_}
 use mathlib.Core.List.{List, [], _∷_}
 use lib.ListN.{length, take, drop}
@@ -7,7 +7,7 @@ use Rattle.lexer.specs.declared.Token.{Token}
 use Rattle.words.specs.Numbers.{numberOf}
 use Rattle.items.specs.declared.Item.{Item}
 
--- a token as an item: a word has its number, and each the place behind it
+-- a token as an item: a word has its number, and each the place after it
 abbrev pub itemOf : List ℕ → Token → Item
 itemOf t (Token.Open p) = Item.Open p (p + 1)
 itemOf t (Token.Close p) = Item.Close (p + 1)
@@ -17,7 +17,7 @@ itemOf t Token.End = Item.End
 unfoldable pub itemAt : List ℕ → ℕ → Item
 itemAt t at = itemOf t (tokenAt t at)
 
--- the place behind the close of a row, by the tokens to come, where so many rows within it are open; the end where nothing closes it
+-- the place after the close of a row, by the tokens to come, where so many rows within it are open; the end where nothing closes it
 unfoldable pub pastClose : List Token → ℕ → ℕ → ℕ
 pastClose [] d end = end
 pastClose (Token.Open p ∷ ks) d end = pastClose ks (suc d) end
@@ -26,6 +26,6 @@ pastClose (Token.Close p ∷ ks) (suc d) end = pastClose ks d end
 pastClose (Token.Word s n ∷ ks) d end = pastClose ks d end
 pastClose (Token.End ∷ ks) d end = pastClose ks d end
 
--- the place behind the close of the row that a place of a text lies in
+-- the place after the close of the row that a place of a text lies in
 unfoldable pub rowEnd : List ℕ → ℕ → ℕ
 rowEnd t at = pastClose (tokensAt t at) 0 (length t)

@@ -24,7 +24,7 @@ abbrev pub Ahead : List ℕ → ℕ → Parsed → Type 0
 Ahead t at (Parsed.Next q) = (at < q) × (q ≤ length t)
 Ahead t at Parsed.Bad = Unit {0}
 
--- the answer is Next, with the place behind the close of the row at the place at, if b is true of that row, and else Bad; a place lies ahead and in
+-- the answer is Next, with the place after the close of the row at the place at, if b is true of that row, and else Bad; a place lies ahead and in
 -- the text
 pub record Reads (t : List ℕ) (at : ℕ) (b : Bool) (r : Parsed) : Type 0 where
   pub answer : r ≡ parsed b (rowEnd t at)

@@ -9,7 +9,7 @@ ghost use Rattle.items.specs.Reads as spec;
 use lexer::Token;
 use words::NameKind;
 
-// What stands at a place: a word with its number, a parenthesis, or the end of the text; and the place behind it.
+// What is at a place: a word with its number, a parenthesis, or the end of the text; and the place after it.
 pub enum Item {
     Word {
         start: usize,
@@ -27,7 +27,7 @@ pub enum Item {
     End,
 }
 
-// The place behind the close of the row that was read, or that its form is wrong.
+// The place after the close of the row that was read, or that its form is wrong.
 pub enum Parsed {
     Next(usize),
     Bad,
@@ -40,7 +40,7 @@ pub enum Wanted {
 }
 
 // The first item at or after a place.
-pub fn look(text: &[u8], at: usize) -> Item
+pub fn next_item(text: &[u8], at: usize) -> Item
     ensures { λ r. ⌜ r ≡ itemAt (now (text .entry)) at ⌝ }
 {
     let token = lexer::next(text, at);
@@ -70,7 +70,7 @@ fn enough(wanted: Wanted, count: usize) -> bool
     }
 }
 
-// The close of a row, behind so many operands or names.
+// The close of a row, after so many operands or names.
 pub fn ended(wanted: Wanted, count: usize, next: usize) -> Parsed
     ensures { λ r. ⌜ r ≡ parsed (spec.enough wanted count) next ⌝ }
 {
@@ -84,7 +84,7 @@ pub fn ended(wanted: Wanted, count: usize, next: usize) -> Parsed
 pub fn close_form(text: &[u8], at: usize) -> Parsed
     ensures { λ r. ⌜ Reads (now (text .entry)) at (isClosed (framesAt (now (text .entry)) at .here)) r ⌝ }
 {
-    let item = look(text, at);
+    let item = next_item(text, at);
     match item {
         Item::Close { next } => Parsed::Next(next),
         Item::Word { .. } | Item::Open { .. } | Item::End => Parsed::Bad,
@@ -113,7 +113,8 @@ pub fn names_form(text: &[u8], at: usize, kind: NameKind, wanted: Wanted) -> Par
     }
 }
 
-// The place behind the close of the row that a place of the text lies in, whatever the row holds; the end of the text where nothing closes it.
+// The place after the close of the row that a place of the text lies in, whatever the row holds; the end of the text
+// where nothing closes it.
 pub fn row_end(text: &[u8], at: usize) -> usize
     ensures { λ r. ⌜ r ≡ rowEnd (now (text .entry)) at ⌝ }
 {
@@ -145,7 +146,7 @@ pub fn parts_form(text: &[u8], at: usize) -> Parsed
 {
     let mut i = at;
     loop {
-        let item = look(text, i);
+        let item = next_item(text, i);
         match item {
             Item::Open { next, .. } => i = row_end(text, next),
             Item::Close { next } => return Parsed::Next(next),

@@ -94,7 +94,7 @@ module _ (t : List ℕ) (at : ℕ) where
   pub word-goes-on : wordGoesOn (drop at t) ≡ true → firstFrom (drop at t) endsWord at ≡ firstFrom (drop (at + 1) t) endsWord (at + 1)
   word-goes-on e = further t endsWord at (ap not (byte-goes-on e)) (byte-there e)
 
--- ---- dots, and the parts of names behind them
+-- ---- dots, and the parts of names after them
 
 -- the bytes from a place on, by the first of them
 pub bytes-there : (t : List ℕ) (at : ℕ) → at < length t → drop at t ≡ getD t at 0 ∷ drop (at + 1) t

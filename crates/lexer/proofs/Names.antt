@@ -8,7 +8,8 @@ use native.Mathlib.Omega.{arith}
 use borrow.Author.Tests.{leb-true, le-leb, lt-leb, eqb-true}
 use lib.Dec.{leb}
 use lib.ListN.{length}
-use Rattle.lexer.specs.Class.{classOf, starts, goesOn, isDot, inWord, maxName, allGoOn, isPart, allParts, onFirst, parts, isDotted, undotted, isName, is, isBlank, isLetter, isDigit}
+use Rattle.lexer.specs.Class.{classOf, starts, goesOn, isDot, inWord, maxName, allGoOn, isPart, allParts, onFirst, parts, hasGoodParts, afterLeadingDot}
+use Rattle.lexer.specs.Class.{isName, is, isBlank, isLetter, isDigit}
 use Rattle.lexer.specs.Answers.{partStarts}
 use Rattle.lexer.specs.declared.ByteClass.{ByteClass}
 use Rattle.lexer.specs.declared.ByteClass.the-variants.{Blank, LineFeed, Comment, Open, Close, Letter, Digit, Dot, Wrong}
@@ -130,8 +131,8 @@ by-bytes (b ∷ bs) = go (isDot (classOf b)) refl (by-bytes bs)
           rw (e, part-in-word (classOf b) e) (f .1 ∙ ap (λ (q : Bool). goesOn (classOf b) && q) (i .1)),
         )
 
-pub dotted-from : (w : List ℕ) → isDotted w ≡ partsFrom w true
-unfolding isDotted
+pub dotted-from : (w : List ℕ) → hasGoodParts w ≡ partsFrom w true
+unfolding hasGoodParts
 dotted-from w = by-bytes w .0
 
 -- where a part must start and none does there is no name
@@ -173,7 +174,7 @@ module _ (w : List ℕ) (c : ℕ) (fresh : Bool) (x : SoFar w c fresh) (b : ℕ)
         ap isName (append-assoc w (b ∷ []) rest) ∙ x .with-rest (b ∷ rest) ∙ rw (e, l);
   }
 
-  -- a byte that makes it no name, whatever comes: the 65th, and a dot with no part behind it
+  -- a byte that makes it no name, whatever comes: the 65th, and a dot with no part after it
   pub one-too-many : maxName ≤ c → (rest : List ℕ) → isName (w ++ b ∷ rest) ≡ false
   one-too-many h rest = x .with-rest (b ∷ rest) ∙ rw (lt-leb (c + suc (length rest)) maxName (omega arith), and-false)
 
@@ -194,13 +195,13 @@ finished w c fresh x h =
 -- ---- how long a name is
 
 -- "more than 64 bytes not counting a leading dot" is no name
-pub name-counted : (w : List ℕ) → isName w ≡ true → length (undotted w) ≤ maxName
+pub name-counted : (w : List ℕ) → isName w ≡ true → length (afterLeadingDot w) ≤ maxName
 unfolding isName
-name-counted w e = leb-true (length (undotted w)) maxName (and-eq-true-iff (isDotted (undotted w)) (leb (length (undotted w)) maxName) .0 e .1)
+name-counted w e = leb-true (length (afterLeadingDot w)) maxName (and-eq-true-iff (hasGoodParts (afterLeadingDot w)) (leb (length (afterLeadingDot w)) maxName) .0 e .1)
 
 -- at least a byte, and with a leading dot at most 65
 pub name-length : (w : List ℕ) → isName w ≡ true → (0 < length w) × (length w ≤ maxName + 1)
-unfolding isName isDotted parts allParts isPart
+unfolding isName hasGoodParts parts allParts isPart
 name-length [] e =
     let z : _≡_ {A = ℕ} 0 1 = cc in
     absurd (omega arith)
@@ -233,7 +234,7 @@ first-append : (b : ℕ) (l m : List (List ℕ)) → 0 < length l → onFirst b 
 first-append b [] m h = absurd (omega arith)
 first-append b (p ∷ ps) m h = refl
 
--- the parts before a dot, and those behind it
+-- the parts before a dot, and those after it
 pub cut-at-dot : (w : List ℕ) (b : ℕ) (v : List ℕ) → isDot (classOf b) ≡ true → parts (w ++ (b ∷ v)) ≡ parts w ++ parts v
 unfolding parts
 cut-at-dot [] b v d = ap (λ (q : Bool). elim q [ true ↦ [] ∷ parts v | false ↦ onFirst b (parts v) ]) d
@@ -285,7 +286,7 @@ firstLength (p ∷ ps) = length p
 
 -- and a name with no dot is a part
 pub name-part : (w : List ℕ) → isName w ≡ true → parts w ≡ w ∷ [] → (isPart w ≡ true) × (length w ≤ maxName)
-unfolding isName isDotted isPart allParts
+unfolding isName hasGoodParts isPart allParts
 name-part [] e f = absurd (omega (arith, name-length [] e .0))
 name-part (b ∷ bs) e f = go (isDot (classOf b)) refl
   where

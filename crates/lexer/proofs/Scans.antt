@@ -119,7 +119,7 @@ none-starts zero bs e = refl
 none-starts (suc j) [] e = refl
 none-starts (suc j) (b ∷ bs) e = e
 
--- a name under way at a place, whose first byte stands at `first` and whose bytes are counted from `from` on: behind a dot a part starts
+-- a name under way at a place, whose first byte is at `first` and whose bytes are counted from `from` on: after a dot a part starts
 pub record InName (t : List ℕ) (first from level at : ℕ) : Type 0 where
   pub fresh : Bool
   pub so-far : SoFar (take (at - first) (drop first t)) (at - from) fresh
@@ -130,7 +130,7 @@ pub record InName (t : List ℕ) (first from level at : ℕ) : Type 0 where
   pub short : at - from ≤ maxName
   pub inside : at ≤ length t
 
--- a dot that is not bare has a part behind it
+-- a dot that is not bare has a part after it
 part-behind : (q s : Bool) → q && not s ≡ false → q ≡ true → s ≡ true
 part-behind true true e f = refl
 part-behind true false e f = cc
@@ -175,7 +175,7 @@ module _ (t : List ℕ) (first from level at : ℕ) (x : InName t first from lev
   dot-here : bareDot (drop at t) ≡ isDot (classOf b) && not (partStarts (drop (at + 1) t))
   dot-here = ap bareDot (bytes-there t at there)
 
-  -- a dot with no part behind it
+  -- a dot with no part after it
   bare-here : bareDot (drop at t) ≡ true → Scanned.Wrong first ≡ scan t
   bare-here e =
       let p = bare (isDot (classOf b)) (partStarts (drop (at + 1) t)) (sym dot-here ∙ e) in
@@ -229,7 +229,7 @@ module _ (t : List ℕ) (first from level at : ℕ) (x : InName t first from lev
   pub goes : nameGoesOn (drop at t) ≡ true → at - from < maxName → InName t first from level (at + 1)
   goes g h = more t first from level at x (name-word (drop at t) g) h (name-not-bare (drop at t) g)
 
-  -- where it goes on no more: a dot with no part behind it spoils the run, or the run is over and is a name
+  -- where it goes on no more: a dot with no part after it spoils the run, or the run is over and is a name
   pub no-part-behind : nameGoesOn (drop at t) ≡ false → bareDot (drop at t) ≡ true → Scanned.Wrong first ≡ scan t
   no-part-behind g e = bare-here t first from level at x (name-over (drop at t) g ∙ e) e
 
@@ -273,7 +273,7 @@ module _ (t : List ℕ) (at level : ℕ) (h : at < length t) (i : scanFrom t (dr
   first-dot : bareDot (drop at t) ≡ isDot (classOf (getD t at 0)) && not (partStarts (drop (at + 1) t))
   first-dot = ap bareDot (bytes-there t at h)
 
-  -- a dot in front with no part behind it
+  -- a dot in front with no part after it
   pub bare-first : bareDot (drop at t) ≡ true → Scanned.Wrong at ≡ scan t
   bare-first e =
       let p = bare (isDot (classOf (getD t at 0))) (partStarts (drop (at + 1) t)) (sym first-dot ∙ e) in

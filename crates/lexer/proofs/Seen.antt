@@ -1,5 +1,5 @@
 -- For the callers of `next`: the token that it answered lies ahead and within the text, and what the text reads as at the place
--- asked is that token before what the text reads as behind it. Both by one induction over the bytes that are left. Assumes nothing.
+-- asked is that token before what the text reads as after it. Both by one induction over the bytes that are left. Assumes nothing.
 use mathlib.Core.Path.{_≡_, refl, sym, ap, subst, _∙_}
 use mathlib.Core.Bool.{Bool, true, false}
 use mathlib.Core.List.{List, [], _∷_, _++_}

@@ -37,12 +37,12 @@ abbrev pub partStarts : List ℕ → Bool
 partStarts [] = false
 partStarts (b ∷ bs) = starts (classOf b)
 
--- the first of the bytes is a dot with no part behind it
+-- the first of the bytes is a dot with no part after it
 abbrev pub bareDot : List ℕ → Bool
 bareDot [] = false
 bareDot (b ∷ bs) = isDot (classOf b) && not (partStarts bs)
 
--- a name goes on with the first of the bytes: a part that is under way does, or it is a dot with a part behind it
+-- a name goes on with the first of the bytes: a part that is under way does, or it is a dot with a part after it
 abbrev pub nameGoesOn : List ℕ → Bool
 nameGoesOn [] = false
 nameGoesOn (b ∷ bs) = goesOn (classOf b) || (isDot (classOf b) && partStarts bs)

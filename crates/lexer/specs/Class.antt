@@ -124,20 +124,20 @@ abbrev pub onFirst : ℕ → List (List ℕ) → List (List ℕ)
 onFirst b [] = (b ∷ []) ∷ []
 onFirst b (p ∷ ps) = (b ∷ p) ∷ ps
 
--- what stands before, between and behind the dots
+-- what is before, between and after the dots
 unfoldable pub parts : List ℕ → List (List ℕ)
 parts [] = [] ∷ []
 parts (b ∷ bs) = elim (isDot (classOf b)) [ true ↦ [] ∷ parts bs | false ↦ onFirst b (parts bs) ]
 
 -- "A dot may stand between name parts .. any other dot .. is fault 2"
-unfoldable pub isDotted : List ℕ → Bool
-isDotted w = allParts (parts w)
+unfoldable pub hasGoodParts : List ℕ → Bool
+hasGoodParts w = allParts (parts w)
 
 -- what follows "a leading dot"
-abbrev pub undotted : List ℕ → List ℕ
-undotted [] = []
-undotted (b ∷ bs) = cond (isDot (classOf b)) bs (b ∷ bs)
+abbrev pub afterLeadingDot : List ℕ → List ℕ
+afterLeadingDot [] = []
+afterLeadingDot (b ∷ bs) = cond (isDot (classOf b)) bs (b ∷ bs)
 
 -- "A dot may stand between name parts or in front; any other dot, or more than 64 bytes not counting a leading dot, is fault 2"
 unfoldable pub isName : List ℕ → Bool
-isName w = isDotted (undotted w) && leb (length (undotted w)) maxName
+isName w = hasGoodParts (afterLeadingDot w) && leb (length (afterLeadingDot w)) maxName

@@ -6,7 +6,7 @@ use mathlib.Core.List.{List, [], _∷_, _++_}
 use Prim.Native.Nat.{ℕ, zero, suc}
 use Prim.Native.String.{String}
 use Rattle.lexer.specs.Spell.{bytes}
-use Rattle.lexer.specs.Class.{classOf, allGoOn, isPart, allParts, parts, isDotted, isName}
+use Rattle.lexer.specs.Class.{classOf, allGoOn, isPart, allParts, parts, hasGoodParts, isName}
 use Rattle.lexer.specs.Scan.{scanFrom, scan, Verdict, clean, refused, verdictOf}
 use Rattle.lexer.specs.Token.{tokensFrom, tokensAt, tokens, tokenAt}
 use Rattle.lexer.specs.Forms.{closed, ended, word, part, build, framesAt, formsOf, trim, closes, balanced, namesGood}
@@ -49,7 +49,7 @@ pub record Scans : Type 0 where
   pub dash : verdict (bytes "(-)") ≡ refused 2 1
   pub dash-first : verdict (bytes "( -a)") ≡ refused 2 2
   pub bad-then-wrong : verdict (bytes "(1a!)") ≡ refused 2 1
-  -- a "long name": at its first byte, be there a wrong byte behind it or the end of the text
+  -- a "long name": at its first byte, be there a wrong byte after it or the end of the text
   pub name-64 : verdict (bytes "( " ++ times 64 "a" ++ bytes ")") ≡ clean
   pub name-65 : verdict (bytes "( " ++ times 65 "a" ++ bytes ")") ≡ refused 2 2
   pub name-64-then-wrong : verdict (bytes "( " ++ times 64 "a" ++ bytes "!)") ≡ refused 2 66
@@ -98,7 +98,7 @@ pub record Dots : Type 0 where
   pub parts-of-65 : verdict (bytes "( a." ++ times 63 "b" ++ bytes ")") ≡ refused 2 2
   pub dot-and-parts-of-64 : verdict (bytes "( .a." ++ times 62 "b" ++ bytes ")") ≡ clean
   pub long-then-dots : verdict (bytes "( " ++ times 65 "a" ++ bytes "..)") ≡ refused 2 2
-  -- the lowest place, be there a wrong byte behind or the end of the text
+  -- the lowest place, be there a wrong byte after or the end of the text
   pub dot-then-wrong : verdict (bytes "(role a.!)") ≡ refused 2 6
   pub wrong-then-dot : verdict (bytes "(role a!.b)") ≡ refused 2 7
   pub dot-to-the-end : verdict (bytes "(role a.") ≡ refused 2 6
@@ -117,8 +117,8 @@ pub record Dots : Type 0 where
   -- the names that words are, and their parts
   pub whole-word : tokens (bytes "(.a.b)") ≡ Token.Open 0 ∷ Token.Word 1 4 ∷ Token.Close 5 ∷ []
   pub name : isName (bytes ".a.b") ≡ true
-  pub dotted : isDotted (bytes "a.b") ≡ true
-  pub dotted-in-front : isDotted (bytes ".a") ≡ false
+  pub dotted : hasGoodParts (bytes "a.b") ≡ true
+  pub dotted-in-front : hasGoodParts (bytes ".a") ≡ false
   pub parts-of : parts (bytes "a.bc..") ≡ bytes "a" ∷ bytes "bc" ∷ [] ∷ [] ∷ []
 
 -- tokens, names and forms
@@ -147,7 +147,7 @@ pub record Reads : Type 0 where
   pub names-bad : namesGood (formsOf (bytes "(role (1a) b)")) ≡ false
 
 pub scans : Scans
-unfolding classOf allGoOn isPart allParts parts isDotted isName scanFrom scan
+unfolding classOf allGoOn isPart allParts parts hasGoodParts isName scanFrom scan
 scans = record {
   empty = refl;
   blanks = refl;
@@ -194,7 +194,7 @@ scans = record {
 }
 
 pub dots : Dots
-unfolding classOf allGoOn isPart allParts parts isDotted isName scanFrom scan tokensFrom tokensAt tokens
+unfolding classOf allGoOn isPart allParts parts hasGoodParts isName scanFrom scan tokensFrom tokensAt tokens
 dots = record {
   between = refl;
   in-front = refl;
@@ -233,7 +233,7 @@ dots = record {
 }
 
 pub reads : Reads
-unfolding classOf allGoOn isPart allParts parts isDotted isName tokensFrom tokensAt tokens tokenAt build framesAt formsOf trim closes balanced namesGood
+unfolding classOf allGoOn isPart allParts parts hasGoodParts isName tokensFrom tokensAt tokens tokenAt build framesAt formsOf trim closes balanced namesGood
 reads = record {
   tokens-of = refl;
   comment-parts = refl;

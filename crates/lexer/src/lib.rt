@@ -31,7 +31,8 @@ impl Level {
     pub const MAX: usize = 32;
 }
 
-// What a byte is. A line feed is a blank that also ends a comment. A dot stands between the parts of a name or in front of it.
+// What a byte is. A line feed is a blank that also ends a comment. A dot is between the parts of a name or in front
+// of it.
 pub enum ByteClass {
     Blank,
     LineFeed,
@@ -67,8 +68,8 @@ enum Step {
     Fault,
 }
 
-// The class of each byte, 32 bytes to a line: b blank, n line feed, s start of a comment, o open, c close, w wrong, and as capitals those that names are
-// made of: L letter, D digit, P dot.
+// The class of each byte, 32 bytes to a line: b blank, n line feed, s start of a comment, o open, c close, w wrong,
+// and as capitals those that names are made of: L letter, D digit, P dot.
 const CLASSES: [u8; 256] = *b"\
     wwwwwwwwwbnwwbwwwwwwwwwwwwwwwwww\
     bwwwwwwwocwwwDPwDDDDDDDDDDwswwww\
@@ -139,15 +140,16 @@ fn comment_end(classes: &[u8; 256], text: &[u8], at: usize) -> usize
 }
 
 // Whether a part of a name starts with the byte, by the table that is lent.
-pub fn starts_name(classes: &[u8; 256], b: u8) -> bool
+pub fn starts_part(classes: &[u8; 256], b: u8) -> bool
     requires { ⌜ Classes (now classes) ⌝ }
     ensures { λ r. ⌜ r ≡ starts (classOf b) ⌝ }
 {
     mark_in(classes, b) == b'L'
 }
 
-// Whether a part of a name goes on with the byte, by the table that is lent: its mark is a capital before that of the dot.
-pub fn is_in_name(classes: &[u8; 256], b: u8) -> bool
+// Whether a part of a name goes on with the byte, by the table that is lent: its mark is a capital before that of the
+// dot.
+pub fn is_in_part(classes: &[u8; 256], b: u8) -> bool
     requires { ⌜ Classes (now classes) ⌝ }
     ensures { λ r. ⌜ r ≡ goesOn (classOf b) ⌝ }
 {
@@ -193,10 +195,10 @@ fn part_starts(classes: &[u8; 256], text: &[u8], at: usize) -> bool
     if text.len() <= at {
         return false;
     }
-    starts_name(classes, text[at])
+    starts_part(classes, text[at])
 }
 
-// Whether there is a dot at a place with no part behind it.
+// Whether there is a dot at a place with no part after it.
 fn bare_dot(classes: &[u8; 256], text: &[u8], at: usize) -> bool
     requires { ⌜ Classes (now classes) ⌝ }
     ensures { λ r. ⌜ r ≡ bareDot (drop at (now (text .entry))) ⌝ }
@@ -210,7 +212,7 @@ fn bare_dot(classes: &[u8; 256], text: &[u8], at: usize) -> bool
     false
 }
 
-// Whether a name goes on at a place: with a byte of the part that is under way, or with a dot and a part behind it.
+// Whether a name goes on at a place: with a byte of the part that is under way, or with a dot and a part after it.
 fn name_goes_on(classes: &[u8; 256], text: &[u8], at: usize) -> bool
     requires { ⌜ Classes (now classes) ⌝ }
     ensures { λ r. ⌜ r ≡ nameGoesOn (drop at (now (text .entry))) ⌝ }
@@ -218,7 +220,7 @@ fn name_goes_on(classes: &[u8; 256], text: &[u8], at: usize) -> bool
     if text.len() <= at {
         return false;
     }
-    if is_in_name(classes, text[at]) {
+    if is_in_part(classes, text[at]) {
         return true;
     }
     if is_dot(classes, text[at]) {
@@ -227,7 +229,7 @@ fn name_goes_on(classes: &[u8; 256], text: &[u8], at: usize) -> bool
     false
 }
 
-// The place from which the bytes of the name at a place are counted: behind a dot in front.
+// The place from which the bytes of the name at a place are counted: after a dot in front.
 fn counted_from(classes: &[u8; 256], text: &[u8], at: usize) -> usize
     requires { ⌜ Classes (now classes) ⌝ }
     ensures { λ r. ⌜ r ≡ countedFrom (drop at (now (text .entry))) at ⌝ }

@@ -1,5 +1,6 @@
-// Scans the texts of a corpus on standard input, and writes what each scan says. A case is the length of a text, 4 bytes, little
-// endian, and then the text. The corpus ends with the input, or with a case that is cut short or longer than the memory here.
+// Scans the texts of a corpus on standard input, and writes what each scan says. A case is the length of a text, 4
+// bytes, little endian, and then the text. The corpus ends with the input, or with a case that is cut short or longer
+// than the memory here.
 use corpus::Next;
 
 // The greatest length of a case's text: one byte more than a text may have.

@@ -1,5 +1,5 @@
-// Scans texts that are written here, and every byte by itself and in two places, and writes what each scan says. The lines
-// are held to those that the documents give.
+// Scans texts that are written here, and every byte by itself and in two places, and writes what each scan says. The
+// lines are held to those that the documents give.
 use lexer::Text;
 use lexer_show::show;
 
@@ -14,7 +14,7 @@ fn statements() {
     show(b"(All U1 _ a-1_)");
 }
 
-// A wrong byte: at the byte, also right after a good name and behind other faults.
+// A wrong byte: at the byte, also right after a good name and after other faults.
 fn wrong_bytes() {
     show(b"(role a!b)");
     show(b"(role a)(role a)!");
@@ -45,7 +45,7 @@ fn dots() {
     show(b"(a.b.c.d.e.f.g.h.i.j)");
 }
 
-// Any other dot: at the first byte of the name, which is the dot where one stands in front.
+// Any other dot: at the first byte of the name, which is the dot where one is in front.
 fn other_dots() {
     show(b"(role a..b)");
     show(b"(role a.)");
@@ -57,7 +57,8 @@ fn other_dots() {
     show(b"(roleallow .a. b)");
 }
 
-// The lowest place, be there a wrong byte, a blank or a comment behind the dot, or the end of the text; and dots outside parentheses.
+// The lowest place, be there a wrong byte, a blank or a comment after the dot, or the end of the text; and dots
+// outside parentheses.
 fn dots_then() {
     show(b"(role a.!)");
     show(b"(role a!.b)");

@@ -1,4 +1,4 @@
--- Numbers in bytes, lowest first, one law over the width for each way: a number in j + k bytes is read, and put, as one in j bytes and one in the k behind
+-- Numbers in bytes, lowest first, one law over the width for each way: a number in j + k bytes is read, and put, as one in j bytes and one in the k after
 -- them. Bytes past the end read 0. Assumes nothing.
 use mathlib.Core.Path.{_≡_, refl, sym, ap, _∙_}
 use mathlib.Core.List.{List, [], _∷_, _++_}

@@ -1,12 +1,12 @@
-// Numbers in bytes, lowest byte first. Each width is read and put as two of half its width. There is no loop over the width: bytes that are read or put
-// one after the other, with no test between them, become one load or store.
+// Numbers in bytes, lowest byte first. Each width is read and put as two of half its width. There is no loop over the
+// width: bytes that are read or put one after the other, with no test between them, become one load or store.
 ghost use mathlib.Core.Path.{_≡_};
 ghost use Prim.Native.Nat.{_+_, _^_, _≤_, _<_};
 ghost use lib.ListN.{length, take, drop};
 ghost use Rattle.bitset.specs.Parts.{put};
 ghost use Rattle.policy.specs.Basics.{le, unle};
 
-// What a number is multiplied by if its bytes stand behind one other, behind two and behind four.
+// What a number is multiplied by if its bytes are after one other, after two and after four.
 const ONE_ON: usize = 256;
 
 const TWO_ON: usize = 65_536;

@@ -7,7 +7,8 @@ use mathlib.Core.List.{List, [], _∷_, _++_}
 use mathlib.Core.Option.{some, Option·none-ne-some}
 use lib.ListN.{length}
 use Rattle.policy.specs.Basics.{Name, gather, keep, given}
-use Rattle.policy.specs.Statements.{Family, attributeOf, sameSort, plain, class, Statement, declare, attributeset, gives, roletransition, constrain, ofSort, namesOf, count, Line, Policy, declared, declarations}
+use Rattle.policy.specs.Statements.{Family, attributeOf, sameSort, plain, class, Statement, declare, attributeset, gives, roletransition, constrain, ofSort}
+use Rattle.policy.specs.Statements.{namesOf, count, Line, Policy, declared, declarations}
 use Rattle.policy.specs.Faults.{placeOf, places}
 use Rattle.policy.proofs.Lists.{gather-append}
 use Rattle.meaning_laws.specs.Mentioning.{DeclaredAt}

@@ -9,7 +9,8 @@ use mathlib.Core.Option.{Option, none, some, Option·none-ne-some, Option·some-
 use lib.Dec.{eqb}
 use borrow.Author.Tests.{eqb-true, eqb-false, eq-eqb, ne-eqb, not-true}
 use Rattle.policy.specs.Basics.{any, gather, keep}
-use Rattle.policy.specs.Statements.{Family, roles, types, Reference, Statement, declare, attributeset, gives, roletransition, constrain, Line, Policy, declarations, Transition, transition}
+use Rattle.policy.specs.Statements.{Family, roles, types, Reference, Statement, declare, attributeset, gives, roletransition, constrain, Line, Policy}
+use Rattle.policy.specs.Statements.{declarations, Transition, transition}
 use Rattle.policy.specs.Meaning.{Set, stands, countIn}
 use Rattle.bitset.specs.Sets.{meet}
 use Rattle.policy.specs.Faults.{clashes}

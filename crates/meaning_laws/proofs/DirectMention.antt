@@ -10,7 +10,9 @@ use lib.Dec.{eqb}
 use borrow.Author.Tests.{eq-eqb, eqb-true}
 use Rattle.bitset.specs.Relations.{joined}
 use Rattle.policy.specs.Basics.{any, each, keep, gather, isAmong}
-use Rattle.policy.specs.Statements.{Family, Reference, thing, attribute, SetExpr, nameS, allS, notS, andS, orS, xorS, unionS, emptyS, attributeOf, Declaration, Statement, declare, attributeset, gives, roletransition, constrain, sameFamily, Line, Policy, count, declarations, setFor, setsFor}
+use Rattle.policy.specs.Statements.{Family, Reference, thing, attribute, SetExpr, nameS, allS, notS, andS, orS, xorS, unionS, emptyS, attributeOf, Declaration}
+use Rattle.policy.specs.Statements.{Statement, declare, attributeset, gives, roletransition, constrain, sameFamily, Line, Policy, count, declarations, setFor}
+use Rattle.policy.specs.Statements.{setsFor}
 use Rattle.policy.specs.Faults.{mentionsS, mentions, attributesIn}
 use Rattle.policy.specs.Accepted.{SetIn, StatementIn, Accepted}
 use Rattle.policy.proofs.Lists.{both-true, any-append}

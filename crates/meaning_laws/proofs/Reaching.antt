@@ -10,7 +10,7 @@ use lib.Dec.{eqb, ltb}
 use borrow.Author.Tests.{eqb-true, eqb-false, lt-ltb, le-ltb, ltb-true, ltb-false, not-true, not-false}
 use Rattle.policy.specs.Basics.{any, gather, given, keep, isAmong}
 use Rattle.policy.specs.Statements.{Family, Policy}
-use Rattle.policy.specs.Faults.{mentions, attributesIn, below, wider, reach, onCycle}
+use Rattle.policy.specs.Faults.{mentions, attributesIn, below, mentionedBy, reach, onCycle}
 use Rattle.policy.specs.Accepted.{Accepted}
 use Rattle.policy.proofs.Lists.{both-true}
 use Rattle.bitset.proofs.CountLaws.{countBelow-le}
@@ -51,18 +51,18 @@ module _ (p : Policy) (f : Family) (ok : Accepted p) where
   names-declared a b h = direct-declared p f ok a b (mentions-exactly p f a b .1 h) .1
 
   -- one round: these attributes and what they mention
-  in-wider : (xs : List ℕ) (b : ℕ) → isAmong b (wider p f xs) ≡ (ltb b (attributesIn p f) && (isAmong b xs || any (λ a. isAmong b (mentions p f a)) xs))
-  unfolding wider
+  in-wider : (xs : List ℕ) (b : ℕ) → isAmong b (mentionedBy p f xs) ≡ (ltb b (attributesIn p f) && (isAmong b xs || any (λ a. isAmong b (mentions p f a)) xs))
+  unfolding mentionedBy
   in-wider xs b = among-below (λ b. isAmong b xs || any (λ a. isAmong b (mentions p f a)) xs) (attributesIn p f) b
 
-  wider-keeps : (xs : List ℕ) (b : ℕ) → b < attributesIn p f → isAmong b xs ≡ true → isAmong b (wider p f xs) ≡ true
+  wider-keeps : (xs : List ℕ) (b : ℕ) → b < attributesIn p f → isAmong b xs ≡ true → isAmong b (mentionedBy p f xs) ≡ true
   wider-keeps xs b l h = rw (in-wider xs b, lt-ltb b (attributesIn p f) l, h)
 
-  wider-adds : (xs : List ℕ) (a b : ℕ) → isAmong a xs ≡ true → Names a b → isAmong b (wider p f xs) ≡ true
+  wider-adds : (xs : List ℕ) (a b : ℕ) → isAmong a xs ≡ true → Names a b → isAmong b (mentionedBy p f xs) ≡ true
   wider-adds xs a b h k = rw (in-wider xs b, lt-ltb b (attributesIn p f) (names-declared a b k))
       (or-right (isAmong b xs) (any (λ a. isAmong b (mentions p f a)) xs) (any-in (λ a. isAmong b (mentions p f a)) a xs h k))
 
-  wider-only : (xs : List ℕ) (b : ℕ) → isAmong b (wider p f xs) ≡ true → (isAmong b xs ≡ true) ⊎ ((a : ℕ) × (isAmong a xs ≡ true) × Names a b)
+  wider-only : (xs : List ℕ) (b : ℕ) → isAmong b (mentionedBy p f xs) ≡ true → (isAmong b xs ≡ true) ⊎ ((a : ℕ) × (isAmong a xs ≡ true) × Names a b)
   wider-only xs b h = from-either (isAmong b xs) (any (λ a. isAmong b (mentions p f a)) xs)
       (λ e. inl e)
       (λ e. inr (any-out (λ a. isAmong b (mentions p f a)) xs e))
@@ -73,7 +73,7 @@ module _ (p : Policy) (f : Family) (ok : Accepted p) where
       → (b : ℕ) → isAmong b (reach k p f xs) ≡ true → Mentions p f a b
   unfolding reach
   reached-mentioned zero a xs h b e = h b e
-  reached-mentioned (suc k) a xs h b e = reached-mentioned k a (wider p f xs) (λ x q. by x (wider-only xs x q)) b e
+  reached-mentioned (suc k) a xs h b e = reached-mentioned k a (mentionedBy p f xs) (λ x q. by x (wider-only xs x q)) b e
     where
       by : (x : ℕ) → (isAmong x xs ≡ true) ⊎ ((y : ℕ) × (isAmong y xs ≡ true) × Names y x) → Mentions p f a x
       by x (inl q) = h x q
@@ -83,7 +83,7 @@ module _ (p : Policy) (f : Family) (ok : Accepted p) where
   abbrev Closed : List ℕ → Type 0
   Closed xs = (a b : ℕ) → isAmong a xs ≡ true → Names a b → isAmong b xs ≡ true
 
-  closed-after : (xs : List ℕ) → Closed xs → Closed (wider p f xs)
+  closed-after : (xs : List ℕ) → Closed xs → Closed (mentionedBy p f xs)
   closed-after xs c a b h k = wider-keeps xs b (names-declared a b k) (c a b (inside (wider-only xs a h)) k)
     where
       inside : (isAmong a xs ≡ true) ⊎ ((y : ℕ) × (isAmong y xs ≡ true) × Names y a) → isAmong a xs ≡ true
@@ -95,37 +95,37 @@ module _ (p : Policy) (f : Family) (ok : Accepted p) where
   size xs = amongBelow (attributesIn p f) xs
 
   -- one round reaches nothing new, or one attribute more
-  round : (xs : List ℕ) → Closed xs ⊎ (suc (size xs) ≤ size (wider p f xs))
-  round xs = by (find-below (attributesIn p f) (λ b. isAmong b (wider p f xs) && not (isAmong b xs)))
+  round : (xs : List ℕ) → Closed xs ⊎ (suc (size xs) ≤ size (mentionedBy p f xs))
+  round xs = by (find-below (attributesIn p f) (λ b. isAmong b (mentionedBy p f xs) && not (isAmong b xs)))
     where
-      old : (b : ℕ) → isAmong b (wider p f xs) ≡ true → (isAmong b (wider p f xs) && not (isAmong b xs)) ≡ false → isAmong b xs ≡ true
+      old : (b : ℕ) → isAmong b (mentionedBy p f xs) ≡ true → (isAmong b (mentionedBy p f xs) && not (isAmong b xs)) ≡ false → isAmong b xs ≡ true
       old b e q = not-false (isAmong b xs) (sym (ap (λ t. t && not (isAmong b xs)) e) ∙ q)
 
-      by : ((b : ℕ) → b < attributesIn p f → (isAmong b (wider p f xs) && not (isAmong b xs)) ≡ false)
-          ⊎ ((b : ℕ) × (b < attributesIn p f) × ((isAmong b (wider p f xs) && not (isAmong b xs)) ≡ true))
-          → Closed xs ⊎ (suc (size xs) ≤ size (wider p f xs))
+      by : ((b : ℕ) → b < attributesIn p f → (isAmong b (mentionedBy p f xs) && not (isAmong b xs)) ≡ false)
+          ⊎ ((b : ℕ) × (b < attributesIn p f) × ((isAmong b (mentionedBy p f xs) && not (isAmong b xs)) ≡ true))
+          → Closed xs ⊎ (suc (size xs) ≤ size (mentionedBy p f xs))
       by (inl h) = inl (λ a b e k. old b (wider-adds xs a b e k) (h b (names-declared a b k)))
       by (inr h) =
-          let new = both-true (isAmong (h .0) (wider p f xs)) (not (isAmong (h .0) xs)) (h .2) in
-          inr (count-more (attributesIn p f) (λ y. isAmong y xs) (λ y. isAmong y (wider p f xs)) (h .0) (wider-keeps xs) (h .1)
+          let new = both-true (isAmong (h .0) (mentionedBy p f xs)) (not (isAmong (h .0) xs)) (h .2) in
+          inr (count-more (attributesIn p f) (λ y. isAmong y xs) (λ y. isAmong y (mentionedBy p f xs)) (h .0) (wider-keeps xs) (h .1)
           (not-true (isAmong (h .0) xs) (new .1)) (new .0))
 
   closed-on : (k : ℕ) (xs : List ℕ) → Closed xs → Closed (reach k p f xs)
   unfolding reach
   closed-on zero xs c = c
-  closed-on (suc k) xs c = closed-on k (wider p f xs) (closed-after xs c)
+  closed-on (suc k) xs c = closed-on k (mentionedBy p f xs) (closed-after xs c)
 
   -- k rounds reach everything, or k attributes more
   grown : (k : ℕ) (xs : List ℕ) → Closed (reach k p f xs) ⊎ (k + size xs ≤ size (reach k p f xs))
   unfolding reach
   grown zero xs = inr (omega arith)
-  grown (suc k) xs = by (round xs) (grown k (wider p f xs))
+  grown (suc k) xs = by (round xs) (grown k (mentionedBy p f xs))
     where
       end : List ℕ
-      end = reach k p f (wider p f xs)
+      end = reach k p f (mentionedBy p f xs)
 
-      by : Closed xs ⊎ (suc (size xs) ≤ size (wider p f xs)) → Closed end ⊎ (k + size (wider p f xs) ≤ size end) → Closed end ⊎ (suc k + size xs ≤ size end)
-      by (inl c) r = inl (closed-on k (wider p f xs) (closed-after xs c))
+      by : Closed xs ⊎ (suc (size xs) ≤ size (mentionedBy p f xs)) → Closed end ⊎ (k + size (mentionedBy p f xs) ≤ size end) → Closed end ⊎ (suc k + size xs ≤ size end)
+      by (inl c) r = inl (closed-on k (mentionedBy p f xs) (closed-after xs c))
       by (inr h) (inl c) = inl c
       by (inr h) (inr g) = inr (omega (arith, h, g))
 
@@ -135,15 +135,15 @@ module _ (p : Policy) (f : Family) (ok : Accepted p) where
       end : List ℕ
       end = reach (attributesIn p f) p f xs
 
-      by : Closed end ⊎ (attributesIn p f + size xs ≤ size end) → Closed end ⊎ (suc (size end) ≤ size (wider p f end)) → Closed end
+      by : Closed end ⊎ (attributesIn p f + size xs ≤ size end) → Closed end ⊎ (suc (size end) ≤ size (mentionedBy p f end)) → Closed end
       by (inl c) r = c
       by (inr h) (inl c) = c
-      by (inr h) (inr g) = absurd (omega (arith, h, g, countBelow-le (attributesIn p f) (λ y. isAmong y (wider p f end))))
+      by (inr h) (inr g) = absurd (omega (arith, h, g, countBelow-le (attributesIn p f) (λ y. isAmong y (mentionedBy p f end))))
 
   kept-on : (k : ℕ) (xs : List ℕ) (b : ℕ) → b < attributesIn p f → isAmong b xs ≡ true → isAmong b (reach k p f xs) ≡ true
   unfolding reach
   kept-on zero xs b l h = h
-  kept-on (suc k) xs b l h = kept-on k (wider p f xs) b l (wider-keeps xs b l h)
+  kept-on (suc k) xs b l h = kept-on k (mentionedBy p f xs) b l (wider-keeps xs b l h)
 
   -- what a closed list's members mention, directly or through others, it holds
   closed-through : (xs : List ℕ) → Closed xs → {b c : ℕ} → Mentions p f b c → isAmong b xs ≡ true → isAmong c xs ≡ true

@@ -7,7 +7,9 @@ use mathlib.Core.List.{List}
 use mathlib.Core.Option.{some, Option·none-ne-some}
 use lib.Dec.{eqb, ltb}
 use borrow.Author.Tests.{eqb-true, ltb-true}
-use Rattle.policy.specs.Statements.{Family, Reference, thing, attribute, SetExpr, nameS, allS, notS, andS, orS, xorS, unionS, emptyS, thingOf, Declaration, Statement, declare, attributeset, gives, roletransition, constrain, Relation, fromOf, toOf, sameFamily, Line, Policy, count, declarations, setFor, setsFor}
+use Rattle.policy.specs.Statements.{Family, Reference, thing, attribute, SetExpr, nameS, allS, notS, andS, orS, xorS, unionS, emptyS, thingOf, Declaration}
+use Rattle.policy.specs.Statements.{Statement, declare, attributeset, gives, roletransition, constrain, Relation, fromOf, toOf, sameFamily, Line, Policy, count}
+use Rattle.policy.specs.Statements.{declarations, setFor, setsFor}
 use Rattle.policy.specs.Meaning.{Set, standsIn, oneOf, ofS, countIn, unionOf, nested, final, stands, sameRelation, lineGives, related}
 use Rattle.policy.specs.Basics.{All}
 use Rattle.policy.specs.Accepted.{ReferenceIn, SetIn, StatementIn, Accepted}

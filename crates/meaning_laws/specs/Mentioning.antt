@@ -1,11 +1,12 @@
 -- Document 01, fault 8, in plain statements: what it is to mention an attribute, to be on a cycle, and which place is given. None of the
--- words that compute the fault stands here; proofs/ shows that those words decide these statements. Assumes nothing.
+-- words that compute the fault is here; proofs/ shows that those words decide these statements. Assumes nothing.
 use Prim.Native.Nat.{ℕ, _<_}
 use mathlib.Core.Path.{_≡_}
 use mathlib.Core.Logic.{_⊎_}
 use mathlib.Core.List.{List, [], _∷_, _++_}
 use Rattle.policy.specs.Basics.{Name}
-use Rattle.policy.specs.Statements.{Family, users, roles, types, attributeOf, plain, Reference, thing, attribute, SetExpr, nameS, allS, notS, andS, orS, xorS, unionS, emptyS, Statement, declare, attributeset, gives, roletransition, constrain, Line, Policy, count, declarations}
+use Rattle.policy.specs.Statements.{Family, users, roles, types, attributeOf, plain, Reference, thing, attribute, SetExpr, nameS, allS, notS, andS, orS, xorS}
+use Rattle.policy.specs.Statements.{unionS, emptyS, Statement, declare, attributeset, gives, roletransition, constrain, Line, Policy, count, declarations}
 
 -- a property of one element of a list at least
 abbrev pub Some : {A : Type 0} → (A → Type 0) → List A → Type 0

@@ -1,1 +1,1 @@
-// Theorems alone: they stand in proofs/, and the plain statements that they are about in specs/.
+// Theorems alone: they are in proofs/, and the plain statements that they are about in specs/.

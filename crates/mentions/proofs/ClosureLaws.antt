@@ -148,7 +148,7 @@ module _ (p : Policy) (f : Family) (ok : Accepted p) where
   all-mentions (directly {a} {b} m) = first-kept names 64 a b (mentions-exactly p f a b .0 m)
   all-mentions (through {a} {b} {c} m n) = met names 64 b a c (below-64 a b m .1) (all-mentions m) (all-mentions n)
 
-  -- ON A CYCLE is what stands in its own closed row
+  -- ON A CYCLE is what is in its own closed row
   pub own-row : (rows : List ℕ) → rows ≡ closedOf 64 (relation 64 64 names) → (a : ℕ) → (ltb a 64 && setsIn rows a a) ≡ onCycle p f a
   own-row rows e a = by (decided (ltb a 64))
     where

@@ -23,7 +23,8 @@ ghost use Rattle.code_reader.specs.Reading.{operandsOf, foundOf};
 ghost use Rattle.code_reader.specs.AttributeSets.{added};
 ghost use Rattle.mentions.specs.Closure.{columnOf, throughOf, closedOf};
 
-// The set becomes the attributes that the operands from a place on name. An operator's number is past every attribute's.
+// The set becomes the attributes that the operands from a place on name. An operator's number is past every
+// attribute's.
 fn mentioned(code: &[u16], from: usize, out: &mut [u8; Type::SET_BYTES])
     ensures { λ _. ⌜ now (out .exit) ≡ setOf 64 (λ b. isAmong (1024 + b) (operandsOf (drop from (now (code .entry))))) ⌝ }
 {
@@ -68,7 +69,7 @@ pub fn mentions(code: &[u16], family: Family, rows: &mut [u8; FAMILY_BYTES])
 }
 
 // The rows that have the number k.
-fn column(rows: &[u8; FAMILY_BYTES], k: usize, out: &mut [u8; Type::SET_BYTES])
+fn attributes_mentioning(rows: &[u8; FAMILY_BYTES], k: usize, out: &mut [u8; Type::SET_BYTES])
     ensures { λ _. ⌜ now (out .exit) ≡ columnOf (now (rows .entry)) k ⌝ }
 {
     bitset::clear(out);
@@ -90,7 +91,7 @@ fn is_empty(rows: &[u8], k: usize) -> bool
 }
 
 // What mentions k also mentions what k mentions.
-fn through(rows: &mut [u8; FAMILY_BYTES], k: usize)
+fn close_through(rows: &mut [u8; FAMILY_BYTES], k: usize)
     requires { ⌜ k < 64 ⌝ }
     ensures { λ _. ⌜ now (rows .exit) ≡ throughOf (now (rows .entry)) k ⌝ }
 {
@@ -98,7 +99,7 @@ fn through(rows: &mut [u8; FAMILY_BYTES], k: usize)
         return;
     }
     let mut holders = [0u8; Type::SET_BYTES];
-    column(rows, k, &mut holders);
+    attributes_mentioning(rows, k, &mut holders);
     let mut row = [0u8; Type::SET_BYTES];
     set_rows::read_at(&mut row, rows, Type::SET_BYTES * k, Type::SET_BYTES);
     set_rows::grant(rows, &holders, &row, Type::SET_BYTES);
@@ -110,7 +111,7 @@ fn close(rows: &mut [u8; FAMILY_BYTES])
 {
     let mut k = 0;
     while k < Attribute::MAX {
-        through(rows, k);
+        close_through(rows, k);
         k += 1;
     }
 }
@@ -161,8 +162,8 @@ fn first_cycle(code: &[u16], family: Family, rows: &[u8; FAMILY_BYTES]) -> Found
     Found::Nowhere
 }
 
-// The declaration of the first attribute of a family whose sets mention it, directly or through others. Each row has what an attribute mentions directly, and
-// gains what it mentions through others.
+// The declaration of the first attribute of a family whose sets mention it, directly or through others. Each row has
+// what an attribute mentions directly, and gains what it mentions through others.
 pub fn family_cycle(code: &[u16], family: Family, rows: &mut [u8; FAMILY_BYTES]) -> Found
     ensures { λ r. ⌜ (now (rows .exit) ≡ closedOf 64 (now (rows .entry)))
         × ((p : Policy) → Accepted p → now (code .entry) ≡ codeOf p → now (rows .entry) ≡ relation 64 64 (λ a b. isAmong b (faults.mentions p (familyOf family) a))

@@ -15,7 +15,7 @@ use Rattle.symbols.specs.Lookup.{familyNumber}
 use Rattle.name_chains.specs.Compared.{isCandidate}
 use Rattle.name_chains.specs.Chains.{howMany, firstCandidate, lastCandidate, Nth}
 
--- no entry stands in a list that has none
+-- no entry is in a list that has none
 no-nth : (k : ℕ) (d : NameEntry) (r : List NameEntry) → drop k [] ≡ d ∷ r → ⊥
 no-nth k d r h =
     let n = drop-nil {A = NameEntry} k in
@@ -155,7 +155,7 @@ module _ (f n : ℕ) where
           let g : 0 < howMany f n xs = omega arith in
           omega (arith, last-cons x xs false q, ih g)
 
-  -- a candidate with none behind it is the last
+  -- a candidate with none after it is the last
   pub last-is : (xs : List NameEntry) (k : ℕ) (d : NameEntry) → Nth xs k d → isCandidate f n d ≡ true → howMany f n (drop (suc k) xs) ≡ 0
       → lastCandidate f n xs ≡ k
   last-is [] k d h q z = absurd (no-nth k d _ h)
@@ -165,7 +165,7 @@ module _ (f n : ℕ) where
       let c = ne-eqb (howMany f n xs) 0 (λ y. omega arith) in
       omega (arith, last-cons x xs false c, last-is xs k d h q z)
 
-  -- the last is a candidate, and has none behind it
+  -- the last is a candidate, and has none after it
   pub none-behind : (xs : List NameEntry) (k : ℕ) → 0 < howMany f n xs → lastCandidate f n xs ≡ k → howMany f n (drop (suc k) xs) ≡ 0
   none-behind [] k h e = absurd (omega (arith, none-many))
   none-behind (x ∷ xs) k h e = by (λ j g d. none-behind xs j g d) (eqb (howMany f n xs) 0) refl k e

@@ -231,7 +231,7 @@ module _ {t u : List ℕ} {end r : ℕ} {e : NameEntry} {es : List NameEntry} (h
     abbrev Follows : Type 0
     Follows = linkIn (wordIn u (2 * k + 1)) .next ≡ 2 * (suc k + firstCandidate g l (drop (suc k) es ++ (e ∷ [])))
 
-    -- where one of its chain stood behind it, it was not the last of the chain of the new one
+    -- where one of its chain stood after it, it was not the last of the chain of the new one
     not-last : 0 < howMany g l (drop (suc k) es) → (old .count ≡ 0 → ⊥) → k ≡ lastCandidate f n es → ⊥
     not-last some c z =
         let a = candidate-is f n d (last-candidate f n es k d (some-of c) (sym z) t-nth) in

@@ -41,7 +41,7 @@ pub record ChainIs (c : Chain) (f n : ℕ) (es : List NameEntry) : Type 0 where
   pub first : 0 < howMany f n es → c .first ≡ 2 * firstCandidate f n es
   pub last : 0 < howMany f n es → c .last ≡ 2 * lastCandidate f n es
 
--- the word x and the link l are those of the entry e, whose name stands before the end
+-- the word x and the link l are those of the entry e, whose name is before the end
 pub record NodeIs (t : List ℕ) (end x : ℕ) (l : Link) (e : NameEntry) : Type 0 where
   pub front : x ≡ frontOf (e .name)
   pub sort : l .sort ≡ e .sort

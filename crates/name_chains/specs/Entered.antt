@@ -1,4 +1,4 @@
--- An entry more: its bytes behind the entries, and its place in the chains; and the chains of no entries. Assumes nothing.
+-- An entry more: its bytes after the entries, and its place in the chains; and the chains of no entries. Assumes nothing.
 use mathlib.Core.Path.{_≡_}
 use mathlib.Core.List.{List, [], _∷_, _++_}
 use Prim.Native.Nat.{ℕ, _+_, _<_, _≤_}

@@ -1,6 +1,7 @@
-// Names found by family and length. Behind the room for the entries the compiler's memory has an index (`name_index`): for each family and length a
-// chain of its entries, in order of declaration. A try walks one chain and compares each name in it, up to the hit, and tells how many it compared. A finished
-// table has no index: there a try walks all entries, and compares those of the family and length.
+// Names found by family and length. After the room for the entries the compiler's memory has an index (`name_index`):
+// for each family and length a chain of its entries, in order of declaration. A try walks one chain and compares each
+// name in it, up to the hit, and tells how many it compared. A finished table has no index: there a try walks all
+// entries, and compares those of the family and length.
 use name_index::ALL;
 use name_index::CHAIN_BYTES;
 use name_index::CHAINS;
@@ -33,7 +34,8 @@ pub struct Tried {
 
 // ---- a try
 
-// The chain of a family and a length. Where there is none, or where the memory is too short for an index, it is that of the number 0, which has no entries.
+// The chain of a family and a length. Where there is none, or where the memory is too short for an index, it is that
+// of the number 0, which has no entries.
 fn chain_of(symbols: &[u8], family: usize, long: usize) -> Chain
     ensures { λ r. ⌜ HasChain (now (symbols .entry)) family long r ⌝ }
 {
@@ -49,8 +51,8 @@ fn chain_of(symbols: &[u8], family: usize, long: usize) -> Chain
     name_index::chain_in(name_index::word(symbols, CHAINS + LENGTHS * family + long))
 }
 
-// Whether the name of an entry, of the same length, is this one: by its first eight bytes, and where there are more, by all. The entry is told by its
-// first word.
+// Whether the name of an entry, of the same length, is this one: by its first eight bytes, and where there are more,
+// by all. The entry is told by its first word.
 fn is_same(symbols: &[u8], at: usize, front: usize, name: &[u8]) -> bool
     requires { ⌜ (at < 4096) × (188648 ≤ length (now symbols)) × (front ≡ frontOf (now name)) ⌝ }
     ensures { λ r. ⌜ Compares (now (symbols .entry)) at (now (name .entry)) r ⌝ }
@@ -65,8 +67,8 @@ fn is_same(symbols: &[u8], at: usize, front: usize, name: &[u8]) -> bool
     symbols::same(name, 0, symbols, link.place, name.len())
 }
 
-// The first entry of a family with a name, by the chain of the family and the length. The others are those that were compared and have another name. A chain
-// ends by its count, so that the walk ends whatever the memory holds.
+// The first entry of a family with a name, by the chain of the family and the length. The others are those that were
+// compared and have another name. A chain ends by its count, so that the walk ends whatever the memory holds.
 pub fn find(symbols: &[u8], family: usize, name: &[u8]) -> Tried
     ensures { λ r. ⌜ Tries (now (symbols .entry)) family (now (name .entry)) r ⌝ }
 {
@@ -96,8 +98,8 @@ pub fn find(symbols: &[u8], family: usize, name: &[u8]) -> Tried
     }
 }
 
-// The first entry of a family with a name, among the entries of a section, which has no index: the length is compared first, then the family, and only then
-// the name.
+// The first entry of a family with a name, among the entries of a section, which has no index: the length is compared
+// first, then the family, and only then the name.
 pub fn find_in_section(table: &[u8], start: usize, end: usize, family: usize, name: &[u8]) -> Tried
     ensures { λ r. ⌜ TriedIn family (now (name .entry)) (entriesAt (now (table .entry)) start end) r ⌝ }
 {
@@ -105,7 +107,7 @@ pub fn find_in_section(table: &[u8], start: usize, end: usize, family: usize, na
     let mut others: usize = 0;
     let mut at = start;
     loop {
-        let k = symbols::look(table, at, end);
+        let k = symbols::next_entry(table, at, end);
         match k {
             Entry::Named { sort, number, past } => {
                 let first = at + 4;
@@ -147,8 +149,9 @@ pub fn entered(symbols: &[u8], sort: usize) -> usize
     name_index::word(symbols, COUNTS + sort)
 }
 
-// Writes an entry at the end of the symbols, and at the end of its chain; the place past it. A number of more than 2 bytes is cut to 2, a family that there
-// is not to one that there is, and the 2,049th entry takes the words of the first: the compiler has none of these.
+// Writes an entry at the end of the symbols, and at the end of its chain; the place past it. A number of more than 2
+// bytes is cut to 2, a family that there is not to one that there is, and the 2,049th entry takes the words of the
+// first: the compiler has none of these.
 pub fn enter(
     symbols: &mut [u8],
     end: usize,

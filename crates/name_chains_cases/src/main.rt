@@ -1,7 +1,8 @@
-// Looks names up among the entries of sections on standard input, by their chains and by a walk of the section, and writes a
-// line for each: what was found, and how many entries were compared. A case is the length of a section and the section, laid
-// out as section 1 of a table; then the number of tries, and for each its family, the length of the name and the name. Numbers
-// have 4 bytes, little endian. The corpus ends with the input, or with a case that is cut short or longer than the memory here.
+// Looks names up among the entries of sections on standard input, by their chains and by a walk of the section, and
+// writes a line for each: what was found, and how many entries were compared. A case is the length of a section and
+// the section, laid out as section 1 of a table; then the number of tries, and for each its family, the length of the
+// name and the name. Numbers have 4 bytes, little endian. The corpus ends with the input, or with a case that is cut
+// short or longer than the memory here.
 ghost use mathlib.Core.Path.{_≡_};
 ghost use lib.ListN.{length};
 use corpus::Next;
@@ -27,7 +28,7 @@ fn enter_all(section: &[u8], symbols: &mut [u8; SYMBOL_BYTES])
     let mut at: usize = 0;
     let mut end: usize = 0;
     loop {
-        let entry = symbols::look(section, at, section.len());
+        let entry = symbols::next_entry(section, at, section.len());
         let Entry::Named { sort, number, past } = entry else {
             return;
         };

@@ -15,7 +15,8 @@ use Rattle.policy.specs.Basics.{le, unle}
 use Rattle.policy.specs.Encode.{NameEntry, entryBytes}
 use Rattle.symbols.specs.Lookup.{familyNumber}
 use Rattle.symbols.proofs.AppendLaws.{entry-length, take-put}
-use Rattle.name_index.specs.Index.{frontOf, wordIn, chainAt, chainIn, chainWord, linkIn, linkWord, ChainFits, LinkFits, putWord, putNode, linkedTo, putNext, begun, longer, putLast, putMore, newAt, newLink, putEntry}
+use Rattle.name_index.specs.Index.{frontOf, wordIn, chainAt, chainIn, chainWord, linkIn, linkWord, ChainFits, LinkFits, putWord, putNode, linkedTo}
+use Rattle.name_index.specs.Index.{putNext, begun, longer, putLast, putMore, newAt, newLink, putEntry}
 use Rattle.name_index.specs.declared.Chain.{Chain}
 use Rattle.name_index.specs.declared.Link.{Link}
 use Rattle.name_index.proofs.Words.{Kept, kept-on, word-kept, word-here, word-other, kept-take}
@@ -32,7 +33,7 @@ linked-next y next h = omega arith
 linked-below : (y next : ℕ) → next < 4096 → y < 1000000000000000000 → linkWord (linkedTo next (linkIn y)) < 256 ^ 8
 linked-below y next h l = omega arith
 
--- the first entry of a chain, and one behind others
+-- the first entry of a chain, and one after others
 module _ (t : List ℕ) (k at : ℕ) where
   empty-is : chainIn (wordIn t k) .count ≡ 0 → putLast t k at ≡ putWord t k (chainWord (begun at))
   unfolding putLast
@@ -79,7 +80,7 @@ module _ (t : List ℕ) (room : 188648 ≤ length t) where
     unfolding putMore
     more-here = word-here t at (wordIn t at % 65536 + 1) below room (omega arith)
 
-  -- the end of the chain that stands in the word k
+  -- the end of the chain that is in the word k
   module _ (k at : ℕ) (below : k < 6445) (small : at < 4096) where
     abbrev chain : Chain
     chain = chainIn (wordIn t k)
@@ -146,7 +147,7 @@ chain-cut h e = subst (λ (c : Chain). (c .count < 65536) × (c .first < 4096) �
 pub longer-fits : (h : ℕ) {at : ℕ} {c : Chain} → c ≡ chainIn h → at < 4096 → ChainFits (longer at c)
 longer-fits h e l = let cut = chain-cut h e in record { count = omega (arith, cut .0); first = cut .1; last = l }
 
--- what `set_next` and `set_last` put: a link with another next; the first entry of a chain, and one behind others
+-- what `set_next` and `set_last` put: a link with another next; the first entry of a chain, and one after others
 pub next-put : (t : List ℕ) (at next : ℕ) (link : Link) → link ≡ linkIn (wordIn t (at + 1))
     → putWord t (at + 1) (linkWord (linkedTo next link)) ≡ putNext t at next
 unfolding putNext

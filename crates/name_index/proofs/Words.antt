@@ -13,7 +13,7 @@ use Rattle.table_laws.proofs.LittleEndian.{le-length, unle-le}
 use Rattle.little_endian.proofs.WidthLaws.{unle-split}
 use Rattle.name_index.specs.Index.{wordIn, putWord}
 
--- ---- the front of a name v, whose first eight bytes are w: the number of w, or of its first four and of the at most four behind them
+-- ---- the front of a name v, whose first eight bytes are w: the number of w, or of its first four and of the at most four after them
 
 module _ (v w : List ℕ) (i : w ≡ part v 0 8) where
   pub front-short : length w ≤ 8

@@ -1,4 +1,4 @@
--- The words of the index, in the memory of the symbols behind the room for the entries: what is read from them, and what an entry more puts there. Assumes nothing.
+-- The words of the index, in the memory of the symbols after the room for the entries: what is read from them, and what an entry more puts there. Assumes nothing.
 --
 -- The index is words of 8 bytes. The entry k has the words 2k, the first eight bytes of its name, and 2k + 1, its link. From word 4096 on each family and
 -- length has its chain. From word 6436 on the entries of each sort are counted, and in word 6444 all. Where a chain or a link names an entry k, it holds the
@@ -70,18 +70,18 @@ putNode t at front link = putWord (putWord t at front) (at + 1) link
 abbrev pub linkedTo : ℕ → Link → Link
 linkedTo next l = record { next = next; sort = l .sort; number = l .number; place = l .place }
 
--- the entry whose first word is `next` is put behind the entry whose first word is `at`
+-- the entry whose first word is `next` is put after the entry whose first word is `at`
 unfoldable pub putNext : List ℕ → ℕ → ℕ → List ℕ
 putNext t at next = putWord t (at + 1) (linkWord (linkedTo next (linkIn (wordIn t (at + 1)))))
 
--- the chain of one entry, and a chain with one more behind its last
+-- the chain of one entry, and a chain with one more after its last
 abbrev pub begun : ℕ → Chain
 begun at = record { count = 1; first = at; last = at }
 
 abbrev pub longer : ℕ → Chain → Chain
 longer at c = record { count = c .count + 1; first = c .first; last = at }
 
--- the entry whose first word is `at` is put at the end of the chain that stands in the word k
+-- the entry whose first word is `at` is put at the end of the chain that is in the word k
 unfoldable pub putLast : List ℕ → ℕ → ℕ → List ℕ
 putLast t k at =
     cond (eqb (chainIn (wordIn t k) .count) 0) (putWord t k (chainWord (begun at)))
@@ -95,7 +95,7 @@ putMore t k = putWord t k (wordIn t k % 65536 + 1)
 abbrev pub newAt : List ℕ → ℕ
 newAt t = 2 * (wordIn t 6444 % 2048)
 
--- the link of an entry that starts at a place, with none behind it in its chain
+-- the link of an entry that starts at a place, with none after it in its chain
 abbrev pub newLink : ℕ → NameEntry → Link
 newLink end e = record { next = 0; sort = e .sort; number = e .number % 65536; place = end + 4 }
 

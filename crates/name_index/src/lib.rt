@@ -1,7 +1,8 @@
-// The index of names behind the room for the entries: its words, the chains and the links in them.
+// The index of names after the room for the entries: its words, the chains and the links in them.
 //
-// The index is words of 8 bytes. The entry k has the words 2k and 2k + 1: the first eight bytes of its name, and its link. A link names the next entry of
-// its chain, and a chain its first and its last, by the number of the entry's first word, 2k: that is where a try reads on.
+// The index is words of 8 bytes. The entry k has the words 2k and 2k + 1: the first eight bytes of its name, and its
+// link. A link names the next entry of its chain, and a chain its first and its last, by the number of the entry's
+// first word, 2k: that is where a try reads on.
 ghost use mathlib.Core.Path.{_≡_};
 ghost use Prim.Native.Nat.{_+_, _<_, _≤_};
 ghost use lib.ListN.{length};
@@ -21,10 +22,10 @@ pub const ENTRIES: usize = 2048;
 // How many sorts of entries there are: users, roles, types, the attributes of each, classes and permissions.
 const SORTS: usize = 8;
 
-// Behind the words of the entries stand those of the chains, a chain for each family and length.
+// After the words of the entries stand those of the chains, a chain for each family and length.
 pub const CHAINS: usize = 2 * ENTRIES;
 
-// Behind these the entries of each sort are counted, and in the last word all entries.
+// After these the entries of each sort are counted, and in the last word all entries.
 pub const COUNTS: usize = CHAINS + FAMILIES * LENGTHS;
 
 pub const ALL: usize = COUNTS + SORTS;
@@ -68,7 +69,7 @@ impl Chain {
     // What a count is below: more than there are entries.
     const COUNT_LIMIT: usize = 65_536;
 
-    // The count stands lowest in the word of a chain. These are the weights of the other parts.
+    // The count is lowest in the word of a chain. These are the weights of the other parts.
     const FIRST: usize = Chain::COUNT_LIMIT;
 
     const LAST: usize = Chain::FIRST * CHAINS;
@@ -93,7 +94,8 @@ fn chain_word(chain: Chain) -> usize
     chain.count + Chain::FIRST * chain.first + Chain::LAST * chain.last
 }
 
-// The link of an entry: the first word of the next entry of its chain, the entry's sort and number, and the place of its name.
+// The link of an entry: the first word of the next entry of its chain, the entry's sort and number, and the place of
+// its name.
 pub struct Link {
     pub next: usize,
     pub sort: usize,
@@ -105,7 +107,7 @@ impl Link {
     // How many numbers an entry's two bytes can tell.
     pub const NUMBERS: usize = 65_536;
 
-    // The next stands lowest in the word of a link. These are the weights of the other parts.
+    // The next is lowest in the word of a link. These are the weights of the other parts.
     const SORT: usize = CHAINS;
 
     const NUMBER: usize = Link::SORT * SORTS;
@@ -143,7 +145,7 @@ pub fn link_at(symbols: &[u8], at: usize) -> Link
 
 // ---- the first bytes of a name
 
-// How many bytes of a name stand in the first word of its entry: as many as a word has.
+// How many bytes of a name are in the first word of its entry: as many as a word has.
 pub const FRONT: usize = WORD_BYTES;
 
 // The first eight bytes of a name as one number, the lowest first; or all, where it has less.
@@ -168,7 +170,7 @@ pub fn set_node(symbols: &mut [u8], at: usize, front: usize, link: usize)
     set_word(symbols, at + 1, link);
 }
 
-// Puts the entry whose first word is next behind the entry whose first word is at.
+// Puts the entry whose first word is next after the entry whose first word is at.
 fn set_next(symbols: &mut [u8], at: usize, next: usize)
     requires { ⌜ (at < 4096) × (next < 4096) × (188648 ≤ length (now symbols)) ⌝ }
     ensures { λ _. ⌜ now (symbols .exit) ≡ putNext (now (symbols .entry)) at next ⌝ }
@@ -183,7 +185,7 @@ fn set_next(symbols: &mut [u8], at: usize, next: usize)
     set_word(symbols, at + 1, linked);
 }
 
-// Puts the entry whose first word is at to the end of the chain that stands in a word.
+// Puts the entry whose first word is at to the end of the chain that is in a word.
 pub fn set_last(symbols: &mut [u8], k: usize, at: usize)
     requires { ⌜ (k < 6445) × (at < 4096) × (188648 ≤ length (now symbols)) ⌝ }
     ensures { λ _. ⌜ now (symbols .exit) ≡ putLast (now (symbols .entry)) k at ⌝ }

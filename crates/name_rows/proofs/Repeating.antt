@@ -34,7 +34,7 @@ module _ (ws : List Name) (k : ℕ) (x : Name) (xs : List Name) (e : drop k ws �
 
 -- ---- the names of the row at a place
 
--- the first k of them stand before i, and differ; fs has their first eight bytes, as far as there is room
+-- the first k of them are before i, and differ; fs has their first eight bytes, as far as there is room
 pub record Passed (t : List ℕ) (at : ℕ) (fs : List ℕ) (k i : ℕ) : Type 0 where
   pub left : drop k (wordsIn (framesAt t at .here)) ≡ wordsIn (framesAt t i .here)
   pub apart : differ (take k (wordsIn (framesAt t at .here))) ≡ true

@@ -1,4 +1,4 @@
--- The words of a row, one after the other: what stands at a place, whether a name is among the first of them, and how many they are.
+-- The words of a row, one after the other: what is at a place, whether a name is among the first of them, and how many they are.
 -- Assumes nothing.
 use mathlib.Core.Path.{_≡_, sym, ap, subst, _∙_}
 use mathlib.Core.Bool.{true, false}
@@ -97,7 +97,7 @@ module _ (t : List ℕ) (i k : ℕ) (w : Name) where
 
 -- ---- how many they are
 
--- so many of the row at a place stand before i
+-- so many of the row at a place are before i
 pub record Counted (t : List ℕ) (at i count : ℕ) : Type 0 where
   pub left : count + length (wordsIn (framesAt t i .here)) ≡ length (wordsIn (framesAt t at .here))
   pub few : count ≤ i

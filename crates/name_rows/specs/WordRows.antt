@@ -39,6 +39,6 @@ WordBy t at NextWord.Missing = wordsIn (framesAt t at .here) ≡ []
 pub record WordIs (t : List ℕ) (at : ℕ) (r : NextWord) : Type 0 where
   pub is : WordBy t at r
 
--- where a part stands next, its own row stands at r
+-- where a part is next, its own row is at r
 pub record Inside (t : List ℕ) (at r : ℕ) : Type 0 where
   pub row : (p : ℕ) (i after : Forms) → framesAt t at .here ≡ part p i after → framesAt t r .here ≡ i

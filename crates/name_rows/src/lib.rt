@@ -1,4 +1,5 @@
-// The names in a row of the text: the next one, how many there are, and whether one stands twice, as a class's permissions must not.
+// The names in a row of the text: the next one, how many there are, and whether one is twice, as a class's
+// permissions must not.
 use lexer::Token;
 ghost use mathlib.Core.Path.{_≡_};
 ghost use mathlib.Core.Bool.{not, false};
@@ -10,7 +11,7 @@ ghost use Rattle.policy.specs.Basics as basics;
 ghost use Rattle.policy.specs.Basics.{differ};
 ghost use Rattle.name_rows.specs.WordRows.{wordsIn, isAmongFirst, mayBeAmong, WordIs, Inside};
 
-// The word that stands next in a row, or that none does.
+// The word that is next in a row, or that none does.
 pub enum NextWord {
     At { start: usize, len: usize },
     Missing,
@@ -27,7 +28,7 @@ fn same_name(a: &[u8], i: usize, m: usize, b: &[u8], j: usize, n: usize) -> bool
     symbols::same(a, i, b, j, m)
 }
 
-// The word that stands next in the row at a place.
+// The word that is next in the row at a place.
 pub fn word_at(text: &[u8], at: usize) -> NextWord
     ensures { λ r. ⌜ WordIs (now (text .entry)) at r ⌝ }
 {
@@ -40,7 +41,7 @@ pub fn word_at(text: &[u8], at: usize) -> NextWord
     }
 }
 
-// The place behind the open parenthesis that stands next, or the same place where none does.
+// The place after the open parenthesis that is next, or the same place where none does.
 pub fn inside(text: &[u8], at: usize) -> usize
     ensures { λ r. ⌜ Inside (now (text .entry)) at r ⌝ }
 {
@@ -53,7 +54,8 @@ pub fn inside(text: &[u8], at: usize) -> usize
     }
 }
 
-// Whether the name of len bytes of the text at a start is one of the first names of the row at a place, of so many of them.
+// Whether the name of len bytes of the text at a start is one of the first names of the row at a place, of so many of
+// them.
 fn is_among_first(text: &[u8], at: usize, count: usize, start: usize, len: usize) -> bool
     requires { ⌜ start + len ≤ length (now text) ⌝ }
     ensures { λ r. ⌜ r ≡ isAmongFirst (now (text .entry)) at count (part (now (text .entry)) start len) ⌝ }
@@ -74,8 +76,8 @@ fn is_among_first(text: &[u8], at: usize, count: usize, start: usize, len: usize
     false
 }
 
-// Whether a name may be one of the first names of a row, so many of them, by their first eight bytes. It is none of them where those of all are lent and none
-// is its own; where fewer are lent than there are names, it may be.
+// Whether a name may be one of the first names of a row, so many of them, by their first eight bytes. It is none of
+// them where those of all are lent and none is its own; where fewer are lent than there are names, it may be.
 fn may_be_among(fronts: &[usize], count: usize, front: usize) -> bool
     ensures { λ r. ⌜ r ≡ mayBeAmong (now (fronts .entry)) count front ⌝ }
 {
@@ -101,7 +103,8 @@ fn keep_front(fronts: &mut [usize], k: usize, front: usize)
     }
 }
 
-// Whether a name is one of the first of the row, where their first eight bytes were asked first: only a name that may be among them is compared with them.
+// Whether a name is one of the first of the row, where their first eight bytes were asked first: only a name that may
+// be among them is compared with them.
 fn is_repeated(
     text: &[u8],
     at: usize,
@@ -119,8 +122,8 @@ fn is_repeated(
     is_among_first(text, at, count, start, len)
 }
 
-// Whether a name stands twice in the row at a place: each is looked for among those before it. The first eight bytes are kept of as many names as a class
-// may have.
+// Whether a name is twice in the row at a place: each is looked for among those before it. The first eight bytes are
+// kept of as many names as a class may have.
 pub fn repeats(text: &[u8], at: usize) -> bool
     ensures { λ r. ⌜ r ≡ not (differ (wordsIn (framesAt (now (text .entry)) at .here))) ⌝ }
 {
@@ -143,7 +146,7 @@ pub fn repeats(text: &[u8], at: usize) -> bool
     }
 }
 
-// How many names stand in the row at a place.
+// How many names are in the row at a place.
 pub fn count_names(text: &[u8], at: usize) -> usize
     ensures { λ r. ⌜ r ≡ length (wordsIn (framesAt (now (text .entry)) at .here)) ⌝ }
 {

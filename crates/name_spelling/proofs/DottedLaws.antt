@@ -7,7 +7,7 @@ use native.Mathlib.Omega.{arith}
 use lib.ListN.{length}
 use Rattle.lexer.specs.declared.ByteClass.{ByteClass}
 use Rattle.lexer.specs.declared.ByteClass.the-variants.{Blank, LineFeed, Comment, Open, Close, Letter, Digit, Dot, Wrong}
-use Rattle.lexer.specs.Class.{classOf, starts, goesOn, isDot, onFirst, parts, isDotted}
+use Rattle.lexer.specs.Class.{classOf, starts, goesOn, isDot, onFirst, parts, hasGoodParts}
 use Rattle.lexer.proofs.Names.{part-in-word, fits, partsFrom, dotted-from, some-part}
 
 -- ---- how many parts there are
@@ -49,5 +49,5 @@ unfolding partsFrom
 spoils [] b v fresh g d = rw (no-fit (classOf b) fresh g d)
 spoils (c ∷ w) b v fresh g d = rw (spoils w b v (isDot (classOf c)) g d) (and-false (fits fresh (classOf c)))
 
-pub no-name : (w : List ℕ) (b : ℕ) (v : List ℕ) → goesOn (classOf b) ≡ false → isDot (classOf b) ≡ false → isDotted (w ++ (b ∷ v)) ≡ false
+pub no-name : (w : List ℕ) (b : ℕ) (v : List ℕ) → goesOn (classOf b) ≡ false → isDot (classOf b) ≡ false → hasGoodParts (w ++ (b ∷ v)) ≡ false
 no-name w b v g d = dotted-from (w ++ (b ∷ v)) ∙ spoils w b v true g d

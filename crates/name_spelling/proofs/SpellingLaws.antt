@@ -13,7 +13,7 @@ use lib.Seq.{getD-take, getD-drop}
 use Rattle.bitset.specs.Parts.{part}
 use Rattle.bitset.proofs.PartLaws.{length-part-min}
 use Rattle.lexer.specs.Answers.{partStarts}
-use Rattle.lexer.specs.Class.{classOf, starts, goesOn, isDot, maxName, allGoOn, isPart, allParts, parts, isDotted}
+use Rattle.lexer.specs.Class.{classOf, starts, goesOn, isDot, maxName, allGoOn, isPart, allParts, parts, hasGoodParts}
 use Rattle.lexer.proofs.Names.{dotted-from, no-part, some-part, cut-at-dot, only-part}
 use Rattle.policy.specs.Basics.{Name, same, any, every, isIn}
 use Rattle.policy.specs.Words.{reserved, isReserved}
@@ -21,7 +21,7 @@ use Rattle.policy.specs.Sound.{isGoodPart}
 use Rattle.policy.proofs.Lists.{both-true, true-both, either-true, same-is}
 use Rattle.symbols.specs.Section.{between}
 use Rattle.symbols.proofs.PartLaws.{part-cons, part-none, part-join}
-use Rattle.name_filter.specs.Filter.{stepped, hashFrom, hashOf}
+use Rattle.bloom_filter.specs.Filter.{stepped, hashFrom, hashOf}
 use Rattle.name_spelling.specs.Spelling.{mayBeReserved, hashIf, ReadTo, PartRead, partsSpelled, behindPart, moreSpelled, isSpelt, spelled}
 use Rattle.name_spelling.specs.declared.Part.{Part}
 use Rattle.name_spelling.proofs.DottedLaws.{alone, no-name}
@@ -156,17 +156,17 @@ no-hash false h e = refl
 
 -- where no part may stand; where none starts
 none-left : (w : Name) (h : ℕ) → partsSpelled 0 w h ≡ 4294967296
-none-left w h = rw (lt-leb (length (parts w)) 0 (some-part w), and-false (isDotted w))
+none-left w h = rw (lt-leb (length (parts w)) 0 (some-part w), and-false (hasGoodParts w))
 
 none-starts : (n : ℕ) (w : Name) (h : ℕ) → partStarts w ≡ false → partsSpelled n w h ≡ 4294967296
 none-starts n w h e = rw (dotted-from w, no-part w e)
 
 -- one part alone
 one-part : (n : ℕ) (p : Name) (h : ℕ) → 0 < n → isPart p ≡ true → partsSpelled n p h ≡ hashIf (not (isReserved p)) (hashFrom p h)
-unfolding isDotted allParts
+unfolding hasGoodParts allParts
 one-part n p h l e = rw (only-part p e, e, le-leb 1 n l)
 
--- a part and what stands behind it
+-- a part and what is after it
 module _ (n : ℕ) (p : Name) (b : ℕ) (v : Name) (h : ℕ) (l : 0 < n) (e : isPart p ≡ true) where
   cut : isDot (classOf b) ≡ true → parts (p ++ (b ∷ v)) ≡ p ∷ parts v
   cut d = cut-at-dot p b v d ∙ ap (λ (ps : List Name). ps ++ parts v) (only-part p e)
@@ -178,8 +178,8 @@ module _ (n : ℕ) (p : Name) (b : ℕ) (v : Name) (h : ℕ) (l : 0 < n) (e : is
       less true f = le-leb (suc (length (parts v))) n (omega (arith, leb-true (length (parts v)) (n - 1) f))
       less false f = lt-leb (suc (length (parts v))) n (omega (arith, leb-false (length (parts v)) (n - 1) f))
 
-  dotted-behind : isDot (classOf b) ≡ true → isDotted (p ++ (b ∷ v)) ≡ isDotted v
-  unfolding isDotted allParts
+  dotted-behind : isDot (classOf b) ≡ true → hasGoodParts (p ++ (b ∷ v)) ≡ hasGoodParts v
+  unfolding hasGoodParts allParts
   dotted-behind d = rw (cut d, e)
 
   reserved-behind : isDot (classOf b) ≡ true → isReserved (p ++ (b ∷ v)) ≡ (isReserved p || isReserved v)
@@ -201,7 +201,7 @@ module _ (n : ℕ) (p : Name) (b : ℕ) (v : Name) (h : ℕ) (l : 0 < n) (e : is
       by : (q : Bool) → isDot (classOf b) ≡ q → partsSpelled n (p ++ (b ∷ v)) h ≡ hashIf (not (isReserved p)) (hashIf q (partsSpelled (n - 1) v (stepped (hashFrom p h) b)))
       by true d =
           rw (dotted-behind d, few d, reserved-behind d, hash-append p (b ∷ v) h)
-          (split (isDotted v && leb (length (parts v)) (n - 1)) (isReserved p) (isReserved v) (hashFrom v (stepped (hashFrom p h) b)))
+          (split (hasGoodParts v && leb (length (parts v)) (n - 1)) (isReserved p) (isReserved v) (hashFrom v (stepped (hashFrom p h) b)))
       by false d = rw (no-name p b v g d) (no-hash (not (isReserved p)) 4294967296 refl)
 
 -- ---- a part that was read, in its name
@@ -217,7 +217,7 @@ starts-there t at past g = by (ltb at past) refl
 pub no-start : (t : List ℕ) (n at past h : ℕ) → past ≤ length t → (ltb at past && starts (classOf (getD t at 0))) ≡ false → partsSpelled n (between t at past) h ≡ 4294967296
 no-start t n at past h g e = none-starts n (between t at past) h (sym (starts-there t at past g) ∙ e)
 
--- what stands behind a part at a dot: no part may; there is no dot; no part starts there; and else parts
+-- what is after a part at a dot: no part may; there is no dot; no part starts there; and else parts
 module _ (t : List ℕ) (from dot past before left : ℕ) where
   pub more-none : left ≡ 0 → 4294967296 ≡ moreSpelled t from dot past before left
   more-none e =
@@ -245,7 +245,8 @@ module _ (t : List ℕ) (from past before : ℕ) (r : Part) (g : past ≤ length
       let l = x .read .ahead in
       let w = x .read .within in
       rw (first-byte t from (r .end) l (omega arith))
-      (true-both (starts (classOf (getD t from 0))) (allGoOn (between t (from + 1) (r .end))) (both-true (ltb from past) (starts (classOf (getD t from 0))) s .1) (x .read .goes-on))
+      (true-both (starts (classOf (getD t from 0))) (allGoOn (between t (from + 1) (r .end)))
+      (both-true (ltb from past) (starts (classOf (getD t from 0))) s .1) (x .read .goes-on))
 
   -- the name ends with it
   pub ends : (n : ℕ) → 0 < n → past ≤ r .end → partsSpelled n (between t from past) before ≡ hashIf (not (isReserved (between t from past))) (r .hash)
@@ -255,7 +256,7 @@ module _ (t : List ℕ) (from past before : ℕ) (r : Part) (g : past ≤ length
       one-part n (between t from past) before l (rw e at is-part)
       ∙ ap (λ (h : ℕ). hashIf (not (isReserved (between t from past))) h) (sym (rw e at (x .read .hashed)))
 
-  -- the name goes on behind it
+  -- the name goes on after it
   pub goes-behind : (n : ℕ) → 0 < n → r .end < past → partsSpelled n (between t from past) before ≡ moreSpelled t from (r .end) past (r .hash) (n - 1)
   goes-behind n l m =
       let a = x .read .ahead in
@@ -268,10 +269,10 @@ module _ (t : List ℕ) (from past before : ℕ) (r : Part) (g : past ≤ length
 
 module _ (t : List ℕ) (from past n : ℕ) (l : from ≤ past) (g : past ≤ length t) where
   pub too-long : maxName < past - from → 4294967296 ≡ spelled n (between t from past)
-  too-long h = rw (lt-leb (length (between t from past)) maxName (omega (arith, long t from past l g)), and-false (isDotted (between t from past)))
+  too-long h = rw (lt-leb (length (between t from past)) maxName (omega (arith, long t from past l g)), and-false (hasGoodParts (between t from past)))
 
   pub by-parts : past - from ≤ maxName → partsSpelled n (between t from past) 0 ≡ spelled n (between t from past)
-  by-parts h = rw (le-leb (length (between t from past)) maxName (omega (arith, long t from past l g)), and-true (isDotted (between t from past)))
+  by-parts h = rw (le-leb (length (between t from past)) maxName (omega (arith, long t from past l g)), and-true (hasGoodParts (between t from past)))
 
 hash-small : (w : Name) (h : ℕ) → h < 4294967296 → hashFrom w h < 4294967296
 unfolding hashFrom stepped
@@ -297,12 +298,12 @@ not-spelled n w h e z = by (isSpelt n w) refl
 
 -- "a permission's one": a good name of one part is a good part
 pub spelt-part : (w : Name) → isSpelt 1 w ≡ isGoodPart w
-unfolding isDotted allParts
+unfolding hasGoodParts allParts
 spelt-part w = by (isPart w) refl
   where
-    one : (q : Bool) → leb (length (parts w)) 1 ≡ q → isPart w ≡ false → (isDotted w && leb (length w) maxName && q && not (isReserved w)) ≡ false
+    one : (q : Bool) → leb (length (parts w)) 1 ≡ q → isPart w ≡ false → (hasGoodParts w && leb (length w) maxName && q && not (isReserved w)) ≡ false
     one true f e = rw (alone w (leb-true (length (parts w)) 1 f), e)
-    one false f e = rw (and-false (isDotted w && leb (length w) maxName))
+    one false f e = rw (and-false (hasGoodParts w && leb (length w) maxName))
 
     by : (q : Bool) → isPart w ≡ q → isSpelt 1 w ≡ (q && leb (length w) maxName && not (isReserved w))
     by true e = rw (only-part w e, e, and-true (leb (length w) maxName))

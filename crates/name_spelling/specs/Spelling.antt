@@ -6,11 +6,11 @@ use Prim.Native.Nat.{ℕ, _+_, _/_, _%_, _^_, _≤_, _<_}
 use Prim.Native.Char.{Char, code}
 use lib.Dec.{eqb, leb, ltb}
 use lib.ListN.{length, getD}
-use Rattle.lexer.specs.Class.{classOf, goesOn, isDot, maxName, allGoOn, parts, isDotted}
+use Rattle.lexer.specs.Class.{classOf, goesOn, isDot, maxName, allGoOn, parts, hasGoodParts}
 use Rattle.policy.specs.Basics.{Name}
 use Rattle.policy.specs.Words.{isReserved}
 use Rattle.symbols.specs.Section.{between}
-use Rattle.name_filter.specs.Filter.{stepped, hashFrom}
+use Rattle.bloom_filter.specs.Filter.{stepped, hashFrom}
 use Rattle.name_spelling.specs.declared.Part.{Part}
 
 -- a byte as a bit among 64
@@ -52,19 +52,19 @@ pub record PartRead (t : List ℕ) (from past before : ℕ) (r : Part) : Type 0 
 
 -- good parts with one dot between, at most n of them, from a hash on
 abbrev pub partsSpelled : ℕ → Name → ℕ → ℕ
-partsSpelled n w h = hashIf (isDotted w && leb (length (parts w)) n && not (isReserved w)) (hashFrom w h)
+partsSpelled n w h = hashIf (hasGoodParts w && leb (length (parts w)) n && not (isReserved w)) (hashFrom w h)
 
--- behind a part, from a hash on: a dot b, and then at most n parts w
+-- after a part, from a hash on: a dot b, and then at most n parts w
 abbrev pub behindPart : ℕ → ℕ → Name → ℕ → ℕ
 behindPart n b w h = hashIf (isDot (classOf b)) (partsSpelled n w (stepped h b))
 
--- the same in a table: the part from a place to before the dot, and what stands behind it to before a third place
+-- the same in a table: the part from a place to before the dot, and what is after it to before a third place
 abbrev pub moreSpelled : List ℕ → ℕ → ℕ → ℕ → ℕ → ℕ → ℕ
 moreSpelled t from dot past h n = hashIf (not (isReserved (between t from dot))) (behindPart n (getD t dot 0) (between t (dot + 1) past) h)
 
 -- W-203: the names of tables are "at most 64 bytes and nine parts, a permission's one"; "A name with a reserved part counts as reserved"
 abbrev pub isSpelt : ℕ → Name → Bool
-isSpelt n w = isDotted w && leb (length w) maxName && leb (length (parts w)) n && not (isReserved w)
+isSpelt n w = hasGoodParts w && leb (length w) maxName && leb (length (parts w)) n && not (isReserved w)
 
 abbrev pub spelled : ℕ → Name → ℕ
 spelled n w = hashIf (isSpelt n w) (hashFrom w 0)

@@ -1,4 +1,5 @@
-// How a name of a table is spelt: which bytes and how many parts it has, and whether a part is a reserved word. One pass tests and hashes its bytes.
+// How a name of a table is spelt: which bytes and how many parts it has, and whether a part is a reserved word. One
+// pass tests and hashes its bytes.
 ghost use mathlib.Core.Path.{_≡_};
 ghost use mathlib.Core.Bool.{true, not, _&&_};
 ghost use Prim.Native.Nat.{_≤_, _<_};
@@ -14,7 +15,7 @@ ghost use Rattle.name_spelling.specs.Spelling.{mayBeReserved, hashIf, Pa
 // What stands for the hash of bytes that are no name: one more than the greatest hash.
 pub const NO_NAME: usize = 4_294_967_296;
 
-// A part that was read: the hash of the name up to its end, and the place behind it.
+// A part that was read: the hash of the name up to its end, and the place after it.
 struct Part {
     hash: usize,
     end: usize,
@@ -76,7 +77,8 @@ fn is_reserved(table: &[u8], from: usize, past: usize) -> bool
     words::has_reserved_part(bitset::part(table, from, past - from))
 }
 
-// The hash, unless the part from a place to before another is reserved. Few parts end like a reserved word of their length, so that few are compared.
+// The hash, unless the part from a place to before another is reserved. Few parts end like a reserved word of their
+// length, so that few are compared.
 fn unless_reserved(table: &[u8], from: usize, past: usize, hash: usize) -> usize
     requires { ⌜ (from < past) × (past ≤ length (now table)) × (isPart (between (now table) from past) ≡ true) ⌝ }
     ensures { λ r. ⌜ r ≡ hashIf (not (isReserved (between (now (table .entry)) from past))) hash ⌝ }
@@ -100,7 +102,7 @@ fn goes_on(classes: &[u8; 256], table: &[u8], at: usize, past: usize) -> bool
     if past <= at {
         return false;
     }
-    lexer::is_in_name(classes, table[at])
+    lexer::is_in_part(classes, table[at])
 }
 
 // Whether a part starts at a place before another.
@@ -111,7 +113,7 @@ fn starts_part(classes: &[u8; 256], table: &[u8], at: usize, past: usize) -> boo
     if past <= at {
         return false;
     }
-    lexer::starts_name(classes, table[at])
+    lexer::starts_part(classes, table[at])
 }
 
 // The part that starts at a place, with the hash of the name up to there.
@@ -119,17 +121,18 @@ fn read_part(classes: &[u8; 256], table: &[u8], from: usize, past: usize, before
     requires { ⌜ Classes (now classes) × (from < past) × (past ≤ length (now table)) × (before < 4294967296) ⌝ }
     ensures { λ r. ⌜ PartRead (now (table .entry)) from past before r ⌝ }
 {
-    let mut hash = name_filter::step(before, little_endian::wide(table[from]));
+    let mut hash = bloom_filter::hash_step(before, little_endian::wide(table[from]));
     let mut i = from + 1;
     while goes_on(classes, table, i, past) {
-        hash = name_filter::step(hash, little_endian::wide(table[i]));
+        hash = bloom_filter::hash_step(hash, little_endian::wide(table[i]));
         i += 1;
     }
     Part { hash: hash, end: i }
 }
 
-// The hash of a name whose part from a place to before another does not end it: a dot stands there, and behind it so many parts at most. Few names have a dot.
-// Since this function calls itself, the compiler keeps it apart from `spell`, which then is as quick as if there were no dots.
+// The hash of a name whose part from a place to before another does not end it: a dot is there, and after it so many
+// parts at most. Few names have a dot. Since this function calls itself, the compiler keeps it apart from `spell`,
+// which then is as quick as if there were no dots.
 fn spell_more(
     classes: &[u8; 256],
     table: &[u8],
@@ -157,7 +160,7 @@ fn spell_more(
         table,
         start,
         past,
-        name_filter::step(before, little_endian::wide(table[dot])),
+        bloom_filter::hash_step(before, little_endian::wide(table[dot])),
     );
     let end = part.end;
     let hash = if end < past {

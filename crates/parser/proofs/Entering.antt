@@ -10,7 +10,7 @@ use Rattle.lexer.specs.Class.{isName}
 use Rattle.lexer.specs.Forms.{Forms, word, framesAt, namesGood}
 use Rattle.policy.specs.Basics.{Name}
 use Rattle.policy.specs.Grammar.{headerIn}
-use Rattle.policy.specs.Reading.{Judged, reads, opens, fault, opening}
+use Rattle.policy.specs.Reading.{Judged, reads, opens, fault, judgeBlock}
 use Rattle.policy.specs.Sound.{isGoodPart}
 use Rattle.policy.proofs.Lists.{both-true}
 use Rattle.reading_laws.proofs.FullNames.{part-good}
@@ -18,7 +18,7 @@ use Rattle.parser.proofs.Resuming.{header-name}
 use Rattle.grammar.specs.Shapes.{HeaderBy, HeaderIs}
 use Rattle.grammar.specs.declared.Header.{Header}
 use Rattle.block_reader.specs.Within.{OneMore, OpensBy, OpensBlock}
-use Rattle.block_reader.specs.declared.Open.{Open}
+use Rattle.block_reader.specs.declared.OpenBlocks.{OpenBlocks}
 use Rattle.block_reader.specs.declared.Opened.{Opened}
 use Rattle.parser.specs.Parts.{Inside, EnteredBy, EnteredAhead, Enters}
 use Rattle.parser.specs.declared.Entered.{Entered}
@@ -28,11 +28,11 @@ unfolding part
 part-is t s n = refl
 
 -- fault 3
-pub no-header : {t : List ℕ} {at : ℕ} {keys keys' filter filter' sy sy' : List ℕ} {o : Open} {h : Header} → HeaderIs t at h → h ≡ Header.Bad
+pub no-header : {t : List ℕ} {at : ℕ} {keys keys' filter filter' sy sy' : List ℕ} {o : OpenBlocks} {h : Header} → HeaderIs t at h → h ≡ Header.Bad
     → Enters t at keys keys' filter filter' sy sy' o (Entered.Fault 3)
 no-header {t} {at} {keys} {keys'} {filter} {filter'} {sy} {sy'} {o} x e = record {
   says = λ path names w good short room.
-      subst (λ (b : Option Name). EnteredBy (opening path names b) t at keys' filter' sy sy' path names o (Entered.Fault 3)) (sym (subst (HeaderBy t at) e (x .is))) refl;
+      subst (λ (b : Option Name). EnteredBy (judgeBlock path names b) t at keys' filter' sy sy' path names o (Entered.Fault 3)) (sym (subst (HeaderBy t at) e (x .is))) refl;
   ahead = tt;
 }
 
@@ -59,7 +59,7 @@ module _ {t : List ℕ} {at start len : ℕ} {h : Header} (x : HeaderIs t at h) 
       let taken = header-name start w rest w (ap headerIn (sym (named .1)) ∙ named .0) .0 in
       subst (λ (v : Name). isGoodPart v ≡ true) (sym (part-is t start len)) (part-good w word-name .has w taken)
 
-  module _ {keys keys' filter filter' sy sy' : List ℕ} {o : Open} {k : Opened} (y : OpensBlock t start len keys keys' filter filter' sy sy' o k) where
+  module _ {keys keys' filter filter' sy sy' : List ℕ} {o : OpenBlocks} {k : Opened} (y : OpensBlock t start len keys keys' filter filter' sy sy' o k) where
     entered-by : (path names : List Name) (j : Judged) (r : Opened) → OpensBy (OneMore t keys' filter' sy' path names (part t start len) o) j r
         → EnteredBy j t at keys' filter' sy sy' path names o (answerOf (start + len) r)
     entered-by path names (reads s) (Opened.Read q) g = absurd g
@@ -68,7 +68,9 @@ module _ {t : List ℕ} {at start len : ℕ} {h : Header} (x : HeaderIs t at h) 
       name = part t start len;
       start = start;
       header = named .0 ∙ ap (λ (v : Name). some v) (sym (part-is t start len));
-      row = ap₂ (λ (f : Forms) (fs : List Forms). record { here = f; around = fs }) (named .1 ∙ ap (λ (v : Name). word start v (framesAt t (start + len) .here)) (sym (part-is t start len))) (named .2);
+      row =
+          ap₂ (λ (f : Forms) (fs : List Forms). record { here = f; around = fs })
+          (named .1 ∙ ap (λ (v : Name). word start v (framesAt t (start + len) .here)) (sym (part-is t start len))) (named .2);
       within = g .inside;
       counted = g .next;
       kept = y .kept;
@@ -82,9 +84,9 @@ module _ {t : List ℕ} {at start len : ℕ} {h : Header} (x : HeaderIs t at h) 
       says = λ path names w good short room.
           let judged = y .judges path names w (good-name good) room short inside-text in
           let is : headerIn (framesAt t at .here) ≡ some (part t start len) = named .0 ∙ ap (λ (v : Name). some v) (sym (part-is t start len)) in
-          subst (λ (b : Option Name). EnteredBy (opening path names b) t at keys' filter' sy sy' path names o r) (sym is)
-          (subst (EnteredBy (opening path names (some (part t start len))) t at keys' filter' sy sy' path names o) (sym i)
-          (entered-by path names (opening path names (some (part t start len))) k judged));
+          subst (λ (b : Option Name). EnteredBy (judgeBlock path names b) t at keys' filter' sy sy' path names o r) (sym is)
+          (subst (EnteredBy (judgeBlock path names (some (part t start len))) t at keys' filter' sy sy' path names o) (sym i)
+          (entered-by path names (judgeBlock path names (some (part t start len))) k judged));
       ahead = subst (EnteredAhead t at) (sym i) (ahead-of k);
     }
       where

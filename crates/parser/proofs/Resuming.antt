@@ -21,19 +21,19 @@ use Rattle.reading_laws.proofs.ReadThen.{scoped-statement, scoped-block}
 use Rattle.parser.specs.Left.{resumed, RowsWhole}
 
 -- the frames before an opening parenthesis, by those after it
-abbrev pub opening : ℕ → Frames → Frames
-opening p f = record { here = part p (f .here) (out f .here); around = out f .around }
+abbrev pub judgeBlock : ℕ → Frames → Frames
+judgeBlock p f = record { here = part p (f .here) (out f .here); around = out f .around }
 
 -- ---- a part is next
 
 -- a statement: what follows it is left
-pub after-statement : (path : List Name) (p : ℕ) (f : Frames) → blockIn (f .here) ≡ none → resumed path (opening p f) ≡ scoped p path (f .here) ∷ resumed path (out f)
+pub after-statement : (path : List Name) (p : ℕ) (f : Frames) → blockIn (f .here) ≡ none → resumed path (judgeBlock p f) ≡ scoped p path (f .here) ∷ resumed path (out f)
 after-statement [] p f e = scoped-statement [] p (f .here) (out f .here) e
 after-statement (b ∷ path) p f e = ap (λ (x : List Scoped). x ++ resumed path (out (out f))) (scoped-statement (b ∷ path) p (f .here) (out f .here) e)
 
 -- a block: what is in it is left, and then what follows it
 pub after-header : (path : List Name) (p : ℕ) (f : Frames) (b : Name) → blockIn (f .here) ≡ some b
-    → resumed path (opening p f) ≡ scoped p path (f .here) ∷ resumed (b ∷ path) f
+    → resumed path (judgeBlock p f) ≡ scoped p path (f .here) ∷ resumed (b ∷ path) f
 after-header [] p f b e = scoped-block [] p (f .here) (out f .here) b e
 after-header (c ∷ path) p f b e =
     ap (λ (x : List Scoped). x ++ resumed path (out (out f))) (scoped-block (c ∷ path) p (f .here) (out f .here) b e)
@@ -73,7 +73,7 @@ pub record InPart (path : List Name) (f : Frames) : Type 0 where
   pub deep : trim (f .here) (maxLevel - suc (length path)) ≡ f .here
   pub after : RowsWhole path (out f)
 
-in-part : (path : List Name) (p : ℕ) (f : Frames) → length path ≤ maxDepth → RowsWhole path (opening p f) → InPart path f
+in-part : (path : List Name) (p : ℕ) (f : Frames) → length path ≤ maxDepth → RowsWhole path (judgeBlock p f) → InPart path f
 unfolding closes balanced namesGood partsAlone
 in-part [] p f h (s, n, d) =
     let a = both-true (closes (f .here)) (balanced (out f .here)) s in
@@ -84,11 +84,12 @@ in-part (x ∷ path) p f h (r, rest) =
     let a = both-true (closes (f .here)) (closes (out f .here)) (r .shut) in
     let b = both-true (namesGood (f .here)) (namesGood (out f .here)) (r .names) in
     let k : maxLevel - length (x ∷ path) ≡ suc (maxLevel - suc (length (x ∷ path))) = omega arith in
-    let c = part-deep p (f .here) (out f .here) (maxLevel - suc (length (x ∷ path))) (subst (λ (m : ℕ). trim (part p (f .here) (out f .here)) m ≡ part p (f .here) (out f .here)) k (r .deep)) in
+    let c = part-deep p (f .here) (out f .here) (maxLevel - suc (length (x ∷ path)))
+    (subst (λ (m : ℕ). trim (part p (f .here) (out f .here)) m ≡ part p (f .here) (out f .here)) k (r .deep)) in
     let l : trim (out f .here) (maxLevel - length (x ∷ path)) ≡ out f .here = subst (λ (m : ℕ). trim (out f .here) m ≡ out f .here) (sym k) (c .1) in
     record { shut = a .0; names = b .0; deep = c .0; after = (record { parts = r .parts; shut = a .1; names = b .1; deep = l }, rest) }
 
-module _ (path : List Name) (p : ℕ) (f : Frames) (few : length path ≤ maxDepth) (s : RowsWhole path (opening p f)) where
+module _ (path : List Name) (p : ℕ) (f : Frames) (few : length path ≤ maxDepth) (s : RowsWhole path (judgeBlock p f)) where
   pub inside : InPart path f
   inside = in-part path p f few s
 
@@ -98,7 +99,7 @@ module _ (path : List Name) (p : ℕ) (f : Frames) (few : length path ≤ maxDep
 
 -- ---- a block
 
--- what follows the word `block`: the name of one part, and parts alone behind it
+-- what follows the word `block`: the name of one part, and parts alone after it
 pub header-name : (s : ℕ) (w : Name) (f : Forms) (b : Name) → headerIn (word s w f) ≡ some b → (asPart w ≡ some b) × (partsAlone f ≡ true)
 header-name s w f b = go (asPart w) refl
   where
@@ -110,11 +111,11 @@ header-name s w f b = go (asPart w) refl
     go none e h = absurd (let z : _≡_ {A = ℕ} 0 1 = cc in omega arith)
     go (some c) e h = let r = rest c (partsAlone f) refl h in (e ∙ r .0, r .1)
 
--- the frames behind the word `block` and the name of a block
+-- the frames after the word `block` and the name of a block
 abbrev pub header : ℕ → Name → ℕ → Name → Frames → Frames
 header s v n w g = record { here = word s v (word n w (g .here)); around = g .around }
 
--- the rows that are left in a block, behind its name
+-- the rows that are left in a block, after its name
 pub block-whole : (path : List Name) (s : ℕ) (v : Name) (n : ℕ) (w : Name) (g : Frames) (b : Name) → InPart path (header s v n w g)
     → headerIn (word n w (g .here)) ≡ some b → RowsWhole (b ∷ path) g
 unfolding closes namesGood trim
@@ -139,6 +140,6 @@ pub block-left : (path : List Name) (s : ℕ) (v : Name) (n : ℕ) (w : Name) (g
 unfolding scopedIn
 block-left path s v n w g b = refl
 
--- behind the close of a block
+-- after the close of a block
 pub close-whole : (b : Name) (path : List Name) (f : Frames) → RowsWhole (b ∷ path) (record { here = closed; around = f .here ∷ f .around }) → RowsWhole path f
 close-whole b path f (row, rest) = rest

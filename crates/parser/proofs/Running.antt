@@ -1,4 +1,4 @@
--- Runs of statements, and the blocks between them: where the reading stands after each, and that it comes to the end of the text. Assumes nothing.
+-- Runs of statements, and the blocks between them: where the reading is after each, and that it comes to the end of the text. Assumes nothing.
 use Prim.Native.Nat.{ℕ, suc, _-_, _≤_, _<_}
 use native.Mathlib.Omega.{arith}
 use mathlib.Core.Path.{_≡_, refl}
@@ -14,7 +14,7 @@ use Rattle.grammar.specs.Shapes.{startsBlock}
 use Rattle.name_chains.specs.Chains.{Chained}
 use Rattle.scopes.specs.Scope.{InScope}
 use Rattle.block_reader.specs.Within.{ClosesBlock, noneOpen}
-use Rattle.block_reader.specs.declared.Open.{Open}
+use Rattle.block_reader.specs.declared.OpenBlocks.{OpenBlocks}
 use Rattle.statement_reader.specs.Memory.{Memory, memory}
 use Rattle.statement_reader.specs.Steps.{nothingRead}
 use Rattle.statement_reader.specs.declared.Progress.{Progress}
@@ -27,7 +27,7 @@ use Rattle.parser.specs.declared.Parsed.{Parsed}
 use Rattle.parser.specs.declared.Run.{Run}
 use Rattle.parser.proofs.Turning.{starts, opens-at, block-word, header-on, header-stops, closes-on}
 
--- the place behind the word `block` lies ahead and in the text
+-- the place after the word `block` lies ahead and in the text
 pub block-ahead : (t : List ℕ) (at : ℕ) {place next : ℕ} {i : Item} (first : Item) → i ≡ itemAt t at → i ≡ Item.Open place next → first ≡ itemAt t next
     → startsBlock first ≡ true → (at < behindOf first) × (behindOf first ≤ length t)
 block-ahead t at (Item.Word s n k q) e f g h =
@@ -47,9 +47,9 @@ first-run {lent = lent} e clean index scope y = y .says lent (replicate 8192 0) 
 
 -- ---- a block after a run
 
-module _ {t : List ℕ} {lent : Memory} {sy sy' co cs rs keys keys' filter filter' : List ℕ} {o : Open} {place at : ℕ} {s : Progress} {k : Entered}
+module _ {t : List ℕ} {lent : Memory} {sy sy' co cs rs keys keys' filter filter' : List ℕ} {o : OpenBlocks} {place at : ℕ} {s : Progress} {k : Entered}
     (clean : scan t ≡ Scanned.Clean) (b : BlockNext t lent (memory sy co cs rs) keys filter o place at s) (y : Enters t at keys keys' filter filter' sy sy' o k) where
-  pub block-entered : {inside : ℕ} {q : Open} → k ≡ Entered.Inside inside q → Rest t inside lent (memory sy' co cs rs) keys' filter' s q
+  pub block-entered : {inside : ℕ} {q : OpenBlocks} → k ≡ Entered.Inside inside q → Rest t inside lent (memory sy' co cs rs) keys' filter' s q
   block-entered e =
       header-on (b .rest) (opens-at clean (b .opens) refl) clean (block-word t (b .next) (b .first) (b .first-is) (b .starts)) (b .behind) y e
 
@@ -58,7 +58,7 @@ module _ {t : List ℕ} {lent : Memory} {sy sy' co cs rs keys keys' filter filte
       header-stops (b .rest) (opens-at clean (b .opens) refl) clean (block-word t (b .next) (b .first) (b .first-is) (b .starts)) (b .behind) y e
 
 -- the close of one
-pub block-closed : {t : List ℕ} {lent : Memory} {sy sy' co cs rs keys filter : List ℕ} {o o' : Open} {next : ℕ} {s : Progress}
+pub block-closed : {t : List ℕ} {lent : Memory} {sy sy' co cs rs keys filter : List ℕ} {o o' : OpenBlocks} {next : ℕ} {s : Progress}
     → CloseNext t lent (memory sy co cs rs) keys filter o next s → ClosesBlock keys sy sy' o o' → Rest t next lent (memory sy' co cs rs) keys filter s o'
 block-closed c y = closes-on (sees (c .closes) refl) y (c .rest)
 

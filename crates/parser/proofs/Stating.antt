@@ -11,7 +11,7 @@ use Rattle.lexer.specs.Forms.{Forms, framesAt, trim}
 use Rattle.policy.specs.Basics.{Name}
 use Rattle.policy.specs.Statements.{Written, Policy}
 use Rattle.policy.specs.Grammar.{written}
-use Rattle.policy.specs.Reading.{Judged, reads, opens, fault, naming}
+use Rattle.policy.specs.Reading.{Judged, reads, opens, fault, judgeStatement}
 use Rattle.items.specs.Looks.{rowEnd}
 use Rattle.items.specs.Reads as items
 use Rattle.items.specs.Reads.{isSome}
@@ -57,7 +57,7 @@ pub formless : {t : List ℕ} {at place : ℕ} {before after : Memory} {s : Prog
 formless {t} {at} {place} {before} {after} x e = record {
   says = λ lent p path h below names deep room.
       let nothing = none-of (written (row t at)) (as-judged t at false (no-form _ _ (sym e ∙ x .answer)) deep) in
-      subst (λ (o : Option Written). StatedBy (naming path p o) t at p path place lent after (Stated.Fault 3)) (sym nothing) refl;
+      subst (λ (o : Option Written). StatedBy (judgeStatement path p o) t at p path place lent after (Stated.Fault 3)) (sym nothing) refl;
   ahead = tt;
 }
 
@@ -87,13 +87,13 @@ stated {t} {at} {place} {past} {unit} {before} {after} {s} {f} {k} x e u y wide 
       let step = subst (λ (n : ℕ). StepsAt t at n before after s k) (u below) y .says lent p path (one .0) h
       (record { names = names; uncut = deep; form = one .1 })
       (record {
-        code = λ st j. let l = room st (ap (naming path p) (one .1) ∙ j) in omega (arith, now-long (h .code));
+        code = λ st j. let l = room st (ap (judgeStatement path p) (one .1) ∙ j) in omega (arith, now-long (h .code));
         constraints = omega (arith, now-long (h .constraints));
         rows = omega (arith, now-long (h .rows));
       }) in
-      let answer = stated-by t at place past after (formed .1) lent p path (naming path p (some (one .0))) k step in
-      subst (λ (o : Option Written). StatedBy (naming path p o) t at p path place lent after r) (sym (one .1))
-      (subst (StatedBy (naming path p (some (one .0))) t at p path place lent after) (sym i) answer);
+      let answer = stated-by t at place past after (formed .1) lent p path (judgeStatement path p (some (one .0))) k step in
+      subst (λ (o : Option Written). StatedBy (judgeStatement path p o) t at p path place lent after r) (sym (one .1))
+      (subst (StatedBy (judgeStatement path p (some (one .0))) t at p path place lent after) (sym i) answer);
   ahead = subst (StatedAhead t at) (sym i) (ahead-of k);
 }
   where

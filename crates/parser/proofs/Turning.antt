@@ -28,7 +28,7 @@ use Rattle.policy.specs.Grammar.{written, isBlock, headerIn, blockIn, partsAlon
 use Rattle.policy.specs.Words.{blockWord}
 use Rattle.policy.specs.Scopes.{Scoped, scoped, scopedIn, blockOf, blocksIn}
 use Rattle.policy.proofs.Lists.{both-true, gather-append, same-is}
-use Rattle.policy.specs.Reading.{Judged, reads, opens, fault, naming, opening, judge, Read, policy, refused, readFrom, rowCount}
+use Rattle.policy.specs.Reading.{Judged, reads, opens, fault, judgeStatement, judgeBlock, judge, Read, policy, refused, readFrom, rowCount}
 use Rattle.policy.specs.Accepted.{Accepted, GoodPath}
 use Rattle.policy.specs.Encode.{headsFrom, entriesFrom, entries}
 use Rattle.policy.proofs.BlockLaws.{no-block}
@@ -61,7 +61,7 @@ use Rattle.scopes.proofs.Keeping.{chained-kept, symbols-front}
 use Rattle.block_reader.specs.Within.{Within, ClosesBlock, noneOpen}
 use Rattle.block_reader.proofs.Standing as standing
 use Rattle.block_reader.proofs.Standing.{in-scope}
-use Rattle.block_reader.specs.declared.Open.{Open}
+use Rattle.block_reader.specs.declared.OpenBlocks.{OpenBlocks}
 use Rattle.statement_reader.specs.Memory.{Memory, memory, symbolsOf, constraintsOf, rowsOf, Starts, Holds}
 use Rattle.statement_reader.specs.Steps.{nothingRead}
 use Rattle.statement_reader.specs.declared.Progress.{Progress}
@@ -94,7 +94,7 @@ no-blocks : blocksIn [] ≡ []
 unfolding blocksIn gather
 no-blocks = refl
 
-pub begins : (t : List ℕ) (lent : Memory) (keys filter : List ℕ) (o : Open) → scan t ≡ Scanned.Clean → Chained (lent .symbols) 0 [] → InScope (lent .symbols) []
+pub begins : (t : List ℕ) (lent : Memory) (keys filter : List ℕ) (o : OpenBlocks) → scan t ≡ Scanned.Clean → Chained (lent .symbols) 0 [] → InScope (lent .symbols) []
     → o .count ≡ 0 → Within t keys filter (lent .symbols) [] [] o → Rest t 0 lent lent keys filter nothingRead o
 unfolding formsOf
 begins t lent keys filter o clean index scope zero w = record {
@@ -111,14 +111,14 @@ begins t lent keys filter o clean index scope zero w = record {
   };
 }
 
-pub starts : {t : List ℕ} {lent : Memory} {keys : List ℕ} {p : Progress} {o : Open} → p ≡ nothingRead → o ≡ noneOpen
+pub starts : {t : List ℕ} {lent : Memory} {keys : List ℕ} {p : Progress} {o : OpenBlocks} → p ≡ nothingRead → o ≡ noneOpen
     → scan t ≡ Scanned.Clean → Chained (lent .symbols) 0 [] → InScope (lent .symbols) [] → Rest t 0 lent lent keys (replicate 1024 0) p o
 starts {t} {lent} {keys} e f clean index scope =
     rw (e, f) (begins t lent keys (replicate 1024 0) noneOpen clean index scope refl (standing.begins t keys 1024 (omega arith) scope))
 
 -- ---- the end of the text
 
-module _ {t : List ℕ} {at : ℕ} {lent now : Memory} {keys filter : List ℕ} {s : Progress} {o : Open} where
+module _ {t : List ℕ} {at : ℕ} {lent now : Memory} {keys filter : List ℕ} {s : Progress} {o : OpenBlocks} where
   -- the row at hand is not as the rows are
   odd : {X : Type 0} {sofar : Policy} (path : List Name) {before : List Scoped} (f : Frames) → framesAt t at ≡ f → balanced (f .here) ≡ false
       → partsAlone (f .here) && closes (f .here) ≡ false → Stands t at lent now keys filter s o sofar path before → X
@@ -154,7 +154,7 @@ open-next t Token.End p q e = absurd (let z : _≡_ {A = ℕ} 0 1 = cc in omega 
 
 -- a part: where its parentheses are, and its row
 pub record Opens (t : List ℕ) (at place next : ℕ) : Type 0 where
-  pub frames : framesAt t at ≡ resuming.opening place (framesAt t next)
+  pub frames : framesAt t at ≡ resuming.judgeBlock place (framesAt t next)
   pub place-is : (at ≤ place) × (next ≡ place + 1)
   pub below : place < 65536
   pub inside : next ≤ length t
@@ -172,7 +172,8 @@ opens-at {t} {at} {place} {next} clean e f =
       inside = omega (arith, a .1, n .0);
     }
 
-module _ {t : List ℕ} {at place next : ℕ} {lent now : Memory} {keys filter : List ℕ} {s : Progress} {o : Open} (r : Rest t at lent now keys filter s o) (p : Opens t at place next)
+module _ {t : List ℕ} {at place next : ℕ} {lent now : Memory} {keys filter : List ℕ} {s : Progress} {o : OpenBlocks} (r : Rest t at lent now keys filter s o)
+    (p : Opens t at place next)
   where
     abbrev row : Frames
     row = framesAt t next
@@ -180,24 +181,24 @@ module _ {t : List ℕ} {at place next : ℕ} {lent now : Memory} {keys filter :
     abbrev this : Scoped
     this = scoped place (r .path) (row .here)
 
-    rows-here : RowsWhole (r .path) (resuming.opening place row)
+    rows-here : RowsWhole (r .path) (resuming.judgeBlock place row)
     rows-here = subst (RowsWhole (r .path)) (p .frames) (r .stands .rows)
 
     part-row : InPart (r .path) row
     part-row = inside (r .path) place row (r .stands .holds .blocks .few) rows-here
 
-    left-here : whole t ≡ readFrom (r .before) (resumed (r .path) (resuming.opening place row)) (r .sofar)
+    left-here : whole t ≡ readFrom (r .before) (resumed (r .path) (resuming.judgeBlock place row)) (r .sofar)
     left-here = r .stands .left ∙ ap (λ (f : Frames). readFrom (r .before) (resumed (r .path) f) (r .sofar)) (p .frames)
 
     -- by how the part is judged
-    left-by : (xs : List Scoped) → resumed (r .path) (resuming.opening place row) ≡ this ∷ xs → (j : Judged) → judge (r .before) (r .sofar) this ≡ j
+    left-by : (xs : List Scoped) → resumed (r .path) (resuming.judgeBlock place row) ≡ this ∷ xs → (j : Judged) → judge (r .before) (r .sofar) this ≡ j
         → whole t ≡ judgedAt place (r .sofar) j (readFrom (r .before ++ (this ∷ [])) xs)
     left-by xs e j k =
         left-here ∙ ap (λ (l : List Scoped). readFrom (r .before) l (r .sofar)) e ∙ read-one (r .before) this xs (r .sofar)
         ∙ ap (λ (x : Judged). judgedAt place (r .sofar) x (readFrom (r .before ++ (this ∷ [])) xs)) k
 
     -- what is left begins with it, whatever it is
-    first-left : (q : Option Name) → blockIn (row .here) ≡ q → (xs : List Scoped) × (resumed (r .path) (resuming.opening place row) ≡ this ∷ xs)
+    first-left : (q : Option Name) → blockIn (row .here) ≡ q → (xs : List Scoped) × (resumed (r .path) (resuming.judgeBlock place row) ≡ this ∷ xs)
     first-left none e = (_, after-statement (r .path) place row e)
     first-left (some b) e = (_, after-header (r .path) place row b e)
 
@@ -210,7 +211,7 @@ module _ {t : List ℕ} {at place next : ℕ} {lent now : Memory} {keys filter :
     unfolding weight
     weight-here = ap (weightIn (r .path)) (p .frames) ∙ go (r .path)
       where
-        go : (path : List Name) → weightIn path (resuming.opening place row) ≡ weight (row .here) + weightIn path (out row) + 1
+        go : (path : List Name) → weightIn path (resuming.judgeBlock place row) ≡ weight (row .here) + weightIn path (out row) + 1
         go [] = refl
         go (b ∷ path) = omega arith
 
@@ -238,22 +239,22 @@ blocks-more before x = gather-append blockOf before (x ∷ [])
 
 -- ---- a statement
 
-module _ {t : List ℕ} {at place next : ℕ} {lent now now' : Memory} {keys filter : List ℕ} {s : Progress} {o : Open} (r : Rest t at lent now keys filter s o)
+module _ {t : List ℕ} {at place next : ℕ} {lent now now' : Memory} {keys filter : List ℕ} {s : Progress} {o : OpenBlocks} (r : Rest t at lent now keys filter s o)
     (p : Opens t at place next) (plain : isBlock (framesAt t next .here) ≡ false) {k : Stated} (y : States t next place now now' s k) where
-  judged : judge (r .before) (r .sofar) (this r p) ≡ naming (r .path) (r .sofar) (written (row r p .here))
+  judged : judge (r .before) (r .sofar) (this r p) ≡ judgeStatement (r .path) (r .sofar) (written (row r p .here))
   judged = judge-statement (r .before) (r .sofar) (this r p) plain
 
-  stated : StatedBy (naming (r .path) (r .sofar) (written (row r p .here))) t next (r .sofar) (r .path) place lent now' k
+  stated : StatedBy (judgeStatement (r .path) (r .sofar) (written (row r p .here))) t next (r .sofar) (r .path) place lent now' k
   stated =
       y .says lent (r .sofar) (r .path) (r .stands .holds) (p .below) (part-row r p .names)
       (statement-deep (r .path) place (row r p) (r .stands .holds .blocks .few) (rows-here r p))
       (λ st q. omega (arith, statement-fits (r .before) (r .sofar) (this r p) st (judged ∙ q), r .stands .room, weight-here r p))
 
   pub statement-stops : {n : ℕ} → k ≡ Stated.Fault n → Reads (whole t) lent now' (Parsed.Refused n place)
-  statement-stops {n} e = go (naming (r .path) (r .sofar) (written (row r p .here))) refl
-      (subst (StatedBy (naming (r .path) (r .sofar) (written (row r p .here))) t next (r .sofar) (r .path) place lent now') e stated)
+  statement-stops {n} e = go (judgeStatement (r .path) (r .sofar) (written (row r p .here))) refl
+      (subst (StatedBy (judgeStatement (r .path) (r .sofar) (written (row r p .here))) t next (r .sofar) (r .path) place lent now') e stated)
     where
-      go : (j : Judged) → naming (r .path) (r .sofar) (written (row r p .here)) ≡ j → StatedBy j t next (r .sofar) (r .path) place lent now' (Stated.Fault n)
+      go : (j : Judged) → judgeStatement (r .path) (r .sofar) (written (row r p .here)) ≡ j → StatedBy j t next (r .sofar) (r .path) place lent now' (Stated.Fault n)
           → Reads (whole t) lent now' (Parsed.Refused n place)
       go (reads st) i g = absurd g
       go opens i g = absurd g
@@ -265,7 +266,7 @@ module _ {t : List ℕ} {at place next : ℕ} {lent now now' : Memory} {keys fil
       blocks-more (r .before) (this r p)
       ∙ ap (λ (b : Option Name). blocksIn (r .before) ++ keep (b >>= λ b. some (full (r .path) b)) []) (no-block (row r p .here) plain) ∙ append-nil _
 
-  filled-on : {past : ℕ} {q : Progress} → next < past → (st : Statement) → naming (r .path) (r .sofar) (written (row r p .here)) ≡ reads st
+  filled-on : {past : ℕ} {q : Progress} → next < past → (st : Statement) → judgeStatement (r .path) (r .sofar) (written (row r p .here)) ≡ reads st
       → StatedBy (reads st) t next (r .sofar) (r .path) place lent now' (Stated.Next past q) → Rest t past lent now' keys filter q o
   filled-on {past} {q} far st i (end, g) =
       let there : out (row r p) ≡ framesAt t past = leaves t next ∙ ap (framesAt t) (sym end) in
@@ -298,10 +299,10 @@ module _ {t : List ℕ} {at place next : ℕ} {lent now now' : Memory} {keys fil
       }
 
   pub statement-on : {past : ℕ} {q : Progress} → k ≡ Stated.Next past q → Rest t past lent now' keys filter q o
-  statement-on {past} {q} e = go (naming (r .path) (r .sofar) (written (row r p .here))) refl
-      (subst (StatedBy (naming (r .path) (r .sofar) (written (row r p .here))) t next (r .sofar) (r .path) place lent now') e stated)
+  statement-on {past} {q} e = go (judgeStatement (r .path) (r .sofar) (written (row r p .here))) refl
+      (subst (StatedBy (judgeStatement (r .path) (r .sofar) (written (row r p .here))) t next (r .sofar) (r .path) place lent now') e stated)
     where
-      go : (j : Judged) → naming (r .path) (r .sofar) (written (row r p .here)) ≡ j → StatedBy j t next (r .sofar) (r .path) place lent now' (Stated.Next past q)
+      go : (j : Judged) → judgeStatement (r .path) (r .sofar) (written (row r p .here)) ≡ j → StatedBy j t next (r .sofar) (r .path) place lent now' (Stated.Next past q)
           → Rest t past lent now' keys filter q o
       go (reads st) i g = filled-on (subst (StatedAhead t next) e (y .ahead) .0) st i g
       go opens i g = absurd g
@@ -325,13 +326,13 @@ rows-among : (path : List Name) (r : Frames) → weightIn path r ≤ weightOf r
 rows-among [] r = omega arith
 rows-among (b ∷ path) r = omega (arith, rows-among path (out r), around-weight (r .around))
 
--- the word that a block starts with, where it stands, and what is behind it
+-- the word that a block starts with, where it stands, and what is beneath it
 pub record Word (t : List ℕ) (next start behind : ℕ) (w : Name) : Type 0 where
   pub frames : framesAt t next ≡ record { here = word start w (framesAt t behind .here); around = framesAt t behind .around }
   pub far : next + 5 ≤ behind
   pub is : same w blockWord ≡ true
 
-module _ {t : List ℕ} {at place next : ℕ} {lent : Memory} {sy sy' co cs rs keys keys' filter filter' : List ℕ} {s : Progress} {o : Open}
+module _ {t : List ℕ} {at place next : ℕ} {lent : Memory} {sy sy' co cs rs keys keys' filter filter' : List ℕ} {s : Progress} {o : OpenBlocks}
     (r : Rest t at lent (memory sy co cs rs) keys filter s o) (p : Opens t at place next) (clean : scan t ≡ Scanned.Clean)
     {start behind : ℕ} {w : Name} (b : Word t next start behind w) {k : Entered} (y : Enters t behind keys keys' filter filter' sy sy' o k) where
   block-row : row r p .here ≡ word start w (framesAt t behind .here)
@@ -340,9 +341,9 @@ module _ {t : List ℕ} {at place next : ℕ} {lent : Memory} {sy sy' co cs rs k
   header-is : blockIn (row r p .here) ≡ headerIn (framesAt t behind .here)
   header-is = ap blockIn block-row ∙ ap (λ (c : Bool). cond c (headerIn (framesAt t behind .here)) none) (b .is)
 
-  opening-is : judge (r .before) (r .sofar) (this r p) ≡ opening (r .path) (blocksIn (r .before)) (headerIn (framesAt t behind .here))
+  opening-is : judge (r .before) (r .sofar) (this r p) ≡ judgeBlock (r .path) (blocksIn (r .before)) (headerIn (framesAt t behind .here))
   opening-is =
-      judge-block (r .before) (r .sofar) (this r p) (ap isBlock block-row ∙ b .is) ∙ ap (opening (r .path) (blocksIn (r .before))) header-is
+      judge-block (r .before) (r .sofar) (this r p) (ap isBlock block-row ∙ b .is) ∙ ap (judgeBlock (r .path) (blocksIn (r .before))) header-is
 
   behind-names : namesGood (framesAt t behind .here) ≡ true
   unfolding namesGood
@@ -363,20 +364,21 @@ module _ {t : List ℕ} {at place next : ℕ} {lent : Memory} {sy sy' co cs rs k
         clean-short t clean,
       )
 
-  entered : EnteredBy (opening (r .path) (blocksIn (r .before)) (headerIn (framesAt t behind .here))) t behind keys' filter' sy sy' (r .path) (blocksIn (r .before)) o k
+  entered : EnteredBy (judgeBlock (r .path) (blocksIn (r .before)) (headerIn (framesAt t behind .here))) t behind keys' filter' sy sy' (r .path) (blocksIn (r .before)) o k
   entered = y .says (r .path) (blocksIn (r .before)) (r .stands .within) behind-names (omega (arith, clean-short t clean)) block-room
 
   header-refused : {n : ℕ} → k ≡ Entered.Fault n → Reads (whole t) lent (memory sy' co cs rs) (Parsed.Refused n place)
-  header-refused {n} e = go (opening (r .path) (blocksIn (r .before)) (headerIn (framesAt t behind .here))) refl
-      (subst (EnteredBy (opening (r .path) (blocksIn (r .before)) (headerIn (framesAt t behind .here))) t behind keys' filter' sy sy' (r .path) (blocksIn (r .before)) o) e entered)
+  header-refused {n} e = go (judgeBlock (r .path) (blocksIn (r .before)) (headerIn (framesAt t behind .here))) refl
+      (subst (EnteredBy (judgeBlock (r .path) (blocksIn (r .before)) (headerIn (framesAt t behind .here))) t behind keys' filter' sy sy' (r .path)
+      (blocksIn (r .before)) o) e entered)
     where
-      go : (j : Judged) → opening (r .path) (blocksIn (r .before)) (headerIn (framesAt t behind .here)) ≡ j
+      go : (j : Judged) → judgeBlock (r .path) (blocksIn (r .before)) (headerIn (framesAt t behind .here)) ≡ j
           → EnteredBy j t behind keys' filter' sy sy' (r .path) (blocksIn (r .before)) o (Entered.Fault n) → Reads (whole t) lent (memory sy' co cs rs) (Parsed.Refused n place)
       go (reads st) i g = absurd g
       go opens i g = absurd g
       go (fault m) i g = refuses r p m n (opening-is ∙ i) g (memory sy' co cs rs)
 
-  inside-on : {q : Open} {place-in : ℕ} → behind < place-in → opening (r .path) (blocksIn (r .before)) (headerIn (framesAt t behind .here)) ≡ opens
+  inside-on : {q : OpenBlocks} {place-in : ℕ} → behind < place-in → judgeBlock (r .path) (blocksIn (r .before)) (headerIn (framesAt t behind .here)) ≡ opens
       → Inside t behind keys' filter' sy sy' (r .path) (blocksIn (r .before)) o q place-in → Rest t place-in lent (memory sy' co cs rs) keys' filter' s q
   unfolding weight
   inside-on {q} {place-in} far i g =
@@ -405,11 +407,12 @@ module _ {t : List ℕ} {at place next : ℕ} {lent : Memory} {sy sy' co cs rs k
         };
       }
 
-  header-read : {q : Open} {place-in : ℕ} → k ≡ Entered.Inside place-in q → Rest t place-in lent (memory sy' co cs rs) keys' filter' s q
-  header-read {q} {place-in} e = go (opening (r .path) (blocksIn (r .before)) (headerIn (framesAt t behind .here))) refl
-      (subst (EnteredBy (opening (r .path) (blocksIn (r .before)) (headerIn (framesAt t behind .here))) t behind keys' filter' sy sy' (r .path) (blocksIn (r .before)) o) e entered)
+  header-read : {q : OpenBlocks} {place-in : ℕ} → k ≡ Entered.Inside place-in q → Rest t place-in lent (memory sy' co cs rs) keys' filter' s q
+  header-read {q} {place-in} e = go (judgeBlock (r .path) (blocksIn (r .before)) (headerIn (framesAt t behind .here))) refl
+      (subst (EnteredBy (judgeBlock (r .path) (blocksIn (r .before)) (headerIn (framesAt t behind .here))) t behind keys' filter' sy sy' (r .path)
+      (blocksIn (r .before)) o) e entered)
     where
-      go : (j : Judged) → opening (r .path) (blocksIn (r .before)) (headerIn (framesAt t behind .here)) ≡ j
+      go : (j : Judged) → judgeBlock (r .path) (blocksIn (r .before)) (headerIn (framesAt t behind .here)) ≡ j
           → EnteredBy j t behind keys' filter' sy sy' (r .path) (blocksIn (r .before)) o (Entered.Inside place-in q) → Rest t place-in lent (memory sy' co cs rs) keys' filter' s q
       go (reads st) i g = absurd g
       go opens i g = inside-on (subst (EnteredAhead t behind) e (y .ahead) .0) i g
@@ -451,13 +454,13 @@ block-word t next (Item.Open p q) e h = absurd (false≢true h)
 block-word t next (Item.Close q) e h = absurd (false≢true h)
 block-word t next Item.End e h = absurd (false≢true h)
 
-module _ {t : List ℕ} {at place next : ℕ} {lent : Memory} {sy sy' co cs rs keys keys' filter filter' : List ℕ} {s : Progress} {o : Open}
+module _ {t : List ℕ} {at place next : ℕ} {lent : Memory} {sy sy' co cs rs keys keys' filter filter' : List ℕ} {s : Progress} {o : OpenBlocks}
     (r : Rest t at lent (memory sy co cs rs) keys filter s o) (p : Opens t at place next) (clean : scan t ≡ Scanned.Clean)
     {first : Item} (w : BlockWord t next first) {behind : ℕ} (d : behind ≡ behindOf first) {k : Entered} (y : Enters t behind keys keys' filter filter' sy sy' o k) where
   there : Word t next (w .start) behind (w .name)
   there = subst (λ (n : ℕ). Word t next (w .start) n (w .name)) (sym d) (w .word)
 
-  pub header-on : {q : Open} {place-in : ℕ} → k ≡ Entered.Inside place-in q → Rest t place-in lent (memory sy' co cs rs) keys' filter' s q
+  pub header-on : {q : OpenBlocks} {place-in : ℕ} → k ≡ Entered.Inside place-in q → Rest t place-in lent (memory sy' co cs rs) keys' filter' s q
   header-on e = header-read r p clean there y e
 
   pub header-stops : {n : ℕ} → k ≡ Entered.Fault n → Reads (whole t) lent (memory sy' co cs rs) (Parsed.Refused n place)
@@ -469,7 +472,7 @@ no-block-word t next e h = sym (block-at t next e) ∙ h
 
 -- ---- the close of a block
 
-module _ {t : List ℕ} {at q : ℕ} {lent : Memory} {sy sy' co cs rs keys filter : List ℕ} {s : Progress} {o o' : Open}
+module _ {t : List ℕ} {at q : ℕ} {lent : Memory} {sy sy' co cs rs keys filter : List ℕ} {s : Progress} {o o' : OpenBlocks}
     (l : FramesSeen t at (Item.Close q)) (y : ClosesBlock keys sy sy' o o') where
   close-on : {sofar : Policy} (path : List Name) {before : List Scoped} → Stands t at lent (memory sy co cs rs) keys filter s o sofar path before
       → Rest t q lent (memory sy' co cs rs) keys filter s o'
@@ -501,7 +504,7 @@ module _ {t : List ℕ} {at q : ℕ} {lent : Memory} {sy sy' co cs rs keys filte
 pub roomy : {a b c : ℕ} → a ≡ 65536 → b ≡ 1280 → c ≡ 12288 → (leb 65536 a && leb 1280 b && leb 12288 c) ≡ true
 roomy e f g = rw (e, f, g)
 
--- the symbols lent may be others behind the room for the entries
+-- the symbols lent may be others after the room for the entries
 module _ (lent other c k r : List ℕ) (same : take 137088 other ≡ take 137088 lent) where
   pub lent-alike : (x : Read) (now : Memory) (y : Parsed) → Reads x (memory other c k r) now y → Reads x (memory lent c k r) now y
   lent-alike (policy p) now (Parsed.Accepted s) h = record {

@@ -1,4 +1,4 @@
--- Where the reading of a text stands at a place: what was read so far, and what is left of the row at hand and of the rows around it. Assumes nothing.
+-- Where the reading of a text is at a place: what was read so far, and what is left of the row at hand and of the rows around it. Assumes nothing.
 use Prim.Native.Nat.{ℕ, _+_, _-_, _*_, _≤_}
 use mathlib.Core.Path.{_≡_}
 use mathlib.Core.Bool.{true}
@@ -16,7 +16,7 @@ use Rattle.code_laws.specs.Weight.{weight}
 use Rattle.statement_reader.specs.Memory.{Memory, Holds}
 use Rattle.statement_reader.specs.declared.Progress.{Progress}
 use Rattle.block_reader.specs.Within.{Within}
-use Rattle.block_reader.specs.declared.Open.{Open}
+use Rattle.block_reader.specs.declared.OpenBlocks.{OpenBlocks}
 
 -- what is left to read, in the blocks of a path
 abbrev pub resumed : List Name → Frames → List Scoped
@@ -45,7 +45,7 @@ weightIn (b ∷ path) r = weight (r .here) + weightIn path (out r)
 
 -- where the reading stands: the statements so far are in the memory, in the blocks of a path; the parts so far, with those that are left, are those of the text;
 -- there is room for the code of what is left; and each block so far took up eight bytes, but for the closing parenthesis of those that are open
-pub record Stands (t : List ℕ) (at : ℕ) (lent now : Memory) (keys filter : List ℕ) (s : Progress) (o : Open) (sofar : Policy) (path : List Name) (before : List Scoped)
+pub record Stands (t : List ℕ) (at : ℕ) (lent now : Memory) (keys filter : List ℕ) (s : Progress) (o : OpenBlocks) (sofar : Policy) (path : List Name) (before : List Scoped)
     : Type 0 where
   pub holds : Holds sofar path lent now s
   pub within : Within t keys filter (now .symbols) path (blocksIn before) o
@@ -54,7 +54,7 @@ pub record Stands (t : List ℕ) (at : ℕ) (lent now : Memory) (keys filter : L
   pub room : length (codeOf sofar) + weightIn path (framesAt t at) ≤ maxText
   pub few : 8 * o .count ≤ at + length path
 
-pub record Rest (t : List ℕ) (at : ℕ) (lent now : Memory) (keys filter : List ℕ) (s : Progress) (o : Open) : Type 0 where
+pub record Rest (t : List ℕ) (at : ℕ) (lent now : Memory) (keys filter : List ℕ) (s : Progress) (o : OpenBlocks) : Type 0 where
   pub sofar : Policy
   pub path : List Name
   pub before : List Scoped

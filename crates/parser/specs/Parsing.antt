@@ -19,7 +19,7 @@ Reads (policy p) lent now (Parsed.Refused m q) = ⊥
 Reads (refused n at) lent now (Parsed.Accepted s) = ⊥
 Reads (refused n at) lent now (Parsed.Refused m q) = (m ≡ n) × (q ≡ at)
 
--- for every text that the scan leaves clean, whatever the lent memory held. What the chains behind the symbols hold is free
+-- for every text that the scan leaves clean, whatever the lent memory held. What the chains after the symbols hold is free
 pub record Parses (t : List ℕ) (lent now : Memory) (r : Parsed) : Type 0 where
   pub reads : scan t ≡ Scanned.Clean → Reads (readAll (scopedIn [] (formsOf t))) lent now r
 

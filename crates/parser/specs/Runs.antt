@@ -10,7 +10,7 @@ use Rattle.items.specs.Looks.{itemAt}
 use Rattle.items.specs.declared.Item.{Item}
 use Rattle.grammar.specs.Shapes.{startsBlock}
 use Rattle.block_reader.specs.Within.{noneOpen}
-use Rattle.block_reader.specs.declared.Open.{Open}
+use Rattle.block_reader.specs.declared.OpenBlocks.{OpenBlocks}
 use Rattle.statement_reader.specs.Memory.{Memory}
 use Rattle.statement_reader.specs.declared.Progress.{Progress}
 use Rattle.parser.specs.Left.{whole, Rest}
@@ -19,8 +19,8 @@ use Rattle.parser.specs.Parts.{behindOf}
 use Rattle.parser.specs.declared.Parsed.{Parsed}
 use Rattle.parser.specs.declared.Run.{Run}
 
--- the reading stands at a place where a block is next
-pub record BlockNext (t : List ℕ) (lent now : Memory) (keys filter : List ℕ) (o : Open) (place at : ℕ) (s : Progress) : Type 0 where
+-- the reading is at a place where a block is next
+pub record BlockNext (t : List ℕ) (lent now : Memory) (keys filter : List ℕ) (o : OpenBlocks) (place at : ℕ) (s : Progress) : Type 0 where
   pub here : ℕ
   pub next : ℕ
   pub first : Item
@@ -31,13 +31,13 @@ pub record BlockNext (t : List ℕ) (lent now : Memory) (keys filter : List ℕ)
   pub behind : at ≡ behindOf first
 
 -- or the close of one
-pub record CloseNext (t : List ℕ) (lent now : Memory) (keys filter : List ℕ) (o : Open) (next : ℕ) (s : Progress) : Type 0 where
+pub record CloseNext (t : List ℕ) (lent now : Memory) (keys filter : List ℕ) (o : OpenBlocks) (next : ℕ) (s : Progress) : Type 0 where
   pub here : ℕ
   pub rest : Rest t here lent now keys filter s o
   pub closes : Item.Close next ≡ itemAt t here
 
 -- after a run of statements the reading stands where the answer says, or what is read of the whole text is known
-abbrev pub RunBy : List ℕ → Memory → Memory → List ℕ → List ℕ → Open → Run → Type 0
+abbrev pub RunBy : List ℕ → Memory → Memory → List ℕ → List ℕ → OpenBlocks → Run → Type 0
 RunBy t lent now keys filter o (Run.Block place at s) = BlockNext t lent now keys filter o place at s
 RunBy t lent now keys filter o (Run.Close next s) = CloseNext t lent now keys filter o next s
 RunBy t lent now keys filter o (Run.End s) = Reads (whole t) lent now (Parsed.Accepted s)
@@ -52,7 +52,7 @@ RunAhead t start (Run.Fault n place) = Unit {0}
 
 -- statements from a place on, whatever blocks are open there
 pub record Runs (t : List ℕ) (start : ℕ) (before after : Memory) (s : Progress) (r : Run) : Type 0 where
-  pub says : (lent : Memory) (keys filter : List ℕ) (o : Open) → scan t ≡ Scanned.Clean → Rest t start lent before keys filter s o
+  pub says : (lent : Memory) (keys filter : List ℕ) (o : OpenBlocks) → scan t ≡ Scanned.Clean → Rest t start lent before keys filter s o
       → RunBy t lent after keys filter o r
   pub ahead : RunAhead t start r
 

@@ -1,8 +1,8 @@
-// From a clean text to its statements: symbols, statement code, constraints and rows in lent memory, or the first fault 3 to 7 with its place. Blocks leave
-// nothing in that memory but the full names of what is declared in them.
+// From a clean text to its statements: symbols, statement code, constraints and rows in lent memory, or the first
+// fault 3 to 7 with its place. Blocks leave nothing in that memory but the full names of what is declared in them.
 use block_reader::BLOCKS;
 use block_reader::FILTER;
-use block_reader::Open;
+use block_reader::OpenBlocks;
 use block_reader::Opened;
 use constrain_statement::CONSTRAINTS_BYTES;
 use constrain_statement::ROWS_BYTES;
@@ -32,20 +32,20 @@ pub enum Parsed {
     Refused { number: usize, place: usize },
 }
 
-// A statement is read, and the place behind it; or the number of its fault.
+// A statement is read, and the place after it; or the number of its fault.
 enum Stated {
     Next(usize, Progress),
     Fault(usize),
 }
 
-// A block is opened, and the place behind its name; or the number of its fault.
+// A block is opened, and the place after its name; or the number of its fault.
 enum Entered {
-    Inside(usize, Open),
+    Inside(usize, OpenBlocks),
     Fault(usize),
 }
 
-// A run of statements is read, and what comes after it: a block, by its place and the place behind the word `block`; the close of a block, by the place
-// behind it; or the end. Or the first fault, by its number and place.
+// A run of statements is read, and what comes after it: a block, by its place and the place after the word `block`;
+// the close of a block, by the place after it; or the end. Or the first fault, by its number and place.
 enum Run {
     Block {
         place: usize,
@@ -73,8 +73,8 @@ fn place_unit(place: usize) -> u16
     place as u16
 }
 
-// Whether the lent memory is as long as the text's maximum and the maxima of constraints and rows ask. It always is, by its types; the proof of
-// `read` learns the lengths where the arrays are lent as slices here.
+// Whether the lent memory is as long as the text's maximum and the maxima of constraints and rows ask. It always is,
+// by its types; the proof of `read` learns the lengths where the arrays are lent as slices here.
 fn has_room(code: &[u16], constraints: &[u8], rows: &[u8]) -> bool
     ensures { λ r. ⌜ r ≡ (leb 65536 (length (now (code .entry))) && leb 1280 (length (now (constraints .entry))) && leb 12288 (length (now (rows .entry)))) ⌝ }
 {
@@ -139,14 +139,15 @@ fn read(
     }
 }
 
-// The header of a block, behind the word `block`: its form is judged first, with all that the block holds, then its name.
+// The header of a block, after the word `block`: its form is judged first, with all that the block holds, then its
+// name.
 fn enter(
     text: &[u8],
     at: usize,
     symbols: &mut [u8; SYMBOL_BYTES],
     keys: &mut [u64; BLOCKS],
     filter: &mut [u64; FILTER],
-    stand: Open,
+    stand: OpenBlocks,
 ) -> Entered
     ensures { λ r. ⌜ Enters (now (text .entry)) at (now (keys .entry)) (now (keys .exit)) (now (filter .entry)) (now (filter .exit)) (now (symbols .entry)) (now (symbols .exit)) stand r ⌝ }
 {
@@ -161,7 +162,7 @@ fn enter(
     }
 }
 
-// The place behind the first item of a block, which is the word `block`.
+// The place after the first item of a block, which is the word `block`.
 fn behind(first: Item) -> usize
     ensures { λ r. ⌜ r ≡ behindOf first ⌝ }
 {
@@ -173,7 +174,8 @@ fn behind(first: Item) -> usize
     }
 }
 
-// The statements from a place on, up to the first item that begins none. In a clean text that is the header of a block, the close of one, or the end.
+// The statements from a place on, up to the first item that begins none. In a clean text that is the header of a
+// block, the close of one, or the end.
 fn read_statements(
     text: &[u8],
     start: usize,
@@ -190,10 +192,10 @@ fn read_statements(
     let mut progress = before;
     let mut at = start;
     loop {
-        let item = items::look(text, at);
+        let item = items::next_item(text, at);
         match item {
             Item::Open { place, next } => {
-                let first = items::look(text, next);
+                let first = items::next_item(text, next);
                 if grammar::starts_block(first) {
                     return Run::Block {
                         place,
@@ -225,7 +227,8 @@ fn read_statements(
     }
 }
 
-// What comes after a first run of statements: blocks with their statements. The memory for the blocks is made here, where there are some.
+// What comes after a first run of statements: blocks with their statements. The memory for the blocks is made here,
+// where there are some.
 fn parse_blocks(
     text: &[u8],
     first: Run,

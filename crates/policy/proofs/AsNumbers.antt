@@ -12,7 +12,7 @@ use Rattle.policy.specs.Basics.{Name, same, unle}
 abbrev pub Small : Name → Type 0
 Small w = (i : ℕ) → getD w i 0 < 256
 
--- two words of a length are the same if the numbers of their first n letters are, and those of the letters behind them
+-- two words of a length are the same if the numbers of their first n letters are, and those of the letters after them
 pub alike : (n : ℕ) (v w : Name) → Small v → Small w → length v ≡ length w → unle (take n v) ≡ unle (take n w) → unle (drop n v) ≡ unle (drop n w)
     → same v w ≡ true
 unfolding unle same

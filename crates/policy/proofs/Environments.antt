@@ -52,7 +52,7 @@ first-in f w e (plain s v ∷ ds) =
     by true false h later = later
     by true true h later = just (record { family = sym (family-same f (familyOf s) h); number = count-below s v e ds })
 
--- a use with no dot in front that stands in no block is tried as it is written
+-- a use with no dot in front that is in no block is tried as it is written
 pub tried-once : (w : Name) → hasDotInFront w ≡ false → tries [] w ≡ w ∷ []
 unfolding tries outward
 tried-once w h = rw h

@@ -56,7 +56,7 @@ same-is (x ∷ v) (y ∷ w) e =
     cc
 
 module _ {A : Type 0} where
-  -- what stands at a place
+  -- what is at a place
   pub at-place : (xs : List A) (k : ℕ) (d : A) → k < length xs → getElem? xs k ≡ some (getD xs k d)
   at-place [] k d h = absurd (omega arith)
   at-place (x ∷ xs) zero d h = refl
@@ -97,7 +97,7 @@ module _ {A B : Type 0} where
   gather-append f [] ys = refl
   gather-append f (x ∷ xs) ys = ap (λ r. keep (f x) r) (gather-append f xs ys) ∙ kept (f x) (gather f xs) (gather f ys)
 
-  -- what f passes over may stand at the end; what it takes is taken last
+  -- what f passes over may are at the end; what it takes is taken last
   pub gather-over : (f : A → Option B) (xs : List A) (x : A) → f x ≡ none → gather f (xs ++ (x ∷ [])) ≡ gather f xs
   unfolding gather
   gather-over f [] x h = ap (λ o. keep o []) h

@@ -5,7 +5,7 @@ use mathlib.Core.Option.{Option, none, some, Option·none-ne-some, Option·some-
 use Rattle.policy.specs.Basics.{orElse, given}
 
 module _ {A : Type 0} where
-  -- nothing behind the first
+  -- nothing after the first
   pub or-none : (o : Option A) → orElse o none ≡ o
   or-none none = refl
   or-none (some a) = refl

@@ -1,5 +1,5 @@
 -- What reading a text without fault 1 to 7 gives of its statements: every reference is to something declared, every operator is one that
--- the form allows, and every maximum holds. These words carry facts from the reading to the passes behind it and to the table; what the library promises of
+-- the form allows, and every maximum holds. These words carry facts from the reading to the passes after it and to the table; what the library promises of
 -- texts and tables does not use them.
 -- Assumes nothing.
 use Prim.Native.Nat.{ℕ, _<_, _≤_}
@@ -8,7 +8,10 @@ use mathlib.Core.Bool.{true, _||_}
 use mathlib.Core.List.{List, [], _∷_}
 use lib.ListN.{length}
 use Rattle.policy.specs.Basics.{Name, All, every}
-use Rattle.policy.specs.Statements.{Family, roles, types, Reference, thing, attribute, SetExpr, nameS, allS, notS, andS, orS, xorS, unionS, emptyS, Constraint, sidesE, nameE, notE, andE, orE, thingOf, attributeOf, Declaration, Statement, declare, attributeset, gives, roletransition, constrain, fromOf, toOf, Line, Policy, count, classNames, permissions, declarations, transitions, constrains, need}
+use Rattle.policy.specs.Statements.{Family, roles, types, Reference, thing, attribute, SetExpr, nameS, allS, notS, andS, orS, xorS, unionS, emptyS}
+use Rattle.policy.specs.Statements.{Constraint, sidesE, nameE, notE, andE, orE, thingOf, attributeOf, Declaration, Statement, declare, attributeset}
+use Rattle.policy.specs.Statements.{gives, roletransition, constrain, fromOf, toOf, Line, Policy, count, classNames, permissions, declarations}
+use Rattle.policy.specs.Statements.{transitions, constrains, need}
 use Rattle.policy.specs.Maxima.{maxTransitions, maxConstraints, maxRows, maxStack, maxDepth}
 use Rattle.policy.specs.Words.{isPlain}
 use Rattle.policy.specs.Grammar.{isRoles}

@@ -7,7 +7,8 @@ use lib.Dec.{eqb, ltb}
 use lib.ListN.{length, getD}
 use Rattle.policy.specs.Basics.{same, isIn}
 use Rattle.policy.specs.Words.{process, transitionWords, objectR}
-use Rattle.policy.specs.Statements.{users, roles, types, thingOf, Side, source, target, Declaration, namesOf, classNames, permissions, count, Relation, userrole, roletype, roleallow}
+use Rattle.policy.specs.Statements.{users, roles, types, thingOf, Side, source, target, Declaration, namesOf, classNames, permissions, count, Relation}
+use Rattle.policy.specs.Statements.{userrole, roletype, roleallow}
 use Rattle.policy.specs.Meaning.{Set, Context, Contexts}
 
 -- what a decision is made from, whoever gives it: the names declared, and the relations as tests: `gives userrole u` are the roles of user u,
@@ -65,15 +66,15 @@ oneMore a = record { verdict = a .verdict; consulted = 1 + a .consulted }
 
 -- a constraint that does not name what is asked; one that does, and fails: "4 the first failing constraint, with its number"; one that does, and holds:
 -- before the answer of the later ones
-abbrev pub ruling : Bool → Bool → ℕ → Answer → Answer
-ruling false b i later = later
-ruling true false i later = record { verdict = fails 4 i; consulted = 1 }
-ruling true true i later = oneMore later
+abbrev pub consult : Bool → Bool → ℕ → Answer → Answer
+consult false b i later = later
+consult true false i later = record { verdict = fails 4 i; consulted = 1 }
+consult true true i later = oneMore later
 
 -- "the constraints naming that class and permission, up to and including the first that fails"; i is the number of the first of the list
 unfoldable pub firstFailing : {A : Type 0} → (A → Bool) → (A → Bool) → ℕ → List A → Answer
 firstFailing names holds i [] = unconsulted granted
-firstFailing names holds i (x ∷ xs) = ruling (names x) (holds x) i (firstFailing names holds (i + 1) xs)
+firstFailing names holds i (x ∷ xs) = consult (names x) (holds x) i (firstFailing names holds (i + 1) xs)
 
 -- "Denials in order": are all numbers declared, is the source valid, is the target, may the role change; then the constraints
 unfoldable pub decide : Bool → Bool → Bool → Bool → Answer → Answer

@@ -8,7 +8,9 @@ use lib.ListN.{length}
 use Rattle.bitset.specs.Sets.{meet}
 use Rattle.bitset.specs.Relations.{joined}
 use Rattle.policy.specs.Basics.{any, gather, given, isAmong, each, orElse}
-use Rattle.policy.specs.Statements.{Family, users, roles, types, attributeOf, Declaration, plain, class, sameSort, Reference, thing, attribute, SetExpr, nameS, allS, notS, andS, orS, xorS, unionS, emptyS, declare, attributeset, gives, roletransition, constrain, Line, Policy, count, declarations, setsFor, Transition, transitions}
+use Rattle.policy.specs.Statements.{Family, users, roles, types, attributeOf, Declaration, plain, class, sameSort, Reference, thing, attribute, SetExpr}
+use Rattle.policy.specs.Statements.{nameS, allS, notS, andS, orS, xorS, unionS, emptyS, declare, attributeset, gives, roletransition, constrain, Line}
+use Rattle.policy.specs.Statements.{Policy, count, declarations, setsFor, Transition, transitions}
 use Rattle.policy.specs.Meaning.{Set, stands, countIn}
 
 -- the attributes that S mentions, by its text
@@ -40,12 +42,12 @@ below zero = []
 below (suc n) = n ∷ below n
 
 -- these attributes and what they mention
-unfoldable pub wider : Policy → Family → List ℕ → List ℕ
-wider p f xs = gather (λ b. given (isAmong b xs || any (λ a. isAmong b (mentions p f a)) xs) b) (below (attributesIn p f))
+unfoldable pub mentionedBy : Policy → Family → List ℕ → List ℕ
+mentionedBy p f xs = gather (λ b. given (isAmong b xs || any (λ a. isAmong b (mentions p f a)) xs) b) (below (attributesIn p f))
 
 unfoldable pub reach : ℕ → Policy → Family → List ℕ → List ℕ
 reach zero p f xs = xs
-reach (suc k) p f xs = reach k p f (wider p f xs)
+reach (suc k) p f xs = reach k p f (mentionedBy p f xs)
 
 -- "an attribute's sets mention it, directly or through others"
 unfoldable pub onCycle : Policy → Family → ℕ → Bool

@@ -8,8 +8,11 @@ use mathlib.Core.List.{List, [], _∷_}
 use mathlib.Core.Option.{Option, none, some}
 use Rattle.lexer.specs.Forms.{Forms, closed, ended, word, part}
 use Rattle.policy.specs.Basics.{Name, same, _>>=_, given, more, ofNone, ofOne, ofTwo}
-use Rattle.policy.specs.Words.{asName, asPart, blockWord, Keyword, declareK, classK, setK, relationK, transitionK, constrainK, keywordOf, Connective, allC, notC, andC, orC, xorC, setWord, expressionWord, opOf, isPlain, Component, componentOf}
-use Rattle.policy.specs.Statements.{Family, roles, Sort, plain, class, SetExpr, nameS, allS, notS, andS, orS, xorS, unionS, emptyS, source, target, Op, Constraint, sidesE, nameE, notE, andE, orE, Relation, declare, attributeset, gives, roletransition, constrain, Written, sameFamily}
+use Rattle.policy.specs.Words.{asName, asPart, blockWord, Keyword, declareK, classK, setK, relationK, transitionK, constrainK, keywordOf, Connective}
+use Rattle.policy.specs.Words.{allC, notC, andC, orC, xorC, setWord, expressionWord, opOf, isPlain, Component, componentOf}
+use Rattle.policy.specs.Statements.{Family, roles, Sort, plain, class, SetExpr, nameS, allS, notS, andS, orS, xorS, unionS, emptyS, source, target, Op}
+use Rattle.policy.specs.Statements.{Constraint, sidesE, nameE, notE, andE, orE, Relation, declare, attributeset, gives, roletransition, constrain}
+use Rattle.policy.specs.Statements.{Written, sameFamily}
 
 -- "one or more operands (their union)": an operand, and those after it
 unfoldable pub operandRow : List (SetExpr Name) → SetExpr Name

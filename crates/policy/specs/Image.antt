@@ -5,7 +5,8 @@ use mathlib.Core.List.{List, [], _∷_, _++_}
 use mathlib.Core.Option.{Option, none, some}
 use lib.ListN.{length}
 use Rattle.policy.specs.Basics.{Name, each, isAmong}
-use Rattle.policy.specs.Statements.{Family, users, roles, types, Sort, thingOf, attributeOf, Declaration, plain, class, Policy, count, classNames, declarations, transitions, Transition, constrains, Constrain, userrole, roletype, roleallow}
+use Rattle.policy.specs.Statements.{Family, users, roles, types, Sort, thingOf, attributeOf, Declaration, plain, class, Policy, count, classNames}
+use Rattle.policy.specs.Statements.{declarations, transitions, Transition, constrains, Constrain, userrole, roletype, roleallow}
 use Rattle.policy.specs.Meaning.{Set, stands, related, final}
 use Rattle.bitset.specs.Sets.{setOf, fromBits, tabulate}
 use Rattle.policy.specs.Rows.{Row, rowsOf}

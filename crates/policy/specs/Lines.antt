@@ -12,7 +12,7 @@ pub record Lines : Type 0 where
   pub third : (lent : ℕ) → outcome (ofText (bytes "\n(role a)\n(role a)")) lent ≡ rejected (refusalAt 4 10 3)
   -- an LF in a comment counts, a CR does not
   pub comment : (lent : ℕ) → outcome (ofText (bytes "; a\n; b\r\n(role a)(roletype a t)")) lent ≡ rejected (refusalAt 5 17 3)
-  -- an LF at the place does not count, nor one behind it
+  -- an LF at the place does not count, nor one after it
   pub at-the-place : lineAt (bytes "\n\n\n") 1 ≡ 2
   pub behind : (lent : ℕ) → outcome (ofText (bytes "()\n\n")) lent ≡ rejected (refusalAt 3 0 1)
   -- the place of an unclosed text is its length, so that all LFs count

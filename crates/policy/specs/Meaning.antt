@@ -4,7 +4,10 @@ use mathlib.Core.Bool.{Bool, true, false, not, _&&_, _||_, cond}
 use mathlib.Core.List.{List, [], _∷_}
 use lib.Dec.{eqb, ltb}
 use Rattle.policy.specs.Basics.{any}
-use Rattle.policy.specs.Statements.{Family, users, roles, types, thingOf, Reference, thing, attribute, SetExpr, nameS, allS, notS, andS, orS, xorS, unionS, emptyS, Side, source, target, Op, eq, neq, dom, domby, incomp, Constraint, sidesE, nameE, notE, andE, orE, Relation, userrole, roletype, roleallow, fromOf, toOf, declare, attributeset, gives, roletransition, constrain, Line, Policy, count, declarations, setsFor}
+use Rattle.policy.specs.Statements.{Family, users, roles, types, thingOf, Reference, thing, attribute, SetExpr, nameS, allS, notS, andS, orS, xorS}
+use Rattle.policy.specs.Statements.{unionS, emptyS, Side, source, target, Op, eq, neq, dom, domby, incomp, Constraint, sidesE, nameE, notE, andE, orE}
+use Rattle.policy.specs.Statements.{Relation, userrole, roletype, roleallow, fromOf, toOf, declare, attributeset, gives, roletransition, constrain, Line}
+use Rattle.policy.specs.Statements.{Policy, count, declarations, setsFor}
 
 -- a set of numbers, as a test
 abbrev pub Set : Type 0

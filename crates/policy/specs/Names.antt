@@ -7,7 +7,8 @@ use lib.ListN.{drop}
 use Rattle.lexer.specs.Class.{is}
 use Rattle.lexer.specs.Spell.{bytes}
 use Rattle.policy.specs.Basics.{Name, same, _>>=_, orElse, given, indexOf}
-use Rattle.policy.specs.Statements.{Family, Sort, thingOf, attributeOf, Declaration, plain, class, Reference, thing, attribute, sameFamily, sameSort, familyOf, classNames, permissions, count}
+use Rattle.policy.specs.Statements.{Family, Sort, thingOf, attributeOf, Declaration, plain, class, Reference, thing, attribute, sameFamily, sameSort}
+use Rattle.policy.specs.Statements.{familyOf, classNames, permissions, count}
 
 -- ---- W-203: full names. A path is the names of the blocks around a statement, the innermost first
 

@@ -89,33 +89,33 @@ unfoldable pub nameOf : Image → ℕ → ℕ → Reply Part
 nameOf i s n = nameFrom s n firstBody (entries (i .names))
 
 -- so many records of one width
-pub record Run : Type 0 where
-  pub many : ℕ
-  pub wide : ℕ
+pub record Records : Type 0 where
+  pub number : ℕ
+  pub width : ℕ
 
-abbrev pub runOf : ℕ → ℕ → Run
-runOf n w = record { many = n; wide = w }
+abbrev pub recordsOf : ℕ → ℕ → Records
+recordsOf n w = record { number = n; width = w }
 
 -- the records of the bodies 2 to 8; "in body 8 userattributes come first, then roleattributes, then typeattributes"
-abbrev pub records : Image → List (List Run)
+abbrev pub records : Image → List (List Records)
 records i =
     []
     ∷ []
-    ∷ (runOf (length (i .userRoles)) 16 ∷ [])
-    ∷ (runOf (length (i .roleTypes)) 64 ∷ [])
-    ∷ (runOf (length (i .roleRoles)) 16 ∷ [])
-    ∷ (runOf (length (i .transitions)) 82 ∷ [])
-    ∷ (runOf (length (i .constraints)) 10 ∷ [])
-    ∷ (runOf (length (getD (bodies i) 6 []) / 6) 6 ∷ [])
-    ∷ (runOf (length (i .userSets)) 16 ∷ runOf (length (i .roleSets)) 16 ∷ runOf (length (i .typeSets)) 64 ∷ [])
+    ∷ (recordsOf (length (i .userRoles)) 16 ∷ [])
+    ∷ (recordsOf (length (i .roleTypes)) 64 ∷ [])
+    ∷ (recordsOf (length (i .roleRoles)) 16 ∷ [])
+    ∷ (recordsOf (length (i .transitions)) 82 ∷ [])
+    ∷ (recordsOf (length (i .constraints)) 10 ∷ [])
+    ∷ (recordsOf (length (getD (bodies i) 6 []) / 6) 6 ∷ [])
+    ∷ (recordsOf (length (i .userSets)) 16 ∷ recordsOf (length (i .roleSets)) 16 ∷ recordsOf (length (i .typeSets)) 64 ∷ [])
     ∷ []
 
 -- the record at a place among runs of which the first starts at o
-unfoldable pub recordFrom : ℕ → ℕ → List Run → Reply Part
+unfoldable pub recordFrom : ℕ → ℕ → List Records → Reply Part
 recordFrom k o [] = refused 12 0
-recordFrom k o (r ∷ rs) = cond (ltb k (r .many))
-    (answered (record { start = o + k * r .wide; long = r .wide }))
-    (recordFrom (k - r .many) (o + r .many * r .wide) rs)
+recordFrom k o (r ∷ rs) = cond (ltb k (r .number))
+    (answered (record { start = o + k * r .width; long = r .width }))
+    (recordFrom (k - r .number) (o + r .number * r .width) rs)
 
 -- **Entry** of a body 2 to 8 and its place there; "no such body or entry is 12"
 unfoldable pub entryOf : Image → ℕ → ℕ → Reply Part

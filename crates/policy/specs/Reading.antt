@@ -10,7 +10,10 @@ use Rattle.lexer.specs.Scan.{scan, maxText}
 use Rattle.lexer.specs.Class.{maxName}
 use Rattle.lexer.specs.Forms.{formsOf}
 use Rattle.policy.specs.Basics.{Name, _>>=_, eachOf, isIn, differ}
-use Rattle.policy.specs.Statements.{Family, roles, types, thingOf, attributeOf, Declaration, plain, class, Reference, SetExpr, nameS, allS, notS, andS, orS, xorS, unionS, emptyS, Constraint, sidesE, nameE, notE, andE, orE, fromOf, toOf, declare, attributeset, gives, roletransition, constrain, Written, Statement, Policy, familyOf, familyNames, classNames, count, declarations, transitions, constrains, Constrain, size, need}
+use Rattle.policy.specs.Statements.{Family, roles, types, thingOf, attributeOf, Declaration, plain, class, Reference, SetExpr, nameS, allS, notS, andS}
+use Rattle.policy.specs.Statements.{orS, xorS, unionS, emptyS, Constraint, sidesE, nameE, notE, andE, orE, fromOf, toOf, declare, attributeset, gives}
+use Rattle.policy.specs.Statements.{roletransition, constrain, Written, Statement, Policy, familyOf, familyNames, classNames, count, declarations}
+use Rattle.policy.specs.Statements.{transitions, constrains, Constrain, size, need}
 use Rattle.policy.specs.Names.{full, Environment, environmentOf, refer, numberIn}
 use Rattle.policy.specs.Maxima.{maxOf, maxClasses, maxPermissions, maxTransitions, maxConstraints, maxRows, maxStack, maxDepth}
 use Rattle.policy.specs.Grammar.{written, isBlock, blockIn}
@@ -103,19 +106,19 @@ pub data Judged : Type 0 where
   opens : Judged
   fault : ℕ → Judged
 
-abbrev pub sized : Policy → Statement → Judged
-sized p s = cond (fits p s) (cond (shallow s) (reads s) (fault 7)) (fault 6)
+abbrev pub judgeMaxima : Policy → Statement → Judged
+judgeMaxima p s = cond (fits p s) (cond (shallow s) (reads s) (fault 7)) (fault 6)
 
-abbrev pub resolving : Policy → Option Statement → Judged
-resolving p none = fault 5
-resolving p (some s) = sized p s
+abbrev pub judgeResolved : Policy → Option Statement → Judged
+judgeResolved p none = fault 5
+judgeResolved p (some s) = judgeMaxima p s
 
 -- a statement in the blocks of a path, after the statements of p
-abbrev pub naming : List Name → Policy → Option Written → Judged
-naming path p none = fault 3
-naming path p (some w) = elim (again (declarations p) (inBlocks path w)) [
+abbrev pub judgeStatement : List Name → Policy → Option Written → Judged
+judgeStatement path p none = fault 3
+judgeStatement path p (some w) = elim (again (declarations p) (inBlocks path w)) [
   | true ↦ fault 4
-  | false ↦ resolving p (resolved (environmentOf (declarations p) path) (inBlocks path w))
+  | false ↦ judgeResolved p (resolved (environmentOf (declarations p) path) (inBlocks path w))
 ]
 
 -- W-203: a block of a name in the blocks of a path has neither "a full name too long" nor "a ninth level"
@@ -124,14 +127,14 @@ blockFits path b = ltb (length path) maxDepth && leb (length (full path b)) maxN
 
 -- W-203: a block in the blocks of a path, by its name, where there are blocks of these full names: "3 for a dot in a .. block .. name, 4 for a block opened
 -- twice under one full name, 6 for a full name too long or a ninth level"
-abbrev pub opening : List Name → List Name → Option Name → Judged
-opening path blocks none = fault 3
-opening path blocks (some b) =
+abbrev pub judgeBlock : List Name → List Name → Option Name → Judged
+judgeBlock path blocks none = fault 3
+judgeBlock path blocks (some b) =
     cond (isIn (full path b) blocks) (fault 4) (cond (blockFits path b) opens (fault 6))
 
 -- a statement or block after those before it, whose statements are p
 unfoldable pub judge : List Scoped → Policy → Scoped → Judged
-judge before p x = cond (isBlock (x .form)) (opening (x .path) (blocksIn before) (blockIn (x .form))) (naming (x .path) p (written (x .form)))
+judge before p x = cond (isBlock (x .form)) (judgeBlock (x .path) (blocksIn before) (blockIn (x .form))) (judgeStatement (x .path) p (written (x .form)))
 
 -- the statements of a text, or a refusal's number and place
 pub data Read : Type 0 where

@@ -37,7 +37,7 @@ rollOf i =
     rollLines (bytes "user ") (bytes " roles ") (namesOf (thingOf users) (i .names)) (i .userRoles)
     ++ rollLines (bytes "role ") (bytes " types ") (namesOf (thingOf roles) (i .names)) (i .roleTypes)
 
--- a word and a number behind it
+-- a word and a number after it
 abbrev pub labelled : List ℕ → ℕ → List ℕ
 labelled w n = w ++ decimal n
 

@@ -4,7 +4,8 @@ use mathlib.Core.List.{List, [], _∷_, _++_}
 use Prim.Native.Nat.{ℕ, suc, pred, _+_, _/_}
 use lib.Dec.{eqb, ltb, leb}
 use lib.ListN.{length}
-use Rattle.policy.specs.Statements.{Family, users, roles, types, Reference, thing, attribute, Side, source, target, Op, eq, neq, dom, domby, incomp, Constraint, sidesE, nameE, notE, andE, orE}
+use Rattle.policy.specs.Statements.{Family, users, roles, types, Reference, thing, attribute, Side, source, target, Op, eq, neq, dom, domby, incomp}
+use Rattle.policy.specs.Statements.{Constraint, sidesE, nameE, notE, andE, orE}
 use Rattle.policy.specs.Maxima.{maxStack}
 
 -- "kind, component, operator, 0, number"

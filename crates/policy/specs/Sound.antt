@@ -7,7 +7,7 @@ use lib.Dec.{eqb, leb, ltb}
 use lib.ListN.{length, getD, getElem?, take, drop}
 use Rattle.bitset.specs.Relations.{joined}
 use Rattle.policy.specs.Basics.{Name, same, _>>=_, given, more, each, eachOf, every, unle}
-use Rattle.lexer.specs.Class.{maxName, isPart, parts, isDotted}
+use Rattle.lexer.specs.Class.{maxName, isPart, parts, hasGoodParts}
 use Rattle.policy.specs.Words.{isReserved}
 use Rattle.policy.specs.Statements.{Family, users, roles, types, Sort, thingOf, attributeOf, Declaration, plain, class, count, classNames, permissions}
 use Rattle.policy.specs.Maxima.{maxTransitions, maxConstraints, maxRows, maxParts}
@@ -21,7 +21,7 @@ use Rattle.policy.specs.Encode.{NameEntry, nameEntry, entries, Constrain
 
 -- "names are good, not reserved"; W-203: "Tables, sound ones included, hold the full dotted name without leading dot, at most 64 bytes and nine parts"
 abbrev pub isGood : Name → Bool
-isGood w = isDotted w && leb (length w) maxName && leb (length (parts w)) maxParts && not (isReserved w)
+isGood w = hasGoodParts w && leb (length w) maxName && leb (length (parts w)) maxParts && not (isReserved w)
 
 -- "a permission's one"
 abbrev pub isGoodPart : Name → Bool

@@ -9,7 +9,8 @@ use lib.ListN.{length}
 use Rattle.lexer.specs.Spell.{bytes}
 use Rattle.lexer.specs.Class.{is, parts}
 use Rattle.policy.specs.Basics.{Name, isIn, any, Under, lookup, given}
-use Rattle.policy.specs.Statements.{Family, users, roles, types, Sort, thingOf, attributeOf, Side, source, target, Op, eq, neq, dom, domby, incomp, Relation, userrole, roletype, roleallow}
+use Rattle.policy.specs.Statements.{Family, users, roles, types, Sort, thingOf, attributeOf, Side, source, target, Op, eq, neq, dom, domby, incomp}
+use Rattle.policy.specs.Statements.{Relation, userrole, roletype, roleallow}
 
 -- a word and its value
 abbrev pub _↦→_ : {A : Type 0} → String → A → Under A

@@ -7,7 +7,8 @@ use lib.Dec.{eqb, ltb}
 use lib.ListN.{length, take, drop, replicate}
 use Rattle.lexer.specs.Spell.{bytes}
 use Rattle.policy.specs.Basics.{Name, unle}
-use Rattle.policy.specs.Statements.{users, roles, types, thingOf, plain, class, thing, Op, eq, Constraint, sidesE, andE, Reference, need, userrole, roletype, declare, gives, Statement, Line, Policy}
+use Rattle.policy.specs.Statements.{users, roles, types, thingOf, plain, class, thing, Op, eq, Constraint, sidesE, andE, Reference, need, userrole}
+use Rattle.policy.specs.Statements.{roletype, declare, gives, Statement, Line, Policy}
 use Rattle.policy.specs.Reading.{Read, policy, refused, readPolicy}
 use Rattle.policy.specs.Meaning.{Context, final}
 use Rattle.policy.specs.Deciding.{Question, denied, unconsulted}

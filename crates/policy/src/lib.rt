@@ -1,5 +1,5 @@
-// What all crates share: the numbers of things with their maxima, the families and sorts of names, the numbers that stand in a
-// table, and the answers. What the documents say of them stands in specs/.
+// What all crates share: the numbers of things with their maxima, the families and sorts of names, the numbers that
+// are in a table, and the answers. What the documents say of them is in specs/.
 
 // The number of a user, from 0 in text order.
 pub struct User(pub u64);
@@ -62,7 +62,7 @@ impl Transition {
     // The bytes of a transition in a table: a set of roles, a set of types, the class and the new role.
     pub const BYTES: usize = Role::SET_BYTES + Type::SET_BYTES + 2;
 
-    // Where they stand in it; the roles come first.
+    // Where they are in it; the roles come first.
     pub const TYPES_AT: usize = Role::SET_BYTES;
 
     pub const CLASS_AT: usize = Role::SET_BYTES + Type::SET_BYTES;
@@ -160,7 +160,7 @@ impl FullName {
     pub const MAX_PARTS: usize = Block::MAX_DEPTH + 1;
 }
 
-// What a name is declared as, by the number that stands in a table.
+// What a name is declared as, by the number that is in a table.
 pub struct Sort;
 
 impl Sort {
@@ -198,8 +198,8 @@ pub struct NameCounts {
     pub classes: usize,
 }
 
-// A table: its edition, how many sections it has, and the bytes of its header: the edition and the number of sections, and for
-// each section its offset and its length.
+// A table: its edition, how many sections it has, and the bytes of its header: the edition and the number of
+// sections, and for each section its offset and its length.
 pub struct Table;
 
 impl Table {
@@ -312,8 +312,8 @@ pub enum Validity {
     Refused { number: usize },
 }
 
-// What a change question answers: granted; denial 1, 2 or 3; denial 4 with the number of the constraint that fails; or a
-// refusal, 11 or 12. `consulted` counts the constraints that were asked; where it is missing it is 0.
+// What a change question answers: granted; denial 1, 2 or 3; denial 4 with the number of the constraint that fails;
+// or a refusal, 11 or 12. `consulted` counts the constraints that were asked; where it is missing it is 0.
 pub enum Change {
     Granted { consulted: usize },
     Denied { number: usize },
@@ -327,7 +327,7 @@ pub enum NewRole {
     Refused { number: usize },
 }
 
-// Where a name or an entry stands in the lent table; or a refusal, 11 or 12.
+// Where a name or an entry is in the lent table; or a refusal, 11 or 12.
 pub enum Place {
     Part { start: usize, length: usize },
     Refused { number: usize },

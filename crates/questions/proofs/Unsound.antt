@@ -9,7 +9,7 @@ use Rattle.policy.specs.Deciding.{Question, refuses, unconsulted, refused}
 use Rattle.policy.specs.Image.{Image}
 use Rattle.policy.specs.Sound.{imageIn}
 use Rattle.policy.specs.Questions.{asked, valid, validOn, newRole, newRoleOn, changed, changeOn}
-use Rattle.image_rows.specs.SoundRows.{isSome}
+use Rattle.sound_constraints.specs.SoundRows.{isSome}
 use Rattle.soundness.specs.IsSound.{isSound}
 
 module _ (t : List ℕ) (h : isSound t ≡ false) where

@@ -1,19 +1,21 @@
-// Valid context, change and new role, asked of any bytes and in any numbers: 11 where the bytes are no sound table, else what the table answers, 12
-// where a number is not declared. No lent memory is written to.
+// Valid context, change and new role, asked of any bytes and in any numbers: 11 where the bytes are no sound table,
+// else what the table answers, 12 where a number is not declared. No lent memory is written to.
 //
-// Each asks first whether the table is sound, which goes over all of it. A caller that knows a table to be sound asks `decisions` instead.
+// Each asks first whether the table is sound, which goes over all of it. A caller that knows a table to be sound asks
+// `decisions` instead.
 use decisions::Context;
-use name_section::Counted;
 use policy::Change;
 use policy::NewRole;
 use policy::Refusal;
 use policy::Validity;
+use sound_names::Counted;
 ghost use mathlib.Core.Path.{_≡_};
 ghost use Rattle.policy.specs.Questions.{validOn, newRoleOn, changeOn};
 ghost use Rattle.policy.specs.Answers.{validityOf, newRoleOf, changeOf};
 ghost use Rattle.decisions.specs.Asked.{context, question};
 
-// **Valid context**: whether the role is among the user's, and the type, `kind`, among the role's, or the role is named `object_r`.
+// **Valid context**: whether the role is among the user's, and the type, `kind`, among the role's, or the role is
+// named `object_r`.
 pub fn valid(table: &[u8], user: usize, role: usize, kind: usize) -> Validity
     ensures { λ r. ⌜ validityOf r ≡ validOn (now (table .entry)) (context user role kind) ⌝ }
 {
@@ -42,7 +44,7 @@ pub fn change(
             number: Refusal::NOT_SOUND,
         };
     };
-    let has = permission < image_rows::permissions_of(&permissions, class);
+    let has = permission < sound_constraints::permissions_of(&permissions, class);
     decisions::change_in_counted(table, counts, has, source, target, class, permission)
 }
 

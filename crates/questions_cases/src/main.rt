@@ -1,6 +1,7 @@
-// Asks the questions of a corpus on standard input, and writes a line for each answer. A case is the length of a table, 4 bytes, little endian, the table,
-// the number of its questions, 4 bytes, and for each question its kind and eight numbers, 8 bytes each. The corpus ends with the input, or with a
-// case that is cut short or longer than the memory here.
+// Asks the questions of a corpus on standard input, and writes a line for each answer. A case is the length of a
+// table, 4 bytes, little endian, the table, the number of its questions, 4 bytes, and for each question its kind and
+// eight numbers, 8 bytes each. The corpus ends with the input, or with a case that is cut short or longer than the
+// memory here.
 use corpus::Next;
 use decisions::Context;
 
@@ -79,7 +80,7 @@ fn ask_all(table: &[u8], count: usize) -> bool {
     true
 }
 
-// Reads a table of that length into the memory, and asks the questions behind it; answers whether there was one.
+// Reads a table of that length into the memory, and asks the questions after it; answers whether there was one.
 fn case(memory: &mut [u8], len: usize) -> bool {
     if memory.len() < len {
         return false;

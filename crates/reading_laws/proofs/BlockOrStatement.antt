@@ -13,7 +13,7 @@ use Rattle.policy.specs.Words.{Keyword, blockWord, keywordOf}
 use Rattle.policy.specs.Names.{full, environmentOf}
 use Rattle.policy.specs.Grammar.{formed, written, isBlock, blockIn}
 use Rattle.policy.specs.Scopes.{Scoped, blocksIn}
-use Rattle.policy.specs.Reading.{inBlocks, again, resolved, fits, shallow, reads, opens, fault, sized, resolving, naming, blockFits, opening, judge}
+use Rattle.policy.specs.Reading.{inBlocks, again, resolved, fits, shallow, reads, opens, fault, judgeMaxima, judgeResolved, judgeStatement, blockFits, judgeBlock, judge}
 use Rattle.policy.proofs.Lists.{same-is}
 use Rattle.policy.proofs.BlockLaws.{no-block}
 
@@ -48,7 +48,7 @@ written-no-block (word at v r) w h = go (same v blockWord) refl
 -- ---- judgements
 
 -- no statement opens
-sized-never : (p : Policy) (s : Statement) → sized p s ≡ opens → ⊥
+sized-never : (p : Policy) (s : Statement) → judgeMaxima p s ≡ opens → ⊥
 sized-never p s h = go (fits p s) (shallow s) h
   where
     go : (a b : Bool) → cond a (cond b (reads s) (fault 7)) (fault 6) ≡ opens → ⊥
@@ -56,20 +56,20 @@ sized-never p s h = go (fits p s) (shallow s) h
     go true false e = let z : _≡_ {A = ℕ} 0 1 = cc in omega arith
     go true true e = let z : _≡_ {A = ℕ} 0 1 = cc in omega arith
 
-resolving-never : (p : Policy) (o : Option Statement) → resolving p o ≡ opens → ⊥
+resolving-never : (p : Policy) (o : Option Statement) → judgeResolved p o ≡ opens → ⊥
 resolving-never p none h = let z : _≡_ {A = ℕ} 0 1 = cc in omega arith
 resolving-never p (some s) h = sized-never p s h
 
-naming-never : (path : List Name) (p : Policy) (o : Option Written) → naming path p o ≡ opens → ⊥
+naming-never : (path : List Name) (p : Policy) (o : Option Written) → judgeStatement path p o ≡ opens → ⊥
 naming-never path p none h = let z : _≡_ {A = ℕ} 0 1 = cc in omega arith
 naming-never path p (some w) h = go (again (declarations p) (inBlocks path w)) h
   where
-    go : (q : Bool) → elim q [ true ↦ fault 4 | false ↦ resolving p (resolved (environmentOf (declarations p) path) (inBlocks path w)) ] ≡ opens → ⊥
+    go : (q : Bool) → elim q [ true ↦ fault 4 | false ↦ judgeResolved p (resolved (environmentOf (declarations p) path) (inBlocks path w)) ] ≡ opens → ⊥
     go true e = let z : _≡_ {A = ℕ} 0 1 = cc in omega arith
     go false e = resolving-never p (resolved (environmentOf (declarations p) path) (inBlocks path w)) e
 
 -- no block is read as a statement
-opening-never : (path blocks : List Name) (o : Option Name) (s : Statement) → opening path blocks o ≡ reads s → ⊥
+opening-never : (path blocks : List Name) (o : Option Name) (s : Statement) → judgeBlock path blocks o ≡ reads s → ⊥
 opening-never path blocks none s h = let z : _≡_ {A = ℕ} 0 1 = cc in omega arith
 opening-never path blocks (some b) s h = go (isIn (full path b) blocks) (blockFits path b) h
   where
@@ -86,7 +86,7 @@ pub record Opened (before : List Scoped) (x : Scoped) : Type 0 where
   pub room : blockFits (x .path) name ≡ true
 
 -- what the opening of a block says, by its name
-opening-opens : (before : List Scoped) (x : Scoped) (o : Option Name) → blockIn (x .form) ≡ o → opening (x .path) (blocksIn before) o ≡ opens → Opened before x
+opening-opens : (before : List Scoped) (x : Scoped) (o : Option Name) → blockIn (x .form) ≡ o → judgeBlock (x .path) (blocksIn before) o ≡ opens → Opened before x
 opening-opens before x none f h = let z : _≡_ {A = ℕ} 0 1 = cc in absurd (omega arith)
 opening-opens before x (some b) f h =
     go (isIn (full (x .path) b) (blocksIn before)) (blockFits (x .path) b) refl refl h
@@ -99,11 +99,11 @@ opening-opens before x (some b) f h =
 
 module _ (before : List Scoped) (p : Policy) (x : Scoped) where
   -- a block is judged by its name, a statement by its written form
-  pub judge-block : isBlock (x .form) ≡ true → judge before p x ≡ opening (x .path) (blocksIn before) (blockIn (x .form))
+  pub judge-block : isBlock (x .form) ≡ true → judge before p x ≡ judgeBlock (x .path) (blocksIn before) (blockIn (x .form))
   unfolding judge
   judge-block e = rw e
 
-  pub judge-statement : isBlock (x .form) ≡ false → judge before p x ≡ naming (x .path) p (written (x .form))
+  pub judge-statement : isBlock (x .form) ≡ false → judge before p x ≡ judgeStatement (x .path) p (written (x .form))
   unfolding judge
   judge-statement e = rw e
 

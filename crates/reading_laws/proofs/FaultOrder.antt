@@ -15,7 +15,8 @@ use Rattle.policy.specs.Statements.{Statement, Written, Policy, declarations}
 use Rattle.policy.specs.Grammar.{written, isBlock, blockIn}
 use Rattle.policy.specs.Scopes.{Scoped, scopedIn, blocksIn}
 use Rattle.policy.specs.Reading.{inBlocks, again, resolved, fits, shallow}
-use Rattle.policy.specs.Reading.{Judged, reads, opens, fault, sized, resolving, naming, blockFits, opening, judge, policy, refused, readFrom, readAll, afterScan, readPolicy}
+use Rattle.policy.specs.Reading.{Judged, reads, opens, fault, judgeMaxima, judgeResolved, judgeStatement, blockFits, judgeBlock, judge, policy, refused}
+use Rattle.policy.specs.Reading.{readFrom, readAll, afterScan, readPolicy}
 use Rattle.policy.specs.Names.{full, environmentOf}
 use Rattle.reading_laws.proofs.BlockOrStatement.{judge-block, judge-statement}
 use Rattle.reading_laws.proofs.ReadThen.{line, judgedAt, read-one, read-reads, read-opens, stopped-row}
@@ -64,14 +65,14 @@ fault-number (of-block e f) = block-number f
 -- ---- it is judged faulty where it has the fault
 
 module _ (path : List Name) (p : Policy) (o : Option Written) where
-  naming-faulty : (n : ℕ) → StatementFault path p o n → naming path p o ≡ fault n
+  naming-faulty : (n : ℕ) → StatementFault path p o n → judgeStatement path p o ≡ fault n
   naming-faulty n (no-form e) = rw e
-  naming-faulty n (declared-again w e a) = rw (e, a, naming)
-  naming-faulty n (not-declared w e a r) = rw (e, a, naming, r)
-  naming-faulty n (too-many w s e a r x) = rw (e, a, naming, r, x)
-  naming-faulty n (too-deep w s e a r x y) = rw (e, a, naming, r, x, y)
+  naming-faulty n (declared-again w e a) = rw (e, a, judgeStatement)
+  naming-faulty n (not-declared w e a r) = rw (e, a, judgeStatement, r)
+  naming-faulty n (too-many w s e a r x) = rw (e, a, judgeStatement, r, x)
+  naming-faulty n (too-deep w s e a r x y) = rw (e, a, judgeStatement, r, x, y)
 
-opening-faulty : (path blocks : List Name) (o : Option Name) (n : ℕ) → BlockFault path blocks o n → opening path blocks o ≡ fault n
+opening-faulty : (path blocks : List Name) (o : Option Name) (n : ℕ) → BlockFault path blocks o n → judgeBlock path blocks o ≡ fault n
 opening-faulty path blocks o n (no-block-form e) = rw e
 opening-faulty path blocks o n (opened-again b e a) = rw (e, a)
 opening-faulty path blocks o n (too-deep-or-long b e a h) = rw (e, a, h)
@@ -98,7 +99,7 @@ it-opens = record { has = λ m e. let z : _≡_ {A = ℕ} 0 1 = cc in absurd (om
 
 module _ (path : List Name) (p : Policy) (o : Option Written) where
   sized-fault : (w : Written) (s : Statement) → o ≡ some w → again (declarations p) (inBlocks path w) ≡ false
-      → resolved (environmentOf (declarations p) path) (inBlocks path w) ≡ some s → IfFault (StatementFault path p o) (sized p s)
+      → resolved (environmentOf (declarations p) path) (inBlocks path w) ≡ some s → IfFault (StatementFault path p o) (judgeMaxima p s)
   sized-fault w s e a r = go (fits p s) (shallow s) refl refl
     where
       go : (x y : Bool) → fits p s ≡ x → shallow s ≡ y → IfFault (StatementFault path p o) (cond x (cond y (reads s) (fault 7)) (fault 6))
@@ -107,20 +108,20 @@ module _ (path : List Name) (p : Policy) (o : Option Written) where
       go true true i j = no-fault s
 
   resolving-fault : (w : Written) → o ≡ some w → again (declarations p) (inBlocks path w) ≡ false → (r : Option Statement)
-      → resolved (environmentOf (declarations p) path) (inBlocks path w) ≡ r → IfFault (StatementFault path p o) (resolving p r)
+      → resolved (environmentOf (declarations p) path) (inBlocks path w) ≡ r → IfFault (StatementFault path p o) (judgeResolved p r)
   resolving-fault w e a none r = a-fault (not-declared w e a r)
   resolving-fault w e a (some s) r = sized-fault w s e a r
 
-  naming-fault : (v : Option Written) → o ≡ v → IfFault (StatementFault path p o) (naming path p v)
+  naming-fault : (v : Option Written) → o ≡ v → IfFault (StatementFault path p o) (judgeStatement path p v)
   naming-fault none e = a-fault (no-form e)
   naming-fault (some w) e = go (again (declarations p) (inBlocks path w)) refl
     where
       go : (b : Bool) → again (declarations p) (inBlocks path w) ≡ b
-          → IfFault (StatementFault path p o) (elim b [ true ↦ fault 4 | false ↦ resolving p (resolved (environmentOf (declarations p) path) (inBlocks path w)) ])
+          → IfFault (StatementFault path p o) (elim b [ true ↦ fault 4 | false ↦ judgeResolved p (resolved (environmentOf (declarations p) path) (inBlocks path w)) ])
       go true a = a-fault (declared-again w e a)
       go false a = resolving-fault w e a (resolved (environmentOf (declarations p) path) (inBlocks path w)) refl
 
-opening-fault : (path blocks : List Name) (o v : Option Name) → o ≡ v → IfFault (BlockFault path blocks o) (opening path blocks v)
+opening-fault : (path blocks : List Name) (o v : Option Name) → o ≡ v → IfFault (BlockFault path blocks o) (judgeBlock path blocks v)
 opening-fault path blocks o none e = a-fault (no-block-form e)
 opening-fault path blocks o (some b) e = go (isIn (full path b) blocks) (blockFits path b) refl refl
   where

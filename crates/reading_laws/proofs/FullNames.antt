@@ -10,7 +10,7 @@ use mathlib.Core.Option.{none, some}
 use lib.Dec.{leb, ltb}
 use lib.ListN.{length}
 use borrow.Author.Tests.{leb-true, le-leb, ltb-true, not-true}
-use Rattle.lexer.specs.Class.{is, maxName, isPart, allParts, parts, isDotted, isName}
+use Rattle.lexer.specs.Class.{is, maxName, isPart, allParts, parts, hasGoodParts, isName}
 use Rattle.lexer.specs.Forms.{Forms, closed, ended, word, part, namesGood}
 use Rattle.lexer.proofs.Names.{name-part, cut-at-dot, only-part, dot-byte}
 use Rattle.policy.specs.Basics.{Name, same, All, any, every, isIn}
@@ -89,7 +89,7 @@ none-reserved (p ∷ ps) h = rw (h .0 .1) (none-reserved ps (h .1))
 
 -- "Tables .. hold the full dotted name without leading dot, at most 64 bytes and nine parts": full names of good parts in good blocks are such
 pub full-good : (path : List Name) (w : Name) → GoodPath path → isGoodPart w ≡ true → length (full path w) ≤ maxName → isGood (full path w) ≡ true
-unfolding isDotted isReserved
+unfolding hasGoodParts isReserved
 full-good path w g h l =
     let blocks = good-ones path (g .names) in
     let own = good-one w h in

@@ -7,7 +7,9 @@ use mathlib.Core.List.{List, [], _++_}
 use mathlib.Core.Option.{Option}
 use lib.ListN.{length, getD, length-append, List·getD-append}
 use Rattle.policy.specs.Basics.{Name, gather, All}
-use Rattle.policy.specs.Statements.{Family, roles, types, Sort, thingOf, attributeOf, Declaration, ofSort, ofClass, withPermissions, Reference, thing, attribute, SetExpr, nameS, allS, notS, andS, orS, xorS, unionS, emptyS, Constraint, sidesE, nameE, notE, andE, orE, Statement, declare, attributeset, gives, roletransition, constrain, fromOf, toOf, namesOf, classNames, permissions, count}
+use Rattle.policy.specs.Statements.{Family, roles, types, Sort, thingOf, attributeOf, Declaration, ofSort, ofClass, withPermissions, Reference, thing}
+use Rattle.policy.specs.Statements.{attribute, SetExpr, nameS, allS, notS, andS, orS, xorS, unionS, emptyS, Constraint, sidesE, nameE, notE, andE, orE}
+use Rattle.policy.specs.Statements.{Statement, declare, attributeset, gives, roletransition, constrain, fromOf, toOf, namesOf, classNames, permissions, count}
 use Rattle.policy.specs.Accepted.{ReferenceIn, SetIn, ConstraintIn, StatementIn}
 use Rattle.policy.proofs.Lists.{gather-append}
 use Rattle.policy.proofs.Counts.{class-lists}

@@ -9,7 +9,7 @@ use mathlib.Core.Option.{Option, none, some, Option·some-injective}
 use Rattle.lexer.specs.Forms.{namesGood}
 use Rattle.policy.specs.Basics.{Name}
 use Rattle.policy.specs.Statements.{Statement, Written, declare, attributeset, gives, roletransition, constrain, Policy, declarations}
-use Rattle.policy.specs.Reading.{inBlocks, again, resolved, isShort, hasRoom, fits, shallow, Judged, reads, fault, sized, resolving, naming, judge}
+use Rattle.policy.specs.Reading.{inBlocks, again, resolved, isShort, hasRoom, fits, shallow, Judged, reads, fault, judgeMaxima, judgeResolved, judgeStatement, judge}
 use Rattle.policy.specs.Grammar.{written}
 use Rattle.policy.specs.Scopes.{Scoped}
 use Rattle.policy.specs.Accepted.{StatementIn, GoodPath}
@@ -42,7 +42,7 @@ fits-short p (roletransition r t c n) h = refl
 fits-short p (constrain c ps e) h = refl
 
 module _ (p : Policy) where
-  sized-passes : (s : Statement) → Resolved (declarations p) s → IfReads (Passes p) (sized p s)
+  sized-passes : (s : Statement) → Resolved (declarations p) s → IfReads (Passes p) (judgeMaxima p s)
   sized-passes s h = go (fits p s) (shallow s) refl refl
     where
       passes : fits p s ≡ true → shallow s ≡ true → Passes p s
@@ -53,21 +53,21 @@ module _ (p : Policy) where
       go true false e k = faulty 7
       go true true e k = record { has = λ t i. let same : s ≡ t = cc in subst (Passes p) same (passes e k) }
 
-  resolving-passes : (o : Option Statement) → IfAny (Resolved (declarations p)) o → IfReads (Passes p) (resolving p o)
+  resolving-passes : (o : Option Statement) → IfAny (Resolved (declarations p)) o → IfReads (Passes p) (judgeResolved p o)
   resolving-passes none h = faulty 5
   resolving-passes (some s) h = sized-passes s (h .has s refl)
 
-  naming-passes : (path : List Name) → GoodPath path → (o : Option Written) → IfAny WellWritten o → IfReads (Passes p) (naming path p o)
+  naming-passes : (path : List Name) → GoodPath path → (o : Option Written) → IfAny WellWritten o → IfReads (Passes p) (judgeStatement path p o)
   naming-passes path good none h = faulty 3
   naming-passes path good (some w) h = go (again (declarations p) (inBlocks path w)) refl
     where
       go : (b : Bool) → again (declarations p) (inBlocks path w) ≡ b
-          → IfReads (Passes p) (elim b [ true ↦ fault 4 | false ↦ resolving p (resolved (environmentOf (declarations p) path) (inBlocks path w)) ])
+          → IfReads (Passes p) (elim b [ true ↦ fault 4 | false ↦ judgeResolved p (resolved (environmentOf (declarations p) path) (inBlocks path w)) ])
       go true e = faulty 4
       go false e = resolving-passes _ (resolved-in (declarations p) path good w (h .has w refl) e)
 
   -- a statement that is judged good is what its written form resolves to
-  sized-reads : (s t : Statement) → sized p s ≡ reads t → s ≡ t
+  sized-reads : (s t : Statement) → judgeMaxima p s ≡ reads t → s ≡ t
   sized-reads s t h = go (fits p s) (shallow s) h
     where
       go : (a b : Bool) → cond a (cond b (reads s) (fault 7)) (fault 6) ≡ reads t → s ≡ t
@@ -75,23 +75,23 @@ module _ (p : Policy) where
       go true false e = let z : _≡_ {A = ℕ} 0 1 = cc in absurd (omega arith)
       go true true e = cc
 
-  resolving-reads : (o : Option Statement) (t : Statement) → resolving p o ≡ reads t → o ≡ some t
+  resolving-reads : (o : Option Statement) (t : Statement) → judgeResolved p o ≡ reads t → o ≡ some t
   resolving-reads none t h = let z : _≡_ {A = ℕ} 0 1 = cc in absurd (omega arith)
   resolving-reads (some s) t h = ap some (sized-reads s t h)
 
-  naming-reads : (path : List Name) (s : Statement) (o : Option Written) → naming path p o ≡ reads s
+  naming-reads : (path : List Name) (s : Statement) (o : Option Written) → judgeStatement path p o ≡ reads s
       → (w : Written) × (o ≡ some w) × (resolved (environmentOf (declarations p) path) (inBlocks path w) ≡ some s)
   naming-reads path s none h = let z : _≡_ {A = ℕ} 0 1 = cc in absurd (omega arith)
   naming-reads path s (some w) h = (w, refl, go (again (declarations p) (inBlocks path w)) h)
     where
-      go : (b : Bool) → elim b [ true ↦ fault 4 | false ↦ resolving p (resolved (environmentOf (declarations p) path) (inBlocks path w)) ] ≡ reads s
+      go : (b : Bool) → elim b [ true ↦ fault 4 | false ↦ judgeResolved p (resolved (environmentOf (declarations p) path) (inBlocks path w)) ] ≡ reads s
           → resolved (environmentOf (declarations p) path) (inBlocks path w) ≡ some s
       go true k = let z : _≡_ {A = ℕ} 0 1 = cc in absurd (omega arith)
       go false k = resolving-reads (resolved (environmentOf (declarations p) path) (inBlocks path w)) s k
 
 module _ (before : List Scoped) (p : Policy) (x : Scoped) where
   -- what is read is a statement, so it is judged as one
-  named : (s : Statement) → judge before p x ≡ reads s → naming (x .path) p (written (x .form)) ≡ reads s
+  named : (s : Statement) → judge before p x ≡ reads s → judgeStatement (x .path) p (written (x .form)) ≡ reads s
   named s h = sym (judge-statement before p x (reads-statement before p x s h)) ∙ h
 
   -- a statement in good blocks that is judged good passes

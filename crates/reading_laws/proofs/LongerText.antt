@@ -35,7 +35,7 @@ read-clean t p h = go (scan t) refl h
     go (Scanned.Wrong at) e k = let z : _≡_ {A = ℕ} 0 1 = cc in absurd (omega arith)
     go Scanned.Clean e k = (e, k)
 
--- a statement more, at the whole-text level: what stands in its parentheses, resolved, is the last line
+-- a statement more, at the whole-text level: what is in its parentheses, resolved, is the last line
 pub record OneStatementMore (p p′ : Policy) (w : Written) : Type 0 where
   pub place : ℕ
   pub statement : Statement
@@ -81,7 +81,7 @@ module _ (t u : List ℕ) where
       ∙ ap readAll (scoped-then [] (formsOf t) more)
       ∙ read-on [] (scopedIn [] (formsOf t)) (scopedIn [] more) [] p (c .1))
 
-  -- behind the line feed the bytes read as they do by themselves, at other places
+  -- after the line feed the bytes read as they do by themselves, at other places
   behind-feed : framesAt (t ++ (10 ∷ u)) (length t + 1) .here ≡ placed (λ p. length (t ++ (10 ∷ [])) + p) (formsOf u)
   behind-feed =
       let e : length (t ++ (10 ∷ [])) ≡ length t + 1 = length-append t (10 ∷ []) in

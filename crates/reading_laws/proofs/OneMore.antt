@@ -8,7 +8,8 @@ use mathlib.Core.Option.{Option, none, some}
 use lib.ListN.{length, length-append}
 use borrow.Author.Tests.{ltb-true, leb-true}
 use Rattle.policy.specs.Basics.{gather, keep}
-use Rattle.policy.specs.Statements.{Declaration, Statement, declare, attributeset, gives, roletransition, constrain, Line, Policy, declared, declarations, transition, transitions, constrained, constrains, Constrain, size}
+use Rattle.policy.specs.Statements.{Declaration, Statement, declare, attributeset, gives, roletransition, constrain, Line, Policy, declared, declarations}
+use Rattle.policy.specs.Statements.{transition, transitions, constrained, constrains, Constrain, size}
 use Rattle.policy.specs.Maxima.{maxTransitions, maxConstraints, maxRows}
 use Rattle.policy.specs.Reading.{isNew, isShort, hasRoom, rowCount}
 use Rattle.policy.specs.Sound.{goodNames, goodFrom}
@@ -78,4 +79,5 @@ one-more p at (roletransition r t c n) a h =
     accepted-more p _ a (h .inside) nothing (just (ltb-true (length (transitions p)) maxTransitions (h .room))) nothing nothing
 one-more p at (constrain c ps e) a h =
     let b = both-true _ _ (h .room) in
-    accepted-more p _ a (h .inside) nothing nothing (just (ltb-true (length (constrains p)) maxConstraints (b .0))) (just (leb-true (rowCount (constrains p) + size e) maxRows (b .1)))
+    accepted-more p _ a (h .inside) nothing nothing (just (ltb-true (length (constrains p)) maxConstraints (b .0)))
+    (just (leb-true (rowCount (constrains p) + size e) maxRows (b .1)))

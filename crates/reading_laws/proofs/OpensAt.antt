@@ -52,10 +52,11 @@ open-byte b h = go (is "(" b) refl (past (is ";" b) Comment _ refl (past (isBlan
     go : (c : Bool) → is "(" b ≡ c → isOpen (cond c Open rest) ≡ true → b ≡ code "("
     go true e k = eqb-true b (code "(") e
     go false e k =
-        absurd (false≢true (past (is "\n" b) LineFeed Wrong refl (past (is "." b) Dot _ refl (past (isDigit b) Digit _ refl (past (isLetter b) Letter _ refl (past (is ")" b) Close _ refl k))))))
+        absurd (false≢true (past (is "\n" b) LineFeed Wrong refl
+        (past (is "." b) Dot _ refl (past (isDigit b) Digit _ refl (past (isLetter b) Letter _ refl (past (is ")" b) Close _ refl k))))))
 
 module _ (text : List ℕ) where
-  -- an opening parenthesis stands at the place; a token, and the parts of a row, are at such places
+  -- an opening parenthesis is at the place; a token, and the parts of a row, are at such places
   abbrev pub OpensAt : ℕ → Type 0
   OpensAt at = getD text at 0 ≡ code "("
 
@@ -153,7 +154,7 @@ module _ (text : List ℕ) where
   fault-place n at l (at-statement m b e s) =
       subst OpensAt (s .place) (all-right ScopedOpens (s .before) (s .here ∷ s .rest) (subst (All ScopedOpens) (s .row) (scoped-open [] (formsOf text) forms-open)) .0)
 
--- an opening parenthesis stands at a place of the text
+-- an opening parenthesis is at a place of the text
 pub opens-within : (text : List ℕ) (at : ℕ) → OpensAt text at → at < length text
 opens-within text at h = go (leb (length text) at) refl
   where

@@ -7,7 +7,8 @@ use mathlib.Core.Option.{Option, none, some}
 use Rattle.lexer.specs.Forms.{Forms, closed, ended, word, part}
 use Rattle.policy.specs.Basics.{Name, _>>=_, more}
 use Rattle.policy.specs.Words.{asName, asPart, Keyword, declareK, classK, setK, relationK, transitionK, constrainK, Connective, keywordOf, expressionWord, opOf, componentOf}
-use Rattle.policy.specs.Grammar.{operands, setIn, compared, atClose, wordThen, partThen, twoWords, twoParts, wordAndPart, comparison, connected, expressions, expressionIn, rowOf, classIn, formed, written}
+use Rattle.policy.specs.Grammar.{operands, setIn, compared, atClose, wordThen, partThen, twoWords, twoParts, wordAndPart, comparison, connected, expressions}
+use Rattle.policy.specs.Grammar.{expressionIn, rowOf, classIn, formed, written}
 use Rattle.policy.specs.Statements.{Constraint}
 
 -- the same row at other places

@@ -59,7 +59,7 @@ abbrev pub goOn : Read → (Policy → Read) → Read
 goOn (policy p) k = k p
 goOn (refused n at) k = refused n at
 
--- the statement that stands at a place
+-- the statement that is at a place
 abbrev pub line : ℕ → Statement → Line
 line at s = record { place = at; says = s }
 
@@ -112,7 +112,8 @@ read-then before [] ys p = rw append-nil
 read-then before (x ∷ xs) ys p =
     let after : before ++ (x ∷ []) ++ xs ≡ before ++ (x ∷ xs) = append-assoc before (x ∷ []) xs in
     read-one before x (xs ++ ys) p
-    ∙ judged-then (x .place) p (judge before p x) _ _ _ (λ q. read-then (before ++ (x ∷ [])) xs ys q ∙ ap (λ (l : List Scoped). goOn (readFrom (before ++ (x ∷ [])) xs q) (readFrom l ys)) after)
+    ∙ judged-then (x .place) p (judge before p x) _ _ _
+    (λ q. read-then (before ++ (x ∷ [])) xs ys q ∙ ap (λ (l : List Scoped). goOn (readFrom (before ++ (x ∷ [])) xs q) (readFrom l ys)) after)
     ∙ ap (λ (r : Read). goOn r (readFrom (before ++ (x ∷ xs)) ys)) (sym (read-one before x xs p))
 
 -- where the first are read, the others are read after them

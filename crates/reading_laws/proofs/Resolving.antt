@@ -8,7 +8,9 @@ use mathlib.Core.List.{List, [], _∷_}
 use lib.ListN.{length}
 use borrow.Author.Tests.{leb-true, not-false}
 use Rattle.policy.specs.Basics.{Name, eachOf, All}
-use Rattle.policy.specs.Statements.{Family, roles, types, thingOf, attributeOf, Declaration, SetExpr, nameS, allS, notS, andS, orS, xorS, unionS, emptyS, Constraint, sidesE, nameE, notE, andE, orE, declare, attributeset, gives, roletransition, constrain, fromOf, toOf, Written, Statement, permissions, count, need, Sort, thing, attribute, familyOf}
+use Rattle.policy.specs.Statements.{Family, roles, types, thingOf, attributeOf, Declaration, SetExpr, nameS, allS, notS, andS, orS, xorS, unionS, emptyS}
+use Rattle.policy.specs.Statements.{Constraint, sidesE, nameE, notE, andE, orE, declare, attributeset, gives, roletransition, constrain, fromOf, toOf, Written}
+use Rattle.policy.specs.Statements.{Statement, permissions, count, need, Sort, thing, attribute, familyOf}
 use Rattle.policy.specs.Maxima.{maxStack}
 use Rattle.policy.specs.Words.{isPlain}
 use Rattle.policy.specs.Grammar.{isRoles}

@@ -1,4 +1,4 @@
--- A text behind other bytes, read from its own first byte on: it reads as it does by itself, with its places moved by the length of those bytes. By
+-- A text after other bytes, read from its own first byte on: it reads as it does by itself, with its places moved by the length of those bytes. By
 -- induction over its bytes, and over its tokens. Assumes nothing.
 use Prim.Native.Nat.{ℕ, _+_}
 use native.Mathlib.Omega.{arith}
@@ -120,7 +120,7 @@ module _ (front t : List ℕ) where
   build-moved [] = refl
   build-moved (k ∷ ks) = ap (step (front ++ t) (movedToken (length front) k)) (build-moved ks) ∙ step-moved k (build t ks)
 
-  -- the text behind other bytes reads as it does by itself
+  -- the text after other bytes reads as it does by itself
   pub text-moved : framesAt (front ++ t) (length front) .here ≡ placed (λ p. length front + p) (formsOf t)
   unfolding framesAt tokensAt formsOf
   text-moved =

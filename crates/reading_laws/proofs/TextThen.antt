@@ -27,7 +27,7 @@ abbrev goingOn : ℕ → Frames → Frames → Frames
 goingOn zero f r = record { here = f .here then r .here; around = r .around }
 goingOn (suc k) f r = record { here = f .here; around = goingOn k (out f) r .here ∷ goingOn k (out f) r .around }
 
--- a name under way stands within parentheses
+-- a name under way is within parentheses
 abbrev Under : Mode → ℕ → ℕ → Type 0
 Under between level at = Unit {0}
 Under inComment level at = Unit {0}
@@ -65,12 +65,14 @@ module _ (t u : List ℕ) where
   module _ (bs : List ℕ) (at : ℕ) (left : at + 1 + length bs ≡ length t)
       (ih : (m : Mode) (level : ℕ) → Under m level (at + 1) → scanFrom t bs (going m level) (at + 1) ≡ Scanned.Clean → GoesOn bs m level (at + 1)) where
     opened : (level : ℕ) (q : Bool) → scanFrom t bs (cond q (going between (level + 1)) (stopped at)) (at + 1) ≡ Scanned.Clean
-        → step whole (Token.Open at) (build whole (tokensFrom (bs ++ (10 ∷ u)) between (at + 1))) ≡ goingOn level (step t (Token.Open at) (build t (tokensFrom bs between (at + 1)))) rest
+        → step whole (Token.Open at) (build whole (tokensFrom (bs ++ (10 ∷ u)) between (at + 1))) ≡ goingOn level
+        (step t (Token.Open at) (build t (tokensFrom bs between (at + 1)))) rest
     opened level false h = absurd (never t bs at (at + 1) h)
     opened level true h = ap (step whole (Token.Open at)) (ih between (suc level) tt (rw (add-one level) at h)) ∙ open-on level at (build t (tokensFrom bs between (at + 1))) rest
 
     shut : (level : ℕ) → scanFrom t bs (stepBetween level at Close) (at + 1) ≡ Scanned.Clean
-        → step whole (Token.Close at) (build whole (tokensFrom (bs ++ (10 ∷ u)) between (at + 1))) ≡ goingOn level (step t (Token.Close at) (build t (tokensFrom bs between (at + 1)))) rest
+        → step whole (Token.Close at) (build whole (tokensFrom (bs ++ (10 ∷ u)) between (at + 1))) ≡ goingOn level
+        (step t (Token.Close at) (build t (tokensFrom bs between (at + 1)))) rest
     shut zero h = absurd (never t bs at (at + 1) h)
     shut (suc level) h =
         let e : suc level - 1 ≡ level = omega arith in
@@ -95,7 +97,7 @@ module _ (t u : List ℕ) where
     in-between level Dot h = begun level (eqb level 0) refl h
     in-between level Wrong h = absurd (never t bs at (at + 1) h)
 
-    -- a run that is over is a name, and the byte behind it is one between names
+    -- a run that is over is a name, and the byte after it is one between names
     over : (level s : ℕ) (k : ByteClass) (q : Bool) → scanFrom t bs (cond q (stepBetween level at k) (stopped s)) (at + 1) ≡ Scanned.Clean
         → scanFrom t bs (stepBetween level at k) (at + 1) ≡ Scanned.Clean
     over level s k true h = h

@@ -11,8 +11,10 @@ use lib.ListN.{length}
 use Rattle.lexer.specs.Class.{isName}
 use Rattle.lexer.specs.Forms.{Forms, closed, ended, word, part, namesGood}
 use Rattle.policy.specs.Basics.{Name, every, All, ofTwo}
-use Rattle.policy.specs.Words.{isReserved, asName, asPart, Keyword, declareK, classK, setK, relationK, transitionK, constrainK, Connective, allC, notC, andC, orC, xorC, keywordOf, expressionWord, opOf, isPlain, Component, componentOf}
-use Rattle.policy.specs.Grammar.{setIn, areSides, isRoles, compared, wordThen, partThen, twoWords, wordAndPart, comparison, formE, connected, expressions, expressionIn, rowOf, oneOrMore, classIn, ofFour, formed, written}
+use Rattle.policy.specs.Words.{isReserved, asName, asPart, Keyword, declareK, classK, setK, relationK, transitionK, constrainK, Connective, allC, notC, andC}
+use Rattle.policy.specs.Words.{orC, xorC, keywordOf, expressionWord, opOf, isPlain, Component, componentOf}
+use Rattle.policy.specs.Grammar.{setIn, areSides, isRoles, compared, wordThen, partThen, twoWords, wordAndPart, comparison, formE, connected, expressions}
+use Rattle.policy.specs.Grammar.{expressionIn, rowOf, oneOrMore, classIn, ofFour, formed, written}
 use Rattle.policy.specs.Statements.{Op, Constraint, notE, andE, orE, Relation, gives}
 use Rattle.policy.specs.Sound.{isGoodPart, goodPermissions}
 use Rattle.policy.proofs.Lists.{both-true, true-both}

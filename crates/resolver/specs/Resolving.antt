@@ -12,7 +12,7 @@ use Rattle.resolver.specs.declared.Resolved.{Resolved}
 abbrev pub readOf : Policy → Resolved → Read
 readOf p (Resolved.Cycle place) = refused 8 place
 readOf p (Resolved.Clash place) = refused 9 place
-readOf p Resolved.Sound = policy p
+readOf p Resolved.NoFault = policy p
 
 -- every attribute has its final set, and the answer is that of the rules
 pub record Resolves (p : Policy) (userSets roleSets typeSets : List ℕ) (r : Resolved) : Type 0 where

@@ -15,7 +15,8 @@ ghost use Rattle.code_reader.specs.Reading.{foundOf};
 ghost use Rattle.code_reader.specs.AttributeSets.{finalSets};
 ghost use Rattle.resolver.specs.Resolving.{Resolves};
 
-// The final set of each attribute of a family, and fault 8 in the family. Where no attribute mentions another, one round is all and there is no cycle.
+// The final set of each attribute of a family, and fault 8 in the family. Where no attribute mentions another, one
+// round is all and there is no cycle.
 fn resolve_family(
     code: &[u16],
     family: Family,
@@ -40,7 +41,7 @@ fn resolve_family(
 pub enum Resolved {
     Cycle(usize),
     Clash(usize),
-    Sound,
+    NoFault,
 }
 
 // The first of two places, if there is one.
@@ -53,7 +54,8 @@ fn first_found(first: Found, second: Found) -> Found
     }
 }
 
-// Fills the final sets of the three families, and looks for faults 8 and 9. Each total is how many things of the family are declared.
+// Fills the final sets of the three families, and looks for faults 8 and 9. Each total is how many things of the
+// family are declared.
 pub fn resolve(
     code: &[u16],
     users: usize,
@@ -77,5 +79,5 @@ pub fn resolve(
     if let Found::At(place) = clashes::clash(code, role_sets, type_sets) {
         return Resolved::Clash(place);
     }
-    Resolved::Sound
+    Resolved::NoFault
 }

@@ -1,4 +1,5 @@
-// Reads a text from standard input and prints its roll. A text that fills the memory here is too long already, so what follows is not read.
+// Reads a text from standard input and prints its roll. A text that fills the memory here is too long already, so
+// what follows is not read.
 use libc::STDIN_FILENO;
 use libc::STDOUT_FILENO;
 use roll_text::ROLL_BYTES;

@@ -1,4 +1,4 @@
--- What is appended behind appended bytes is appended with them. Assumes nothing.
+-- What is appended after appended bytes is appended with them. Assumes nothing.
 use mathlib.Core.Path.{_≡_, ap, ap₂, _∙_}
 use mathlib.Core.List.{List, [], _∷_, _++_, append-nil}
 use Prim.Native.Nat.{ℕ, _+_, _≤_}
@@ -16,14 +16,14 @@ module _ {t u : List ℕ} {at p : ℕ} {a : List ℕ} where
     ends = omega (arith, f .ends, g .ends, length-append a b);
   }
 
-  -- nothing behind the last bytes
+  -- nothing after the last bytes
   pub appends-last : Appends t at a u p → Appends t at (a ++ []) u p
   appends-last f = rw append-nil f
 
   pub appends-length : at + length a ≤ length t → Appends t at a u p → length u ≡ length t
   appends-length h f = ap length (f .written) ∙ length-put t at a h
 
--- the parts of a line, one behind the other
+-- the parts of a line, one after the other
 pub three-parts : {a b c d : List ℕ} {at p q r : ℕ} {k l m : List ℕ} → at + (length k + (length l + length m)) ≤ length a
     → Appends a at k b p → Appends b p l c q → Appends c q m d r → Appends a at (joined (k ∷ l ∷ m ∷ [])) d r
 unfolding joined

@@ -25,7 +25,8 @@ use Rattle.text_writer.specs.Writing.{Appends}
 use Rattle.text_writer.proofs.Digits.{few-digits}
 use Rattle.roll_lines.specs.LineWriting.{thingsIn, Printable, PutsLines}
 use Rattle.roll_lines.proofs.Appending.{appends-then, appends-length}
-use Rattle.roll_lines.proofs.Things.{place-within, place-past, some-place, all-place, shown-name, shown-none, shown-set, shown-short, things-few, things-short, thing-shown, record-shown}
+use Rattle.roll_lines.proofs.NamesOfThings.{place-within, place-past, some-place, all-place, shown-name, shown-none, shown-set, shown-short, things-few}
+use Rattle.roll_lines.proofs.NamesOfThings.{things-short, thing-shown, record-shown}
 
 -- THE LINES
 

@@ -1,4 +1,4 @@
--- Document 01, "The printed roll": its lines, written one behind the other for the image that a table holds. Assumes nothing.
+-- Document 01, "The printed roll": its lines, written one after the other for the image that a table holds. Assumes nothing.
 use Prim.Native.Nat.{ℕ, _+_, _<_, _≤_}
 use mathlib.Core.Path.{_≡_}
 use mathlib.Core.Bool.{true}
@@ -40,6 +40,6 @@ pub record PutsLines (t : List ℕ) (sort body : ℕ) (kind of before : List ℕ
   pub says : (i : Image) → imageIn t ≡ some i → length (thingsIn i sort) ≡ length (recordsIn i body)
       → Appends before at (rollLines kind of (thingsIn i sort) (recordsIn i body)) after past
 
--- "Users first, then roles", behind the first line: the roll of the image that a table holds
+-- "Users first, then roles", after the first line: the roll of the image that a table holds
 pub record PutsRoll (t : List ℕ) (n : ℕ) (before after : List ℕ) (past : ℕ) : Type 0 where
   pub says : (i : Image) → imageIn t ≡ some i → Appends before 0 (joined (acceptance n ∷ rollOf i ∷ [])) after past

@@ -1,4 +1,5 @@
-// The lines of the printed roll, written one behind the other into lent memory: those of a sound table, or the line of a refusal.
+// The lines of the printed roll, written one after the other into lent memory: those of a sound table, or the line of
+// a refusal.
 use policy::Place;
 use policy::Refusal;
 use policy::Sort;
@@ -29,7 +30,7 @@ fn put_line(out: &mut [u8], at: usize, kind: &[u8], name: &[u8], of: &[u8], set:
     text_writer::put_bytes(out, end, b"\n")
 }
 
-// Writes a word and a number behind it.
+// Writes a word and a number after it.
 fn put_labelled(out: &mut [u8], at: usize, label: &[u8], number: usize) -> usize
     requires { ⌜ at + (length (now label) + 20) ≤ length (now out) ⌝ }
     ensures { λ r. ⌜ Appends (now (out .entry)) at (labelled (now (label .entry)) number) (now (out .exit)) r × (r ≤ at + (length (now (label .entry)) + 20)) ⌝ }

@@ -13,7 +13,7 @@ use Rattle.policy.specs.Answers.{refusalIn, compilingOf}
 use Rattle.policy.specs.Outcome as outcomes
 use Rattle.policy.specs.Outcome.{Input, outcome}
 use Rattle.policy.specs.Roll.{rollOf, refusal, printed}
-use Rattle.image_rows.specs.SoundRows.{isSome}
+use Rattle.sound_constraints.specs.SoundRows.{isSome}
 use Rattle.soundness.specs.IsSound.{isSound}
 use Rattle.compiler.specs.Promise.{Compiles}
 use Rattle.text_writer.specs.Writing.{Appends}

@@ -8,8 +8,8 @@ use Rattle.policy.specs.Outcome as outcomes
 use Rattle.policy.specs.Outcome.{Input}
 use Rattle.policy.specs.Roll.{printed}
 
--- "The program reads text from standard input with a table memory of 65,536 bytes": what it writes stands at the front of the lent memory, and the table
--- memory holds what compiling leaves there, the table and behind it what was there, or after a refusal what was there
+-- "The program reads text from standard input with a table memory of 65,536 bytes": what it writes is at the front of the lent memory, and the table
+-- memory holds what compiling leaves there, the table and after it what was there, or after a refusal what was there
 pub record Prints (x : Input) (table table′ before after : List ℕ) (r : ℕ) : Type 0 where
   pub memory : table′ ≡ outcomes.after x table
   pub written : after ≡ put before 0 (printed x)

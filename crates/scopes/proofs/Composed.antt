@@ -9,16 +9,16 @@ use Rattle.bitset.proofs.PartLaws.{length-put, part-put-same, part-put-before, 
 use Rattle.policy.specs.Basics.{Name}
 use Rattle.symbols.proofs.PartLaws.{part-whole, part-join}
 use Rattle.scopes.specs.Path.{scopeOf}
-use Rattle.scopes.specs.Scope.{longIn, scopeIn, within, ComposedBy, Composes, ShortBy, Names}
-use Rattle.scopes.specs.declared.FullName.{FullName}
+use Rattle.scopes.specs.Scope.{scopeLength, scopeIn, within, ComposedBy, Composes, ShortBy, Names}
+use Rattle.scopes.specs.declared.ComposedName.{ComposedName}
 use Rattle.scopes.proofs.PathLaws.{within-some, within-full}
 use Rattle.scopes.proofs.Memory.{scope-long, scope-none}
 
--- a dot, and the bytes behind it
+-- a dot, and the bytes after it
 dot-put : (u : List ℕ) (n : ℕ) (w : Name) → n + 1 + length w ≤ length u → put (set u n 46) (suc n) w ≡ put u n (46 ∷ w)
 dot-put u n w h = sym (sets-put (set u n 46) (suc n) w (omega (arith, length-set u n 46))) ∙ sets-put u n (46 ∷ w) (omega arith)
 
--- they stand behind the first n bytes
+-- they are after the first n bytes
 dotted : (u : List ℕ) (n : ℕ) (w : Name) → n + 1 + length w ≤ length u → part (put (set u n 46) (n + 1) w) 0 (n + 1 + length w) ≡ part u 0 n ++ (46 ∷ w)
 dotted u n w room =
     let next : n + 1 ≡ suc n = omega arith in
@@ -36,10 +36,10 @@ module _ (t : List ℕ) (n : ℕ) (w : Name) (z : List ℕ) (short : n ≤ 64) (
   alone-is : n ≡ 0 → within (scopeIn t n) w ≡ w
   alone-is e = ap (λ (s : Name). within s w) (ap (scopeIn t) e ∙ scope-none t)
 
-  pub alone-too-long : n ≡ 0 → 64 < length w → Composes (within (scopeIn t n) w) z z FullName.TooLong
+  pub alone-too-long : n ≡ 0 → 64 < length w → Composes (within (scopeIn t n) w) z z ComposedName.TooLong
   alone-too-long e h = record { is = omega (arith, ap length (alone-is e)); long = refl }
 
-  pub alone : n ≡ 0 → length w ≤ 64 → {u : List ℕ} → u ≡ put z 0 (part w 0 (length w)) → Composes (within (scopeIn t n) w) z u (FullName.Long (length w))
+  pub alone : n ≡ 0 → length w ≤ 64 → {u : List ℕ} → u ≡ put z 0 (part w 0 (length w)) → Composes (within (scopeIn t n) w) z u (ComposedName.Length (length w))
   alone e h {u} q =
       let now : u ≡ put z 0 w = q ∙ ap (put z 0) (part-whole w) in
       record {
@@ -59,7 +59,7 @@ module _ (t : List ℕ) (n : ℕ) (w : Name) (z : List ℕ) (short : n ≤ 64) (
   inner-long : 0 < n → length (within (scopeIn t n) w) ≡ n + 1 + length w
   inner-long some = ap length (inner-is some) ∙ omega (arith, length-append (scopeIn t n) (46 ∷ w), scope-long t n short room)
 
-  pub inner-too-long : 0 < n → 64 - n ≤ length w → Composes (within (scopeIn t n) w) z z FullName.TooLong
+  pub inner-too-long : 0 < n → 64 - n ≤ length w → Composes (within (scopeIn t n) w) z z ComposedName.TooLong
   inner-too-long some h = record { is = omega (arith, inner-long some); long = refl }
 
   -- the memory with the full name of the block in front
@@ -74,7 +74,7 @@ module _ (t : List ℕ) (n : ℕ) (w : Name) (z : List ℕ) (short : n ≤ 64) (
   front-is = ap (part (put z 0 (part t 188649 n)) 0) (sym front-long) ∙ part-put-same z 0 (part t 188649 n) (omega (arith, front-long))
 
   pub inner : 0 < n → length w < 64 - n → {u : List ℕ} → u ≡ put (set (put z 0 (part t 188649 n)) n 46) (n + 1) (part w 0 (length w))
-      → Composes (within (scopeIn t n) w) z u (FullName.Long (n + 1 + length w))
+      → Composes (within (scopeIn t n) w) z u (ComposedName.Length (n + 1 + length w))
   inner some fit {u} q =
       let front = put z 0 (part t 188649 n) in
       let now : u ≡ put (set front n 46) (n + 1) w = q ∙ ap (put (set front n 46) (n + 1)) (part-whole w) in
@@ -89,18 +89,18 @@ module _ (t : List ℕ) (n : ℕ) (w : Name) (z : List ℕ) (short : n ≤ 64) (
       }
 
 -- what was put together, by the answer
-pub composed-is : {v : Name} {z u : List ℕ} {r : FullName} {m : ℕ} → Composes v z u r → r ≡ FullName.Long m → part u 0 m ≡ v
+pub composed-is : {v : Name} {z u : List ℕ} {r : ComposedName} {m : ℕ} → Composes v z u r → r ≡ ComposedName.Length m → part u 0 m ≡ v
 composed-is {v} {z} {u} h e = subst (ComposedBy v u) e (h .is) .0
 
-pub composed-long : {v : Name} {z u : List ℕ} {r : FullName} → Composes v z u r → r ≡ FullName.TooLong → 64 < length v
+pub composed-long : {v : Name} {z u : List ℕ} {r : ComposedName} → Composes v z u r → r ≡ ComposedName.TooLong → 64 < length v
 composed-long {v} {z} {u} h e = subst (ComposedBy v u) e (h .is)
 
-short-by : (v : Name) (u : List ℕ) (r : FullName) → ComposedBy v u r → ShortBy r
-short-by v u (FullName.Long m) h = h .2
-short-by v u FullName.TooLong h = tt
+short-by : (v : Name) (u : List ℕ) (r : ComposedName) → ComposedBy v u r → ShortBy r
+short-by v u (ComposedName.Length m) h = h .2
+short-by v u ComposedName.TooLong h = tt
 
 -- in the blocks that are open it is the full name
-pub named : {t : List ℕ} {n : ℕ} {v w : Name} {z u : List ℕ} {r : FullName} → (longIn t ≤ 64 → n ≡ longIn t) → v ≡ w
+pub named : {t : List ℕ} {n : ℕ} {v w : Name} {z u : List ℕ} {r : ComposedName} → (scopeLength t ≤ 64 → n ≡ scopeLength t) → v ≡ w
     → Composes (within (scopeIn t n) v) z u r → Names t w z u r
 named {t} {n} {v} {w} {z} {u} {r} e q h = record {
   is = λ path sc.

@@ -12,12 +12,13 @@ use Rattle.policy.specs.Basics.{Name, le, unle}
 use Rattle.policy.specs.Encode.{NameEntry, entryBytes}
 use Rattle.symbols.specs.Lookup.{familyNumber}
 use Rattle.table_laws.proofs.LittleEndian.{le-length}
-use Rattle.name_index.specs.Index.{frontOf, wordIn, chainAt, chainIn, chainWord, linkIn, linkWord, linkedTo, begun, longer, newAt, newLink, putWord, putNode, putNext, putLast, putMore, putEntry}
+use Rattle.name_index.specs.Index.{frontOf, wordIn, chainAt, chainIn, chainWord, linkIn, linkWord, linkedTo, begun, longer, newAt, newLink, putWord, putNode}
+use Rattle.name_index.specs.Index.{putNext, putLast, putMore, putEntry}
 use Rattle.name_index.specs.declared.Link.{Link}
 use Rattle.name_chains.specs.Chains.{NodeIs, Chained}
 use Rattle.name_chains.specs.Entered.{Entered}
 use Rattle.name_chains.proofs.CandidateLaws.{nth-below}
-use Rattle.scopes.specs.Scope.{longIn, scopeIn, InScope, SymbolsKept}
+use Rattle.scopes.specs.Scope.{scopeLength, scopeIn, InScope, SymbolsKept}
 
 -- ---- a block opened or closed keeps the symbols and their chains
 
@@ -121,13 +122,14 @@ entry-behind t end e s l inside room =
     behind-on b4 (more-behind t4 6444 (omega arith) (omega (arith, b4 .long)))
 
 behind-scope : {t u : List ℕ} {path : List Name} → Behind t u → InScope t path → InScope u path
-unfolding longIn scopeIn
+unfolding scopeLength scopeIn
 behind-scope {t} {u} {path} b h =
-    let one : longIn u ≡ longIn t = sym (getD-part u 188648 1 0 (omega arith)) ∙ ap (λ (l : List ℕ). getD l 0 0) (b .behind 188648 1 (omega arith)) ∙ getD-part t 188648 1 0 (omega arith) in
+    let one : scopeLength u ≡ scopeLength t = sym (getD-part u 188648 1 0 (omega arith)) ∙ ap (λ (l : List ℕ). getD l 0 0) (b .behind 188648 1 (omega arith)) ∙
+    getD-part t 188648 1 0 (omega arith) in
     record {
       room = omega (arith, b .long, h .room);
       fits = omega (arith, one, h .fits);
-      stands = b .behind 188649 (longIn u) (omega arith) ∙ ap (scopeIn t) one ∙ h .stands;
+      stands = b .behind 188649 (scopeLength u) (omega arith) ∙ ap (scopeIn t) one ∙ h .stands;
       parts = h .parts;
     }
 

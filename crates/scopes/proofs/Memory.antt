@@ -10,7 +10,7 @@ use Rattle.bitset.specs.Parts.{part, put}
 use Rattle.bitset.proofs.PartLaws.{length-part, getD-part, length-put, part-put-before, part-put-after, sets-put}
 use Rattle.policy.specs.Words.{dotless}
 use Rattle.symbols.proofs.PartLaws.{take-part}
-use Rattle.scopes.specs.Scope.{longIn, scopeIn, cutAt, SymbolsKept}
+use Rattle.scopes.specs.Scope.{scopeLength, scopeIn, lastDot, SymbolsKept}
 use Rattle.scopes.proofs.PathLaws.{cut-dotless, cut-last, dotless-next, dotless-end}
 
 -- a store of one byte puts it
@@ -39,8 +39,8 @@ kept-put t o s l h = record { long = length-put t o s h; front = λ p w g. part-
 
 -- ---- the scope
 
-pub long-set : (t : List ℕ) (v : ℕ) → 188713 ≤ length t → longIn (set t 188648 v) ≡ v
-unfolding longIn
+pub long-set : (t : List ℕ) (v : ℕ) → 188713 ≤ length t → scopeLength (set t 188648 v) ≡ v
+unfolding scopeLength
 long-set t v h = getD-set-same t 188648 v 0 (omega arith)
 
 pub scope-set : (t : List ℕ) (v n : ℕ) → 188713 ≤ length t → scopeIn (set t 188648 v) n ≡ scopeIn t n
@@ -74,13 +74,13 @@ module _ (t : List ℕ) (n : ℕ) (short : n ≤ 64) (room : 188713 ≤ length t
     after : suc (i - 1) ≡ i
     after = omega arith
 
-    pub cut-here : getD t (188648 + i) 0 ≡ 46 → i - 1 ≡ cutAt (scopeIn t n)
+    pub cut-here : getD t (188648 + i) 0 ≡ 46 → i - 1 ≡ lastDot (scopeIn t n)
     cut-here e =
         let s = scopeIn t n in
         let split : s ≡ take (i - 1) s ++ (46 ∷ drop i s) =
         split-at s (i - 1) 0 (omega (arith, scope-long))
         ∙ ap₂ (λ (c k : ℕ). take (i - 1) s ++ (c ∷ drop k s)) (byte-at ∙ e) after in
-        sym (ap cutAt split ∙ cut-last (take (i - 1) s) (drop i s) rest ∙ length-take-le (i - 1) s (omega (arith, scope-long)))
+        sym (ap lastDot split ∙ cut-last (take (i - 1) s) (drop i s) rest ∙ length-take-le (i - 1) s (omega (arith, scope-long)))
 
     pub cut-on : (getD t (188648 + i) 0 ≡ 46 → ⊥) → dotless (drop (i - 1) (scopeIn t n)) ≡ true
     cut-on d =
@@ -89,5 +89,5 @@ module _ (t : List ℕ) (n : ℕ) (short : n ≤ 64) (room : 188713 ≤ length t
         drop-cons s (i - 1) 0 (omega (arith, scope-long)) ∙ ap (λ (k : ℕ). getD s (i - 1) 0 ∷ drop k s) after in
         ap dotless split ∙ dotless-next (getD s (i - 1) 0) (drop i s) (λ e. d (sym byte-at ∙ e)) rest
 
-  pub cut-none : (i : ℕ) → i ≡ 0 → dotless (drop i (scopeIn t n)) ≡ true → 0 ≡ cutAt (scopeIn t n)
+  pub cut-none : (i : ℕ) → i ≡ 0 → dotless (drop i (scopeIn t n)) ≡ true → 0 ≡ lastDot (scopeIn t n)
   cut-none i e h = sym (cut-dotless (scopeIn t n) (subst (λ (k : ℕ). dotless (drop k (scopeIn t n)) ≡ true) e h))

@@ -11,8 +11,8 @@ use Rattle.bitset.proofs.PartLaws.{length-part, length-part-le, length-put, par
 use Rattle.policy.specs.Basics.{Name, every}
 use Rattle.policy.specs.Names.{full}
 use Rattle.scopes.specs.Path.{scopeOf}
-use Rattle.scopes.specs.Scope.{longIn, scopeIn, InScope, cutAt, ComposedBy, ShortBy, Names, Starts, EntersBlock, LeavesBlock}
-use Rattle.scopes.specs.declared.FullName.{FullName}
+use Rattle.scopes.specs.Scope.{scopeLength, scopeIn, InScope, lastDot, ComposedBy, ShortBy, Names, Starts, EntersBlock, LeavesBlock}
+use Rattle.scopes.specs.declared.ComposedName.{ComposedName}
 use Rattle.scopes.proofs.PathLaws.{cut-full, front-full, first-part, other-parts, part-more}
 use Rattle.scopes.proofs.Memory.{kept-none, kept-on, kept-set, kept-put, long-set, scope-set, scope-take, scope-none}
 
@@ -30,14 +30,14 @@ started t room = record {
 }
 
 -- a block closed
-module _ (t : List ℕ) (n m : ℕ) (room : 188713 ≤ length t) (short : n ≤ 64) (is : longIn t ≤ 64 → n ≡ longIn t)
-    (cut : m ≡ cutAt (scopeIn t n)) (within : m ≤ n) where
+module _ (t : List ℕ) (n m : ℕ) (room : 188713 ≤ length t) (short : n ≤ 64) (is : scopeLength t ≤ 64 → n ≡ scopeLength t)
+    (cut : m ≡ lastDot (scopeIn t n)) (within : m ≤ n) where
   pub left : LeavesBlock t (set t 188648 m)
   left = record {
     kept = kept-set t 188648 m (omega arith) (omega arith);
     leaves = λ b path sc.
         let st : scopeIn t n ≡ full path b = ap (scopeIn t) (is (sc .fits)) ∙ sc .stands in
-        let length-is : m ≡ length (scopeOf path) = cut ∙ ap cutAt st ∙ cut-full path b (first-part b path (sc .parts) .1) in
+        let length-is : m ≡ length (scopeOf path) = cut ∙ ap lastDot st ∙ cut-full path b (first-part b path (sc .parts) .1) in
         record {
           room = omega (arith, length-set t 188648 m);
           fits = omega (arith, long-set t m room);
@@ -49,7 +49,7 @@ module _ (t : List ℕ) (n m : ℕ) (room : 188713 ≤ length t) (short : n ≤ 
 
 -- a block opened: its full name was put together in memory of its own
 module _ (t : List ℕ) (b : Name) (room : 188713 ≤ length t) {z whole : List ℕ} where
-  pub not-entered : {r : FullName} → Names t b z whole r → r ≡ FullName.TooLong → EntersBlock t t b false
+  pub not-entered : {r : ComposedName} → Names t b z whole r → r ≡ ComposedName.TooLong → EntersBlock t t b false
   not-entered h e = record {
     kept = kept-none t;
     answers = λ path sc. sym (lt-leb (length (full path b)) 64 (subst (ComposedBy (full path b) whole) e (h .is path sc)));
@@ -57,7 +57,7 @@ module _ (t : List ℕ) (b : Name) (room : 188713 ≤ length t) {z whole : List 
     stays = λ e. refl;
   }
 
-  module _ {r : FullName} (h : Names t b z whole r) (m : ℕ) (e : r ≡ FullName.Long m) (lent : length z ≡ 64) where
+  module _ {r : ComposedName} (h : Names t b z whole r) (m : ℕ) (e : r ≡ ComposedName.Length m) (lent : length z ≡ 64) where
     pub short : m ≤ 64
     short = subst ShortBy e (h .short)
 
@@ -67,7 +67,7 @@ module _ (t : List ℕ) (b : Name) (room : 188713 ≤ length t) {z whole : List 
     fits-in : 188649 + length (part whole 0 m) ≤ length t
     fits-in = omega (arith, length-part-le whole 0 m, short)
 
-    -- the memory with the name behind the length
+    -- the memory with the name after the length
     abbrev mid : List ℕ
     mid = put t 188649 (part whole 0 m)
 
@@ -79,7 +79,7 @@ module _ (t : List ℕ) (b : Name) (room : 188713 ≤ length t) {z whole : List 
     scope-mid =
         ap (part mid 188649) (sym (length-part whole 0 m (omega (arith, short, lent-all)))) ∙ part-put-same t 188649 (part whole 0 m) fits-in
 
-    composed : (path : List Name) → InScope t path → ComposedBy (full path b) whole (FullName.Long m)
+    composed : (path : List Name) → InScope t path → ComposedBy (full path b) whole (ComposedName.Length m)
     composed path sc = subst (ComposedBy (full path b) whole) e (h .is path sc)
 
     pub entered : {u : List ℕ} → u ≡ mid → EntersBlock t (set u 188648 m) b true

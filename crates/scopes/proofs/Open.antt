@@ -10,18 +10,18 @@ use borrow.Author.Tests.{eq-eqb, ne-eqb}
 use Rattle.policy.specs.Basics.{Name}
 use Rattle.policy.specs.Names.{hasDotInFront}
 use Rattle.scopes.specs.Path.{scopeOf}
-use Rattle.scopes.specs.Scope.{longIn, InScope, isOpen, InBlock, isPlain, TriedOnce}
+use Rattle.scopes.specs.Scope.{scopeLength, InScope, isOpen, InBlock, isPlain, TriedOnce}
 use Rattle.scopes.proofs.PathLaws.{some-block}
 use Rattle.scopes.proofs.Memory.{scope-long}
 
 -- the length that is told is that of the innermost block's full name
-open-long : {t : List ℕ} (path : List Name) → InScope t path → longIn t ≡ length (scopeOf path)
-open-long {t} path sc = sym (scope-long t (longIn t) (sc .fits) (sc .room)) ∙ ap length (sc .stands)
+open-long : {t : List ℕ} (path : List Name) → InScope t path → scopeLength t ≡ length (scopeOf path)
+open-long {t} path sc = sym (scope-long t (scopeLength t) (sc .fits) (sc .room)) ∙ ap length (sc .stands)
 
 -- which is empty exactly where no block is open
-pub open-by-length : {t : List ℕ} (path : List Name) → InScope t path → not (eqb (longIn t) 0) ≡ isOpen path
-open-by-length {t} [] sc = ap not (eq-eqb (longIn t) 0 (open-long [] sc))
-open-by-length {t} (b ∷ path) sc = ap not (ne-eqb (longIn t) 0 λ e. omega (arith, some-block b path (sc .parts), open-long (b ∷ path) sc))
+pub open-by-length : {t : List ℕ} (path : List Name) → InScope t path → not (eqb (scopeLength t) 0) ≡ isOpen path
+open-by-length {t} [] sc = ap not (eq-eqb (scopeLength t) 0 (open-long [] sc))
+open-by-length {t} (b ∷ path) sc = ap not (ne-eqb (scopeLength t) 0 λ e. omega (arith, some-block b path (sc .parts), open-long (b ∷ path) sc))
 
 -- a use in a block is not tried once
 pub block-tries : {t : List ℕ} {w : Name} {q : Bool} → InBlock t q → q ≡ true → TriedOnce t w false

@@ -1,4 +1,4 @@
--- Full names and dots: the last dot of a block's full name stands behind the full name of the block around it. Assumes nothing.
+-- Full names and dots: the last dot of a block's full name is after the full name of the block around it. Assumes nothing.
 use mathlib.Core.Path.{_≡_, refl, sym, ap, _∙_}
 use mathlib.Core.Bool.{true, false, not, and-false}
 use mathlib.Core.List.{List, [], _∷_, _++_, append-assoc}
@@ -13,12 +13,12 @@ use Rattle.policy.specs.Words.{dotless}
 use Rattle.policy.specs.Names.{full}
 use Rattle.policy.proofs.Lists.{both-true, true-both}
 use Rattle.scopes.specs.Path.{scopeOf, isOnePart}
-use Rattle.scopes.specs.Scope.{cutAt, within}
+use Rattle.scopes.specs.Scope.{lastDot, within}
 
 -- ---- the last dot of a name
 
-pub cut-dotless : (s : Name) → dotless s ≡ true → cutAt s ≡ 0
-unfolding cutAt dotless
+pub cut-dotless : (s : Name) → dotless s ≡ true → lastDot s ≡ 0
+unfolding lastDot dotless
 cut-dotless [] h = refl
 cut-dotless (c ∷ s) h = rw (both-true (not (eqb c 46)) (dotless s) h .1)
 
@@ -27,9 +27,9 @@ unfolding dotless
 not-dotless [] d = refl
 not-dotless (c ∷ a) d = rw (not-dotless a d) (and-false (not (eqb c 46)))
 
--- behind it there is none
-pub cut-last : (a d : Name) → dotless d ≡ true → cutAt (a ++ (46 ∷ d)) ≡ length a
-unfolding cutAt
+-- after it there is none
+pub cut-last : (a d : Name) → dotless d ≡ true → lastDot (a ++ (46 ∷ d)) ≡ length a
+unfolding lastDot
 cut-last [] d h = rw h
 cut-last (c ∷ a) d h = rw (not-dotless a d, cut-last a d h) (omega arith)
 
@@ -56,10 +56,10 @@ unfolding full
 full-some [] b h = h
 full-some (p ∷ path) b h = omega (arith, full-long p path b)
 
-pub cut-full : (path : List Name) (b : Name) → dotless b ≡ true → cutAt (full path b) ≡ length (scopeOf path)
+pub cut-full : (path : List Name) (b : Name) → dotless b ≡ true → lastDot (full path b) ≡ length (scopeOf path)
 unfolding full
 cut-full [] b h = cut-dotless b h
-cut-full (p ∷ path) b h = ap cutAt (full-in p path b) ∙ cut-last (full path p) b h
+cut-full (p ∷ path) b h = ap lastDot (full-in p path b) ∙ cut-last (full path p) b h
 
 pub front-full : (path : List Name) (b : Name) → take (length (scopeOf path)) (full path b) ≡ scopeOf path
 unfolding full

@@ -16,7 +16,7 @@ use Rattle.name_chains.specs.declared.Tried.{Tried}
 use Rattle.policy.specs.Names.{full, outward, hasDotInFront, tries}
 use Rattle.policy.proofs.Environments.{tried-once}
 use Rattle.scopes.specs.Path.{scopeOf, orElse, foundFirst, ifFound, deciding, Decides, isOnePart}
-use Rattle.scopes.specs.Scope.{longIn, scopeIn, InScope, within, cutAt, isMissing, isPlain, TriedOnce, Resolves}
+use Rattle.scopes.specs.Scope.{scopeLength, scopeIn, InScope, within, lastDot, isMissing, isPlain, TriedOnce, Resolves}
 use Rattle.scopes.proofs.PathLaws.{cut-full, front-full, first-part, other-parts, no-block, within-full}
 use Rattle.bitset.specs.Parts.{part}
 use Rattle.symbols.proofs.PartLaws.{drop-part, part-whole}
@@ -78,7 +78,7 @@ abbrev pub Outward : List ℕ → ℕ → Name → ℕ → Type 0
 Outward t f w n = (end : ℕ) (es : List NameEntry) (path : List Name) → Chained t end es → InScope t path → Left t f w n es path
 
 module _ (t : List ℕ) (f : ℕ) (w : Name) where
-  pub walk-starts : {n : ℕ} → (longIn t ≤ 64 → n ≡ longIn t) → Outward t f w n
+  pub walk-starts : {n : ℕ} → (scopeLength t ≤ 64 → n ≡ scopeLength t) → Outward t f w n
   walk-starts e end es path ch sc = record {
     path = path;
     stands = ap (scopeIn t) (e (sc .fits)) ∙ sc .stands;
@@ -115,7 +115,7 @@ module _ (t : List ℕ) (f : ℕ) (w : Name) where
           subst (λ (ws : List Name). Decides f ws es r) (sym (tries-outward path l)) (hit-left path ch m (left .path) (left .stands) (left .parts) (left .decides));
     }
 
-    module _ (m : ℕ) (missing : isMissing (r .found) ≡ true) (cut : m ≡ cutAt (scopeIn t n)) (inside : m ≤ n) where
+    module _ (m : ℕ) (missing : isMissing (r .found) ≡ true) (cut : m ≡ lastDot (scopeIn t n)) (inside : m ≤ n) where
       turn-left : {end : ℕ} {es : List NameEntry} {all : List Name} → Chained t end es
           → (path : List Name) → scopeIn t n ≡ scopeOf path → every isOnePart path ≡ true
           → ((q : Tried) → Decides f (outward path w) es q → Decides f (outward all w) es q)
@@ -123,7 +123,7 @@ module _ (t : List ℕ) (f : ℕ) (w : Name) where
       unfolding outward
       turn-left ch [] st ps d = absurd (not-whole st)
       turn-left {end} {es} ch (b ∷ path) st ps d =
-          let length-is : m ≡ length (scopeOf path) = cut ∙ ap cutAt st ∙ cut-full path b (first-part b path ps .1) in
+          let length-is : m ≡ length (scopeOf path) = cut ∙ ap lastDot st ∙ cut-full path b (first-part b path ps .1) in
           let none : firstNamed f (full (b ∷ path) w) es ≡ Found.Missing = sym (tried-in (b ∷ path) ch st ps .finds) ∙ is-missing (r .found) missing in
           record {
             path = path;

@@ -10,16 +10,16 @@ use Rattle.policy.specs.Basics.{Name, every}
 use Rattle.policy.specs.Words.{dotless}
 use Rattle.policy.specs.Names.{full}
 use Rattle.scopes.specs.Path.{scopeOf, isOnePart}
-use Rattle.scopes.specs.Scope.{cutAt}
+use Rattle.scopes.specs.Scope.{lastDot}
 use Rattle.scopes.proofs.PathLaws.{full-in, cut-full, front-full, first-part, other-parts, some-block}
 
 -- the blocks around have one full name
 scopes-same : (p q : List Name) (a b : Name) → dotless a ≡ true → dotless b ≡ true → full p a ≡ full q b → scopeOf p ≡ scopeOf q
 scopes-same p q a b da db e =
-    let long : length (scopeOf p) ≡ length (scopeOf q) = sym (cut-full p a da) ∙ ap cutAt e ∙ cut-full q b db in
+    let long : length (scopeOf p) ≡ length (scopeOf q) = sym (cut-full p a da) ∙ ap lastDot e ∙ cut-full q b db in
     sym (front-full p a) ∙ ap₂ (λ (n : ℕ) (s : Name). take n s) long e ∙ front-full q b
 
--- what stands behind one front
+-- what is after one front
 behind-same : (s t a b : Name) → s ≡ t → s ++ (46 ∷ a) ≡ t ++ (46 ∷ b) → a ≡ b
 behind-same s t a b h e =
     ap (drop 1) (sym (drop-append-seam s (46 ∷ a)) ∙ ap₂ (λ (n : ℕ) (l : Name). drop n l) (ap length h) e ∙ drop-append-seam t (46 ∷ b))

@@ -1,4 +1,4 @@
--- The scope in the memory of the symbols, behind their index: at 188648 the length of the innermost block's full name, then its bytes, at most 64.
+-- The scope in the memory of the symbols, after their index: at 188648 the length of the innermost block's full name, then its bytes, at most 64.
 -- Assumes nothing.
 use mathlib.Core.Path.{_≡_}
 use mathlib.Core.Bool.{Bool, true, false, not, cond}
@@ -16,10 +16,10 @@ use Rattle.symbols.specs.declared.Found.{Found}
 use Rattle.name_chains.specs.Chains.{Chained}
 use Rattle.name_chains.specs.declared.Tried.{Tried}
 use Rattle.scopes.specs.Path.{scopeOf, Decides, isOnePart}
-use Rattle.scopes.specs.declared.FullName.{FullName}
+use Rattle.scopes.specs.declared.ComposedName.{ComposedName}
 
-unfoldable pub longIn : List ℕ → ℕ
-longIn t = getD t 188648 0
+unfoldable pub scopeLength : List ℕ → ℕ
+scopeLength t = getD t 188648 0
 
 unfoldable pub scopeIn : List ℕ → ℕ → Name
 scopeIn t n = part t 188649 n
@@ -27,8 +27,8 @@ scopeIn t n = part t 188649 n
 -- the memory t has the full name of the innermost block of a path
 pub record InScope (t : List ℕ) (path : List Name) : Type 0 where
   pub room : 188713 ≤ length t
-  pub fits : longIn t ≤ 64
-  pub stands : scopeIn t (longIn t) ≡ scopeOf path
+  pub fits : scopeLength t ≤ 64
+  pub stands : scopeIn t (scopeLength t) ≡ scopeOf path
   pub parts : every isOnePart path ≡ true
 
 abbrev pub isOpen : List Name → Bool
@@ -40,9 +40,9 @@ pub record InBlock (t : List ℕ) (r : Bool) : Type 0 where
   pub answers : (path : List Name) → InScope t path → r ≡ isOpen path
 
 -- where the last dot stands, or 0
-unfoldable pub cutAt : Name → ℕ
-cutAt [] = 0
-cutAt (c ∷ s) = cond (dotless s) 0 (1 + cutAt s)
+unfoldable pub lastDot : Name → ℕ
+lastDot [] = 0
+lastDot (c ∷ s) = cond (dotless s) 0 (1 + lastDot s)
 
 abbrev pub isMissing : Found → Bool
 isMissing (Found.At s n) = false
@@ -55,22 +55,22 @@ abbrev pub within : Name → Name → Name
 within [] w = w
 within (c ∷ s) w = (c ∷ s) ++ bytes "." ++ w
 
--- the name v stands in front of the memory, or it has more than 64 bytes
-abbrev pub ComposedBy : Name → List ℕ → FullName → Type 0
-ComposedBy v after (FullName.Long m) = (part after 0 m ≡ v) × (m ≡ length v) × (m ≤ 64)
-ComposedBy v after FullName.TooLong = 64 < length v
+-- the name v is in front of the memory, or it has more than 64 bytes
+abbrev pub ComposedBy : Name → List ℕ → ComposedName → Type 0
+ComposedBy v after (ComposedName.Length m) = (part after 0 m ≡ v) × (m ≡ length v) × (m ≤ 64)
+ComposedBy v after ComposedName.TooLong = 64 < length v
 
-pub record Composes (v : Name) (before after : List ℕ) (r : FullName) : Type 0 where
+pub record Composes (v : Name) (before after : List ℕ) (r : ComposedName) : Type 0 where
   pub is : ComposedBy v after r
   pub long : length after ≡ length before
 
 -- a length that is told is that of a name, whatever the memory has
-abbrev pub ShortBy : FullName → Type 0
-ShortBy (FullName.Long m) = m ≤ 64
-ShortBy FullName.TooLong = Unit {0}
+abbrev pub ShortBy : ComposedName → Type 0
+ShortBy (ComposedName.Length m) = m ≤ 64
+ShortBy ComposedName.TooLong = Unit {0}
 
 -- the full name of w in whatever blocks the memory t has
-pub record Names (t : List ℕ) (w : Name) (before after : List ℕ) (r : FullName) : Type 0 where
+pub record Names (t : List ℕ) (w : Name) (before after : List ℕ) (r : ComposedName) : Type 0 where
   pub is : (path : List Name) → InScope t path → ComposedBy (full path w) after r
   pub short : ShortBy r
   pub long : length after ≡ length before

@@ -1,6 +1,7 @@
-// Names inside blocks (W-203). The memory of the symbols has, behind the index, the full name of the innermost open block: the scope. What is declared gets that
-// name and a dot in front. A use is tried as a full name in the innermost block, then in the blocks around it, and last at the whole-text level; the first hit of
-// the family decides.
+// Names inside blocks (W-203). The memory of the symbols has, after the index, the full name of the innermost open
+// block: the scope. What is declared gets that name and a dot in front. A use is tried as a full name in the
+// innermost block, then in the blocks around it, and last at the whole-text level; the first hit of the family
+// decides.
 use name_chains::Tried;
 use symbols::Found;
 ghost use mathlib.Core.Path.{_≡_};
@@ -10,7 +11,7 @@ ghost use lib.ListN.{length};
 ghost use Rattle.bitset.specs.Parts.{part};
 ghost use Rattle.policy.specs.Names.{hasDotInFront};
 ghost use Rattle.name_chains.specs.Chains.{Tries};
-ghost use Rattle.scopes.specs.Scope.{longIn, scopeIn, cutAt, isMissing, within, InBlock, Composes, Names, TriedOnce, Resolves, Starts, EntersBlock, LeavesBlock};
+ghost use Rattle.scopes.specs.Scope.{scopeLength, scopeIn, lastDot, isMissing, within, InBlock, Composes, Names, TriedOnce, Resolves, Starts, EntersBlock, LeavesBlock};
 ghost use Rattle.scopes.specs.Symbols.{Looks, LooksClass, LooksPermission};
 
 // The memory of the symbols with their index and the scope: a byte for its length, and its bytes.
@@ -23,17 +24,17 @@ const SCOPE: usize = name_index::SYMBOL_BYTES;
 const CLASSES: usize = 3;
 
 // A full name that was put together: its length, or that it is longer than a name may be.
-pub enum FullName {
-    Long(usize),
+pub enum ComposedName {
+    Length(usize),
     TooLong,
 }
 
 // ---- the scope
 
 // The length of the scope.
-fn long_of(symbols: &[u8]) -> usize
+fn scope_length(symbols: &[u8]) -> usize
     requires { ⌜ 188713 ≤ length (now symbols) ⌝ }
-    ensures { λ r. ⌜ (r ≤ 64) × (longIn (now (symbols .entry)) ≤ 64 → r ≡ longIn (now (symbols .entry))) ⌝ }
+    ensures { λ r. ⌜ (r ≤ 64) × (scopeLength (now (symbols .entry)) ≤ 64 → r ≡ scopeLength (now (symbols .entry))) ⌝ }
 {
     let long = symbols[SCOPE] as usize;
     if lexer::Name::MAX < long {
@@ -43,9 +44,9 @@ fn long_of(symbols: &[u8]) -> usize
 }
 
 // Where the last dot of the first n bytes of the scope stands, or 0: block names have no dot.
-fn cut(symbols: &[u8], n: usize) -> usize
+fn last_dot(symbols: &[u8], n: usize) -> usize
     requires { ⌜ (n ≤ 64) × (188713 ≤ length (now symbols)) ⌝ }
-    ensures { λ r. ⌜ (r ≡ cutAt (scopeIn (now (symbols .entry)) n)) × (0 < n → r < n) × (r ≤ n) ⌝ }
+    ensures { λ r. ⌜ (r ≡ lastDot (scopeIn (now (symbols .entry)) n)) × (0 < n → r < n) × (r ≤ n) ⌝ }
 {
     let mut i = n;
     while 0 < i {
@@ -57,7 +58,8 @@ fn cut(symbols: &[u8], n: usize) -> usize
     0
 }
 
-// Whether a block is open. Memory that is too short for a scope counts as inside a block, so that nobody takes the short way of the whole-text level there.
+// Whether a block is open. Memory that is too short for a scope counts as inside a block, so that nobody takes the
+// short way of the whole-text level there.
 pub fn in_block(symbols: &[u8]) -> bool
     ensures { λ r. ⌜ InBlock (now (symbols .entry)) r ⌝ }
 {
@@ -75,50 +77,57 @@ pub fn start(symbols: &mut [u8])
     symbols[SCOPE] = 0;
 }
 
-// A name inside the block whose full name is the first n bytes of the scope, put together in lent memory: those bytes, a dot, and the name. With n = 0 it is
-// the name alone.
-fn compose(symbols: &[u8], n: usize, name: &[u8], into: &mut [u8]) -> FullName
+// A name inside the block whose full name is the first n bytes of the scope, put together in lent memory: those
+// bytes, a dot, and the name. With n = 0 it is the name alone.
+fn compose(symbols: &[u8], n: usize, name: &[u8], into: &mut [u8]) -> ComposedName
     requires { ⌜ (n ≤ 64) × (188713 ≤ length (now symbols)) × (64 ≤ length (now into)) ⌝ }
     ensures { λ r. ⌜ Composes (within (scopeIn (now (symbols .entry)) n) (now (name .entry))) (now (into .entry)) (now (into .exit)) r ⌝ }
 {
     let long = name.len();
     if n == 0 {
         if lexer::Name::MAX < long {
-            return FullName::TooLong;
+            return ComposedName::TooLong;
         }
         symbols::copy(into, 0, name, 0, long);
-        return FullName::Long(long);
+        return ComposedName::Length(long);
     }
     if lexer::Name::MAX - n <= long {
-        return FullName::TooLong;
+        return ComposedName::TooLong;
     }
     symbols::copy(into, 0, symbols, SCOPE + 1, n);
     into[n] = lexer::Name::DOT;
     symbols::copy(into, n + 1, name, 0, long);
-    FullName::Long(n + 1 + long)
+    ComposedName::Length(n + 1 + long)
 }
 
 // The full name of what is declared under the len bytes of the text from a place on, in the blocks that are open.
-pub fn full_name(symbols: &[u8], text: &[u8], from: usize, len: usize, into: &mut [u8]) -> FullName
+pub fn full_name(
+    symbols: &[u8],
+    text: &[u8],
+    from: usize,
+    len: usize,
+    into: &mut [u8],
+) -> ComposedName
     requires { ⌜ (188713 ≤ length (now symbols)) × (64 ≤ length (now into)) ⌝ }
     ensures { λ r. ⌜ Names (now (symbols .entry)) (part (now (text .entry)) from len) (now (into .entry)) (now (into .exit)) r ⌝ }
 {
     compose(
         symbols,
-        long_of(symbols),
+        scope_length(symbols),
         bitset::part(text, from, len),
         into,
     )
 }
 
-// Opens a block whose name is the len bytes of the text from a place on. Where its full name would be too long, nothing changes, and the answer is no.
+// Opens a block whose name is the len bytes of the text from a place on. Where its full name would be too long,
+// nothing changes, and the answer is no.
 pub fn enter_block(symbols: &mut [u8], text: &[u8], from: usize, len: usize) -> bool
     requires { ⌜ 188713 ≤ length (now symbols) ⌝ }
     ensures { λ r. ⌜ EntersBlock (now (symbols .entry)) (now (symbols .exit)) (part (now (text .entry)) from len) r ⌝ }
 {
     let mut whole = [0u8; lexer::Name::MAX];
     let named = full_name(symbols, text, from, len, &mut whole);
-    let FullName::Long(long) = named else {
+    let ComposedName::Length(long) = named else {
         return false;
     };
     symbols::copy(symbols, SCOPE + 1, &whole, 0, long);
@@ -131,14 +140,15 @@ pub fn leave_block(symbols: &mut [u8])
     requires { ⌜ 188713 ≤ length (now symbols) ⌝ }
     ensures { λ _. ⌜ LeavesBlock (now (symbols .entry)) (now (symbols .exit)) ⌝ }
 {
-    let n = long_of(symbols);
-    let cut_to = cut(symbols, n);
+    let n = scope_length(symbols);
+    let cut_to = last_dot(symbols, n);
     symbols[SCOPE] = cut_to as u8;
 }
 
 // ---- uses
 
-// One try: a use inside the block whose full name is the first n bytes of the scope. A longer name than there can be is not looked for.
+// One try: a use inside the block whose full name is the first n bytes of the scope. A longer name than there can be
+// is not looked for.
 fn try_in(symbols: &[u8], n: usize, family: usize, name: &[u8]) -> Tried
     requires { ⌜ (n ≤ 64) × (188713 ≤ length (now symbols)) ⌝ }
     ensures { λ r. ⌜ Tries (now (symbols .entry)) family (within (scopeIn (now (symbols .entry)) n) (now (name .entry))) r ⌝ }
@@ -146,8 +156,12 @@ fn try_in(symbols: &[u8], n: usize, family: usize, name: &[u8]) -> Tried
     let mut whole = [0u8; lexer::Name::MAX];
     let named = compose(symbols, n, name, &mut whole);
     match named {
-        FullName::Long(long) => name_chains::find(symbols, family, bitset::part(&whole, 0, long)),
-        FullName::TooLong => Tried {
+        ComposedName::Length(long) => name_chains::find(
+            symbols,
+            family,
+            bitset::part(&whole, 0, long),
+        ),
+        ComposedName::TooLong => Tried {
             found: Found::Missing,
             compared: 0,
         },
@@ -155,7 +169,7 @@ fn try_in(symbols: &[u8], n: usize, family: usize, name: &[u8]) -> Tried
 }
 
 // Whether a use has a dot in front.
-fn has_dot(name: &[u8]) -> bool
+fn has_dot_in_front(name: &[u8]) -> bool
     ensures { λ r. ⌜ r ≡ hasDotInFront (now (name .entry)) ⌝ }
 {
     if name.len() == 0 {
@@ -179,17 +193,17 @@ pub fn find(symbols: &[u8], family: usize, name: &[u8]) -> Tried
     requires { ⌜ 188713 ≤ length (now symbols) ⌝ }
     ensures { λ r. ⌜ Resolves (now (symbols .entry)) family (now (name .entry)) r ⌝ }
 {
-    if has_dot(name) {
+    if has_dot_in_front(name) {
         return name_chains::find(symbols, family, bitset::part(name, 1, name.len() - 1));
     }
-    let mut n = long_of(symbols);
+    let mut n = scope_length(symbols);
     while 0 < n {
         let tried = try_in(symbols, n, family, name);
         let found = tried.found;
         if !is_missing(found) {
             return tried;
         }
-        n = cut(symbols, n);
+        n = last_dot(symbols, n);
     }
     name_chains::find(symbols, family, name)
 }
@@ -201,7 +215,7 @@ fn is_plain(symbols: &[u8], name: &[u8]) -> bool
     if in_block(symbols) {
         return false;
     }
-    !has_dot(name)
+    !has_dot_in_front(name)
 }
 
 // What a use stands for by all of its tries; memory with no room for a scope has no symbols. The count is not asked.
@@ -215,8 +229,8 @@ fn resolve(symbols: &[u8], family: usize, name: &[u8]) -> Found
     tried.found
 }
 
-// What a name stands for where it is used: a thing or an attribute of a family, or a class. Most uses stand outside of blocks, where one try decides: it is
-// made at once, with no walk outward around it.
+// What a name stands for where it is used: a thing or an attribute of a family, or a class. Most uses are outside of
+// blocks, where one try decides: it is made at once, with no walk outward around it.
 pub fn lookup(symbols: &[u8], family: usize, name: &[u8]) -> Found
     ensures { λ r. ⌜ Looks (now (symbols .entry)) family (now (name .entry)) r ⌝ }
 {

@@ -1,4 +1,4 @@
--- Units at a place: what stands at the front of the rest of a list is what is read there. Assumes nothing.
+-- Units at a place: what is at the front of the rest of a list is what is read there. Assumes nothing.
 use Prim.Native.Nat.{ℕ, suc, _+_, _<_}
 use native.Mathlib.Numerals.{add-one}
 use native.Mathlib.Omega.{arith}
@@ -20,6 +20,6 @@ here s at u us q =
     let split = drop-cons s at 0 less in
     record { inside = less; unit = cc; tail = rw (add-one at) (cc) }
 
--- behind a list that stands at a place
+-- after a list that is at a place
 pub behind : (s : List ℕ) (at : ℕ) (us vs : List ℕ) → drop at s ≡ us ++ vs → drop (at + length us) s ≡ vs
 behind s at us vs q = sym (drop-drop (length us) at s) ∙ ap (drop (length us)) q ∙ drop-append-seam us vs

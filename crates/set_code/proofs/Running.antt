@@ -19,7 +19,7 @@ use Rattle.set_code.proofs.Leaves.{value-of-reference, joined-sets, joi
 use Rattle.set_code.proofs.Nodes.{codes, folded, Node, node}
 use Rattle.set_code.proofs.Places.{Here, here, behind}
 
--- what stands at a place where the code of e stands: a reference, or an operator and its operands
+-- what is at a place where the code of e stands: a reference, or an operator and its operands
 data First (code : List ℕ) (at total : ℕ) (sets : List ℕ) (e : SetExpr Reference) (rest : List ℕ) : Type 0 where
   name : (r : Reference) → e ≡ nameS r → NumberedR r → Here code at (referenceUnit r) rest → First code at total sets e rest
   operator : (m : Node total (setsIn sets) e) → Here code at (m .op) (codes (m .xs) ++ (endUnit ∷ rest)) → First code at total sets e rest

@@ -32,7 +32,7 @@ joinOf op a b = cond (eqb op notUnit) (a && not b) (cond (eqb op andUnit) (a && 
 unfoldable pub joinedBy : ℕ → List ℕ → List ℕ → List ℕ
 joinedBy op out operand = setOf (length out) (λ n. joinOf op (member out n) (member operand n))
 
--- where the code of an S stands at a place, the set becomes that of S, and reading goes on behind the code
+-- where the code of an S is at a place, the set becomes that of S, and reading goes on after the code
 pub record Evaluates (code : List ℕ) (at total : ℕ) (sets out : List ℕ) (r : ℕ) : Type 0 where
   pub forward : at < length code → at < r
   pub right : (e : SetExpr Reference) (rest : List ℕ) → Numbered e → drop at code ≡ setCode e ++ rest

@@ -1,6 +1,7 @@
 // The set that the code of one S stands for, and what one reference of the code stands for.
 //
-// Every set is as wide as a set of types, 64 bytes, whatever its family. The sets of a family's attributes stand one after the other.
+// Every set is as wide as a set of types, 64 bytes, whatever its family. The sets of a family's attributes are one
+// after the other.
 ghost use mathlib.Core.Path.{_≡_};
 ghost use mathlib.Core.Bool.{Bool, true, _||_};
 ghost use Prim.Native.Nat.{_<_};
@@ -90,8 +91,8 @@ fn add_reference(unit: u16, sets: &[u8], out: &mut [u8; Type::SET_BYTES])
     }
 }
 
-// The set becomes that of the S whose code stands at a place. Answers where the code ends.
-// It calls itself on each operand that is not added as it stands; the number that falls is the length of the code that is left.
+// The set becomes that of the S whose code is at a place. Answers where the code ends. It calls itself on each
+// operand that is not added as it stands; the number that falls is the length of the code that is left.
 pub fn evaluate(
     code: &[u16],
     at: usize,

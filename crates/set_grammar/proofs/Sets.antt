@@ -23,7 +23,7 @@ use Rattle.items.specs.declared.Wanted.{Wanted}
 use Rattle.items.proofs.Items.{Looked, sees, by-word, by-close, by-end, alike-open}
 use Rattle.items.proofs.Counts.{one-more, one-less, no-more, of-none, of-one, of-two}
 use Rattle.set_grammar.specs.Starts.{operandsOf, begun, startBy, startOf}
-use Rattle.set_grammar.specs.declared.Begun.{Begun}
+use Rattle.set_grammar.specs.declared.SetStart.{SetStart}
 
 -- a word that is a name is an operand
 is-operand : (w : Name) (b : Bool) → b ≡ not (isReserved w) → isSome (asName w >>= λ n. some (nameS n)) ≡ b
@@ -77,7 +77,8 @@ operator-row : (w : Name) (s k : ℕ) (f : Forms) (m : ℕ) → numberOf w ≡ k
 unfolding setIn
 operator-row w s k f m e h = go (setWord w) refl (h ∙ ap operandsOf (sym (set-number w ∙ ap (λ (n : ℕ). setWord (wordOf n)) e)))
   where
-    go : (c : Option Connective) → setWord w ≡ c → Wanted.Exactly m ≡ operandsOf (setWord w) → counted (Wanted.Exactly m) 0 (operands f) ≡ isSome (headed w (setWord w) (operands f))
+    go : (c : Option Connective) → setWord w ≡ c → Wanted.Exactly m ≡ operandsOf (setWord w)
+        → counted (Wanted.Exactly m) 0 (operands f) ≡ isSome (headed w (setWord w) (operands f))
     go none d g =
         let z : _≡_ {A = Wanted} (Wanted.Exactly m) Wanted.OneOrMore = rw d at g in
         absurd (let z : _≡_ {A = ℕ} 0 1 = cc in omega arith)
@@ -90,7 +91,8 @@ name-row : (w : Name) (s k : ℕ) (f : Forms) → numberOf w ≡ k → Wanted.On
 unfolding setIn
 name-row w s k f e h = go (setWord w) refl (h ∙ ap operandsOf (sym (set-number w ∙ ap (λ (n : ℕ). setWord (wordOf n)) e)))
   where
-    go : (c : Option Connective) → setWord w ≡ c → Wanted.OneOrMore ≡ operandsOf (setWord w) → counted Wanted.OneOrMore 0 (operands (word s w f)) ≡ isSome (headed w (setWord w) (operands f))
+    go : (c : Option Connective) → setWord w ≡ c → Wanted.OneOrMore ≡ operandsOf (setWord w)
+        → counted Wanted.OneOrMore 0 (operands (word s w f)) ≡ isSome (headed w (setWord w) (operands f))
     go none d g = rw d (union-counts (asName w >>= λ n. some (nameS n)) (operands f))
     go (some allC) d g = absurd (never (rw d at g))
     go (some notC) d g = absurd (never (rw d at g))
@@ -99,7 +101,7 @@ name-row w s k f e h = go (setWord w) refl (h ∙ ap operandsOf (sym (set-number
     go (some xorC) d g = absurd (never (rw d at g))
 
 -- where the operands begin, and how many there must be
-pub record Started (t : List ℕ) (at : ℕ) (r : Begun) : Type 0 where
+pub record Started (t : List ℕ) (at : ℕ) (r : SetStart) : Type 0 where
   pub row : (n : ℕ) → counted (r .wanted) 0 (operands (trim (framesAt t (r .next) .here) n)) ≡ isSome (setIn (trim (framesAt t at .here) n))
   pub end : rowEnd t (r .next) ≡ rowEnd t at
   pub ahead : at ≤ r .next
@@ -136,5 +138,5 @@ started t at (Item.Close q) e = by-other t at (λ n. by-close union n (sees refl
 started t at Item.End e = by-other t at (λ n. by-end union n (sees refl e) ∙ sym (by-end set n (sees refl e)))
 
 -- what a caller of `set_start` knows
-pub starts : {t : List ℕ} {at : ℕ} {r : Begun} → r ≡ startOf at (itemAt t at) → Started t at r
-starts {t} {at} e = subst (λ (x : Begun). Started t at x) (sym e) (started t at (itemAt t at) refl)
+pub starts : {t : List ℕ} {at : ℕ} {r : SetStart} → r ≡ startOf at (itemAt t at) → Started t at r
+starts {t} {at} e = subst (λ (x : SetStart). Started t at x) (sym e) (started t at (itemAt t at) refl)

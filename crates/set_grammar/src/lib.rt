@@ -15,7 +15,7 @@ use words::NameKind;
 use words::Word;
 
 // How many operands a set expression must have, and where they begin.
-struct Begun {
+struct SetStart {
     wanted: Wanted,
     next: usize,
 }
@@ -40,27 +40,27 @@ fn operands_of(number: usize) -> Wanted
 }
 
 // How a set expression begins.
-fn set_start(text: &[u8], at: usize) -> Begun
+fn set_start(text: &[u8], at: usize) -> SetStart
     ensures { λ r. ⌜ r ≡ startOf at (itemAt (now (text .entry)) at) ⌝ }
 {
-    let item = items::look(text, at);
+    let item = items::next_item(text, at);
     match item {
         Item::Word { number, next, .. } => {
             let wanted = operands_of(number);
             match wanted {
-                Wanted::Exactly(_) => Begun { wanted, next },
-                Wanted::OneOrMore => Begun { wanted, next: at },
+                Wanted::Exactly(_) => SetStart { wanted, next },
+                Wanted::OneOrMore => SetStart { wanted, next: at },
             }
         }
-        Item::Open { .. } | Item::Close { .. } | Item::End => Begun {
+        Item::Open { .. } | Item::Close { .. } | Item::End => SetStart {
             wanted: Wanted::OneOrMore,
             next: at,
         },
     }
 }
 
-// What the parentheses of a set expression hold. It calls itself on each operand in parentheses; the number that falls is the levels
-// left.
+// What the parentheses of a set expression hold. It calls itself on each operand in parentheses; the number that
+// falls is the levels left.
 pub fn set_form(text: &[u8], at: usize, levels: usize) -> Parsed
     ensures { λ r. ⌜ Reads (now (text .entry)) at (isSome (setIn (trim (framesAt (now (text .entry)) at .here) levels))) r ⌝ }
 {

@@ -50,7 +50,8 @@ fn combine_whole(op: SetOp, dst: &mut [u8], src: &[u8])
     }
 }
 
-// dst becomes what op makes of it and src. Sets of one width, as nearly all are, are combined without asking at each byte where src ends.
+// dst becomes what op makes of it and src. Sets of one width, as nearly all are, are combined without asking at each
+// byte where src ends.
 pub fn combine(op: SetOp, dst: &mut [u8], src: &[u8])
     ensures { λ _. ⌜ now (dst .exit) ≡ combined op (now (dst .entry)) (now (src .entry)) ⌝ }
 {

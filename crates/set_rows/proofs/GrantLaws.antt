@@ -104,7 +104,7 @@ module _ (w : ℕ) (body us rs : List ℕ) where
 
   -- row u, or as many of its bytes as the body has
   module _ (u v : ℕ) (inside : w * u ≤ length body) (reach : v ≡ min w (length body - w * u)) where
-    -- they are the whole row, or the body ends behind them
+    -- they are the whole row, or the body ends after them
     row-end : soFar w body us rs (w * u + v) ≡ soFar w body us rs (w * (u + 1))
     row-end = by (decLt (w * u + v) (length body))
       where
@@ -150,7 +150,7 @@ module _ (w : ℕ) (body us rs : List ℕ) where
         soFar-none small ∙ ap (soFar w body us rs) (sym (mul-zero w))
         ∙ soFar-skips 0 u (λ n p q. other n (λ e. omega arith)) ∙ ap (λ (n : ℕ). soFar w body us rs (w * n)) from
 
-    -- and so are those behind it
+    -- and so are those after it
     behind-row : soFar w body us rs (w * (u + 1)) ≡ granted w body us rs
     behind-row = by (decLt 0 w)
       where
@@ -172,7 +172,7 @@ module _ (w : ℕ) (body us rs : List ℕ) where
     granted-past : length body ≤ w * u → body ≡ granted w body us rs
     granted-past h = before-row ∙ soFar-all (w * u) h
 
--- the same for the body that stands in size bytes of a table, where us is the set of u alone, x bytes wide
+-- the same for the body that is in size bytes of a table, where us is the set of u alone, x bytes wide
 module _ (w x : ℕ) (t rs : List ℕ) (o size : ℕ) (small : (i : ℕ) → getD t i 0 < 256) (u : ℕ) (fits : u < 8 * x) where
   pub row-at : (v : ℕ) → w * u ≤ length (part t o size) → v ≡ min w (length (part t o size) - w * u)
       → put t (o + w * u) (unionOf (part t (o + w * u) v) rs) ≡ put t o (granted w (part t o size) (setOf x (λ n. eqb n u)) rs)

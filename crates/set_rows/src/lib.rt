@@ -1,7 +1,8 @@
-// Sets that stand in a larger slice, and rows of them, one after the other.
+// Sets that are in a larger slice, and rows of them, one after the other.
 //
-// The functions whose names end in `_at` do what `bitset` and `set_operators` do, for the set that stands in the w bytes at offset o of a
-// larger slice, cut where the slice ends. Of what other crates call, only to count asks for something: that eight times the width is a usize.
+// The functions whose names end in `_at` do what `bitset` and `set_operators` do, for the set that is in the w bytes
+// at offset o of a larger slice, cut where the slice ends. Of what other crates call, only to count asks for
+// something: that eight times the width is a usize.
 use set_operators::SetOp;
 ghost use mathlib.Core.Path.{_≡_};
 ghost use Prim.Native.Nat.{_+_, _*_, _<_};
@@ -142,7 +143,7 @@ pub fn grant(body: &mut [u8], us: &[u8], rs: &[u8], w: usize)
     }
 }
 
-// The same for the body of rows that stands in the size bytes at offset o of a table.
+// The same for the body of rows that is in the size bytes at offset o of a table.
 pub fn grant_at(table: &mut [u8], o: usize, size: usize, us: &[u8], rs: &[u8], w: usize)
     ensures { λ _. ⌜ now (table .exit) ≡ put (now (table .entry)) o (granted w (parts.part (now (table .entry)) o size) (now (us .entry)) (now (rs .entry))) ⌝ }
 {

@@ -1,5 +1,5 @@
-// The lines that programs write of sets: the function, two of the numbers that it was given, and the answer, a set as its bytes in
-// hexadecimal digits. And the two sets that the programs start from.
+// The lines that programs write of sets: the function, two of the numbers that it was given, and the answer, a set as
+// its bytes in hexadecimal digits. And the two sets that the programs start from.
 use libc::STDOUT_FILENO;
 
 // What the sets are made of, as far as they reach.

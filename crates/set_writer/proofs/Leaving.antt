@@ -1,4 +1,4 @@
--- What is left of an S when the units of its operator and of some operands are written: the further operands stand in the row at hand, and the
+-- What is left of an S when the units of its operator and of some operands are written: the further operands are in the row at hand, and the
 -- units so far with theirs are those of S. A step for an operand, and the three ways to end. Assumes nothing.
 use mathlib.Core.Path.{_≡_, refl, sym, ap, subst, _∙_}
 use mathlib.Core.Bool.{Bool, true, false, not}
@@ -96,7 +96,8 @@ module _ (env : Environment) (f : Family) where
         }
 
     -- a name of an operand is not declared
-    pub stop : {o : Option (SetExpr Name)} {r : Option (List (SetExpr Name))} → Split o r (l .each) → (x : SetExpr Name) → o ≡ some x → referS env f x ≡ none → referS env f w ≡ none
+    pub stop : {o : Option (SetExpr Name)} {r : Option (List (SetExpr Name))} → Split o r (l .each) → (x : SetExpr Name) → o ≡ some x → referS env f x ≡ none
+        → referS env f w ≡ none
     stop p x e h =
         let same : p .first ≡ x = Option·some-injective (p .first) x (sym (p .here) ∙ e) in
         no-units (referS env f w)

@@ -3,4 +3,4 @@ pub mod Referring
 pub mod Operating
 pub mod Leaving
 pub mod Starting
-pub mod Going
+pub mod SetOperands

@@ -1,4 +1,4 @@
--- Units that are written one after the other: a store writes one, and what is written behind what is written is written with it. Assumes nothing.
+-- Units that are written one after the other: a store writes one, and what is written after what is written is written with it. Assumes nothing.
 use mathlib.Core.Path.{_≡_, refl, sym, ap, ap₂, _∙_}
 use mathlib.Core.List.{List, _∷_, _++_}
 use Prim.Native.Nat.{ℕ, _+_, _<_, _≤_}

@@ -1,4 +1,4 @@
--- How an S begins, by the first item: an operator stands before its operands; any other word, and a part, is the first operand of a union.
+-- How an S begins, by the first item: an operator is before its operands; any other word, and a part, is the first operand of a union.
 -- Assumes nothing.
 use mathlib.Core.Path.{_≡_, refl, sym, subst, _∙_}
 use mathlib.Core.List.{List}

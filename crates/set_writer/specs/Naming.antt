@@ -9,13 +9,13 @@ use Rattle.policy.specs.Names.{refer, Environment}
 use Rattle.scopes.specs.Symbols.{Symbols}
 use Rattle.symbols.specs.Resolving.{familyCode}
 use Rattle.statement_code.specs.Code.{referenceUnit}
-use Rattle.set_writer.specs.declared.Referred.{Referred}
+use Rattle.set_writer.specs.declared.NameUnit.{NameUnit}
 
 -- the unit of what a name refers to
-abbrev pub referred : Option Reference → Referred
-referred none = Referred.Missing
-referred (some r) = Referred.Unit (referenceUnit r)
+abbrev pub referred : Option Reference → NameUnit
+referred none = NameUnit.Missing
+referred (some r) = NameUnit.Unit (referenceUnit r)
 
 -- the name w is resolved as `refer` resolves it
-pub record Refers (table : List ℕ) (family : ℕ) (w : Name) (r : Referred) : Type 0 where
+pub record Refers (table : List ℕ) (family : ℕ) (w : Name) (r : NameUnit) : Type 0 where
   pub resolves : (env : Environment) (f : Family) → Symbols table env → familyCode f ≡ family → r ≡ referred (refer env f w)

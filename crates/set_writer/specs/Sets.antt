@@ -15,7 +15,7 @@ use Rattle.symbols.specs.Resolving.{familyCode}
 use Rattle.statement_code.specs.Code.{setCode, allUnit, notUnit, andUnit, orUnit, xorUnit, unionUnit, endUnit}
 use Rattle.set_writer.specs.Writing.{Wrote, Keeps}
 use Rattle.scopes.specs.Symbols.{Symbols}
-use Rattle.set_writer.specs.declared.Begun.{Begun}
+use Rattle.set_writer.specs.declared.SetStart.{SetStart}
 use Rattle.set_writer.specs.declared.SetWritten.{SetWritten}
 
 -- the operator of an S by its first word: "one or more operands (their union), `(all)`, `(not x)`, `(and x y)`, `(or x y)`, `(xor x y)`"
@@ -46,7 +46,7 @@ pub record Operands (unit : ℕ) (g : Forms) (w : SetExpr Name) : Type 0 where
   pub units : (env : Environment) (f : Family) → setUnits env f w ≡ behind (unit ∷ []) (rowUnits env f each)
 
 -- how an S begins
-pub record Begins (t : List ℕ) (at : ℕ) (r : Begun) : Type 0 where
+pub record Begins (t : List ℕ) (at : ℕ) (r : SetStart) : Type 0 where
   pub row : (levels : ℕ) (w : SetExpr Name) → setIn (trim (framesAt t at .here) levels) ≡ some w
       → Operands (r .operator) (trim (framesAt t (r .next) .here) levels) w
   pub around : framesAt t (r .next) .around ≡ framesAt t at .around

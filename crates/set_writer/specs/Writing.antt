@@ -6,7 +6,7 @@ use Prim.Native.Nat.{ℕ, _+_, _≤_}
 use lib.ListN.{length, take}
 use Rattle.bitset.specs.Parts.{put}
 
--- where there is room for the units they stand from the place to on, nothing else is changed, and u is the place behind them
+-- where there is room for the units they are from the place to on, nothing else is changed, and u is the place after them
 pub record Wrote (before : List ℕ) (to : ℕ) (units after : List ℕ) (u : ℕ) : Type 0 where
   pub past : to + length units ≤ length before → u ≡ to + length units
   pub code : to + length units ≤ length before → after ≡ put before to units

@@ -1,5 +1,6 @@
-// Set expressions with their names resolved: the part of the statement code that stands for one set expression. Its form is known to be good
-// where this is called; what is found out here is whether its names are declared, and its units are written on the way.
+// Set expressions with their names resolved: the part of the statement code that stands for one set expression. Its
+// form is known to be good where this is called; what is found out here is whether its names are declared, and its
+// units are written on the way.
 ghost use mathlib.Core.Path.{_≡_};
 ghost use Rattle.policy.specs.Words.{setWord};
 ghost use Rattle.words.specs.Numbers.{wordOf};
@@ -12,18 +13,19 @@ use symbols::Found;
 use words::Word;
 
 // The unit of a reference to what a name of a family stands for, or that none is declared.
-pub enum Referred {
+pub enum NameUnit {
     Unit(u16),
     Missing,
 }
 
 // The operator of a set expression, and where its operands begin.
-struct Begun {
+struct SetStart {
     operator: u16,
     next: usize,
 }
 
-// The place past the close of the set expression and the place past its units, or that one of its names is not declared.
+// The place past the close of the set expression and the place past its units, or that one of its names is not
+// declared.
 pub enum SetWritten {
     Next { at: usize, to: usize },
     Undeclared,
@@ -41,21 +43,21 @@ pub fn put_unit(code: &mut [u16], at: usize, unit: u16) -> usize
 }
 
 // The unit of what a name names in a family.
-pub fn reference(symbols: &[u8], family: usize, name: &[u8]) -> Referred
+pub fn reference(symbols: &[u8], family: usize, name: &[u8]) -> NameUnit
     ensures { λ r. ⌜ Refers (now (symbols .entry)) family (now (name .entry)) r ⌝ }
 {
     let found = scopes::lookup(symbols, family, name);
     match found {
         Found::At { sort, number } => {
             if Unit::ATTRIBUTE as usize <= number {
-                return Referred::Missing;
+                return NameUnit::Missing;
             }
             if sort < 3 {
-                return Referred::Unit(number as u16);
+                return NameUnit::Unit(number as u16);
             }
-            Referred::Unit(Unit::ATTRIBUTE + number as u16)
+            NameUnit::Unit(Unit::ATTRIBUTE + number as u16)
         }
-        Found::Missing => Referred::Missing,
+        Found::Missing => NameUnit::Missing,
     }
 }
 
@@ -74,27 +76,27 @@ fn operator_of(number: usize) -> u16
 }
 
 // How a set expression begins. What a union begins with is its first operand.
-fn set_start(text: &[u8], at: usize) -> Begun
+fn set_start(text: &[u8], at: usize) -> SetStart
     ensures { λ r. ⌜ Begins (now (text .entry)) at r ⌝ }
 {
-    let item = items::look(text, at);
+    let item = items::next_item(text, at);
     match item {
         Item::Word { number, next, .. } => {
             let operator = operator_of(number);
             if operator == Unit::UNION {
-                return Begun { operator, next: at };
+                return SetStart { operator, next: at };
             }
-            Begun { operator, next }
+            SetStart { operator, next }
         }
-        Item::Open { .. } | Item::Close { .. } | Item::End => Begun {
+        Item::Open { .. } | Item::Close { .. } | Item::End => SetStart {
             operator: Unit::UNION,
             next: at,
         },
     }
 }
 
-// Writes the units of what the parentheses of a set expression hold: the operator, the operands, the end mark. It calls itself on each
-// operand in parentheses; the number that falls is the levels left.
+// Writes the units of what the parentheses of a set expression hold: the operator, the operands, the end mark. It
+// calls itself on each operand in parentheses; the number that falls is the levels left.
 pub fn write_set(
     text: &[u8],
     at: usize,
@@ -110,7 +112,7 @@ pub fn write_set(
     let mut i = begun.next;
     let mut u = put_unit(code, to, begun.operator);
     loop {
-        let item = items::look(text, i);
+        let item = items::next_item(text, i);
         match item {
             Item::Word {
                 start,
@@ -121,7 +123,7 @@ pub fn write_set(
                 let end = start + len;
                 let name = &text[start..end];
                 let referred = reference(symbols, family, name);
-                let Referred::Unit(unit) = referred else {
+                let NameUnit::Unit(unit) = referred else {
                     return SetWritten::Undeclared;
                 };
                 u = put_unit(code, u, unit);

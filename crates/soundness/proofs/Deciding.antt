@@ -13,17 +13,17 @@ use Rattle.policy.specs.Sound.{goodFrom, bodiesIn}
 use Rattle.policy.specs.declared.NameCounts.{NameCounts}
 use Rattle.policy.proofs.Counts.{few-of, few-classes}
 use Rattle.symbols.specs.Section.{between}
-use Rattle.name_section.specs.declared.Counted as counted
-use Rattle.name_section.specs.SoundNames.{soundNames, countsOf, countedOf, permissionCounts, permissionsAfter}
-use Rattle.name_section.proofs.Answers.{sound-good, answered-unsound, Named, answered-sound}
+use Rattle.sound_names.specs.declared.Counted as counted
+use Rattle.sound_names.specs.SoundNames.{soundNames, countsOf, countedOf, permissionCounts, permissionsAfter}
+use Rattle.sound_names.proofs.Answers.{sound-good, answered-unsound, Named, answered-sound}
 use Rattle.table_reader.specs.Records.{lengthIn}
-use Rattle.image_rows.specs.Totals.{totalsIn}
-use Rattle.image_rows.specs.SoundRows.{isSome}
-use Rattle.image.specs.SoundBodies.{bodiesSound}
-use Rattle.image.specs.FewSets.{Few}
-use Rattle.image.proofs.SoundImage.{not-laid-out, names-not-sound, PermissionsOf, bodies-decide}
+use Rattle.sound_constraints.specs.Totals.{totalsIn}
+use Rattle.sound_constraints.specs.SoundRows.{isSome}
+use Rattle.sound_bodies.specs.SoundBodies.{bodiesSound}
+use Rattle.sound_bodies.specs.FewSets.{Few}
+use Rattle.sound_bodies.proofs.SoundImage.{not-laid-out, names-not-sound, PermissionsOf, bodies-decide}
 use Rattle.soundness.specs.IsSound.{isSound}
-use Rattle.soundness.specs.Telling.{Tells}
+use Rattle.soundness.specs.TableCounts.{Tells}
 
 -- what the count then tells
 pub tells-not : (t ps : List ℕ) → false ≡ isSound t → Tells t counted.Counted.Unsound ps

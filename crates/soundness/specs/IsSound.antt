@@ -4,7 +4,7 @@ use Prim.Native.Nat.{ℕ}
 use mathlib.Core.Bool.{Bool}
 use mathlib.Core.List.{List}
 use Rattle.policy.specs.Sound.{imageIn}
-use Rattle.image_rows.specs.SoundRows.{isSome}
+use Rattle.sound_constraints.specs.SoundRows.{isSome}
 
 -- "A table is **sound** when ..": fault 11 where it is not
 unfoldable pub isSound : List ℕ → Bool

@@ -1,2 +1,2 @@
 pub mod IsSound
-pub mod Telling
+pub mod TableCounts

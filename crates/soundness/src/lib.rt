@@ -1,24 +1,24 @@
 // Whether bytes are a sound table. The answer is given for every sequence of bytes.
-use name_section::Counted;
 use policy::Table;
+use sound_names::Counted;
 ghost use mathlib.Core.Path.{_≡_};
 ghost use Rattle.soundness.specs.IsSound.{isSound};
-ghost use Rattle.soundness.specs.Telling.{Tells};
+ghost use Rattle.soundness.specs.TableCounts.{Tells};
 
 // How many things of each sort a sound table names; the lent numbers are then how many permissions each class has.
 pub fn count(table: &[u8], permissions: &mut [usize; policy::Class::MAX]) -> Counted
     ensures { λ r. ⌜ Tells (now (table .entry)) r (now (permissions .exit)) ⌝ }
 {
-    if !image::is_laid_out(table) {
+    if !sound_bodies::is_laid_out(table) {
         return Counted::Unsound;
     }
     let mut found = [0usize; policy::Class::MAX];
     let end = table_names::names_end(table);
-    let counted = name_section::check_names(table, Table::HEADER_BYTES, end, &mut found);
+    let counted = sound_names::check_names(table, Table::HEADER_BYTES, end, &mut found);
     let Counted::Sound(counts) = counted else {
         return Counted::Unsound;
     };
-    if !image::bodies_sound(table, counts, &found) {
+    if !sound_bodies::bodies_sound(table, counts, &found) {
         return Counted::Unsound;
     }
     *permissions = found;

@@ -6,7 +6,8 @@ use mathlib.Core.Path.{_≡_}
 use mathlib.Core.Bool.{true}
 use mathlib.Core.List.{List, [], _∷_, _++_}
 use Rattle.policy.specs.Basics.{All}
-use Rattle.policy.specs.Statements.{Family, users, roles, types, thingOf, attributeOf, Declaration, Reference, thing, attribute, SetExpr, nameS, allS, notS, andS, orS, xorS, unionS, emptyS, Relation, userrole, roletype, roleallow}
+use Rattle.policy.specs.Statements.{Family, users, roles, types, thingOf, attributeOf, Declaration, Reference, thing, attribute, SetExpr, nameS, allS, notS}
+use Rattle.policy.specs.Statements.{andS, orS, xorS, unionS, emptyS, Relation, userrole, roletype, roleallow}
 use Rattle.policy.specs.Sound.{goodFrom}
 use Rattle.policy.specs.Accepted.{ReferenceIn, SetIn}
 use Rattle.policy.proofs.Lists.{all-append}

@@ -1,10 +1,12 @@
--- The statements that need final sets, as a flat code of 16-bit units: what the parser leaves for the resolver. Operators stand before their
--- operands, and an end mark behind the last, so that both sides go through it from left to right. Assumes nothing.
+-- The statements that need final sets, as a flat code of 16-bit units: what the parser leaves for the resolver. Operators are before their
+-- operands, and an end mark after the last, so that both sides go through it from left to right. Assumes nothing.
 use Prim.Native.Nat.{ℕ, _+_}
 use mathlib.Core.List.{List, [], _∷_, _++_}
 use Rattle.bitset.specs.Relations.{joined}
 use Rattle.policy.specs.Basics.{each}
-use Rattle.policy.specs.Statements.{Family, users, roles, types, Sort, thingOf, attributeOf, Declaration, plain, class, Reference, thing, attribute, SetExpr, nameS, allS, notS, andS, orS, xorS, unionS, emptyS, Relation, userrole, roletype, roleallow, Statement, declare, attributeset, gives, roletransition, constrain, Line, Policy}
+use Rattle.policy.specs.Statements.{Family, users, roles, types, Sort, thingOf, attributeOf, Declaration, plain, class, Reference, thing, attribute, SetExpr}
+use Rattle.policy.specs.Statements.{nameS, allS, notS, andS, orS, xorS, unionS, emptyS, Relation, userrole, roletype, roleallow, Statement, declare}
+use Rattle.policy.specs.Statements.{attributeset, gives, roletransition, constrain, Line, Policy}
 
 -- a thing by its number, an attribute by 1024 and its number: no family has more than 512 things and 64 attributes
 abbrev pub referenceUnit : Reference → ℕ

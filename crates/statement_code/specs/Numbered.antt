@@ -1,6 +1,7 @@
 -- The numbers of things and attributes are small enough for the units of references to tell them apart. Assumes nothing.
 use Prim.Native.Nat.{_<_}
-use Rattle.policy.specs.Statements.{Reference, thing, attribute, SetExpr, nameS, allS, notS, andS, orS, xorS, unionS, emptyS, Statement, declare, attributeset, gives, roletransition, constrain}
+use Rattle.policy.specs.Statements.{Reference, thing, attribute, SetExpr, nameS, allS, notS, andS, orS, xorS, unionS, emptyS, Statement, declare, attributeset}
+use Rattle.policy.specs.Statements.{gives, roletransition, constrain}
 
 abbrev pub NumberedR : Reference → Type 0
 NumberedR (thing n) = n < 1024
@@ -16,7 +17,7 @@ Numbered (xorS x y) = Numbered x × Numbered y
 Numbered (unionS x y) = Numbered x × Numbered y
 Numbered emptyS = Unit {0}
 
--- and those of attributes, classes and roles that stand alone are as small
+-- and those of attributes, classes and roles that are alone are as small
 abbrev pub StatementNumbered : Statement → Type 0
 StatementNumbered (declare d) = Unit {0}
 StatementNumbered (attributeset f a s) = (a < 1024) × Numbered s

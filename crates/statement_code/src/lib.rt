@@ -13,7 +13,7 @@ impl Unit {
     // A reference to attribute a is ATTRIBUTE + a; to thing n it is n.
     pub const ATTRIBUTE: u16 = 1_024;
 
-    // The operators of a set expression, and the mark behind the last operand.
+    // The operators of a set expression, and the mark after the last operand.
     pub const ALL: u16 = 2_048;
 
     pub const NOT: u16 = 2_049;

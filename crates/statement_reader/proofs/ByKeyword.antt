@@ -1,4 +1,4 @@
--- A statement is what its keyword says: the step behind the keyword is the step of the statement. A row that starts with no keyword is of no form.
+-- A statement is what its keyword says: the step after the keyword is the step of the statement. A row that starts with no keyword is of no form.
 -- Assumes nothing.
 use Prim.Native.Nat.{ℕ, _-_}
 use mathlib.Core.Path.{_≡_, refl, sym, ap, subst, _∙_}

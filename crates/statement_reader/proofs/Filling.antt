@@ -1,4 +1,4 @@
--- Memory that starts with some content: what is put behind the content is content too. One law for all four memories. Assumes nothing.
+-- Memory that starts with some content: what is put after the content is content too. One law for all four memories. Assumes nothing.
 use Prim.Native.Nat.{ℕ, _+_, _≤_}
 use native.Mathlib.Nat.{zero-add}
 use native.Mathlib.Omega.{arith}

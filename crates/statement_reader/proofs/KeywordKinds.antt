@@ -6,7 +6,8 @@ use mathlib.Core.Option.{Option}
 use Rattle.lexer.specs.Forms.{Forms, closed, ended, word, part}
 use Rattle.policy.specs.Basics.{Name, eachOf, ofOne, ofTwo}
 use Rattle.policy.specs.Words.{asName, asPart, Keyword, declareK, classK, setK, relationK, transitionK, constrainK}
-use Rattle.policy.specs.Statements.{roles, types, thingOf, attributeOf, plain, class, Reference, SetExpr, Constraint, StatementOf, declare, attributeset, gives, roletransition, constrain, Written, fromOf, toOf}
+use Rattle.policy.specs.Statements.{roles, types, thingOf, attributeOf, plain, class, Reference, SetExpr, Constraint, StatementOf, declare, attributeset, gives}
+use Rattle.policy.specs.Statements.{roletransition, constrain, Written, fromOf, toOf}
 use Rattle.policy.specs.Grammar.{twoParts, setIn, expressionIn, rowOf, ofFour, formed}
 use Rattle.policy.specs.Names.{refer, Environment, numberIn}
 use Rattle.policy.specs.Reading.{referS, referE, resolved}

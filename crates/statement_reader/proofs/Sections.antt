@@ -37,7 +37,8 @@ heads-more r (x ∷ cs) c =
 -- the bytes of the records of one more
 bytes-more : {A : Type 0} (f : A → List ℕ) (xs : List A) (x : A) → joined (each f (xs ++ (x ∷ []))) ≡ joined (each f xs) ++ f x
 unfolding joined each
-bytes-more f xs x = ap (λ (l : List (List ℕ)). joined l) (each-append f xs (x ∷ [])) ∙ joined-append (each f xs) (f x ∷ []) ∙ ap (λ (l : List ℕ). joined (each f xs) ++ l) (append-nil (f x))
+bytes-more f xs x =
+    ap (λ (l : List (List ℕ)). joined l) (each-append f xs (x ∷ [])) ∙ joined-append (each f xs) (f x ∷ []) ∙ ap (λ (l : List ℕ). joined (each f xs) ++ l) (append-nil (f x))
 
 module _ (cs : List Constrain) (c : Constrain) where
   entries-last : each constraintEntry (cs ++ (c ∷ [])) ≡ each constraintEntry cs ++ (constraintEntry c ∷ [])

@@ -16,9 +16,11 @@ use Rattle.lexer.specs.Forms.{framesAt}
 use Rattle.policy.specs.Basics.{Name, each}
 use Rattle.policy.specs.Words.{Keyword, constrainK}
 use Rattle.policy.specs.Maxima.{maxTransitions, maxConstraints, maxRows, maxStack}
-use Rattle.policy.specs.Statements.{Declaration, plain, class, Reference, Constraint, Written, Statement, declare, attributeset, gives, roletransition, constrain, Policy, declared, declarations, transition, Transition, transitions, Constrain, constrained, constrains, size, need}
+use Rattle.policy.specs.Statements.{Declaration, plain, class, Reference, Constraint, Written, Statement, declare, attributeset, gives, roletransition}
+use Rattle.policy.specs.Statements.{constrain, Policy, declared, declarations, transition, Transition, transitions, Constrain, constrained, constrains, size}
+use Rattle.policy.specs.Statements.{need}
 use Rattle.policy.specs.Grammar.{formed}
-use Rattle.policy.specs.Reading.{fullDeclaration, isNew, hasRoom, isShort, resolved, rowCount, Judged, reads, fault, sized, resolving, naming}
+use Rattle.policy.specs.Reading.{fullDeclaration, isNew, hasRoom, isShort, resolved, rowCount, Judged, reads, fault, judgeMaxima, judgeResolved, judgeStatement}
 use Rattle.policy.specs.Rows as rows
 use Rattle.policy.specs.Encode.{headBytes, rowBytes}
 use Rattle.policy.proofs.Lists.{both-true, each-length}
@@ -38,7 +40,7 @@ use Rattle.policy.specs.Answers.{familyOf, relationOf}
 use Rattle.policy.specs.Names.{environmentOf}
 use Rattle.policy.proofs.RowCounts.{rows-count, rows-last}
 use Rattle.statement_writer.specs.Coding.{WritesStatement}
-use Rattle.statement_writer.specs.declared.Coded.{Coded}
+use Rattle.statement_writer.specs.declared.CodeWritten.{CodeWritten}
 use Rattle.constrain_statement.specs.Constraining as constraining
 use Rattle.constrain_statement.specs.Constraining.{headOf, fitsBefore, WritesConstrain}
 use Rattle.constrain_statement.specs.declared.Constrained.{Constrained}
@@ -46,9 +48,10 @@ use Rattle.statement_reader.specs.Memory.{Memory, memory, symbolsOf, Hol
 use Rattle.statement_reader.specs.Steps.{codedKeyword, Filled, Stepped, RowIs, Room, Steps, withSymbols, declaredStep, withCode, codedStep, withRows, constrainedStep}
 use Rattle.statement_reader.specs.declared.Progress.{Progress}
 use Rattle.statement_reader.specs.declared.Step.{Step}
-use Rattle.statement_reader.specs.declared.CodedKind.{CodedKind}
+use Rattle.statement_reader.specs.declared.CodedStatement.{CodedStatement}
 use Rattle.statement_reader.proofs.Filling.{now-long, front, put-behind, wrote-behind}
-use Rattle.statement_reader.proofs.Sections.{declared-more, declared-same, symbols-more, symbols-same, transitions-more, transitions-same, constrains-more, constrains-same, constraints-more, constraints-same, rows-more, rows-same}
+use Rattle.statement_reader.proofs.Sections.{declared-more, declared-same, symbols-more, symbols-same, transitions-more, transitions-same}
+use Rattle.statement_reader.proofs.Sections.{constrains-more, constrains-same, constraints-more, constraints-same, rows-more, rows-same}
 use Rattle.statement_reader.proofs.KeywordKinds.{IsOf, formed-of, resolved-of}
 
 module _ {p : Policy} {path : List Name} {lent : Memory} {sy co cs rs : List ℕ} {s : Progress} (h : Holds p path lent (memory sy co cs rs) s) where
@@ -125,7 +128,9 @@ module _ {p : Policy} {path : List Name} {lent : Memory} {sy co cs rs : List ℕ
           constraints = rw (constraints-more p l k refl) (put-behind (h .constraints) head cs' (10 * (s .constraints + 1))
               (a .head ∙ ap (λ (n : ℕ). put cs (10 * s .constraints) (headBytes (headOf c ps e n))) (h .row-count))
               (omega (arith, head-wide (headOf c ps e (rowCount (constrains p))))) (omega (arith, few, wide, now-long (h .constraints))));
-          rows = rw (rows-more p l k refl) (put-behind (h .rows) bytes rs' (6 * next) (a .rows) (omega (arith, many, a .next-row)) (omega (arith, short, a .next-row, long, now-long (h .rows))));
+          rows =
+              rw (rows-more p l k refl)
+              (put-behind (h .rows) bytes rs' (6 * next) (a .rows) (omega (arith, many, a .next-row)) (omega (arith, short, a .next-row, long, now-long (h .rows))));
           transition-count = h .transition-count ∙ ap length (sym (transitions-same p l refl));
           constraint-count = rw (constrains-more p l k refl) counted;
           row-count = rw (constrains-more p l k refl) numbered;
@@ -147,7 +152,7 @@ module _ (p : Policy) (path : List Name) (d : Declaration) where
   judgedBy new room = elim (not new) [ true ↦ fault 4 | false ↦ cond room (cond true (reads (declare named)) (fault 7)) (fault 6) ]
 
   judged-declared : (new room : Bool) → isNew (declarations p) named ≡ new → hasRoom (declarations p) named && isShort named ≡ room
-      → naming path p (some (declare d)) ≡ judgedBy new room
+      → judgeStatement path p (some (declare d)) ≡ judgedBy new room
   judged-declared new room e f = ap₂ judgedBy e f
 
 -- its code has no name in it
@@ -166,7 +171,7 @@ module _ {t : List ℕ} {at place : ℕ} {k : Keyword} {sy sy' co co' cs rs : Li
     where
       says : (r : Declared) → DeclaresAt t at k sy sy' (s .symbols) r → (lent : Memory) (p : Policy) (path : List Name) (w : Written) → Holds p path lent (memory sy co cs rs) s
           → RowIs (framesAt t at .here) (formed k (framesAt t at .here)) w → Room lent p path place w
-          → Stepped (naming path p (some w)) p path place lent (memory sy' co' cs rs) (declaredStep r (withCode s to (s .transitions)))
+          → Stepped (judgeStatement path p (some w)) p path place lent (memory sy' co' cs rs) (declaredStep r (withCode s to (s .transitions)))
       says r a lent p path w h row room =
           go r (a .says (declarations p) path d (table-holds h) (h .scope) (h .blocks) (row .names) (row .form ∙ ap (λ (v : Written). some v) (o .1)))
         where
@@ -176,45 +181,46 @@ module _ {t : List ℕ} {at place : ℕ} {k : Keyword} {sy sy' co co' cs rs : Li
           d : Declaration
           d = o .0
 
-          as-declared : (j : Judged) → naming path p (some (declare d)) ≡ j → naming path p (some w) ≡ j
-          as-declared j e = ap (λ (v : Written). naming path p (some v)) (o .1) ∙ e
+          as-declared : (j : Judged) → judgeStatement path p (some (declare d)) ≡ j → judgeStatement path p (some w) ≡ j
+          as-declared j e = ap (λ (v : Written). judgeStatement path p (some v)) (o .1) ∙ e
 
           go : (r : Declared) → Declares sy sy' (s .symbols) (declarations p) (named p path d) r
-              → Stepped (naming path p (some w)) p path place lent (memory sy' co' cs rs) (declaredStep r (withCode s to (s .transitions)))
+              → Stepped (judgeStatement path p (some w)) p path place lent (memory sy' co' cs rs) (declaredStep r (withCode s to (s .transitions)))
           go (Declared.Next past) y =
               let e = as-declared _ (judged-declared p path d true true (y .new) (y .room)) in
               let wrote = subst (λ (us : List ℕ). Wrote co (s .code) us co' to) (same-code path place d) (o .2) in
               stepped-as p path place lent (memory sy' co' cs rs) e refl (filled-declared h place (named p path d) y wrote (room .code (declare (named p path d)) e))
-          go Declared.Again y =
+          go Declared.DeclaredAgain y =
               stepped-as p path place lent (memory sy' co' cs rs) (as-declared _ (judged-declared p path d false _ (y .0) refl)) refl refl
-          go Declared.Full y = stepped-as p path place lent (memory sy' co' cs rs) (as-declared _ (judged-declared p path d true false (y .0) (y .1))) refl refl
+          go Declared.MaximumPassed y = stepped-as p path place lent (memory sy' co' cs rs) (as-declared _ (judged-declared p path d true false (y .0) (y .1))) refl refl
 
 -- STATEMENTS WITH CODE: fault 5, then 6
-coded-naming : (kind : CodedKind) (path : List Name) (p : Policy) (w : Written) → IsOf (codedKeyword kind) w
-    → naming path p (some w) ≡ resolving p (resolved (environmentOf (declarations p) path) w)
-coded-naming (CodedKind.Set f) path p w i =
-    ap (λ (v : Written). naming path p (some v)) (i .2) ∙ ap (λ (v : Written). resolving p (resolved (environmentOf (declarations p) path) v)) (sym (i .2))
-coded-naming (CodedKind.Relation r) path p w i =
-    ap (λ (v : Written). naming path p (some v)) (i .2) ∙ ap (λ (v : Written). resolving p (resolved (environmentOf (declarations p) path) v)) (sym (i .2))
-coded-naming CodedKind.Transition path p w i =
-    ap (λ (v : Written). naming path p (some v)) (i .4) ∙ ap (λ (v : Written). resolving p (resolved (environmentOf (declarations p) path) v)) (sym (i .4))
+coded-naming : (kind : CodedStatement) (path : List Name) (p : Policy) (w : Written) → IsOf (codedKeyword kind) w
+    → judgeStatement path p (some w) ≡ judgeResolved p (resolved (environmentOf (declarations p) path) w)
+coded-naming (CodedStatement.Set f) path p w i =
+    ap (λ (v : Written). judgeStatement path p (some v)) (i .2) ∙ ap (λ (v : Written). judgeResolved p (resolved (environmentOf (declarations p) path) v)) (sym (i .2))
+coded-naming (CodedStatement.Relation r) path p w i =
+    ap (λ (v : Written). judgeStatement path p (some v)) (i .2) ∙ ap (λ (v : Written). judgeResolved p (resolved (environmentOf (declarations p) path) v)) (sym (i .2))
+coded-naming CodedStatement.Transition path p w i =
+    ap (λ (v : Written). judgeStatement path p (some v)) (i .4) ∙ ap (λ (v : Written). judgeResolved p (resolved (environmentOf (declarations p) path) v)) (sym (i .4))
 
-module _ {p : Policy} {path : List Name} {lent : Memory} {sy co co' cs rs : List ℕ} {s : Progress} {to : ℕ} (h : Holds p path lent (memory sy co cs rs) s) (place : ℕ) (st : Statement)
-    (room : sized p st ≡ reads st → length (codeOf p) + length (statementCode place st) ≤ length (lent .code))
+module _ {p : Policy} {path : List Name} {lent : Memory} {sy co co' cs rs : List ℕ} {s : Progress} {to : ℕ} (h : Holds p path lent (memory sy co cs rs) s)
+    (place : ℕ) (st : Statement)
+    (room : judgeMaxima p st ≡ reads st → length (codeOf p) + length (statementCode place st) ≤ length (lent .code))
     (w : Wrote co (s .code) (statementCode place st) co' to) where
   -- a statement that is no transition
-  plain-step : (v : Statement) → st ≡ v → sized p v ≡ reads v → declared (line place v) ≡ none → constrained (line place v) ≡ none → transition (line place v) ≡ none
-      → Stepped (sized p st) p path place lent (memory sy co' cs rs) (Step.Read (withCode s to (s .transitions)))
+  plain-step : (v : Statement) → st ≡ v → judgeMaxima p v ≡ reads v → declared (line place v) ≡ none → constrained (line place v) ≡ none → transition (line place v) ≡ none
+      → Stepped (judgeMaxima p st) p path place lent (memory sy co' cs rs) (Step.Read (withCode s to (s .transitions)))
   plain-step v i e d k m =
-      let f : sized p st ≡ reads st = ap (sized p) i ∙ e ∙ ap (λ (x : Statement). reads x) (sym i) in
+      let f : judgeMaxima p st ≡ reads st = ap (judgeMaxima p) i ∙ e ∙ ap (λ (x : Statement). reads x) (sym i) in
       stepped-as p path place lent (memory sy co' cs rs) f refl
       (filled-coded h place st (ap (λ (x : Statement). declared (line place x)) i ∙ d) (ap (λ (x : Statement). constrained (line place x)) i ∙ k) (s .transitions)
       (h .transition-count ∙ ap length (sym (transitions-same p (line place st) (ap (λ (x : Statement). transition (line place x)) i ∙ m)))) w (room f))
 
-  coded-sized : (kind : CodedKind) → IsOf (codedKeyword kind) st → Stepped (sized p st) p path place lent (memory sy co' cs rs) (codedStep kind (Coded.Next to) s)
-  coded-sized (CodedKind.Set f) i = plain-step (attributeset (familyOf f) (i .0) (i .1)) (i .2) refl refl refl refl
-  coded-sized (CodedKind.Relation r) i = plain-step (gives (relationOf r) (i .0) (i .1)) (i .2) refl refl refl refl
-  coded-sized CodedKind.Transition i = go (ltb (length (transitions p)) maxTransitions) refl
+  coded-sized : (kind : CodedStatement) → IsOf (codedKeyword kind) st → Stepped (judgeMaxima p st) p path place lent (memory sy co' cs rs) (codedStep kind (CodeWritten.Next to) s)
+  coded-sized (CodedStatement.Set f) i = plain-step (attributeset (familyOf f) (i .0) (i .1)) (i .2) refl refl refl refl
+  coded-sized (CodedStatement.Relation r) i = plain-step (gives (relationOf r) (i .0) (i .1)) (i .2) refl refl refl refl
+  coded-sized CodedStatement.Transition i = go (ltb (length (transitions p)) maxTransitions) refl
     where
       v : Statement
       v = roletransition (i .0) (i .1) (i .2) (i .3)
@@ -226,73 +232,80 @@ module _ {p : Policy} {path : List Name} {lent : Memory} {sy co co' cs rs : List
       count = transitions-more p (line place st) _ m
 
       step : (b : Bool) → ltb (length (transitions p)) maxTransitions ≡ b
-          → codedStep CodedKind.Transition (Coded.Next to) s ≡ cond b (Step.Read (withCode s to (s .transitions + 1))) (Step.Fault 6)
+          → codedStep CodedStatement.Transition (CodeWritten.Next to) s ≡ cond b (Step.Read (withCode s to (s .transitions + 1))) (Step.Fault 6)
       step b e =
           ap (λ (x : Bool). cond x (Step.Read (withCode s to (s .transitions + 1))) (Step.Fault 6)) (ap (λ (n : ℕ). ltb n maxTransitions) (h .transition-count) ∙ e)
 
-      judged : (b : Bool) → ltb (length (transitions p)) maxTransitions ≡ b → sized p st ≡ cond b (reads st) (fault 6)
+      judged : (b : Bool) → ltb (length (transitions p)) maxTransitions ≡ b → judgeMaxima p st ≡ cond b (reads st) (fault 6)
       judged b e =
-          ap (sized p) (i .4) ∙ ap (λ (x : Bool). cond x (reads v) (fault 6)) e ∙ ap (λ (x : Statement). cond b (reads x) (fault 6)) (sym (i .4))
+          ap (judgeMaxima p) (i .4) ∙ ap (λ (x : Bool). cond x (reads v) (fault 6)) e ∙ ap (λ (x : Statement). cond b (reads x) (fault 6)) (sym (i .4))
 
       go : (b : Bool) → ltb (length (transitions p)) maxTransitions ≡ b
-          → Stepped (sized p st) p path place lent (memory sy co' cs rs) (codedStep CodedKind.Transition (Coded.Next to) s)
+          → Stepped (judgeMaxima p st) p path place lent (memory sy co' cs rs) (codedStep CodedStatement.Transition (CodeWritten.Next to) s)
       go true e =
           stepped-as p path place lent (memory sy co' cs rs) (judged true e) (step true e)
           (filled-coded h place st (ap (λ (x : Statement). declared (line place x)) (i .4)) (ap (λ (x : Statement). constrained (line place x)) (i .4)) (s .transitions + 1)
           (omega (arith, h .transition-count, count)) w (room (judged true e)))
       go false e = stepped-as p path place lent (memory sy co' cs rs) (judged false e) (step false e) refl
 
-module _ {t : List ℕ} {at place : ℕ} {sy co co' cs rs : List ℕ} {s : Progress} (kind : CodedKind) where
-  pub coded-steps : (r : Coded) → WritesStatement t at (codedKeyword kind) place sy co (s .code) co' r
+module _ {t : List ℕ} {at place : ℕ} {sy co co' cs rs : List ℕ} {s : Progress} (kind : CodedStatement) where
+  pub coded-steps : (r : CodeWritten) → WritesStatement t at (codedKeyword kind) place sy co (s .code) co' r
       → Steps t at place (codedKeyword kind) (memory sy co cs rs) (memory sy co' cs rs) s (codedStep kind r s)
   coded-steps r a = record { says = says }
     where
       says : (lent : Memory) (p : Policy) (path : List Name) (w : Written) → Holds p path lent (memory sy co cs rs) s
           → RowIs (framesAt t at .here) (formed (codedKeyword kind) (framesAt t at .here)) w → Room lent p path place w
-          → Stepped (naming path p (some w)) p path place lent (memory sy co' cs rs) (codedStep kind r s)
+          → Stepped (judgeStatement path p (some w)) p path place lent (memory sy co' cs rs) (codedStep kind r s)
       says lent p path w h row room =
-          stepped-as p path place lent (memory sy co' cs rs) named refl (go (resolved (environmentOf (declarations p) path) w) refl r (a .says (environmentOf (declarations p) path) w (holds-symbols (table-holds h) (h .scope)) (ap (formed (codedKeyword kind)) (row .uncut) ∙ row .form)))
+          stepped-as p path place lent (memory sy co' cs rs) named refl
+          (go (resolved (environmentOf (declarations p) path) w) refl r
+          (a .says (environmentOf (declarations p) path) w (holds-symbols (table-holds h) (h .scope)) (ap (formed (codedKeyword kind)) (row .uncut) ∙ row .form)))
         where
           i : IsOf (codedKeyword kind) w
           i = formed-of (codedKeyword kind) (framesAt t at .here) .has w (row .form)
 
-          named : naming path p (some w) ≡ resolving p (resolved (environmentOf (declarations p) path) w)
+          named : judgeStatement path p (some w) ≡ judgeResolved p (resolved (environmentOf (declarations p) path) w)
           named = coded-naming kind path p w i
 
-          go : (o : Option Statement) → resolved (environmentOf (declarations p) path) w ≡ o → (r : Coded) → coding.Answers co (s .code) place o co' r
-              → Stepped (resolving p o) p path place lent (memory sy co' cs rs) (codedStep kind r s)
-          go none e Coded.Undeclared y = refl
-          go none e (Coded.Next u) y = absurd y
-          go (some st) e Coded.Undeclared y = absurd y
-          go (some st) e (Coded.Next u) y =
-              coded-sized h place st (λ f. room .code st (named ∙ ap (resolving p) e ∙ f)) y kind (resolved-of (environmentOf (declarations p) path) (codedKeyword kind) w i .has st e)
+          go : (o : Option Statement) → resolved (environmentOf (declarations p) path) w ≡ o → (r : CodeWritten) → coding.Answers co (s .code) place o co' r
+              → Stepped (judgeResolved p o) p path place lent (memory sy co' cs rs) (codedStep kind r s)
+          go none e CodeWritten.Undeclared y = refl
+          go none e (CodeWritten.Next u) y = absurd y
+          go (some st) e CodeWritten.Undeclared y = absurd y
+          go (some st) e (CodeWritten.Next u) y =
+              coded-sized h place st (λ f. room .code st (named ∙ ap (judgeResolved p) e ∙ f)) y kind
+              (resolved-of (environmentOf (declarations p) path) (codedKeyword kind) w i .has st e)
 
 -- CONSTRAINTS: fault 5, then 6, then 7
-constrain-naming : (path : List Name) (p : Policy) (w : Written) → IsOf constrainK w → naming path p (some w) ≡ resolving p (resolved (environmentOf (declarations p) path) w)
+constrain-naming : (path : List Name) (p : Policy) (w : Written) → IsOf constrainK w
+    → judgeStatement path p (some w) ≡ judgeResolved p (resolved (environmentOf (declarations p) path) w)
 constrain-naming path p w i =
-    ap (λ (v : Written). naming path p (some v)) (i .3) ∙ ap (λ (v : Written). resolving p (resolved (environmentOf (declarations p) path) v)) (sym (i .3))
+    ap (λ (v : Written). judgeStatement path p (some v)) (i .3) ∙ ap (λ (v : Written). judgeResolved p (resolved (environmentOf (declarations p) path) v)) (sym (i .3))
 
-module _ {p : Policy} {path : List Name} {lent : Memory} {sy co cs rs : List ℕ} {s : Progress} (h : Holds p path lent (memory sy co cs rs) s) (c : ℕ) (ps : List ℕ) (e : Constraint Reference) where
+module _ {p : Policy} {path : List Name} {lent : Memory} {sy co cs rs : List ℕ} {s : Progress} (h : Holds p path lent (memory sy co cs rs) s) (c : ℕ)
+    (ps : List ℕ) (e : Constraint Reference) where
   -- what the maxima say by the counts of the memory is what they say of the statements
   counts : fitsBefore (length (constrains p)) (rowCount (constrains p) + size e) ≡ fitsBefore (s .constraints) (s .rows + size e)
   counts = ap₂ (λ (n m : ℕ). fitsBefore n (m + size e)) (sym (h .constraint-count)) (sym (h .row-count))
 
   judged-constrained : (fits shallow : Bool) → fitsBefore (s .constraints) (s .rows + size e) ≡ fits → leb (need e) maxStack ≡ shallow
-      → sized p (constrain c ps e) ≡ cond fits (cond shallow (reads (constrain c ps e)) (fault 7)) (fault 6)
+      → judgeMaxima p (constrain c ps e) ≡ cond fits (cond shallow (reads (constrain c ps e)) (fault 7)) (fault 6)
   judged-constrained fits shallow f g =
       ap₂ (λ (a b : Bool). cond a (cond b (reads (constrain c ps e)) (fault 7)) (fault 6)) (counts ∙ f) g
 
   constrained-sized : (place : ℕ) (cs' rs' : List ℕ) → 1280 ≤ length (lent .constraints) → 12288 ≤ length (lent .rows)
       → (r : Constrained) → constraining.Answers (some (constrain c ps e)) cs cs' (s .constraints) rs rs' (s .rows) r
-      → Stepped (sized p (constrain c ps e)) p path place lent (memory sy co cs' rs') (constrainedStep r s)
+      → Stepped (judgeMaxima p (constrain c ps e)) p path place lent (memory sy co cs' rs') (constrainedStep r s)
   constrained-sized place cs' rs' wide long (Constrained.Next next) a =
       stepped-as p path place lent (memory sy co cs' rs') (judged-constrained true true (a .fits) (a .shallow))
       (ap (λ (b : Bool). cond b (Step.Read (withRows s next)) (Step.Fault 6)) (both-true (ltb (s .constraints) maxConstraints) (leb (s .rows + size e) maxRows) (a .fits) .0))
       (filled-constrained h place c ps e a wide long)
   constrained-sized place cs' rs' wide long Constrained.Undeclared a = absurd a
-  constrained-sized place cs' rs' wide long Constrained.Full a =
-      stepped-as p path place lent (memory sy co cs' rs') (ap (λ (b : Bool). cond b (cond (leb (need e) maxStack) (reads (constrain c ps e)) (fault 7)) (fault 6)) (counts ∙ a)) refl refl
-  constrained-sized place cs' rs' wide long Constrained.Deep a = stepped-as p path place lent (memory sy co cs' rs') (judged-constrained true false (a .0) (a .1)) refl refl
+  constrained-sized place cs' rs' wide long Constrained.MaximumPassed a =
+      stepped-as p path place lent (memory sy co cs' rs')
+      (ap (λ (b : Bool). cond b (cond (leb (need e) maxStack) (reads (constrain c ps e)) (fault 7)) (fault 6)) (counts ∙ a)) refl refl
+  constrained-sized place cs' rs' wide long Constrained.StackTooSmall a =
+      stepped-as p path place lent (memory sy co cs' rs') (judged-constrained true false (a .0) (a .1)) refl refl
 
 module _ {t : List ℕ} {at place : ℕ} {sy co cs cs' rs rs' : List ℕ} {s : Progress} where
   pub constrained-steps : (r : Constrained) → WritesConstrain t at sy cs cs' (s .constraints) rs rs' (s .rows) r
@@ -301,7 +314,7 @@ module _ {t : List ℕ} {at place : ℕ} {sy co cs cs' rs rs' : List ℕ} {s : P
     where
       says : (lent : Memory) (p : Policy) (path : List Name) (w : Written) → Holds p path lent (memory sy co cs rs) s
           → RowIs (framesAt t at .here) (formed constrainK (framesAt t at .here)) w → Room lent p path place w
-          → Stepped (naming path p (some w)) p path place lent (memory sy co cs' rs') (constrainedStep r s)
+          → Stepped (judgeStatement path p (some w)) p path place lent (memory sy co cs' rs') (constrainedStep r s)
       says lent p path w h row room =
           stepped-as p path place lent (memory sy co cs' rs') (constrain-naming path p w i) refl
           (go (resolved (environmentOf (declarations p) path) w) refl r
@@ -314,13 +327,13 @@ module _ {t : List ℕ} {at place : ℕ} {sy co cs cs' rs rs' : List ℕ} {s : P
           few = omega (arith, h .row-count, h .accepted .few-rows)
 
           go : (o : Option Statement) → resolved (environmentOf (declarations p) path) w ≡ o → (r : Constrained) → constraining.Answers o cs cs' (s .constraints) rs rs' (s .rows) r
-              → Stepped (resolving p o) p path place lent (memory sy co cs' rs') (constrainedStep r s)
+              → Stepped (judgeResolved p o) p path place lent (memory sy co cs' rs') (constrainedStep r s)
           go none e (Constrained.Next n) y = absurd y
           go none e Constrained.Undeclared y = refl
-          go none e Constrained.Full y = absurd y
-          go none e Constrained.Deep y = absurd y
+          go none e Constrained.MaximumPassed y = absurd y
+          go none e Constrained.StackTooSmall y = absurd y
           go (some st) e r y =
               let j = resolved-of (environmentOf (declarations p) path) constrainK w i .has st e in
-              subst (λ (x : Statement). Stepped (sized p x) p path place lent (memory sy co cs' rs') (constrainedStep r s)) (sym (j .3))
+              subst (λ (x : Statement). Stepped (judgeMaxima p x) p path place lent (memory sy co cs' rs') (constrainedStep r s)) (sym (j .3))
               (constrained-sized h (j .0) (j .1) (j .2) place cs' rs' (room .constraints) (room .rows) r
               (subst (λ (x : Statement). constraining.Answers (some x) cs cs' (s .constraints) rs rs' (s .rows) r) (j .3) y))

@@ -39,7 +39,7 @@ constraintsOf p = joined (each headBytes (headsFrom 0 (each constraintEntry (con
 unfoldable pub rowsOf : Policy → List ℕ
 rowsOf p = joined (each rowBytes (joined (each (λ (c : ConstraintEntry). c .rows) (each constraintEntry (constrains p)))))
 
--- memory with some content in front, which ends at a place, and as it was lent behind it
+-- memory with some content in front, which ends at a place, and as it was lent after it
 pub record Starts (lent content now : List ℕ) (end : ℕ) : Type 0 where
   pub is : now ≡ content ++ drop (length content) lent
   pub ends : end ≡ length content

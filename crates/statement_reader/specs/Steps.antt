@@ -14,25 +14,25 @@ use Rattle.policy.specs.Words.{setK, relationK, transitionK}
 use Rattle.policy.specs.Statements.{Written, Statement, Policy, declarations, transitions, constrains}
 use Rattle.policy.specs.Maxima.{maxTransitions, maxConstraints}
 use Rattle.policy.specs.Grammar.{formed, written}
-use Rattle.policy.specs.Reading.{Judged, reads, opens, fault, naming, rowCount}
+use Rattle.policy.specs.Reading.{Judged, reads, opens, fault, judgeStatement, rowCount}
 use Rattle.policy.specs.Answers.{familyOf, relationOf}
 use Rattle.policy.specs.Encode.{entries}
 use Rattle.name_chains.specs.Chains.{Chained}
 use Rattle.scopes.specs.Scope.{InScope}
 use Rattle.statement_code.specs.Code.{statementCode, codeOf}
 use Rattle.declarations.specs.declared.Declared.{Declared}
-use Rattle.statement_writer.specs.declared.Coded.{Coded}
+use Rattle.statement_writer.specs.declared.CodeWritten.{CodeWritten}
 use Rattle.constrain_statement.specs.declared.Constrained.{Constrained}
 use Rattle.statement_reader.specs.Memory.{Memory, symbolsOf, constraintsOf, rowsOf, Starts, Holds}
 use Rattle.statement_reader.specs.declared.Progress.{Progress}
 use Rattle.statement_reader.specs.declared.Step.{Step}
-use Rattle.statement_reader.specs.declared.CodedKind.{CodedKind}
+use Rattle.statement_reader.specs.declared.CodedStatement.{CodedStatement}
 
 -- the keyword that an enum of src/ stands for
-abbrev pub codedKeyword : CodedKind → words.Keyword
-codedKeyword (CodedKind.Set f) = setK (familyOf f)
-codedKeyword (CodedKind.Relation r) = relationK (relationOf r)
-codedKeyword CodedKind.Transition = transitionK
+abbrev pub codedKeyword : CodedStatement → words.Keyword
+codedKeyword (CodedStatement.Set f) = setK (familyOf f)
+codedKeyword (CodedStatement.Relation r) = relationK (relationOf r)
+codedKeyword CodedStatement.Transition = transitionK
 
 -- the lent memory holds what the statements of p leave there
 pub record Filled (p : Policy) (path : List Name) (lent now : Memory) (s : Progress) : Type 0 where
@@ -62,19 +62,19 @@ pub record RowIs (row : Forms) (o : Option Written) (w : Written) : Type 0 where
 
 -- there is room for the code of w, if it has no fault, and for all constraints and rows that the maxima allow
 pub record Room (lent : Memory) (p : Policy) (path : List Name) (place : ℕ) (w : Written) : Type 0 where
-  pub code : (s : Statement) → naming path p (some w) ≡ reads s → length (codeOf p) + length (statementCode place s) ≤ length (lent .code)
+  pub code : (s : Statement) → judgeStatement path p (some w) ≡ reads s → length (codeOf p) + length (statementCode place s) ≤ length (lent .code)
   pub constraints : 1280 ≤ length (lent .constraints)
   pub rows : 12288 ≤ length (lent .rows)
 
--- the statement behind the keyword k at a place of the text
+-- the statement after the keyword k at a place of the text
 pub record Steps (t : List ℕ) (at place : ℕ) (k : words.Keyword) (before after : Memory) (s : Progress) (r : Step) : Type 0 where
   pub says : (lent : Memory) (p : Policy) (path : List Name) (w : Written) → Holds p path lent before s
-      → RowIs (framesAt t at .here) (formed k (framesAt t at .here)) w → Room lent p path place w → Stepped (naming path p (some w)) p path place lent after r
+      → RowIs (framesAt t at .here) (formed k (framesAt t at .here)) w → Room lent p path place w → Stepped (judgeStatement path p (some w)) p path place lent after r
 
 -- the statement whose parentheses are open at a place of the text
 pub record StepsAt (t : List ℕ) (at place : ℕ) (before after : Memory) (s : Progress) (r : Step) : Type 0 where
   pub says : (lent : Memory) (p : Policy) (path : List Name) (w : Written) → Holds p path lent before s
-      → RowIs (framesAt t at .here) (written (framesAt t at .here)) w → Room lent p path place w → Stepped (naming path p (some w)) p path place lent after r
+      → RowIs (framesAt t at .here) (written (framesAt t at .here)) w → Room lent p path place w → Stepped (judgeStatement path p (some w)) p path place lent after r
 
 -- the step of a declaration without code: fault 4 before 6
 abbrev pub withSymbols : Progress → ℕ → Progress
@@ -82,21 +82,21 @@ withSymbols s past = record { symbols = past; code = s .code; transitions = s .t
 
 abbrev pub declaredStep : Declared → Progress → Step
 declaredStep (Declared.Next past) s = Step.Read (withSymbols s past)
-declaredStep Declared.Again s = Step.Fault 4
-declaredStep Declared.Full s = Step.Fault 6
+declaredStep Declared.DeclaredAgain s = Step.Fault 4
+declaredStep Declared.MaximumPassed s = Step.Fault 6
 
 -- the step of a statement with code: fault 5 before 6, "transitions 128"
 abbrev pub withCode : Progress → ℕ → ℕ → Progress
 withCode s to n = record { symbols = s .symbols; code = to; transitions = n; constraints = s .constraints; rows = s .rows }
 
-abbrev pub codedNext : CodedKind → ℕ → Progress → Step
-codedNext (CodedKind.Set f) to s = Step.Read (withCode s to (s .transitions))
-codedNext (CodedKind.Relation r) to s = Step.Read (withCode s to (s .transitions))
-codedNext CodedKind.Transition to s = cond (ltb (s .transitions) maxTransitions) (Step.Read (withCode s to (s .transitions + 1))) (Step.Fault 6)
+abbrev pub codedNext : CodedStatement → ℕ → Progress → Step
+codedNext (CodedStatement.Set f) to s = Step.Read (withCode s to (s .transitions))
+codedNext (CodedStatement.Relation r) to s = Step.Read (withCode s to (s .transitions))
+codedNext CodedStatement.Transition to s = cond (ltb (s .transitions) maxTransitions) (Step.Read (withCode s to (s .transitions + 1))) (Step.Fault 6)
 
-abbrev pub codedStep : CodedKind → Coded → Progress → Step
-codedStep k (Coded.Next to) s = codedNext k to s
-codedStep k Coded.Undeclared s = Step.Fault 5
+abbrev pub codedStep : CodedStatement → CodeWritten → Progress → Step
+codedStep k (CodeWritten.Next to) s = codedNext k to s
+codedStep k CodeWritten.Undeclared s = Step.Fault 5
 
 -- the step of a constraint: faults 5, 6, 7 in this order
 abbrev pub withRows : Progress → ℕ → Progress
@@ -105,8 +105,8 @@ withRows s next = record { symbols = s .symbols; code = s .code; transitions = s
 abbrev pub constrainedStep : Constrained → Progress → Step
 constrainedStep (Constrained.Next next) s = cond (ltb (s .constraints) maxConstraints) (Step.Read (withRows s next)) (Step.Fault 6)
 constrainedStep Constrained.Undeclared s = Step.Fault 5
-constrainedStep Constrained.Full s = Step.Fault 6
-constrainedStep Constrained.Deep s = Step.Fault 7
+constrainedStep Constrained.MaximumPassed s = Step.Fault 6
+constrainedStep Constrained.StackTooSmall s = Step.Fault 7
 
 -- the progress before the first statement
 abbrev pub nothingRead : Progress

@@ -1,4 +1,5 @@
-// One statement whose form is good: its names are entered or looked up, and what it says is put into the lent memory; or its fault 4 to 7.
+// One statement whose form is good: its names are entered or looked up, and what it says is put into the lent memory;
+// or its fault 4 to 7.
 use constrain_statement::CONSTRAINTS_BYTES;
 use constrain_statement::Constrained;
 use constrain_statement::ROWS_BYTES;
@@ -12,7 +13,7 @@ use policy::Family;
 use policy::Refusal;
 use policy::Relation;
 use policy::Transition;
-use statement_writer::Coded;
+use statement_writer::CodeWritten;
 ghost use mathlib.Core.Path.{_≡_};
 ghost use mathlib.Core.List.{List};
 ghost use Prim.Native.Nat.{ℕ, _+_};
@@ -44,7 +45,7 @@ pub enum Step {
 }
 
 // The statements that have their names in the statement code.
-enum CodedKind {
+enum CodedStatement {
     Set(Family),
     Relation(Relation),
     Transition,
@@ -84,8 +85,8 @@ fn declared_step(declared: Declared, progress: Progress) -> Step
             constraints: progress.constraints,
             rows: progress.rows,
         }),
-        Declared::Again => Step::Fault(Refusal::DECLARED_AGAIN),
-        Declared::Full => Step::Fault(Refusal::MAXIMUM_PASSED),
+        Declared::DeclaredAgain => Step::Fault(Refusal::DECLARED_AGAIN),
+        Declared::MaximumPassed => Step::Fault(Refusal::MAXIMUM_PASSED),
     }
 }
 
@@ -118,7 +119,7 @@ fn declare_class(
     declared_step(declared, progress)
 }
 
-// `(userattribute A)` and the like: the resolver names the place where an attribute is declared, so it stands in the code.
+// `(userattribute A)` and the like: the resolver names the place where an attribute is declared, so it is in the code.
 fn declare_attribute(
     text: &[u8],
     at: usize,
@@ -147,21 +148,21 @@ fn write_coded(
     text: &[u8],
     at: usize,
     place: u16,
-    kind: CodedKind,
+    kind: CodedStatement,
     symbols: &[u8; SYMBOL_BYTES],
     code: &mut [u16; CODE_UNITS],
     to: usize,
-) -> Coded
+) -> CodeWritten
     ensures { λ r. ⌜ WritesStatement (now (text .entry)) at (codedKeyword kind) place (now (symbols .entry)) (now (code .entry)) to (now (code .exit)) r ⌝ }
 {
     match kind {
-        CodedKind::Set(family) => {
+        CodedStatement::Set(family) => {
             statement_writer::write_attribute_set(text, at, place, family, symbols, code, to)
         }
-        CodedKind::Relation(relation) => {
+        CodedStatement::Relation(relation) => {
             statement_writer::write_relation(text, at, place, relation, symbols, code, to)
         }
-        CodedKind::Transition => {
+        CodedStatement::Transition => {
             statement_writer::write_transition(text, at, place, symbols, code, to)
         }
     }
@@ -181,17 +182,17 @@ fn past_code(progress: Progress, to: usize, transitions: usize) -> Progress
 }
 
 // A statement with code whose names are declared, or are not. A transition is one of as many as there may be.
-fn coded_step(kind: CodedKind, written: Coded, progress: Progress) -> Step
+fn coded_step(kind: CodedStatement, written: CodeWritten, progress: Progress) -> Step
     ensures { λ r. ⌜ r ≡ codedStep kind written progress ⌝ }
 {
-    let Coded::Next(to) = written else {
+    let CodeWritten::Next(to) = written else {
         return Step::Fault(Refusal::NAME_UNDECLARED);
     };
     let count = progress.transitions;
     match kind {
-        CodedKind::Set(_) => Step::Read(past_code(progress, to, count)),
-        CodedKind::Relation(_) => Step::Read(past_code(progress, to, count)),
-        CodedKind::Transition => {
+        CodedStatement::Set(_) => Step::Read(past_code(progress, to, count)),
+        CodedStatement::Relation(_) => Step::Read(past_code(progress, to, count)),
+        CodedStatement::Transition => {
             if Transition::MAX <= count {
                 return Step::Fault(Refusal::MAXIMUM_PASSED);
             }
@@ -205,7 +206,7 @@ fn coded(
     text: &[u8],
     at: usize,
     place: u16,
-    kind: CodedKind,
+    kind: CodedStatement,
     symbols: &[u8; SYMBOL_BYTES],
     code: &mut [u16; CODE_UNITS],
     progress: Progress,
@@ -217,8 +218,8 @@ fn coded(
     coded_step(kind, written, progress)
 }
 
-// A constraint whose record and rows are written, or its fault. Where they are written there was room for one more, which the test repeats so that
-// the count cannot overflow.
+// A constraint whose record and rows are written, or its fault. Where they are written there was room for one more,
+// which the test repeats so that the count cannot overflow.
 fn constrained_step(written: Constrained, progress: Progress) -> Step
     ensures { λ r. ⌜ r ≡ constrainedStep written progress ⌝ }
 {
@@ -237,8 +238,8 @@ fn constrained_step(written: Constrained, progress: Progress) -> Step
             })
         }
         Constrained::Undeclared => Step::Fault(Refusal::NAME_UNDECLARED),
-        Constrained::Full => Step::Fault(Refusal::MAXIMUM_PASSED),
-        Constrained::Deep => Step::Fault(Refusal::STACK_TOO_SMALL),
+        Constrained::MaximumPassed => Step::Fault(Refusal::MAXIMUM_PASSED),
+        Constrained::StackTooSmall => Step::Fault(Refusal::STACK_TOO_SMALL),
     }
 }
 
@@ -267,7 +268,8 @@ fn constrain(
     constrained_step(written, progress)
 }
 
-// A statement, by the first item that its parentheses hold. Its form is known to be good where this is called, so that is a keyword.
+// A statement, by the first item that its parentheses hold. Its form is known to be good where this is called, so
+// that is a keyword.
 pub fn statement(
     text: &[u8],
     first: Item,
@@ -293,11 +295,11 @@ pub fn statement(
         }
         Keyword::Class => declare_class(text, next, symbols, progress),
         Keyword::Set(family) => {
-            let kind = CodedKind::Set(family);
+            let kind = CodedStatement::Set(family);
             coded(text, next, place, kind, symbols, code, progress)
         }
         Keyword::Relation(relation) => {
-            let kind = CodedKind::Relation(relation);
+            let kind = CodedStatement::Relation(relation);
             coded(text, next, place, kind, symbols, code, progress)
         }
         Keyword::Transition => {
@@ -305,7 +307,7 @@ pub fn statement(
                 text,
                 next,
                 place,
-                CodedKind::Transition,
+                CodedStatement::Transition,
                 symbols,
                 code,
                 progress,

@@ -1,4 +1,4 @@
--- A statement's head, and behind it the units of its names, are its code. Assumes nothing.
+-- A statement's head, and after it the units of its names, are its code. Assumes nothing.
 use mathlib.Core.Path.{_≡_, sym, subst}
 use mathlib.Core.List.{List, [], _∷_}
 use mathlib.Core.Option.{Option, none, some, Option·some-injective, Option·none-ne-some}
@@ -20,10 +20,10 @@ use Rattle.statement_writer.specs.Naming.{namesUnits, AnswersNames, Writ
 use Rattle.statement_writer.specs.Coding.{Stores, Answers, WritesStatement}
 use Rattle.statement_writer.specs.declared.Kind.{Kind}
 use Rattle.statement_writer.specs.declared.NamesWritten.{NamesWritten}
-use Rattle.statement_writer.specs.declared.Coded.{Coded}
-use Rattle.statement_writer.proofs.Wholes.{codeIn, headed, relation-whole, transitionKinds, transition-whole}
+use Rattle.statement_writer.specs.declared.CodeWritten.{CodeWritten}
+use Rattle.statement_writer.proofs.WholeStatements.{codeIn, headed, relation-whole, transitionKinds, transition-whole}
 
--- two units that are written one behind the other
+-- two units that are written one after the other
 pub head-stored : {a b c : List ℕ} {i u v tag place : ℕ} → Stored a i tag b u → Stored b u place c v → Stores a i (tag ∷ place ∷ []) c v
 head-stored h g = record {
   wrote = wrote-then (h .keeps .long) (h .wrote) (g .wrote);
@@ -39,18 +39,18 @@ tagged {a} {b} {i} {u} {place = place} base e h = subst (λ (j : ℕ). Stores a 
 
 module _ (before after : List ℕ) (to place : ℕ) where
   -- a statement that has no code is answered so
-  pub uncoded : (o : Option Statement) → codeIn place o ≡ none → Answers before to place o after Coded.Undeclared
+  pub uncoded : (o : Option Statement) → codeIn place o ≡ none → Answers before to place o after CodeWritten.Undeclared
   uncoded none e = tt
   uncoded (some s) e = Option·none-ne-some (statementCode place s) (sym e)
 
   -- one whose code is written
-  pub coded : {u : ℕ} {units : List ℕ} (o : Option Statement) → codeIn place o ≡ some units → Wrote before to units after u → Answers before to place o after (Coded.Next u)
+  pub coded : {u : ℕ} {units : List ℕ} (o : Option Statement) → codeIn place o ≡ some units → Wrote before to units after u → Answers before to place o after (CodeWritten.Next u)
   coded {units = units} none e h = absurd (Option·none-ne-some units e)
   coded {u} {units} (some s) e h = subst (λ (us : List ℕ). Wrote before to us after u) (sym (Option·some-injective (statementCode place s) units e)) h
 
-abbrev pub codedBy : NamesWritten → Coded
-codedBy (NamesWritten.Next q u) = Coded.Next u
-codedBy NamesWritten.Undeclared = Coded.Undeclared
+abbrev pub codedBy : NamesWritten → CodeWritten
+codedBy (NamesWritten.Next q u) = CodeWritten.Next u
+codedBy NamesWritten.Undeclared = CodeWritten.Undeclared
 
 module _ {a b : List ℕ} {i u tag place : ℕ} (head : Stores a i (tag ∷ place ∷ []) b u) (c : List ℕ) where
   answered : (o : Option Statement) (n : Option (List ℕ)) (r : NamesWritten) → codeIn place o ≡ headed tag place n → AnswersNames b u n c r → Answers a i place o c (codedBy r)

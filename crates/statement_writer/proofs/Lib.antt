@@ -1,5 +1,5 @@
 pub mod Numbering
 pub mod RowNames
-pub mod Wholes
+pub mod WholeStatements
 pub mod Finishing
 pub mod SetStatements

@@ -25,23 +25,23 @@ use Rattle.scopes.proofs.Bounds.{bounded}
 use Rattle.symbols.proofs.CountLaws.{same-code}
 use Rattle.symbols.proofs.ReferencesFound.{code-of}
 use Rattle.set_writer.specs.Naming.{referred, Refers}
-use Rattle.set_writer.specs.declared.Referred.{Referred}
+use Rattle.set_writer.specs.declared.NameUnit.{NameUnit}
 use Rattle.statement_writer.specs.Naming.{unitIn, referredBy, Numbers, Names}
 use Rattle.statement_writer.specs.declared.Kind.{Kind}
 
 -- ---- one sort
 
 -- a number that no name has is taken for none
-abbrev small : Option ℕ → Referred
-small none = Referred.Missing
-small (some n) = cond (leb 1024 n) Referred.Missing (Referred.Unit n)
+abbrev small : Option ℕ → NameUnit
+small none = NameUnit.Missing
+small (some n) = cond (leb 1024 n) NameUnit.Missing (NameUnit.Unit n)
 
 -- what is found, as the number of a name of the sort
-abbrev pub numberBy : ℕ → Found → Referred
-numberBy sort (Found.At s n) = cond (eqb s sort) (small (some n)) Referred.Missing
-numberBy sort Found.Missing = Referred.Missing
+abbrev pub numberBy : ℕ → Found → NameUnit
+numberBy sort (Found.At s n) = cond (eqb s sort) (small (some n)) NameUnit.Missing
+numberBy sort Found.Missing = NameUnit.Missing
 
-small-is : (n : ℕ) → n < 1024 → small (some n) ≡ Referred.Unit n
+small-is : (n : ℕ) → n < 1024 → small (some n) ≡ NameUnit.Unit n
 small-is n h = rw (lt-leb 1024 n h)
 
 by-sort : (s : Sort) (o : Option Named) → IfAny (λ d. d .number < 512) o
@@ -49,7 +49,7 @@ by-sort : (s : Sort) (o : Option Named) → IfAny (λ d. d .number < 512) o
 by-sort s none h = refl
 by-sort s (some d) h = rw (same-code s (d .sort)) (go (sameSort s (d .sort)))
   where
-    go : (b : Bool) → cond b (small (some (d .number))) Referred.Missing ≡ referredBy (cond b (some (d .number)) none)
+    go : (b : Bool) → cond b (small (some (d .number))) NameUnit.Missing ≡ referredBy (cond b (some (d .number)) none)
     go true = small-is (d .number) (omega (arith, h .has d refl))
     go false = refl
 
@@ -57,7 +57,7 @@ by-class : (o : Option ℕ) → IfAny (λ c. c < 32) o → numberBy 6 (foundClas
 by-class none h = refl
 by-class (some n) h = ap (λ (k : ℕ). small (some k)) (zero-add n) ∙ small-is n (omega (arith, h .has n refl))
 
-pub numbers : {table : List ℕ} {sort family : ℕ} {w : Name} {r : Referred} {found : Found} → family ≡ familyNumber sort 0
+pub numbers : {table : List ℕ} {sort family : ℕ} {w : Name} {r : NameUnit} {found : Found} → family ≡ familyNumber sort 0
     → Looks table family w found → r ≡ numberBy sort found → Numbers table sort w r
 unfolding numberIn
 numbers {sort = sort} {family} {w} {found = found} f e h = record {
@@ -73,13 +73,13 @@ numbers {sort = sort} {family} {w} {found = found} f e h = record {
 
 -- the ways of the search
 module _ (s sort n : ℕ) where
-  pub other-sort : (s ≡ sort → ⊥) → Referred.Missing ≡ numberBy sort (Found.At s n)
+  pub other-sort : (s ≡ sort → ⊥) → NameUnit.Missing ≡ numberBy sort (Found.At s n)
   other-sort d = rw (ne-eqb s sort d)
 
-  pub too-large : s ≡ sort → 1024 ≤ n → Referred.Missing ≡ numberBy sort (Found.At s n)
+  pub too-large : s ≡ sort → 1024 ≤ n → NameUnit.Missing ≡ numberBy sort (Found.At s n)
   too-large e h = rw (eq-eqb s sort e, le-leb 1024 n h)
 
-  pub of-the-sort : s ≡ sort → n < 1024 → Referred.Unit n ≡ numberBy sort (Found.At s n)
+  pub of-the-sort : s ≡ sort → n < 1024 → NameUnit.Unit n ≡ numberBy sort (Found.At s n)
   of-the-sort e h = rw (eq-eqb s sort e, lt-leb 1024 n h)
 
 -- ---- a kind
@@ -98,7 +98,7 @@ reference-unit : (o : Option Reference) → referred o ≡ referredBy (o >>= λ 
 reference-unit none = refl
 reference-unit (some r) = refl
 
-module _ {table : List ℕ} {k : Kind} {w : Name} {r : Referred} where
+module _ {table : List ℕ} {k : Kind} {w : Name} {r : NameUnit} where
   pub as-reference : (f : theFamily.Family) (n : ℕ) → k ≡ Kind.Reference f → n ≡ code.familyNumber (answers.familyOf f) → Refers table n w r → Names table k w r
   as-reference f n q e m = record {
     resolves = λ env y.

@@ -1,4 +1,4 @@
--- Names that are written one after the other: one name, and names behind names. Assumes nothing.
+-- Names that are written one after the other: one name, and names after names. Assumes nothing.
 use mathlib.Core.Path.{_≡_, refl, sym, ap, subst, _∙_}
 use mathlib.Core.List.{List, [], _∷_, _++_}
 use mathlib.Core.Option.{Option, none, some}
@@ -12,7 +12,7 @@ use Rattle.items.specs.declared.Item.{Item}
 use Rattle.items.proofs.Frames.{FramesSeen, by-word}
 use Rattle.items.proofs.Items.{word-lent}
 use Rattle.set_writer.specs.Writing.{Stored}
-use Rattle.set_writer.specs.declared.Referred.{Referred}
+use Rattle.set_writer.specs.declared.NameUnit.{NameUnit}
 use Rattle.set_writer.proofs.Putting.{wrote-then, keeps-then, keeps-all}
 use Rattle.statement_writer.specs.Naming.{unitIn, referredBy, Names, firstUnit, behindFirst, namesUnits, behindNames, Past, Moves, AnswersNames, WritesNames}
 use Rattle.statement_writer.specs.declared.Kind.{Kind}
@@ -28,11 +28,11 @@ pub lacks : (before after : List ℕ) (to : ℕ) (o : Option (List ℕ)) → Ans
 lacks before after to none h = refl
 lacks before after to (some us) h = absurd h
 
-is-unit : (o : Option ℕ) (u : ℕ) → Referred.Unit u ≡ referredBy o → o ≡ some u
+is-unit : (o : Option ℕ) (u : ℕ) → NameUnit.Unit u ≡ referredBy o → o ≡ some u
 is-unit none u e = absurd (let z : _≡_ {A = ℕ} 0 1 = cc in omega arith)
 is-unit (some n) u e = let z : u ≡ n = cc in ap some (sym z)
 
-is-missing : (o : Option ℕ) → Referred.Missing ≡ referredBy o → o ≡ none
+is-missing : (o : Option ℕ) → NameUnit.Missing ≡ referredBy o → o ≡ none
 is-missing none e = refl
 is-missing (some n) e = absurd (let z : _≡_ {A = ℕ} 0 1 = cc in omega arith)
 
@@ -42,12 +42,12 @@ abbrev pub alone : Option ℕ → Option (List ℕ)
 alone o = o >>= λ u. some (u ∷ [])
 
 -- the name that is lent is the word
-of-word : (t : List ℕ) (s n : ℕ) {table : List ℕ} {k : Kind} {r : Referred} → Names table k (take ((s + n) - s) (drop s t)) r
+of-word : (t : List ℕ) (s n : ℕ) {table : List ℕ} {k : Kind} {r : NameUnit} → Names table k (take ((s + n) - s) (drop s t)) r
     → Names table k (take n (drop s t)) r
 of-word t s n {table} {k} {r} m = subst (λ (w : Name). Names table k w r) (word-lent t s n) m
 
 module _ {t : List ℕ} {at : ℕ} {k : Kind} {table : List ℕ} {before : List ℕ} {to : ℕ} where
-  -- no word stands there
+  -- no word is there
   pub no-word : ((env : Environment) (levels : ℕ) → firstUnit env k (trim (framesAt t at .here) levels) ≡ none)
       → WritesNames t at (k ∷ []) table before to before NamesWritten.Undeclared
   no-word h = record {
@@ -56,9 +56,9 @@ module _ {t : List ℕ} {at : ℕ} {k : Kind} {table : List ℕ} {before : List 
     says = λ env levels y. lacking before before to (namesUnits env (k ∷ []) (trim (framesAt t at .here) levels)) (ap alone (h env levels));
   }
 
-  module _ {s n i q : ℕ} (l : FramesSeen t at (Item.Word s n i q)) {r : Referred} (m : Names table k (take ((s + n) - s) (drop s t)) r) where
+  module _ {s n i q : ℕ} (l : FramesSeen t at (Item.Word s n i q)) {r : NameUnit} (m : Names table k (take ((s + n) - s) (drop s t)) r) where
     -- a name that is not declared
-    pub no-name : r ≡ Referred.Missing → WritesNames t at (k ∷ []) table before to before NamesWritten.Undeclared
+    pub no-name : r ≡ NameUnit.Missing → WritesNames t at (k ∷ []) table before to before NamesWritten.Undeclared
     no-name e = record {
       keeps = keeps-all;
       moves = tt;
@@ -69,7 +69,7 @@ module _ {t : List ℕ} {at : ℕ} {k : Kind} {table : List ℕ} {before : List 
     }
 
     -- one that is
-    pub one-name : {unit u : ℕ} {after : List ℕ} → r ≡ Referred.Unit unit → Stored before to unit after u
+    pub one-name : {unit u : ℕ} {after : List ℕ} → r ≡ NameUnit.Unit unit → Stored before to unit after u
         → WritesNames t at (k ∷ []) table before to after (NamesWritten.Next q u)
     one-name {unit} {u} {after} e st = record {
       keeps = st .keeps;
@@ -80,7 +80,7 @@ module _ {t : List ℕ} {at : ℕ} {k : Kind} {table : List ℕ} {before : List 
           subst (λ (o : Option (List ℕ)). AnswersNames before to o after (NamesWritten.Next q u)) (sym (ap alone is)) (st .wrote);
     }
 
--- ---- names behind names
+-- ---- names after names
 
 abbrev both : Option (List ℕ) → Option (List ℕ) → Option (List ℕ)
 both x y = x >>= λ us. y >>= λ vs. some (us ++ vs)
@@ -127,7 +127,7 @@ module _ {t : List ℕ} {at : ℕ} {table : List ℕ} {a b : List ℕ} {i : ℕ}
             lacking a b i (namesUnits env (ks ++ ls) g) (units-append env ks ls g ∙ ap (λ (x : Option (List ℕ)). both x (namesUnits env ls (behindNames ks g))) no);
       }
 
-  -- they are, and the others are written behind them
+  -- they are, and the others are written after them
   pub names-then : {q u : ℕ} {c : List ℕ} {p : NamesWritten} → r ≡ NamesWritten.Next q u → WritesNames t q ls table b u c p → WritesNames t at (ks ++ ls) table a i c p
   names-then {q} {u} {c} {p} e n =
       let z = subst (λ (x : NamesWritten). WritesNames t at ks table a i b x) e m in

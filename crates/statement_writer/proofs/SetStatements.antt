@@ -1,4 +1,4 @@
--- A set statement's head, and behind it the number of its attribute and the code of S, are its code. Assumes nothing.
+-- A set statement's head, and after it the number of its attribute and the code of S, are its code. Assumes nothing.
 use mathlib.Core.Path.{_≡_, refl, sym, ap, subst, _∙_}
 use mathlib.Core.Bool.{false, false≢true}
 use mathlib.Core.List.{List, [], _∷_}
@@ -26,15 +26,15 @@ use Rattle.statement_writer.specs.Naming.{firstUnit, behindFirst, Answer
 use Rattle.statement_writer.specs.Coding.{Stores, Answers, WritesStatement}
 use Rattle.statement_writer.specs.declared.Kind.{Kind}
 use Rattle.statement_writer.specs.declared.NamesWritten.{NamesWritten}
-use Rattle.statement_writer.specs.declared.Coded.{Coded}
+use Rattle.statement_writer.specs.declared.CodeWritten.{CodeWritten}
 use Rattle.statement_writer.proofs.Numbering.{same-number}
 use Rattle.statement_writer.proofs.RowNames.{alone, lacks}
-use Rattle.statement_writer.proofs.Wholes.{codeIn, headed, numberAndSet, set-row, set-whole}
+use Rattle.statement_writer.proofs.WholeStatements.{codeIn, headed, numberAndSet, set-row, set-whole}
 use Rattle.statement_writer.proofs.Finishing.{tagged, uncoded, coded}
 
-abbrev pub codedSet : SetWritten → Coded
-codedSet (SetWritten.Next q u) = Coded.Next u
-codedSet SetWritten.Undeclared = Coded.Undeclared
+abbrev pub codedSet : SetWritten → CodeWritten
+codedSet (SetWritten.Next q u) = CodeWritten.Next u
+codedSet SetWritten.Undeclared = CodeWritten.Undeclared
 
 -- what a part holds that a row starts with
 abbrev inside : Forms → Forms
@@ -66,7 +66,7 @@ module _ {t : List ℕ} {at place : ℕ} {table : List ℕ} {a b c : List ℕ} {
   head = tagged 4099 d h
 
   -- the attribute is not declared
-  pub no-attribute : r ≡ NamesWritten.Undeclared → WritesStatement t at (setK (familyOf f)) place table a i c Coded.Undeclared
+  pub no-attribute : r ≡ NamesWritten.Undeclared → WritesStatement t at (setK (familyOf f)) place table a i c CodeWritten.Undeclared
   no-attribute e =
       let z = subst (λ (x : NamesWritten). WritesNames t at (Kind.Attribute f ∷ []) table b u c x) e m in
       record {
@@ -86,8 +86,8 @@ module _ {t : List ℕ} {at place : ℕ} {table : List ℕ} {a b c : List ℕ} {
     behind : trim (framesAt t q .here) (maxLevel - 1) ≡ behindFirst row
     behind = name .moves .row (maxLevel - 1)
 
-    -- no part stands behind it
-    pub no-part : startsPart (trim (framesAt t q .here) (maxLevel - 1)) ≡ false → WritesStatement t at (setK (familyOf f)) place table a i c Coded.Undeclared
+    -- no part is after it
+    pub no-part : startsPart (trim (framesAt t q .here) (maxLevel - 1)) ≡ false → WritesStatement t at (setK (familyOf f)) place table a i c CodeWritten.Undeclared
     no-part p = record {
       keeps = keeps-then (h .ahead) (h .keeps) (m .keeps);
       says = λ env w y g.
@@ -106,6 +106,7 @@ module _ {t : List ℕ} {at place : ℕ} {table : List ℕ} {a b c : List ℕ} {
               let s = set-row (familyOf f) row w g in
               let in-part : trim (framesAt t j .here) (maxLevel - 1 - 1) ≡ s .inner =
               sym (by-part inside (maxLevel - 1) l (λ y. omega arith)) ∙ ap inside (behind ∙ s .behind) in
-              answered head c after q v (name .keeps .long) (resolved env w) (firstUnit env (Kind.Attribute f) row) (referS env (familyOf f) (s .set)) z (set-whole env place f row w s)
+              answered head c after q v (name .keeps .long) (resolved env w) (firstUnit env (Kind.Attribute f) row) (referS env (familyOf f) (s .set)) z
+              (set-whole env place f row w s)
               (name .says env (maxLevel - 1) y) (k .says env (familyOf f) (s .set) y (same-number (familyOf f) ∙ sym d) (ap setIn in-part ∙ s .in-part));
         }

@@ -13,24 +13,24 @@ use Rattle.policy.specs.Names.{Environment}
 use Rattle.statement_code.specs.Code.{statementCode}
 use Rattle.scopes.specs.Symbols.{Symbols}
 use Rattle.set_writer.specs.Writing.{Wrote, Keeps}
-use Rattle.statement_writer.specs.declared.Coded.{Coded}
+use Rattle.statement_writer.specs.declared.CodeWritten.{CodeWritten}
 
--- units are written from the place to on, and u is the place behind them
+-- units are written from the place to on, and u is the place after them
 pub record Stores (before : List ℕ) (to : ℕ) (units after : List ℕ) (u : ℕ) : Type 0 where
   pub wrote : Wrote before to units after u
   pub keeps : Keeps before to after
   pub ahead : to ≤ u
 
 -- "name not declared before, or of the wrong sort": Undeclared exactly if a name of the statement is; else its units are written
-abbrev pub Answers : List ℕ → ℕ → ℕ → Option Statement → List ℕ → Coded → Type 0
-Answers before to place none after Coded.Undeclared = Unit {0}
-Answers before to place none after (Coded.Next u) = ⊥
-Answers before to place (some s) after Coded.Undeclared = ⊥
-Answers before to place (some s) after (Coded.Next u) = Wrote before to (statementCode place s) after u
+abbrev pub Answers : List ℕ → ℕ → ℕ → Option Statement → List ℕ → CodeWritten → Type 0
+Answers before to place none after CodeWritten.Undeclared = Unit {0}
+Answers before to place none after (CodeWritten.Next u) = ⊥
+Answers before to place (some s) after CodeWritten.Undeclared = ⊥
+Answers before to place (some s) after (CodeWritten.Next u) = Wrote before to (statementCode place s) after u
 
--- what writing the statement with the keyword k, behind which the place at is, answers and leaves. Nothing is said of a row that is not of the
+-- what writing the statement with the keyword k, after which the place at is, answers and leaves. Nothing is said of a row that is not of the
 -- keyword's form, but that the code before the place to is kept
-pub record WritesStatement (t : List ℕ) (at : ℕ) (k : Keyword) (place : ℕ) (table : List ℕ) (before : List ℕ) (to : ℕ) (after : List ℕ) (r : Coded) : Type 0 where
+pub record WritesStatement (t : List ℕ) (at : ℕ) (k : Keyword) (place : ℕ) (table : List ℕ) (before : List ℕ) (to : ℕ) (after : List ℕ) (r : CodeWritten) : Type 0 where
   pub keeps : Keeps before to after
   pub says : (env : Environment) (w : Written) → Symbols table env → formed k (trim (framesAt t at .here) (maxLevel - 1)) ≡ some w
       → Answers before to place (resolved env w) after r

@@ -12,7 +12,7 @@ use Rattle.policy.specs.Names.{refer, Environment, numberIn}
 use Rattle.statement_code.specs.Code.{referenceUnit}
 use Rattle.scopes.specs.Symbols.{Symbols}
 use Rattle.set_writer.specs.Writing.{Wrote, Keeps}
-use Rattle.set_writer.specs.declared.Referred.{Referred}
+use Rattle.set_writer.specs.declared.NameUnit.{NameUnit}
 use Rattle.statement_writer.specs.declared.Kind.{Kind}
 use Rattle.statement_writer.specs.declared.NamesWritten.{NamesWritten}
 
@@ -25,22 +25,22 @@ unitIn env Kind.Class w = env .class w
 unitIn env Kind.Role w = numberIn env (thingOf roles) w
 
 -- a unit, where there is one
-abbrev pub referredBy : Option ℕ → Referred
-referredBy none = Referred.Missing
-referredBy (some n) = Referred.Unit n
+abbrev pub referredBy : Option ℕ → NameUnit
+referredBy none = NameUnit.Missing
+referredBy (some n) = NameUnit.Unit n
 
 -- "of the wrong sort": the name w is resolved as a name of one sort alone, which is given by its number in the symbol table; class is 6
-pub record Numbers (table : List ℕ) (sort : ℕ) (w : Name) (r : Referred) : Type 0 where
+pub record Numbers (table : List ℕ) (sort : ℕ) (w : Name) (r : NameUnit) : Type 0 where
   pub of-sort : (env : Environment) (s : Sort) → Symbols table env → sortCode s ≡ sort → r ≡ referredBy (numberIn env s w)
   pub of-class : (env : Environment) → Symbols table env → 6 ≡ sort → r ≡ referredBy (env .class w)
 
 -- the name w is resolved as a name of the kind
-pub record Names (table : List ℕ) (k : Kind) (w : Name) (r : Referred) : Type 0 where
+pub record Names (table : List ℕ) (k : Kind) (w : Name) (r : NameUnit) : Type 0 where
   pub resolves : (env : Environment) → Symbols table env → r ≡ referredBy (unitIn env k w)
 
 -- ---- names in a row
 
--- the unit of the first word of a row as a name of a kind; the row behind it
+-- the unit of the first word of a row as a name of a kind; the row after it
 abbrev pub firstUnit : Environment → Kind → Forms → Option ℕ
 firstUnit env k closed = none
 firstUnit env k ended = none
@@ -53,7 +53,7 @@ behindFirst ended = ended
 behindFirst (word s w g) = g
 behindFirst (part p i g) = ended
 
--- the units of the first words of a row, a name for each kind; the row behind them
+-- the units of the first words of a row, a name for each kind; the row after them
 abbrev pub namesUnits : Environment → List Kind → Forms → Option (List ℕ)
 namesUnits env [] g = some []
 namesUnits env (k ∷ ks) g = firstUnit env k g >>= λ u. namesUnits env ks (behindFirst g) >>= λ us. some (u ∷ us)
@@ -62,7 +62,7 @@ abbrev pub behindNames : List Kind → Forms → Forms
 behindNames [] g = g
 behindNames (k ∷ ks) g = behindNames ks (behindFirst g)
 
--- q is behind the names at the place at, and u is not before the place to
+-- q is after the names at the place at, and u is not before the place to
 pub record Past (t : List ℕ) (at : ℕ) (ks : List Kind) (to q u : ℕ) : Type 0 where
   pub row : (levels : ℕ) → trim (framesAt t q .here) levels ≡ behindNames ks (trim (framesAt t at .here) levels)
   pub ahead : to ≤ u
@@ -78,7 +78,7 @@ AnswersNames before to none after (NamesWritten.Next q u) = ⊥
 AnswersNames before to (some us) after NamesWritten.Undeclared = ⊥
 AnswersNames before to (some us) after (NamesWritten.Next q u) = Wrote before to us after u
 
--- what writing the names at a place of the text, one for each kind, answers and leaves. What stands behind them is not looked at
+-- what writing the names at a place of the text, one for each kind, answers and leaves. What is after them is not looked at
 pub record WritesNames (t : List ℕ) (at : ℕ) (ks : List Kind) (table : List ℕ) (before : List ℕ) (to : ℕ) (after : List ℕ) (r : NamesWritten) : Type 0 where
   pub keeps : Keeps before to after
   pub moves : Moves t at ks to r

@@ -1,5 +1,6 @@
-// Attribute sets, relations and role transitions with their names resolved, written as statement code: fault 5. The form of a statement is known
-// to be good where these functions are called; what is found out here is whether its names are declared, and its units are written on the way.
+// Attribute sets, relations and role transitions with their names resolved, written as statement code: fault 5. The
+// form of a statement is known to be good where these functions are called; what is found out here is whether its
+// names are declared, and its units are written on the way.
 ghost use mathlib.Core.Path.{_≡_};
 ghost use mathlib.Core.List.{[], _∷_};
 ghost use Rattle.policy.specs.Answers.{familyOf, relationOf};
@@ -13,19 +14,19 @@ use lexer::Level;
 use policy::Family;
 use policy::Relation;
 use policy::Sort;
-use set_writer::Referred;
+use set_writer::NameUnit;
 use set_writer::SetWritten;
 use statement_code::Unit;
 use symbols::Found;
 
-// The place behind the units written, or fault 5: a name is not declared before, or is of the wrong sort.
-pub enum Coded {
+// The place after the units written, or fault 5: a name is not declared before, or is of the wrong sort.
+pub enum CodeWritten {
     Next(usize),
     Undeclared,
 }
 
-// What a name of a statement may stand for: a thing or an attribute of a family; an attribute of it and no thing; a class; a role and no
-// attribute.
+// What a name of a statement may stand for: a thing or an attribute of a family; an attribute of it and no thing; a
+// class; a role and no attribute.
 enum Kind {
     Reference(Family),
     Attribute(Family),
@@ -33,7 +34,7 @@ enum Kind {
     Role,
 }
 
-// The place behind the names that were read and the place behind their units, or that one of them is not declared.
+// The place after the names that were read and the place after their units, or that one of them is not declared.
 enum NamesWritten {
     Next { at: usize, to: usize },
     Undeclared,
@@ -42,7 +43,7 @@ enum NamesWritten {
 // ---- names
 
 // The number of what a name names in a sort of the symbol table. What has the name and another sort is missing.
-fn number_of(symbols: &[u8], sort: usize, name: &[u8]) -> Referred
+fn number_of(symbols: &[u8], sort: usize, name: &[u8]) -> NameUnit
     ensures { λ r. ⌜ Numbers (now (symbols .entry)) sort (now (name .entry)) r ⌝ }
 {
     let family = symbols::family_of(sort, 0);
@@ -50,19 +51,19 @@ fn number_of(symbols: &[u8], sort: usize, name: &[u8]) -> Referred
     match found {
         Found::At { sort: s, number } => {
             if s != sort {
-                return Referred::Missing;
+                return NameUnit::Missing;
             }
             if Unit::ATTRIBUTE as usize <= number {
-                return Referred::Missing;
+                return NameUnit::Missing;
             }
-            Referred::Unit(number as u16)
+            NameUnit::Unit(number as u16)
         }
-        Found::Missing => Referred::Missing,
+        Found::Missing => NameUnit::Missing,
     }
 }
 
 // The unit of what a name names, as a name of a kind.
-fn name_unit(kind: Kind, symbols: &[u8], name: &[u8]) -> Referred
+fn name_unit(kind: Kind, symbols: &[u8], name: &[u8]) -> NameUnit
     ensures { λ r. ⌜ Names (now (symbols .entry)) kind (now (name .entry)) r ⌝ }
 {
     match kind {
@@ -90,7 +91,7 @@ fn write_name(
 ) -> NamesWritten
     ensures { λ r. ⌜ WritesNames (now (text .entry)) at (kind ∷ []) (now (symbols .entry)) (now (code .entry)) to (now (code .exit)) r ⌝ }
 {
-    let item = items::look(text, at);
+    let item = items::next_item(text, at);
     let Item::Word {
         start,
         len,
@@ -103,7 +104,7 @@ fn write_name(
     let end = start + len;
     let name = &text[start..end];
     let referred = name_unit(kind, symbols, name);
-    let Referred::Unit(unit) = referred else {
+    let NameUnit::Unit(unit) = referred else {
         return NamesWritten::Undeclared;
     };
     let u = set_writer::put_unit(code, to, unit);
@@ -139,7 +140,7 @@ fn write_head(tag: u16, place: u16, code: &mut [u16], to: usize) -> usize
     set_writer::put_unit(code, u, place)
 }
 
-// Writes the declaration of an attribute: its tag and place. The answer is the place behind them.
+// Writes the declaration of an attribute: its tag and place. The answer is the place after them.
 pub fn write_attribute(family: Family, place: u16, code: &mut [u16], to: usize) -> usize
     ensures { λ r. ⌜ Stores (now (code .entry)) to (attributeTag (familyOf family) ∷ place ∷ []) (now (code .exit)) r ⌝ }
 {
@@ -177,7 +178,7 @@ pub fn write_relation(
     symbols: &[u8],
     code: &mut [u16],
     to: usize,
-) -> Coded
+) -> CodeWritten
     ensures { λ r. ⌜ WritesStatement (now (text .entry)) at (relationK (relationOf relation)) place (now (symbols .entry)) (now (code .entry)) to (now (code .exit)) r ⌝ }
 {
     let tag = Unit::RELATION + statement_code::relation_number(relation);
@@ -186,8 +187,8 @@ pub fn write_relation(
     let second = Kind::Reference(second_family(relation));
     let names = write_pair(text, at, first, second, symbols, code, u);
     match names {
-        NamesWritten::Next { to: v, .. } => Coded::Next(v),
-        NamesWritten::Undeclared => Coded::Undeclared,
+        NamesWritten::Next { to: v, .. } => CodeWritten::Next(v),
+        NamesWritten::Undeclared => CodeWritten::Undeclared,
     }
 }
 
@@ -199,7 +200,7 @@ pub fn write_transition(
     symbols: &[u8],
     code: &mut [u16],
     to: usize,
-) -> Coded
+) -> CodeWritten
     ensures { λ r. ⌜ WritesStatement (now (text .entry)) at transitionK place (now (symbols .entry)) (now (code .entry)) to (now (code .exit)) r ⌝ }
 {
     let u = write_head(Unit::TRANSITION, place, code, to);
@@ -207,17 +208,17 @@ pub fn write_transition(
     let second = Kind::Reference(Family::Types);
     let names = write_pair(text, at, first, second, symbols, code, u);
     let NamesWritten::Next { at: next, to: v } = names else {
-        return Coded::Undeclared;
+        return CodeWritten::Undeclared;
     };
     let others = write_pair(text, next, Kind::Class, Kind::Role, symbols, code, v);
     match others {
-        NamesWritten::Next { to: w, .. } => Coded::Next(w),
-        NamesWritten::Undeclared => Coded::Undeclared,
+        NamesWritten::Next { to: w, .. } => CodeWritten::Next(w),
+        NamesWritten::Undeclared => CodeWritten::Undeclared,
     }
 }
 
-// Writes `(userattributeset A S)` and the same for roles and types, whose A is the name at a place. The parentheses of the statement are level 1 and
-// those of S level 2, so S may hold parts for all levels but two.
+// Writes `(userattributeset A S)` and the same for roles and types, whose A is the name at a place. The parentheses
+// of the statement are level 1 and those of S level 2, so S may hold parts for all levels but two.
 pub fn write_attribute_set(
     text: &[u8],
     at: usize,
@@ -226,18 +227,18 @@ pub fn write_attribute_set(
     symbols: &[u8],
     code: &mut [u16],
     to: usize,
-) -> Coded
+) -> CodeWritten
     ensures { λ r. ⌜ WritesStatement (now (text .entry)) at (setK (familyOf family)) place (now (symbols .entry)) (now (code .entry)) to (now (code .exit)) r ⌝ }
 {
     let number = statement_code::family_number(family);
     let u = write_head(Unit::ATTRIBUTE_SET + number, place, code, to);
     let name = write_name(text, at, Kind::Attribute(family), symbols, code, u);
     let NamesWritten::Next { at: next, to: v } = name else {
-        return Coded::Undeclared;
+        return CodeWritten::Undeclared;
     };
-    let item = items::look(text, next);
+    let item = items::next_item(text, next);
     let Item::Open { next: inner, .. } = item else {
-        return Coded::Undeclared;
+        return CodeWritten::Undeclared;
     };
     let set = set_writer::write_set(
         text,
@@ -249,7 +250,7 @@ pub fn write_attribute_set(
         v,
     );
     match set {
-        SetWritten::Next { to: w, .. } => Coded::Next(w),
-        SetWritten::Undeclared => Coded::Undeclared,
+        SetWritten::Next { to: w, .. } => CodeWritten::Next(w),
+        SetWritten::Undeclared => CodeWritten::Undeclared,
     }
 }

@@ -16,7 +16,8 @@ entries-from-more : (e ds : List Declaration) (d : Declaration) → entriesFrom 
 unfolding entriesFrom
 entries-from-more e [] d = append-nil (entriesOf e d) ∙ ap (λ (x : List Declaration). entriesOf x d) (sym (append-nil e))
 entries-from-more e (x ∷ ds) d =
-    ap (λ (r : List NameEntry). entriesOf e x ++ r) (entries-from-more (e ++ (x ∷ [])) ds d ∙ ap (λ (y : List Declaration). entriesFrom (e ++ (x ∷ [])) ds ++ entriesOf y d) (append-assoc e (x ∷ []) ds))
+    ap (λ (r : List NameEntry). entriesOf e x ++ r)
+    (entries-from-more (e ++ (x ∷ [])) ds d ∙ ap (λ (y : List Declaration). entriesFrom (e ++ (x ∷ [])) ds ++ entriesOf y d) (append-assoc e (x ∷ []) ds))
     ∙ sym (append-assoc (entriesOf e x) (entriesFrom (e ++ (x ∷ [])) ds) (entriesOf (e ++ (x ∷ ds)) d))
 
 -- a declaration's entries follow those of the declarations before it

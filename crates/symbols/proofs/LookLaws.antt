@@ -20,7 +20,7 @@ use Rattle.symbols.proofs.SectionLaws.{at-entry, at-cut, at-end, at-sho
 pub met : {t : List ℕ} {at end : ℕ} {r k : Entry} → EntryIs t at end r → r ≡ k → EntryIs t at end k
 met {t} {at} {end} h e = subst (EntryIs t at end) e h
 
--- the measure of the walks: behind an entry less is left
+-- the measure of the walks: after an entry less is left
 pub less-left : {t : List ℕ} {at end s n past : ℕ} → EntryIs t at end (Entry.Named s n past) → end - past < end - at
 less-left h = omega (arith, h .within)
 
@@ -74,7 +74,7 @@ module _ (t : List ℕ) (end last : ℕ) (e : last ≡ min end (length t)) where
   stands at Entry.Done h = record { reads = sym (cut-off at) ∙ h .reads; within = tt }
   stands at Entry.Broken h = record { reads = sym (cut-off at) ∙ h .reads; within = tt }
 
-  -- none stands at a place past its end
+  -- none is at a place past its end
   pub none-past : (at : ℕ) → last < at → EntryIs t at end Entry.Done
   none-past at h = is-end t at end 0 (omega (arith, e)) refl
 

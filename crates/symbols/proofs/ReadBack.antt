@@ -1,4 +1,4 @@
--- A section's bytes and its entries: what is written is read back, only that is, policy's reader of body 1 reads the same, and behind a
+-- A section's bytes and its entries: what is written is read back, only that is, policy's reader of body 1 reads the same, and after a
 -- section that is used up exactly reading goes on. All by one induction, `by-entries`. Assumes nothing.
 use mathlib.Core.Path.{_≡_, refl, sym, ap, _∙_}
 use mathlib.Core.Bool.{Bool, true, false, cond, false≢true}
@@ -18,7 +18,7 @@ use Rattle.policy.proofs.Options.{given-some}
 use Rattle.symbols.specs.Section.{Section, done, broken, entry, readBy, sectionIn, entriesRead, isExact, exactEntries}
 use Rattle.symbols.proofs.SectionLaws.{section-entry, section-cut, section-none, section-short}
 
--- what holds of no bytes, of any bytes that are no entry, and of an entry where it holds of what is behind it, holds of every section
+-- what holds of no bytes, of any bytes that are no entry, and of an entry where it holds of what is beneath it, holds of every section
 module _ (P : List ℕ → Section → Type 0) (ends : P [] done) (stops : (p : List ℕ) → P p broken)
     (goes : (a b c n : ℕ) (r : List ℕ) → n ≤ length r → P (drop n r) (sectionIn (drop n r))
     → P (a ∷ b ∷ c ∷ n ∷ r) (entry (nameEntry a (b + 256 * c) (take n r)) (sectionIn (drop n r)))) where
@@ -105,7 +105,7 @@ only-written p es h e =
     let x = exact-some (sectionIn p) es e in
     sym (written p h (x .0)) ∙ ap (λ (es : List NameEntry). joined (each entryBytes es)) (x .1)
 
--- ---- reading goes on behind it
+-- ---- reading goes on after it
 
 pub read-on : (x p : List ℕ) → isExact (sectionIn p) ≡ true → sectionIn (p ++ x) ≡ over (entriesRead (sectionIn p)) (sectionIn x)
 unfolding isExact entriesRead

@@ -9,7 +9,8 @@ use native.Mathlib.Omega.{arith}
 use lib.Dec.{eqb}
 use lib.ListN.{length}
 use Rattle.policy.specs.Basics.{Name, same, any, isIn, gather, keep}
-use Rattle.policy.specs.Statements.{Family, users, roles, types, Sort, thingOf, attributeOf, Declaration, plain, class, sameFamily, familyOf, ofFamily, familyNames, classNames, count}
+use Rattle.policy.specs.Statements.{Family, users, roles, types, Sort, thingOf, attributeOf, Declaration, plain, class, sameFamily, familyOf, ofFamily}
+use Rattle.policy.specs.Statements.{familyNames, classNames, count}
 use Rattle.policy.specs.Encode.{nameEntry, sortCode, entriesFrom, entries}
 use Rattle.policy.specs.Names.{Named, firstFrom}
 use Rattle.symbols.specs.Lookup.{familyNumber, firstNamed}

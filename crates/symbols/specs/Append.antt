@@ -12,7 +12,7 @@ pub record Room (total end sort len : ℕ) : Type 0 where
   pub sort-byte : sort < 256
   pub length-byte : len < 256
 
--- the entry's bytes stand at the place, nothing else is changed, and r is the place past them, which lies in the memory
+-- the entry's bytes are at the place, nothing else is changed, and r is the place past them, which lies in the memory
 pub record Appended (before after : List ℕ) (end : ℕ) (e : NameEntry) (r : ℕ) : Type 0 where
   pub written : after ≡ put before end (entryBytes e)
   pub past : r ≡ end + length (entryBytes e)

@@ -12,7 +12,7 @@ use Rattle.symbols.specs.declared.NamePlace.{NamePlace}
 
 -- "Four families of names: users with userattributes; roles with roleattributes; types with typeattributes; classes", and the permissions
 -- of each class. Their numbers: users 0, roles 1, types 2, classes 3, permissions of class c 4 + c. The sorts 0 to 2 are things,
--- 3 to 5 their attributes, 6 is class, 7 permission (no other stands in a sound table); a permission's number is "class x 32 + its place"
+-- 3 to 5 their attributes, 6 is class, 7 permission (no other is in a sound table); a permission's number is "class x 32 + its place"
 abbrev pub familyNumber : ℕ → ℕ → ℕ
 familyNumber sort number = cond (ltb sort 3) sort (cond (ltb sort 6) (sort - 3) (cond (eqb sort 6) 3 (4 + number / 32)))
 

@@ -60,7 +60,7 @@ entriesAt t start end = entriesRead (sectionAt t start end)
 abbrev pub exactEntriesAt : List ℕ → ℕ → ℕ → Option (List NameEntry)
 exactEntriesAt t start end = exactEntries (sectionAt t start end)
 
--- the section from a place on, by what stands there
+-- the section from a place on, by what is there
 abbrev pub sectionBy : List ℕ → ℕ → ℕ → Entry → Section
 sectionBy t at end (Entry.Named s n past) = entry (nameEntry s n (between t (at + 4) past)) (sectionAt t past end)
 sectionBy t at end Entry.Done = done
@@ -80,7 +80,7 @@ WithinBy t at end (Entry.Named s n past) = Within t at end s n past
 WithinBy t at end Entry.Done = Unit {0}
 WithinBy t at end Entry.Broken = Unit {0}
 
--- what stands at a place of the section of t that ends at end
+-- what is at a place of the section of t that ends at end
 pub record EntryIs (t : List ℕ) (at end : ℕ) (r : Entry) : Type 0 where
   pub reads : sectionAt t at end ≡ sectionBy t at end r
   pub within : WithinBy t at end r

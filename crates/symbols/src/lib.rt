@@ -1,6 +1,7 @@
-// The symbol table, kept in the byte layout of body 1 of a table: an entry is its sort in 1 byte, its number in 2, its name's
-// length in 1, and the name's bytes. The memory is the caller's; the same functions serve the compiler and finished tables.
-// Parts that reach past the end of a slice are cut there, so that the searches ask nothing of their caller; what writes asks for room.
+// The symbol table, kept in the byte layout of body 1 of a table: an entry is its sort in 1 byte, its number in 2,
+// its name's length in 1, and the name's bytes. The memory is the caller's; the same functions serve the compiler and
+// finished tables. Parts that reach past the end of a slice are cut there, so that the searches ask nothing of their
+// caller; what writes asks for room.
 ghost use mathlib.Core.Path.{_≡_};
 ghost use Prim.Native.Nat.{_+_, _-_, _*_, _<_, _≤_};
 ghost use lib.ListN.{length};
@@ -12,7 +13,7 @@ ghost use Rattle.symbols.specs.Section.{EntryIs, entriesAt};
 ghost use Rattle.symbols.specs.Lookup.{familyNumber, replyOf, countSort};
 ghost use Rattle.symbols.specs.Append.{Room, Appended};
 
-// What stands at a place of a section: an entry, with the place past it; the section's end; or bytes that are no entry.
+// What is at a place of a section: an entry, with the place past it; the section's end; or bytes that are no entry.
 pub enum Entry {
     Named {
         sort: usize,
@@ -59,7 +60,7 @@ fn entry_at(table: &[u8], at: usize, end: usize) -> Entry
 }
 
 // The entry at a place of the section that ends at end.
-pub fn look(table: &[u8], at: usize, end: usize) -> Entry
+pub fn next_entry(table: &[u8], at: usize, end: usize) -> Entry
     ensures { λ r. ⌜ EntryIs (now (table .entry)) at end r ⌝ }
 {
     let last = bitset::least(end, table.len());
@@ -121,7 +122,8 @@ pub fn copy(table: &mut [u8], at: usize, text: &[u8], from: usize, len: usize)
     }
 }
 
-// Writes an entry at the end of a section, with the len bytes of text from a place on as its name; the section's new end.
+// Writes an entry at the end of a section, with the len bytes of text from a place on as its name; the section's new
+// end.
 pub fn append(
     table: &mut [u8],
     end: usize,

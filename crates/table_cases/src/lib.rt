@@ -1,1 +1,1 @@
-// Theorems alone: they stand in specs/.
+// Theorems alone: they are in specs/.

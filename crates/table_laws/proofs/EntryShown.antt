@@ -17,7 +17,7 @@ use Rattle.policy.specs.Image.{Image}
 use Rattle.policy.specs.Encode.{transitionBytes, headBytes, headsFrom, rowBytes, bodies, pairs, layout, encode}
 use Rattle.policy.specs.Sound.{wellFormed}
 use Rattle.policy.specs.Deciding.{answered}
-use Rattle.policy.specs.Questions.{Run, runOf, recordFrom, entryOf}
+use Rattle.policy.specs.Questions.{Records, recordsOf, recordFrom, entryOf}
 use Rattle.policy.proofs.Lists.{joined-append, each-length}
 use Rattle.table_laws.specs.SoundTable.{allRows}
 use Rattle.table_laws.specs.Shown.{shown, orTwelve, recordsIn}
@@ -52,46 +52,47 @@ module _ {A : Type 0} where
   in-right (x ∷ xs) ys k = rw suc-add (in-right xs ys k)
 
 -- runs that say how many records there are in each group, and how wide
-abbrev Runs : List Run → List (List (List ℕ)) → Type 0
+abbrev Runs : List Records → List (List (List ℕ)) → Type 0
 Runs [] [] = Unit {0}
 Runs [] (g ∷ gs) = ⊥
 Runs (r ∷ rs) [] = ⊥
-Runs (r ∷ rs) (g ∷ gs) = (r .many ≡ length g) × Wide (r .wide) g × Runs rs gs
+Runs (r ∷ rs) (g ∷ gs) = (r .number ≡ length g) × Wide (r .width) g × Runs rs gs
 
-record-shown : (rs : List Run) (gs : List (List (List ℕ))) → Runs rs gs → (k o : ℕ) (t rest : List ℕ) → drop o t ≡ joined (each joined gs) ++ rest
+record-shown : (rs : List Records) (gs : List (List (List ℕ))) → Runs rs gs → (k o : ℕ) (t rest : List ℕ) → drop o t ≡ joined (each joined gs) ++ rest
     → shown t (recordFrom k o rs) ≡ orTwelve (getElem? (joined gs) k)
 unfolding recordFrom joined each
 record-shown [] [] h k o t rest e = refl
 record-shown [] (g ∷ gs) h k o t rest e = absurd h
 record-shown (r ∷ rs) [] h k o t rest e = absurd h
 record-shown (r ∷ rs) (g ∷ gs) h k o t rest e =
-    by (ltb k (r .many)) refl
-    (λ j. record-shown rs gs (h .2) j (o + r .many * r .wide) t rest)
+    by (ltb k (r .number)) refl
+    (λ j. record-shown rs gs (h .2) j (o + r .number * r .width) t rest)
   where
     front : drop o t ≡ joined g ++ (joined (each joined gs) ++ rest)
     front = e ∙ append-assoc (joined g) (joined (each joined gs)) rest
 
-    behind : drop (o + r .many * r .wide) t ≡ joined (each joined gs) ++ rest
-    behind = sym (drop-drop (r .many * r .wide) o t) ∙ ap (drop (r .many * r .wide)) front
-        ∙ drop-at (joined g) (joined (each joined gs) ++ rest) (r .many * r .wide) (wide-length (r .wide) g (h .1) ∙ ap (λ (n : ℕ). n * r .wide) (sym (h .0)))
+    behind : drop (o + r .number * r .width) t ≡ joined (each joined gs) ++ rest
+    behind = sym (drop-drop (r .number * r .width) o t) ∙ ap (drop (r .number * r .width)) front
+        ∙ drop-at (joined g) (joined (each joined gs) ++ rest) (r .number * r .width) (wide-length (r .width) g (h .1) ∙ ap (λ (n : ℕ). n * r .width) (sym (h .0)))
 
-    by : (b : Bool) → ltb k (r .many) ≡ b
-        → ((j : ℕ) → drop (o + r .many * r .wide) t ≡ joined (each joined gs) ++ rest → shown t (recordFrom j (o + r .many * r .wide) rs) ≡ orTwelve (getElem? (joined gs) j))
-        → shown t (cond b (answered (record { start = o + k * r .wide; long = r .wide })) (recordFrom (k - r .many) (o + r .many * r .wide) rs)) ≡ orTwelve (getElem? (g ++ joined gs) k)
+    by : (b : Bool) → ltb k (r .number) ≡ b
+        → ((j : ℕ) → drop (o + r .number * r .width) t ≡ joined (each joined gs) ++ rest → shown t (recordFrom j (o + r .number * r .width) rs) ≡ orTwelve (getElem? (joined gs) j))
+        → shown t (cond b (answered (record { start = o + k * r .width; long = r .width })) (recordFrom (k - r .number) (o + r .number * r .width) rs)) ≡
+        orTwelve (getElem? (g ++ joined gs) k)
     by true q after =
-        let l = ltb-true k (r .many) q in
+        let l = ltb-true k (r .number) q in
         rw (
           in-left g (joined gs) k [] (omega (arith, h .0)),
-          ← drop-drop (k * r .wide) o t,
+          ← drop-drop (k * r .width) o t,
           front,
-          piece-at (r .wide) g (h .1) k (omega (arith, h .0)) (joined (each joined gs) ++ rest),
+          piece-at (r .width) g (h .1) k (omega (arith, h .0)) (joined (each joined gs) ++ rest),
         )
     by false q after =
-        let l = ltb-false k (r .many) q in
-        let whole : k ≡ length g + (k - r .many) = omega (arith, h .0) in
-        after (k - r .many) behind ∙ ap orTwelve (sym (in-right g (joined gs) (k - r .many)) ∙ ap (getElem? (g ++ joined gs)) (sym whole))
+        let l = ltb-false k (r .number) q in
+        let whole : k ≡ length g + (k - r .number) = omega (arith, h .0) in
+        after (k - r .number) behind ∙ ap orTwelve (sym (in-right g (joined gs) (k - r .number)) ∙ ap (getElem? (g ++ joined gs)) (sym whole))
 
--- body k stands behind the 68 bytes and the bodies before it
+-- body k is after the 68 bytes and the bodies before it
 pub layout-at : (bs : List (List ℕ)) (rest : List ℕ) (k : ℕ) → length bs ≡ 8 → k < 8
     → drop (68 + length (joined (take k bs))) (layout bs ++ rest) ≡ getD bs k [] ++ (joined (drop (suc k) bs) ++ rest)
 unfolding joined le
@@ -114,7 +115,7 @@ layout-at bs rest k h l =
 
 module _ (i : Image) (h : wellFormed i ≡ true) (rest : List ℕ) where
   -- a body that is the groups' records, one after the other
-  body-shown : (b : ℕ) → b < 8 → (rs : List Run) (gs : List (List (List ℕ))) → Runs rs gs → getD (bodies i) b [] ≡ joined (each joined gs) → (k : ℕ)
+  body-shown : (b : ℕ) → b < 8 → (rs : List Records) (gs : List (List (List ℕ))) → Runs rs gs → getD (bodies i) b [] ≡ joined (each joined gs) → (k : ℕ)
       → shown (encode i ++ rest) (recordFrom k (68 + length (joined (take b (bodies i)))) rs) ≡ orTwelve (getElem? (joined gs) k)
   unfolding encode bodies
   body-shown b l rs gs r e k =
@@ -123,10 +124,10 @@ module _ (i : Image) (h : wellFormed i ≡ true) (rest : List ℕ) where
 
   -- a body of one run
   one-run : (b : ℕ) → b < 8 → (n w : ℕ) (g : List (List ℕ)) → n ≡ length g → Wide w g → getD (bodies i) b [] ≡ joined g → (k : ℕ)
-      → shown (encode i ++ rest) (recordFrom k (68 + length (joined (take b (bodies i)))) (runOf n w ∷ [])) ≡ orTwelve (getElem? g k)
+      → shown (encode i ++ rest) (recordFrom k (68 + length (joined (take b (bodies i)))) (recordsOf n w ∷ [])) ≡ orTwelve (getElem? g k)
   unfolding joined each
   one-run b l n w g m wide e k =
-      body-shown b l (runOf n w ∷ []) (g ∷ []) (m, wide, tt) (e ∙ sym (append-nil (joined g))) k ∙ ap (λ (r : List (List ℕ)). orTwelve (getElem? r k)) (append-nil g)
+      body-shown b l (recordsOf n w ∷ []) (g ∷ []) (m, wide, tt) (e ∙ sym (append-nil (joined g))) k ∙ ap (λ (r : List (List ℕ)). orTwelve (getElem? r k)) (append-nil g)
 
   last-body : joined (i .userSets) ++ (joined (i .roleSets) ++ joined (i .typeSets)) ≡ joined (each joined (i .userSets ∷ i .roleSets ∷ i .typeSets ∷ []))
   unfolding joined each
@@ -139,7 +140,7 @@ module _ (i : Image) (h : wellFormed i ≡ true) (rest : List ℕ) where
   row-count : length (joined (each rowBytes (allRows i))) / 6 ≡ length (each rowBytes (allRows i))
   row-count = let wide = wide-length 6 (each rowBytes (allRows i)) (every-wide 6 rowBytes row-wide (allRows i)) in omega arith
 
-  -- THE ENTRY SHOWN IS THE IMAGE'S, whatever stands behind the table; and where there is none the answer is 12
+  -- THE ENTRY SHOWN IS THE IMAGE'S, whatever is after the table; and where there is none the answer is 12
   pub entry-shown : (b k : ℕ) → shown (encode i ++ rest) (entryOf i b k) ≡ orTwelve (getElem? (recordsIn i b) k)
   unfolding entryOf recordsIn recordFrom bodies
   entry-shown zero k = refl
@@ -157,7 +158,7 @@ module _ (i : Image) (h : wellFormed i ≡ true) (rest : List ℕ) where
   entry-shown (suc (suc (suc (suc (suc (suc (suc zero))))))) k =
       one-run 6 (omega arith) (length (joined (each rowBytes (allRows i))) / 6) 6 (each rowBytes (allRows i)) row-count (every-wide 6 rowBytes row-wide (allRows i)) refl k
   entry-shown (suc (suc (suc (suc (suc (suc (suc (suc zero)))))))) k =
-      body-shown 7 (omega arith) (runOf (length (i .userSets)) 16 ∷ runOf (length (i .roleSets)) 16 ∷ runOf (length (i .typeSets)) 64 ∷ [])
+      body-shown 7 (omega arith) (recordsOf (length (i .userSets)) 16 ∷ recordsOf (length (i .roleSets)) 16 ∷ recordsOf (length (i .typeSets)) 64 ∷ [])
       (i .userSets ∷ i .roleSets ∷ i .typeSets ∷ [])
       (refl, widths i h .userSets, (refl, widths i h .roleSets, (refl, widths i h .typeSets, tt))) last-body k
       ∙ ap (λ (r : List (List ℕ)). orTwelve (getElem? r k)) last-records

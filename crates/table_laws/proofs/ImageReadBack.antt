@@ -51,7 +51,7 @@ every-wide w f e (x ∷ xs) = (e x, every-wide w f e xs)
 pub transitions-wide : (ms : List TransitionEntry) → All WideTransition ms → Wide 82 (each transitionBytes ms)
 transitions-wide ms h = all-each WideTransition (λ (s : List ℕ). length s ≡ 82) transitionBytes transition-wide ms h
 
--- the length of sets that stand in a row
+-- the length of sets that are in a row
 pub sets-length : (n w : ℕ) (ss : List (List ℕ)) → Sets n w ss → length (joined ss) ≡ w * n
 sets-length n w ss s = wide-length w ss (s .wide) ∙ ap (λ (k : ℕ). k * w) (s .many) ∙ turned n w
   where

@@ -16,7 +16,7 @@ use Rattle.policy.specs.Encode.{bodies, pairs, layout, encode}
 use Rattle.policy.specs.Sound.{bodyLengths, splitBodies, bodiesIn}
 use Rattle.table_laws.proofs.LittleEndian.{le-length, unle-le}
 
--- a part fits what it stands at the front of
+-- a part fits what it is at the front of
 pub fits : {A : Type 0} (xs ys : List A) → length xs ≤ length (xs ++ ys)
 fits xs ys = omega (arith, length-append xs ys)
 
@@ -69,7 +69,7 @@ unfolding pairs le
 pairs-length [] o = refl
 pairs-length (b ∷ bs) o = omega (arith, pairs-length bs (o + length b))
 
--- eight bodies laid out, whatever stands behind them, are read back
+-- eight bodies laid out, whatever is after them, are read back
 pub layout-law : (bs : List (List ℕ)) (rest : List ℕ) → length bs ≡ 8 → 68 + length (joined bs) < 256 ^ 4 → bodiesIn (layout bs ++ rest) ≡ some bs
 unfolding bodiesIn le unle
 layout-law bs rest n h = rw (append-assoc (pairs 68 bs) (joined bs) rest, long, lengths, drop-at (pairs 68 bs) (joined bs ++ rest) 64 sixty-four, split-law bs rest)

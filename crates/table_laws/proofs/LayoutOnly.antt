@@ -20,7 +20,7 @@ use Rattle.table_laws.specs.SoundTable.{Bytes}
 use Rattle.table_laws.proofs.ListLaws.{bound, more-after, all-drop}
 use Rattle.table_laws.proofs.LittleEndian.{le-unle-take}
 
--- parts that were cut from t stand at its front
+-- parts that were cut from t are at its front
 pub split-only : (ns t : List ℕ) (bs : List (List ℕ)) → splitBodies ns t ≡ some bs → (each length bs ≡ ns) × (rest : List ℕ) × (t ≡ joined bs ++ rest)
 unfolding splitBodies each joined
 split-only [] t bs h = subst (λ (bs : List (List ℕ)). (each length bs ≡ []) × (rest : List ℕ) × (t ≡ joined bs ++ rest)) (Option·some-injective [] bs h) (refl, t, refl)
@@ -69,14 +69,19 @@ lengths-only (suc k) o t bs b l h =
           ap suc (after .0),
           two-front 4 t (pairs (o + length x) bs ++ drop (8 * suc k) t) o (length x) b (omega arith) p here
               (after .1 ∙ ap₂ (λ (a : ℕ) (r : List ℕ). pairs (o + a) bs ++ r) here behind)
-              ∙ rw (append-assoc (le 4 o) (le 4 (length x) ++ pairs (o + length x) bs) (drop (8 * suc k) t), append-assoc (le 4 (length x)) (pairs (o + length x) bs) (drop (8 * suc k) t)),
+              ∙ rw (
+                append-assoc (le 4 o) (le 4 (length x) ++ pairs (o + length x) bs) (drop (8 * suc k) t),
+                append-assoc (le 4 (length x))
+                    (pairs (o + length x) bs) (drop (8 * suc k) t),
+              ),
         )
 
 -- only eight bodies laid out are cut apart
 pub layout-only : (t : List ℕ) (bs : List (List ℕ)) → Bytes t → bodiesIn t ≡ some bs → (length bs ≡ 8) × (rest : List ℕ) × (t ≡ layout bs ++ rest)
 unfolding bodiesIn
 layout-only t bs b h =
-    let s = bound (cond (leb 68 (length t) && eqb (unle (take 2 t)) 1 && eqb (unle (take 2 (drop 2 t))) 8) (bodyLengths 8 68 (drop 4 t)) none) (λ ns. splitBodies ns (drop 68 t)) bs h in
+    let s = bound (cond (leb 68 (length t) && eqb (unle (take 2 t)) 1 && eqb (unle (take 2 (drop 2 t))) 8) (bodyLengths 8 68 (drop 4 t)) none)
+    (λ ns. splitBodies ns (drop 68 t)) bs h in
     let c = if-some (leb 68 (length t) && eqb (unle (take 2 t)) 1 && eqb (unle (take 2 (drop 2 t))) 8) (bodyLengths 8 68 (drop 4 t)) (s .0) (s .1) in
     let d = both-true (leb 68 (length t) && eqb (unle (take 2 t)) 1) (eqb (unle (take 2 (drop 2 t))) 8) (c .0) in
     let e = both-true (leb 68 (length t)) (eqb (unle (take 2 t)) 1) (d .0) in

@@ -9,7 +9,7 @@ use lib.ListN.{length}
 use borrow.Author.Tests.{ne-eqb, le-leb, lt-leb, ltb-true, ltb-false}
 use Rattle.lexer.specs.declared.ByteClass.{ByteClass}
 use Rattle.lexer.specs.declared.ByteClass.the-variants.{Wrong}
-use Rattle.lexer.specs.Class.{classOf, isDot, maxName, parts, isDotted}
+use Rattle.lexer.specs.Class.{classOf, isDot, maxName, parts, hasGoodParts}
 use Rattle.lexer.proofs.Names.{fits, partsFrom, dotted-from}
 use Rattle.policy.specs.Words.{isReserved}
 use Rattle.policy.specs.Maxima.{maxParts}
@@ -60,6 +60,6 @@ part-bytes (b ∷ bs) fresh h =
 
 pub name-bytes : (w : List ℕ) → isGood w ≡ true → Bytes w
 name-bytes w h =
-    let a = both-true (isDotted w && leb (length w) maxName && leb (length (parts w)) maxParts) (not (isReserved w)) h in
-    let b = both-true (isDotted w && leb (length w) maxName) (leb (length (parts w)) maxParts) (a .0) in
-    part-bytes w true (sym (dotted-from w) ∙ both-true (isDotted w) (leb (length w) maxName) (b .0) .0)
+    let a = both-true (hasGoodParts w && leb (length w) maxName && leb (length (parts w)) maxParts) (not (isReserved w)) h in
+    let b = both-true (hasGoodParts w && leb (length w) maxName) (leb (length (parts w)) maxParts) (a .0) in
+    part-bytes w true (sym (dotted-from w) ∙ both-true (hasGoodParts w) (leb (length w) maxName) (b .0) .0)

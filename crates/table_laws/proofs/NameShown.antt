@@ -25,7 +25,7 @@ use Rattle.table_laws.proofs.EntryShown.{layout-at}
 use Rattle.table_laws.proofs.Numbered.{named, Other, over, thing-named, class-named}
 use Rattle.table_laws.proofs.PermissionNumbered.{permission-named}
 
--- entries that stand from o on
+-- entries that are from o on
 from-shown : (s n : ℕ) (es : List NameEntry) (o : ℕ) (t rest : List ℕ) → drop o t ≡ joined (each entryBytes es) ++ rest
     → shown t (nameFrom s n o es) ≡ orTwelve (named s n es)
 unfolding nameFrom named joined each
@@ -48,7 +48,8 @@ from-shown s n (e ∷ es) o t rest h = by (eqb (e .sort) s && eqb (e .number) n)
         four = unfold le in refl
 
     by : (b : Bool) → shown t (nameFrom s n (o + length (entryBytes e)) es) ≡ orTwelve (named s n es)
-        → shown t (cond b (answered (record { start = o + 4; long = length (e .name) })) (nameFrom s n (o + length (entryBytes e)) es)) ≡ orTwelve (cond b (some (e .name)) (named s n es))
+        → shown t (cond b (answered (record { start = o + 4; long = length (e .name) })) (nameFrom s n (o + length (entryBytes e)) es)) ≡ orTwelve
+        (cond b (some (e .name)) (named s n es))
     by true k = ap answered name
     by false k = k
 
@@ -82,7 +83,7 @@ name-named i h (suc (suc (suc (suc (suc (suc (suc (suc s)))))))) n = beyond (suc
         (cond (eqb s 7) (getElem? (permissions (i .names) (n / 32)) (n % 32)) (sortOf s >>= λ s. getElem? (namesOf s (i .names)) n))
     beyond s l q = rw (ne-eqb s 6 (λ x. omega arith), ne-eqb s 7 (λ x. omega arith), q) (no-sort (i .names) (good (i .names) (formed i h .names)) s n l)
 
--- THE NAME SHOWN IS THE ONE DECLARED, whatever stands behind the table; and where there is none the answer is 12
+-- THE NAME SHOWN IS THE ONE DECLARED, whatever is after the table; and where there is none the answer is 12
 pub name-shown : (i : Image) → wellFormed i ≡ true → (rest : List ℕ) (s n : ℕ) → shown (encode i ++ rest) (nameOf i s n) ≡ orTwelve (nameIn (i .names) s n)
 unfolding nameOf encode bodies joined
 name-shown i h rest s n =

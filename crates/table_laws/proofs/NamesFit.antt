@@ -8,7 +8,7 @@ use mathlib.Core.List.{List, [], _∷_, _++_}
 use lib.Dec.{leb, ltb}
 use lib.ListN.{length}
 use borrow.Author.Tests.{leb-true, ltb-true}
-use Rattle.lexer.specs.Class.{maxName, isPart, allParts, isDotted}
+use Rattle.lexer.specs.Class.{maxName, isPart, allParts, hasGoodParts}
 use Rattle.lexer.proofs.Names.{only-part}
 use Rattle.policy.specs.Basics.{Name, All}
 use Rattle.policy.specs.Statements.{Declaration, plain, class, count, classNames}
@@ -41,7 +41,7 @@ pub record GoodEntry (e : NameEntry) : Type 0 where
 
 -- a good part is a good name, of one part
 pub part-is-good : (w : Name) → isGoodPart w ≡ true → isGood w ≡ true
-unfolding isDotted allParts
+unfolding hasGoodParts allParts
 part-is-good w h =
     let a = both-true (isPart w && leb (length w) maxName) (not (isReserved w)) h in
     let b = both-true (isPart w) (leb (length w) maxName) (a .0) in

@@ -51,7 +51,8 @@ abbrev pub grouped : List Name → List Declaration → Grouped
 grouped ws ds = record { waiting = ws; done = ds }
 
 -- a class's permissions wait, in order
-group-permissions : (ps : List Name) (n : ℕ) (es : List NameEntry) (ds : List Declaration) → group es ≡ some (grouped [] ds) → group (permissionEntries n ps ++ es) ≡ some (grouped ps ds)
+group-permissions : (ps : List Name) (n : ℕ) (es : List NameEntry) (ds : List Declaration) → group es ≡ some (grouped [] ds)
+    → group (permissionEntries n ps ++ es) ≡ some (grouped ps ds)
 unfolding permissionEntries group
 group-permissions [] n es ds h = h
 group-permissions (p ∷ ps) n es ds h = rw (group-permissions ps (n + 1) es ds h)
@@ -77,7 +78,8 @@ group-back earlier [] h = refl
 group-back earlier (plain s w ∷ ds) h = rw (group-back (earlier ++ (plain s w ∷ [])) ds (h .1)) (group-plain s (count s earlier) w ds)
 group-back earlier (class w [] ∷ ds) h = absurd (h .0)
 group-back earlier (class w (p ∷ ps) ∷ ds) h =
-    rw (group-permissions ps (length (classNames earlier) * 32 + 1) (entriesFrom (earlier ++ (class w (p ∷ ps) ∷ [])) ds) ds (group-back (earlier ++ (class w (p ∷ ps) ∷ [])) ds (h .1)))
+    rw (group-permissions ps (length (classNames earlier) * 32 + 1) (entriesFrom (earlier ++ (class w (p ∷ ps) ∷ [])) ds) ds
+    (group-back (earlier ++ (class w (p ∷ ps) ∷ [])) ds (h .1)))
 
 -- the names are read back
 pub names-back : (ds : List Declaration) → All Peopled ds → All SmallNumber (entries ds) → namesAt (joined (each entryBytes (entries ds))) ≡ some ds

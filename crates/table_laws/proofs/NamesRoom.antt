@@ -8,7 +8,7 @@ use lib.Dec.{leb, ltb}
 use lib.ListN.{length, length-append}
 use borrow.Author.Tests.{leb-true}
 use Rattle.bitset.specs.Relations.{joined}
-use Rattle.lexer.specs.Class.{maxName, parts, isDotted}
+use Rattle.lexer.specs.Class.{maxName, parts, hasGoodParts}
 use Rattle.policy.specs.Basics.{Name, each, gather, le, All}
 use Rattle.policy.specs.Statements.{users, roles, types, Sort, thingOf, attributeOf, Declaration, plain, class, count, namesOf, classNames}
 use Rattle.policy.specs.Encode.{NameEntry, permissionEntries, entriesFrom, entries, entryBytes}
@@ -30,9 +30,9 @@ names-length (e ∷ es) = omega (arith, length-append (e .name) (joined (each en
 -- "at most 64 bytes"
 pub name-short : (w : Name) → isGood w ≡ true → length w ≤ 64
 name-short w h =
-    let a = both-true (isDotted w && leb (length w) maxName && leb (length (parts w)) maxParts) (not (isReserved w)) h in
-    let b = both-true (isDotted w && leb (length w) maxName) (leb (length (parts w)) maxParts) (a .0) in
-    leb-true (length w) maxName (both-true (isDotted w) (leb (length w) maxName) (b .0) .1)
+    let a = both-true (hasGoodParts w && leb (length w) maxName && leb (length (parts w)) maxParts) (not (isReserved w)) h in
+    let b = both-true (hasGoodParts w && leb (length w) maxName) (leb (length (parts w)) maxParts) (a .0) in
+    leb-true (length w) maxName (both-true (hasGoodParts w) (leb (length w) maxName) (b .0) .1)
 
 names-short : (es : List NameEntry) → All GoodEntry es → namesLength es ≤ 68 * length es
 unfolding namesLength

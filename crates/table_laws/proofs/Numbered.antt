@@ -32,7 +32,7 @@ unfolding named
 over s n [] fs h = refl
 over s n (e ∷ es) fs h = rw (ne-eqb (e .sort) s (h .0)) (over s n es fs (h .1))
 
--- what stands in the entries of one declaration for those that f takes, under the code c
+-- what is in the entries of one declaration for those that f takes, under the code c
 record Entered (c : ℕ) (f : Declaration → Option Name) (e : List Declaration) (d : Declaration) (w : Name) : Type 0 where
   takes : f d ≡ some w
   after : List NameEntry

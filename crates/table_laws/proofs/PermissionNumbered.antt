@@ -19,7 +19,7 @@ use Rattle.policy.proofs.Counts.{FewPermissions, few-in-all}
 use Rattle.policy.proofs.Sorts.{code-below}
 use Rattle.table_laws.proofs.Numbered.{named}
 
--- a place among the permissions that start at b; a number behind them
+-- a place among the permissions that start at b; a number after them
 in-perms : (b : ℕ) (ps : List Name) (rest : List NameEntry) (j : ℕ) → j < length ps → named 7 (b + j) (permissionEntries b ps ++ rest) ≡ getElem? ps j
 unfolding named permissionEntries
 in-perms b [] rest j h = absurd (omega arith)
@@ -80,7 +80,8 @@ permission-from e (class w ps ∷ ds) h zero k l = by (ltb k (length ps)) refl
     rest = entriesFrom (e ++ (class w ps ∷ [])) ds
 
     by : (b : Bool) → ltb k (length ps) ≡ b → named 7 ((classes e + 0) * 32 + k) (permissionEntries (classes e * 32) ps ++ rest) ≡ getElem? ps k
-    by true q = ap (λ (n : ℕ). named 7 (n * 32 + k) (permissionEntries (classes e * 32) ps ++ rest)) (add-zero (classes e)) ∙ in-perms (classes e * 32) ps rest k (ltb-true k (length ps) q)
+    by true q =
+        ap (λ (n : ℕ). named 7 (n * 32 + k) (permissionEntries (classes e * 32) ps ++ rest)) (add-zero (classes e)) ∙ in-perms (classes e * 32) ps rest k (ltb-true k (length ps) q)
     by false q =
         let short = ltb-false k (length ps) q in
         behind-perms (classes e * 32) ps rest ((classes e + 0) * 32 + k) (omega arith)

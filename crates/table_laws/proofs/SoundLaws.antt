@@ -32,7 +32,7 @@ unsound-exactly t b = (λ h s. Option·none-ne-some (s .image) (sym h ∙ sound-
     by n none e = e
     by n (some i) e = absurd (n (read-sound t b i e .0))
 
--- THE IMAGE OF A SOUND TABLE IS THE ONLY ONE, and so is what stands behind it
+-- THE IMAGE OF A SOUND TABLE IS THE ONLY ONE, and so is what is after it
 pub sound-image : (t : List ℕ) (a b : Sound t) → a .image ≡ b .image
 sound-image t a b = Option·some-injective (a .image) (b .image) (sym (sound-read t a) ∙ sound-read t b)
 
@@ -40,6 +40,6 @@ pub sound-rest : (t : List ℕ) (a b : Sound t) → a .rest ≡ b .rest
 sound-rest t a b = append-cancel-left (encode (a .image)) (a .rest) (b .rest)
     (sym (a .laid) ∙ b .laid ∙ ap (λ (i : Image). encode i ++ b .rest) (sym (sound-image t a b)))
 
--- what is written for a well-formed image is sound, whatever stands behind it
+-- what is written for a well-formed image is sound, whatever is after it
 pub encode-sound : (i : Image) → wellFormed i ≡ true → (rest : List ℕ) → Sound (encode i ++ rest)
 encode-sound i h rest = record { image = i; formed = h; rest = rest; laid = refl }

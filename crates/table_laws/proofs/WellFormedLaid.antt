@@ -1,4 +1,4 @@
--- A well-formed image fits its bytes: so its table is read back, whatever stands behind it, and its length is known. Assumes nothing.
+-- A well-formed image fits its bytes: so its table is read back, whatever is after it, and its length is known. Assumes nothing.
 use Prim.Native.Nat.{ℕ, _+_, _<_, _≤_}
 use native.Mathlib.Omega.{arith}
 use native.Mathlib.Nat.{pow-le-pow-right}

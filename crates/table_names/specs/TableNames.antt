@@ -55,13 +55,13 @@ isFoundName (answered p) = true
 isFoundName (refused n k) = false
 
 -- the part of the table is the word; it is one of the words
-abbrev pub bears : List ℕ → Reply Part → Name → Bool
-bears t (answered p) w = same (part t (p .start) (p .long)) w
-bears t (refused n k) w = false
+abbrev pub hasName : List ℕ → Reply Part → Name → Bool
+hasName t (answered p) w = same (part t (p .start) (p .long)) w
+hasName t (refused n k) w = false
 
-abbrev pub bearsOne : List ℕ → Reply Part → List Name → Bool
-bearsOne t r ws = any (bears t r) ws
+abbrev pub hasOneName : List ℕ → Reply Part → List Name → Bool
+hasOneName t r ws = any (hasName t r) ws
 
 -- "class `process`, permission `transition` or `dyntransition`"; 6 is the sort of classes
 unfoldable pub asksRoleIn : List ℕ → ℕ → ℕ → Bool
-asksRoleIn t c k = bears t (nameAt t 6 c) process && bearsOne t (permissionIn t c k) transitionWords
+asksRoleIn t c k = hasName t (nameAt t 6 c) process && hasOneName t (permissionIn t c k) transitionWords

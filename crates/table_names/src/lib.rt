@@ -1,4 +1,5 @@
-// What the names of a table say, whatever the bytes are: how many there are of each sort, and whether a thing has a word for its name.
+// What the names of a table say, whatever the bytes are: how many there are of each sort, and whether a thing has a
+// word for its name.
 use policy::Class;
 use policy::NameCounts;
 use policy::Permission;
@@ -11,7 +12,7 @@ ghost use mathlib.Core.Path.{_≡_};
 ghost use lib.ListN.{replicate};
 ghost use Rattle.policy.specs.Words.{transitionWords};
 ghost use Rattle.symbols.specs.Lookup.{replyOf};
-ghost use Rattle.table_names.specs.TableNames.{namesEnd, countsIn, Tallied, isFoundName, nameAt, permissionIn, bears, bearsOne, asksRoleIn};
+ghost use Rattle.table_names.specs.TableNames.{namesEnd, countsIn, Tallied, isFoundName, nameAt, permissionIn, hasName, hasOneName, asksRoleIn};
 
 // Where the names end, as the header says.
 pub fn names_end(table: &[u8]) -> usize
@@ -28,7 +29,7 @@ fn tally(table: &[u8], counts: &mut [usize])
     let end = names_end(table);
     let mut at = Table::HEADER_BYTES;
     loop {
-        let k = symbols::look(table, at, end);
+        let k = symbols::next_entry(table, at, end);
         match k {
             Entry::Named {
                 sort,
@@ -73,9 +74,10 @@ pub fn name_place(table: &[u8], sort: usize, number: usize) -> NamePlace
     symbols::name_of(table, Table::HEADER_BYTES, names_end(table), sort, number)
 }
 
-// Whether a name is a word. Where a table ends within a part, the part is cut there, so that a longer part is compared too.
+// Whether a name is a word. Where a table ends within a part, the part is cut there, so that a longer part is
+// compared too.
 fn is_word(table: &[u8], place: NamePlace, word: &[u8]) -> bool
-    ensures { λ r. ⌜ r ≡ bears (now (table .entry)) (replyOf place) (now (word .entry)) ⌝ }
+    ensures { λ r. ⌜ r ≡ hasName (now (table .entry)) (replyOf place) (now (word .entry)) ⌝ }
 {
     match place {
         NamePlace::At { start, length } => {
@@ -90,7 +92,7 @@ fn is_word(table: &[u8], place: NamePlace, word: &[u8]) -> bool
 
 // Whether the name of a sort and number is a word.
 pub fn is_named(table: &[u8], sort: usize, number: usize, word: &[u8]) -> bool
-    ensures { λ r. ⌜ r ≡ bears (now (table .entry)) (nameAt (now (table .entry)) sort number) (now (word .entry)) ⌝ }
+    ensures { λ r. ⌜ r ≡ hasName (now (table .entry)) (nameAt (now (table .entry)) sort number) (now (word .entry)) ⌝ }
 {
     let place = name_place(table, sort, number);
     is_word(table, place, word)
@@ -137,7 +139,7 @@ const DYNTRANSITION: [u8; 13] = *b"dyntransition";
 
 // Whether a permission is `transition` or `dyntransition`.
 fn is_transition(table: &[u8], class: usize, permission: usize) -> bool
-    ensures { λ r. ⌜ r ≡ bearsOne (now (table .entry)) (permissionIn (now (table .entry)) class permission) transitionWords ⌝ }
+    ensures { λ r. ⌜ r ≡ hasOneName (now (table .entry)) (permissionIn (now (table .entry)) class permission) transitionWords ⌝ }
 {
     let transition = TRANSITION;
     let dyntransition = DYNTRANSITION;

@@ -62,7 +62,7 @@ none-named e (f ∷ es) h = rw (apart-not e f (h .0)) (none-named e es (h .1))
 not-both : (n k : ℕ) (p : Part) → refused n k ≡ answered p → ⊥
 not-both n k p h = let z : _≡_ {A = ℕ} 0 1 = cc in absurd (omega arith)
 
--- a name stands behind the four bytes before it
+-- a name is after the four bytes before it
 answered-start : (p q : Part) → answered p ≡ answered q → p .start ≡ q .start
 answered-start p q h = cc
 
@@ -78,7 +78,7 @@ placed-behind s n o (e ∷ es) p h = by (isThat s n e) h (placed-behind s n (o +
 
 -- ---- entries with the same places and names are the same
 
--- behind a first entry that is the same, places and names are the same
+-- after a first entry that is the same, places and names are the same
 module _ (e : NameEntry) (es fs : List NameEntry) (o : ℕ) (apart : All (Apart e) es) (apart′ : All (Apart e) fs) where
   places-behind : ((s n : ℕ) → nameFrom s n o (e ∷ es) ≡ nameFrom s n o (e ∷ fs)) → (s n : ℕ)
       → nameFrom s n (o + length (entryBytes e)) es ≡ nameFrom s n (o + length (entryBytes e)) fs
@@ -149,7 +149,8 @@ same-entries (e ∷ es) [] o low d d′ places names =
     ∙ ap (λ (b : Bool). cond b (answered (record { start = o + 4; long = length (e .name) })) (nameFrom (e .sort) (e .number) (o + length (entryBytes e)) es)) (itself e) in
     absurd (not-both 12 0 (record { start = o + 4; long = length (e .name) }) z)
 same-entries (e ∷ es) (f ∷ fs) o low d d′ places names =
-    subst (λ (f : NameEntry). All (Apart f) fs → ((s n : ℕ) → nameFrom s n o (e ∷ es) ≡ nameFrom s n o (f ∷ fs)) → ((s n : ℕ) → s < 8 → named s n (e ∷ es) ≡ named s n (f ∷ fs)) → e ∷ es ≡ f ∷ fs)
+    subst (λ (f : NameEntry). All (Apart f) fs → ((s n : ℕ) → nameFrom s n o (e ∷ es) ≡ nameFrom s n o (f ∷ fs)) →
+    ((s n : ℕ) → s < 8 → named s n (e ∷ es) ≡ named s n (f ∷ fs)) → e ∷ es ≡ f ∷ fs)
     (first-same e f es fs o places names (low .0))
     (λ a p q. ap (λ (r : List NameEntry). e ∷ r)
     (same-entries es fs (o + length (entryBytes e)) (low .1) (d .1) (d′ .1) (places-behind e es fs o (d .0) a p) (names-behind e es fs o (d .0) a q)))
@@ -157,7 +158,7 @@ same-entries (e ∷ es) (f ∷ fs) o low d d′ places names =
 
 -- ---- tables
 
--- lists that start with as many elements are the same in them and behind them
+-- lists that start with as many elements are the same in them and after them
 cut : {A : Type 0} (xs ys xs′ ys′ : List A) → length xs ≡ length xs′ → xs ++ ys ≡ xs′ ++ ys′ → (xs ≡ xs′) × (ys ≡ ys′)
 cut xs ys xs′ ys′ l h = (
   sym (take-at xs ys (length xs) refl) ∙ ap (take (length xs)) h ∙ take-at xs′ ys′ (length xs) (sym l),

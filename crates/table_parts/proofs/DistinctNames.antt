@@ -102,7 +102,8 @@ permissions-distinct n (p ∷ ps) es h d = (
   all-append (Apart (nameEntry 7 n p)) (permissionEntries (n + 1) ps) es (permissions-apart n (n + 1) (omega arith) ps p)
       (all-map (λ (x : NameEntry). x .sort ≡ 7 → n + length (p ∷ ps) ≤ x .number) (Apart (nameEntry 7 n p)) (λ x f q r. omega (arith, f q)) es h),
   permissions-distinct (n + 1) ps es
-      (all-map (λ (x : NameEntry). x .sort ≡ 7 → n + length (p ∷ ps) ≤ x .number) (λ (x : NameEntry). x .sort ≡ 7 → n + 1 + length ps ≤ x .number) (λ x f q. omega (arith, f q)) es h) d,
+      (all-map (λ (x : NameEntry). x .sort ≡ 7 → n + length (p ∷ ps) ≤ x .number) (λ (x : NameEntry). x .sort ≡ 7 → n + 1 + length ps ≤ x .number)
+      (λ x f q. omega (arith, f q)) es h) d,
 )
 
 distinct-from : (e ds : List Declaration) → All FewPermissions ds → Distinct (entriesFrom e ds)
@@ -126,7 +127,8 @@ distinct-from e (class w ps ∷ ds) h =
           (class-apart k w (k * 32) ps)
           (all-map (From later) (Apart (nameEntry 6 k w)) (λ x f q r. omega (arith, f .classes q, one-class e w ps)) rest (all-from later ds)),
       permissions-distinct (k * 32) ps rest
-          (all-map (From later) (λ (x : NameEntry). x .sort ≡ 7 → k * 32 + length ps ≤ x .number) (λ x f q. omega (arith, f .permissions q, one-class e w ps, h .0)) rest (all-from later ds))
+          (all-map (From later) (λ (x : NameEntry). x .sort ≡ 7 → k * 32 + length ps ≤ x .number)
+          (λ x f q. omega (arith, f .permissions q, one-class e w ps, h .0)) rest (all-from later ds))
           (distinct-from later ds (h .1)),
     )
   where

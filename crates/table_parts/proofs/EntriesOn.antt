@@ -12,7 +12,7 @@ use Rattle.policy.specs.Maxima.{maxOf}
 use Rattle.policy.specs.Image.{Image}
 use Rattle.policy.specs.Encode.{transitionBytes, headBytes, headsFrom, sortCode, bodies}
 use Rattle.policy.specs.Deciding.{refused}
-use Rattle.policy.specs.Questions.{Run, runOf, records, recordFrom, entryOf, asked, entryOn}
+use Rattle.policy.specs.Questions.{Records, recordsOf, records, recordFrom, entryOf, asked, entryOn}
 use Rattle.policy.proofs.Lists.{each-length}
 use Rattle.policy.proofs.Counts.{few-of}
 use Rattle.table_laws.proofs.Pieces.{wide-length}
@@ -27,45 +27,45 @@ use Rattle.table_names.specs.TableNames.{countIn, countsIn}
 use Rattle.table_parts.proofs.HeldImage.{Held}
 
 -- body 8, "Sets of userattributes, roleattributes, typeattributes: 16, 16, 64 each"
-abbrev pub setRuns : NameCounts → List Run
-setRuns n = runOf (n .«user_attributes») 16 ∷ runOf (n .«role_attributes») 16 ∷ runOf (n .«type_attributes») 64 ∷ []
+abbrev pub setRuns : NameCounts → List Records
+setRuns n = recordsOf (n .«user_attributes») 16 ∷ recordsOf (n .«role_attributes») 16 ∷ recordsOf (n .«type_attributes») 64 ∷ []
 
 module _ {t : List ℕ} (h : Held t) where
   abbrev i : Image
   i = h .image
 
   -- body b + 1 of the definition is body b of the header
-  entry-runs : (b k : ℕ) → b < 8 → (rs : List Run) → getD (records i) (suc b) [] ≡ rs → recordFrom k (startIn t b) rs ≡ entryOn t (suc b) k
+  entry-runs : (b k : ℕ) → b < 8 → (rs : List Records) → getD (records i) (suc b) [] ≡ rs → recordFrom k (startIn t b) rs ≡ entryOn t (suc b) k
   unfolding entryOn entryOf bodyPlace
   entry-runs b k l rs e =
       let before : b ≡ suc b - 1 = omega arith in
       ap (λ (o : ℕ). recordFrom k o rs) (h .start b l)
-      ∙ ap₂ (λ (o : ℕ) (r : List Run). recordFrom k o r) (ap (λ (m : ℕ). 68 + length (joined (take m (bodies i)))) before) (sym e)
+      ∙ ap₂ (λ (o : ℕ) (r : List Records). recordFrom k o r) (ap (λ (m : ℕ). 68 + length (joined (take m (bodies i)))) before) (sym e)
       ∙ ap (asked (λ i. entryOf i (suc b) k)) (sym (h .read))
 
   -- a body that is records of one width has as many of them as fit into its length
-  one-run : (b k n w : ℕ) → b < 8 → getD (records i) (suc b) [] ≡ runOf n w ∷ [] → n ≡ lengthIn t b / w
-      → recordFrom k (startIn t b) (runOf (lengthIn t b / w) w ∷ []) ≡ entryOn t (suc b) k
-  one-run b k n w l e m = entry-runs b k l (runOf (lengthIn t b / w) w ∷ []) (e ∙ ap (λ (n : ℕ). runOf n w ∷ []) m)
+  one-run : (b k n w : ℕ) → b < 8 → getD (records i) (suc b) [] ≡ recordsOf n w ∷ [] → n ≡ lengthIn t b / w
+      → recordFrom k (startIn t b) (recordsOf (lengthIn t b / w) w ∷ []) ≡ entryOn t (suc b) k
+  one-run b k n w l e m = entry-runs b k l (recordsOf (lengthIn t b / w) w ∷ []) (e ∙ ap (λ (n : ℕ). recordsOf n w ∷ []) m)
 
   -- THE BODIES 2 TO 7
 
-  pub entry-2 : (k : ℕ) → recordFrom k (startIn t 1) (runOf (lengthIn t 1 / 16) 16 ∷ []) ≡ entryOn t 2 k
+  pub entry-2 : (k : ℕ) → recordFrom k (startIn t 1) (recordsOf (lengthIn t 1 / 16) 16 ∷ []) ≡ entryOn t 2 k
   unfolding bodies
   entry-2 k = one-run 1 k (length (i .userRoles)) 16 (omega arith) refl
       (omega (arith, h .long 1 (omega arith), wide-length 16 (i .userRoles) (widths i (h .formed) .userRoles)))
 
-  pub entry-3 : (k : ℕ) → recordFrom k (startIn t 2) (runOf (lengthIn t 2 / 64) 64 ∷ []) ≡ entryOn t 3 k
+  pub entry-3 : (k : ℕ) → recordFrom k (startIn t 2) (recordsOf (lengthIn t 2 / 64) 64 ∷ []) ≡ entryOn t 3 k
   unfolding bodies
   entry-3 k = one-run 2 k (length (i .roleTypes)) 64 (omega arith) refl
       (omega (arith, h .long 2 (omega arith), wide-length 64 (i .roleTypes) (widths i (h .formed) .roleTypes)))
 
-  pub entry-4 : (k : ℕ) → recordFrom k (startIn t 3) (runOf (lengthIn t 3 / 16) 16 ∷ []) ≡ entryOn t 4 k
+  pub entry-4 : (k : ℕ) → recordFrom k (startIn t 3) (recordsOf (lengthIn t 3 / 16) 16 ∷ []) ≡ entryOn t 4 k
   unfolding bodies
   entry-4 k = one-run 3 k (length (i .roleRoles)) 16 (omega arith) refl
       (omega (arith, h .long 3 (omega arith), wide-length 16 (i .roleRoles) (widths i (h .formed) .roleRoles)))
 
-  pub entry-5 : (k : ℕ) → recordFrom k (startIn t 4) (runOf (lengthIn t 4 / 82) 82 ∷ []) ≡ entryOn t 5 k
+  pub entry-5 : (k : ℕ) → recordFrom k (startIn t 4) (recordsOf (lengthIn t 4 / 82) 82 ∷ []) ≡ entryOn t 5 k
   unfolding bodies
   entry-5 k = one-run 4 k (length (i .transitions)) 82 (omega arith) refl
       (omega (
@@ -75,7 +75,7 @@ module _ {t : List ℕ} (h : Held t) where
         each-length transitionBytes (i .transitions),
       ))
 
-  pub entry-6 : (k : ℕ) → recordFrom k (startIn t 5) (runOf (lengthIn t 5 / 10) 10 ∷ []) ≡ entryOn t 6 k
+  pub entry-6 : (k : ℕ) → recordFrom k (startIn t 5) (recordsOf (lengthIn t 5 / 10) 10 ∷ []) ≡ entryOn t 6 k
   unfolding bodies
   entry-6 k = one-run 5 k (length (i .constraints)) 10 (omega arith) refl
       (omega (
@@ -86,7 +86,7 @@ module _ {t : List ℕ} (h : Held t) where
         heads-length 0 (i .constraints),
       ))
 
-  pub entry-7 : (k : ℕ) → recordFrom k (startIn t 6) (runOf (lengthIn t 6 / 6) 6 ∷ []) ≡ entryOn t 7 k
+  pub entry-7 : (k : ℕ) → recordFrom k (startIn t 6) (recordsOf (lengthIn t 6 / 6) 6 ∷ []) ≡ entryOn t 7 k
   unfolding bodies
   entry-7 k = one-run 6 k (length (getD (bodies i) 6 []) / 6) 6 (omega arith) refl (ap (λ (n : ℕ). n / 6) (sym (h .long 6 (omega arith))))
 
@@ -107,7 +107,7 @@ module _ {t : List ℕ} (h : Held t) where
   )
 
   pub entry-8 : (k : ℕ) → recordFrom k (startIn t 7) (setRuns (countsIn t)) ≡ entryOn t 8 k
-  entry-8 k = entry-runs 7 k (omega arith) (setRuns (countsIn t)) (λ j. runOf (us j) 16 ∷ runOf (rs j) 16 ∷ runOf (ts j) 64 ∷ [])
+  entry-8 k = entry-runs 7 k (omega arith) (setRuns (countsIn t)) (λ j. recordsOf (us j) 16 ∷ recordsOf (rs j) 16 ∷ recordsOf (ts j) 64 ∷ [])
     where
       us : length (i .userSets) ≡ countIn t 3
       us = well-formed-laid i (h .formed) .userSets .many ∙ sym (declared (attributeOf users))

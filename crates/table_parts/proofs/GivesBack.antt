@@ -1,5 +1,5 @@
 -- READING A TABLE GIVES BACK THOSE SETS, ROWS AND NAMES: by the questions name of and entry alone, for every sound table, and so for what is
--- written for a well-formed image, whatever stands behind it. Assumes nothing.
+-- written for a well-formed image, whatever is after it. Assumes nothing.
 use Prim.Native.Nat.{ℕ, zero, suc, _+_, _*_, _/_, _%_, _<_, _≤_}
 use native.Mathlib.Omega.{arith}
 use mathlib.Core.Path.{_≡_, refl, ap, ap₂, _∙_}
@@ -115,8 +115,11 @@ module _ (t : List ℕ) (s : Sound t) where
   pub gives-back : GivesBack t i
   unfolding recordsIn count
   gives-back = record {
-    names = λ o. listed-all (namesOf o (i .names)) 2048 (λ n. shown t (nameOn t (sortCode o) n)) (omega (arith, few o)) (λ n h. name-shown (sortCode o) n ∙ ap orTwelve (sort-in o n));
-    classes = listed-all (classNames (i .names)) 2048 (λ n. shown t (nameOn t 6 n)) (omega (arith, few-classes (i .names) (form .names))) (λ n h. name-shown 6 n ∙ ap orTwelve (class-in n));
+    names =
+        λ o. listed-all (namesOf o (i .names)) 2048 (λ n. shown t (nameOn t (sortCode o) n)) (omega (arith, few o)) (λ n h. name-shown (sortCode o) n ∙ ap orTwelve (sort-in o n));
+    classes =
+        listed-all (classNames (i .names)) 2048 (λ n. shown t (nameOn t 6 n)) (omega (arith, few-classes (i .names) (form .names)))
+        (λ n h. name-shown 6 n ∙ ap orTwelve (class-in n));
     permissions = λ c. listed-all (permissions (i .names) c) 32 (λ k. shown t (nameOn t 7 (c * 32 + k))) (few-permissions-of (i .names) (form .names) c)
         (λ k h. name-shown 7 (c * 32 + k) ∙ ap orTwelve (permission-in c k h));
     userRoles = body 2 (omega (arith, laid .userRoles .many, few (thingOf users)));
@@ -127,6 +130,6 @@ module _ (t : List ℕ) (s : Sound t) where
     attributes = body 8 few-sets;
   }
 
--- WHAT IS WRITTEN FOR A WELL-FORMED IMAGE GIVES IT BACK, whatever stands behind it
+-- WHAT IS WRITTEN FOR A WELL-FORMED IMAGE GIVES IT BACK, whatever is after it
 pub written-gives-back : (i : Image) → wellFormed i ≡ true → (rest : List ℕ) → GivesBack (encode i ++ rest) i
 written-gives-back i h rest = gives-back (encode i ++ rest) (record { image = i; formed = h; rest = rest; laid = refl })

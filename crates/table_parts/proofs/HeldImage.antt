@@ -21,9 +21,9 @@ use Rattle.table_laws.proofs.NamesOnly.{names-only}
 use Rattle.table_laws.proofs.WellFormedLaid.{well-formed-laid}
 use Rattle.table_reader.specs.Records.{startIn, lengthIn, bodyPlace}
 use Rattle.table_reader.proofs.BodyPlaces.{start-part, length-part}
-use Rattle.image_rows.specs.SoundRows.{isSome}
-use Rattle.name_section.proofs.Answers.{sound-good}
-use Rattle.image.proofs.SoundImage.{image-names}
+use Rattle.sound_constraints.specs.SoundRows.{isSome}
+use Rattle.sound_names.proofs.Answers.{sound-good}
+use Rattle.sound_bodies.proofs.SoundImage.{image-names}
 use Rattle.soundness.specs.IsSound.{isSound}
 
 -- the image, where the header says that its bodies stand, and its names in body 1

@@ -1,6 +1,6 @@
 -- Laws for the proofs of this crate.
 pub mod HeldImage
-pub mod Runs
+pub mod RecordLaws
 pub mod EntriesOn
 pub mod ShownLaws
 pub mod GivesBack

@@ -26,7 +26,7 @@ at o w = answered (record { start = o; long = w })
 pub record Worked : Type 0 where
   pub sound : isSound roll ≡ true
   pub cut : isSound (drop 1 roll) ≡ false
-  -- the names start at 68, each of one byte behind four
+  -- the names start at 68, each of one byte after four
   pub role-b : nameOn roll 1 1 ≡ at 82 1
   pub role-b-shown : shownPart (nameOn roll 1 1) roll ≡ bytes "b"
   pub no-role : nameOn roll 1 2 ≡ refused 12 0

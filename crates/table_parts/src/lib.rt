@@ -1,5 +1,6 @@
-// The questions name of and entry: where a name or an entry stands in a table, and the part of the lent table itself. The functions whose
-// names end in `in_sound` are for a caller that knows the table to be sound; the others answer for every table, 11 before 12.
+// The questions name of and entry: where a name or an entry is in a table, and the part of the lent table itself. The
+// functions whose names end in `in_sound` are for a caller that knows the table to be sound; the others answer for
+// every table, 11 before 12.
 use policy::Constraint;
 use policy::Place;
 use policy::Refusal;
@@ -15,14 +16,14 @@ ghost use mathlib.Core.Bool.{true};
 ghost use mathlib.Core.List.{[], _∷_};
 ghost use Prim.Native.Nat.{_+_, _/_, _<_};
 ghost use Rattle.policy.specs.Answers.{placeOf};
-ghost use Rattle.policy.specs.Questions.{runOf, recordFrom, nameOn, entryOn};
+ghost use Rattle.policy.specs.Questions.{recordsOf, recordFrom, nameOn, entryOn};
 ghost use Rattle.table_reader.specs.Records.{startIn, lengthIn};
 ghost use Rattle.soundness.specs.IsSound.{isSound};
 ghost use Rattle.table_parts.specs.ShownPart.{shownPart};
 
 // ---- names
 
-// Where the name of a sort and number stands in a sound table.
+// Where the name of a sort and number is in a sound table.
 pub fn name_place_in_sound(table: &[u8], sort: usize, number: usize) -> Place
     requires { ⌜ isSound (now table) ≡ true ⌝ }
     ensures { λ r. ⌜ placeOf r ≡ nameOn (now (table .entry)) sort number ⌝ }
@@ -41,7 +42,7 @@ pub fn name_place_in_sound(table: &[u8], sort: usize, number: usize) -> Place
 // The record at a place among so many of one width, the first of which starts at `start`.
 fn record_place(start: usize, count: usize, width: usize, place: usize) -> Place
     requires { ⌜ (start < 8589934592) × (count < 4294967296) × (width < 256) ⌝ }
-    ensures { λ r. ⌜ placeOf r ≡ recordFrom place start (runOf count width ∷ []) ⌝ }
+    ensures { λ r. ⌜ placeOf r ≡ recordFrom place start (recordsOf count width ∷ []) ⌝ }
 {
     if count <= place {
         return Place::Refused {
@@ -57,7 +58,7 @@ fn record_place(start: usize, count: usize, width: usize, place: usize) -> Place
 // The record at a place of a body, counted from 0, that is records of one width.
 fn run_place(table: &[u8], body: u8, width: usize, place: usize) -> Place
     requires { ⌜ (0 < width) × (width < 256) ⌝ }
-    ensures { λ r. ⌜ placeOf r ≡ recordFrom place (startIn (now (table .entry)) body) (runOf (lengthIn (now (table .entry)) body / width) width ∷ []) ⌝ }
+    ensures { λ r. ⌜ placeOf r ≡ recordFrom place (startIn (now (table .entry)) body) (recordsOf (lengthIn (now (table .entry)) body / width) width ∷ []) ⌝ }
 {
     let start = table_reader::body_start(table, body) as usize;
     let bytes = table_reader::body_length(table, body) as usize;
@@ -66,10 +67,11 @@ fn run_place(table: &[u8], body: u8, width: usize, place: usize) -> Place
 
 // ---- entries of body 8
 
-// The set at a place among those of userattributes, then roleattributes, then typeattributes, the first of which starts at `start`.
+// The set at a place among those of userattributes, then roleattributes, then typeattributes, the first of which
+// starts at `start`.
 fn set_place(start: usize, users: usize, roles: usize, types: usize, place: usize) -> Place
     requires { ⌜ (start < 4294967296) × (users < 65536) × (roles < 65536) × (types < 65536) ⌝ }
-    ensures { λ r. ⌜ placeOf r ≡ recordFrom place start (runOf users 16 ∷ runOf roles 16 ∷ runOf types 64 ∷ []) ⌝ }
+    ensures { λ r. ⌜ placeOf r ≡ recordFrom place start (recordsOf users 16 ∷ recordsOf roles 16 ∷ recordsOf types 64 ∷ []) ⌝ }
 {
     if place < users {
         return record_place(start, users, User::SET_BYTES, place);
@@ -105,7 +107,7 @@ fn attribute_place(table: &[u8], place: usize) -> Place
 
 // ---- entries
 
-// Where the entry of a body 2 to 8 and its place there stands in a sound table.
+// Where the entry of a body 2 to 8 and its place there is in a sound table.
 pub fn entry_place_in_sound(table: &[u8], body: usize, place: usize) -> Place
     requires { ⌜ isSound (now table) ≡ true ⌝ }
     ensures { λ r. ⌜ placeOf r ≡ entryOn (now (table .entry)) body place ⌝ }
@@ -150,7 +152,8 @@ pub fn entry_place(table: &[u8], body: usize, place: usize) -> Place
     entry_place_in_sound(table, body, place)
 }
 
-// The part of the table at a place; on refusal an empty one. Where an empty part points is free: here it is the front of the table.
+// The part of the table at a place; on refusal an empty one. Where an empty part points is free: here it is the front
+// of the table.
 fn part_at(table: &[u8], place: Place) -> &[u8]
     ensures { λ r. ⌜ now r ≡ shownPart (placeOf place) (now (table .entry)) ⌝ }
 {

@@ -1,4 +1,4 @@
--- Each body of an image's table stands at its place, whatever stands behind the table, and the header of a well-formed image's table says
+-- Each body of an image's table is at its place, whatever is after the table, and the header of a well-formed image's table says
 -- where that is and how long the body is. Assumes nothing.
 use Prim.Native.Nat.{ℕ, zero, suc, _+_, _*_, _^_, _<_}
 use native.Mathlib.Nat.{add-zero}
@@ -39,14 +39,14 @@ bodies-stand i rest = record {
       ∙ drop-at (pairs firstBody (bodies i)) (joined (bodies i) ++ rest) 64 (pairs-length (bodies i) firstBody ∙ ap (λ (n : ℕ). 8 * n) (eight i));
 }
 
--- body k, counted from 0, of an image's table stands at its place, whatever stands behind the table
+-- body k, counted from 0, of an image's table is at its place, whatever is after the table
 pub body-stands : (i : Image) (rest : List ℕ) (k : ℕ) → k < 8 → Stands (encode i ++ rest) (bodyPlace i k) (getD (bodies i) k [])
 unfolding bodyPlace
 body-stands i rest k h = stands-joined (bodies i) k (omega (arith, eight i)) (bodies-stand i rest)
 
 -- THE HEADER
 
--- a number that stands at a place is read back
+-- a number that is at a place is read back
 pub number-part : {t : List ℕ} {at : ℕ} (w n : ℕ) → n < 256 ^ w → Stands t at (le w n) → unle (take w (drop at t)) ≡ n
 number-part w n h s = ap (λ (l : List ℕ). unle (take w l)) (s .here) ∙ ap unle (take-at (le w n) (s .rest) w (le-length w n)) ∙ unle-le w n h
 

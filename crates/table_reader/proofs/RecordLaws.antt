@@ -1,4 +1,4 @@
--- Records that stand one after the other in a table: read one by one, and read back where they were written. Said once over the width and
+-- Records that are one after the other in a table: read one by one, and read back where they were written. Said once over the width and
 -- the record. Assumes nothing.
 use Prim.Native.Nat.{ℕ, zero, suc, _+_, _*_, _<_}
 use native.Mathlib.Omega.{arith}
@@ -29,7 +29,7 @@ module _ {A : Type 0} (w : ℕ) (read : List ℕ → A) (t : List ℕ) where
 
 -- WHAT STANDS WHERE
 
--- the bytes stand in t at a place
+-- the bytes are in t at a place
 pub record Stands (t : List ℕ) (at : ℕ) (bytes : List ℕ) : Type 0 where
   pub rest : List ℕ
   pub here : drop at t ≡ bytes ++ rest
@@ -44,7 +44,7 @@ module _ {t : List ℕ} {at : ℕ} where
     here = sym (drop-drop (length x) at t) ∙ ap (drop (length x)) (s .here ∙ append-assoc x y (s .rest)) ∙ drop-at x (y ++ s .rest) (length x) refl;
   }
 
--- part k of parts that stand one after the other, behind those before it
+-- part k of parts that are one after the other, after those before it
 joined-place : (ss : List (List ℕ)) (k : ℕ) → k < length ss → (rest : List ℕ)
     → drop (length (joined (take k ss))) (joined ss ++ rest) ≡ getD ss k [] ++ (joined (drop (suc k) ss) ++ rest)
 unfolding joined

@@ -1,5 +1,5 @@
-// Numbers and records in the bytes of a table, little endian. Every function answers for every table and every place: past the end all
-// bytes read 0.
+// Numbers and records in the bytes of a table, little endian. Every function answers for every table and every place:
+// past the end all bytes read 0.
 use policy::Constraint;
 use policy::Row;
 ghost use mathlib.Core.Path.{_≡_};

@@ -1,4 +1,4 @@
--- The bodies as their writers leave them, and the table as header and bodies one behind the other. Assumes nothing.
+-- The bodies as their writers leave them, and the table as header and bodies one after the other. Assumes nothing.
 use mathlib.Core.Path.{_≡_, refl, ap, _∙_}
 use mathlib.Core.List.{List, _++_, append-assoc, append-nil}
 use Prim.Native.Nat.{ℕ, _+_, _*_, _≤_}
@@ -56,7 +56,8 @@ module _ (p : Policy) where
     written = λ room. f .body p ok code rs ts (omega (arith, transitions-long p ok)) ∙ ap (put before at) transitions-are;
   }
 
-  pub sets-are : joined (setsOf (attributesIn p users) users (final p users)) ++ (joined (setsOf (attributesIn p roles) roles (final p roles)) ++ joined (setsOf (attributesIn p types) types (final p types))) ≡ body 7 p
+  pub sets-are : joined (setsOf (attributesIn p users) users (final p users)) ++
+      (joined (setsOf (attributesIn p roles) roles (final p roles)) ++ joined (setsOf (attributesIn p types) types (final p types))) ≡ body 7 p
   unfolding bodies imageOf
   sets-are = refl
 
@@ -111,7 +112,7 @@ module _ (p : Policy) where
     length-append (body 5 p) (body 6 p),
   )
 
--- what is put in front stands before the rest of the memory
+-- what is put in front is before the rest of the memory
 pub puts-front : {bytes before after : List ℕ} → Puts bytes before 0 after → length bytes ≤ length before → after ≡ bytes ++ drop (length bytes) before
 unfolding put
 puts-front {bytes} {before} {after} f h = f .written (omega arith) ∙ ap (λ (n : ℕ). bytes ++ drop n before) (zero-add (length bytes))

@@ -1,4 +1,4 @@
--- Bytes that are put one behind the other are put together; the header is laid so, pair by pair. Assumes nothing.
+-- Bytes that are put one after the other are put together; the header is laid so, pair by pair. Assumes nothing.
 use mathlib.Core.Path.{_≡_, sym, ap, ap₂, subst, _∙_}
 use mathlib.Core.List.{List, [], _∷_, _++_, append-assoc}
 use Prim.Native.Nat.{ℕ, _+_, _-_, _≤_, _<_}
@@ -39,7 +39,7 @@ pairs-first o e b bs h =
     let long : length b ≡ e - o = omega arith in
     ap₂ (λ (n m : ℕ). le 4 o ++ (le 4 n ++ pairs m bs)) long (sym h) ∙ sym (append-assoc (le 4 o) (le 4 (e - o)) (pairs e bs))
 
--- a pair is put, and the pairs of the later bodies behind it
+-- a pair is put, and the pairs of the later bodies after it
 pub puts-pair : {t u v : List ℕ} (at o e : ℕ) (b : List ℕ) (bs : List (List ℕ)) → e ≡ o + length b → Puts (pair o e) t at u → Puts (pairs e bs) u (at + 8) v
     → Puts (pairs o (b ∷ bs)) t at v
 puts-pair {t} {u} {v} at o e b bs h f g =

@@ -43,7 +43,7 @@ pub record WritesAttributes (r : Starts) (s : Sizes) (userSets roleSets typeSets
   pub says : (p : Policy) (code : List ℕ) → Sources p code userSets roleSets typeSets → SizesOf p s → StartsOf p r
       → Puts (body 7 p) before (r .«user_sets») after
 
--- the table of p, and behind it the bytes that were there: "On success bytes past the table are unchanged". Where the sizes or the rest are not those
+-- the table of p, and after it the bytes that were there: "On success bytes past the table are unchanged". Where the sizes or the rest are not those
 -- of an accepted policy, or the memory is too short for its table, what is written is free
 pub record WritesTable (s : Sizes) (symbols code constraints rows userSets roleSets typeSets before after : List ℕ) : Type 0 where
   pub says : (p : Policy) → Sources p code userSets roleSets typeSets → SizesOf p s

@@ -6,7 +6,7 @@ use lib.ListN.{length}
 use Rattle.bitset.specs.Parts.{put}
 use Rattle.policy.specs.Basics.{le}
 
--- where there is room for the bytes they stand from the place on, and nothing else is changed
+-- where there is room for the bytes they are from the place on, and nothing else is changed
 pub record Puts (bytes before : List ℕ) (at : ℕ) (after : List ℕ) : Type 0 where
   pub written : at + length bytes ≤ length before → after ≡ put before at bytes
 

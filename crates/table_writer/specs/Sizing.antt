@@ -1,4 +1,4 @@
--- How long a table is, where its bodies start, and what stands before them. Assumes nothing.
+-- How long a table is, where its bodies start, and what is before them. Assumes nothing.
 use mathlib.Core.Path.{_≡_}
 use mathlib.Core.List.{List, [], _++_}
 use Prim.Native.Nat.{ℕ, _+_, _*_, _≤_}

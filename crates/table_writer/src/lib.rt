@@ -28,7 +28,7 @@ pub struct Sizes {
     pub type_attributes: usize,
 }
 
-// Where the bodies behind the first start, and where the last ends. The last body has three parts.
+// Where the bodies after the first start, and where the last ends. The last body has three parts.
 struct Starts {
     user_roles: usize,
     role_types: usize,
@@ -50,7 +50,7 @@ const FAR: usize = 100_000_000;
 
 // ---- places
 
-// The place behind so many entries of a width that start at a place.
+// The place after so many entries of a width that start at a place.
 fn past(start: usize, many: usize, width: usize) -> usize
     ensures { λ r. ⌜ (start ≤ 100000000 → many ≤ 100000000 → width ≤ 100000000 → r ≡ start + many * width) ⌝ }
 {
@@ -145,7 +145,7 @@ fn write_pairs(places: Starts, table: &mut [u8])
     put_pair(table, 60, places.user_sets, places.end);
 }
 
-// Writes all that stands before the first body.
+// Writes all that is before the first body.
 fn write_header(places: Starts, table: &mut [u8])
     ensures { λ _. ⌜ WritesHeader places (now (table .entry)) (now (table .exit)) ⌝ }
 {
@@ -272,7 +272,8 @@ fn write_attributes(
     );
 }
 
-// Writes the table of these sizes. Names, constraints and rows are copied; the rest is made from the code and the final sets.
+// Writes the table of these sizes. Names, constraints and rows are copied; the rest is made from the code and the
+// final sets.
 pub fn write_table(
     sizes: Sizes,
     symbols: &[u8],

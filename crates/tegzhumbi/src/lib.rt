@@ -1,14 +1,16 @@
 // The library: a policy's text is compiled into a table, and questions are answered from a table alone.
 //
-// Memory is the caller's. `compile` writes the table to the start of the slice that it is lent, and nothing else; the questions write nothing. No
-// table is longer than 179,652 bytes. Every function takes every text, all bytes as a table and all numbers. A promise (`ensures`) equates the
-// answer, refusals included, and each lent byte afterwards with a definition of `policy/specs`.
+// Memory is the caller's. `compile` writes the table to the start of the slice that it is lent, and nothing else; the
+// questions write nothing. No table is longer than 179,652 bytes. Every function takes every text, all bytes as a
+// table and all numbers. A promise (`ensures`) equates the answer, refusals included, and each lent byte afterwards
+// with a definition of `policy/specs`.
 //
 // A server compiles once and keeps the first `length` bytes:
 //
 //     let mut memory = [0u8; 65_536];
 //     let compiled = tegzhumbi::compile(text, &mut memory);
-//     // Compiling::Accepted { length }: memory[..length] is the table; or Compiling::Refused(refusal), with its number, place and line
+//     // Compiling::Accepted { length }: memory[..length] is the table;
+//     // or Compiling::Refused(refusal), with its number, place and line
 //     let source = Context { user: User(0), role: Role(0), kind: Type(0) };
 //     let answer = tegzhumbi::change(&memory, source, source, Class(0), Permission(0));
 //     // Change::Granted { consulted }, or a denial with its number, or a refusal, 11 or 12
@@ -41,10 +43,11 @@ pub struct Context {
     pub kind: Type,
 }
 
-// Compiles a text into a table at the start of the lent memory. It is accepted exactly when document 01 names no fault in the text and the
-// memory is long enough; the table is byte for byte the one that is defined from the statements, and what stood behind it is kept. A refusal has the
-// number, 1 to 10, and the place that document 01 fixes, and the line of its place (0 for 10, whose place is a length), and leaves the memory
-// as it was. And demand 3 (`answers`): asked of the written table, whatever stands behind it later, every change question is answered as the
+// Compiles a text into a table at the start of the lent memory. It is accepted exactly when document 01 names no
+// fault in the text and the memory is long enough; the table is byte for byte the one that is defined from the
+// statements, and what stood after it is kept. A refusal has the number, 1 to 10, and the place that document 01
+// fixes, and the line of its place (0 for 10, whose place is a length), and leaves the memory as it was. And demand 3
+// (`answers`): asked of the written table, whatever is after it later, every change question is answered as the
 // statements answer it.
 pub fn compile(text: &[u8], table: &mut [u8]) -> Compiling
     ensures { λ r. ⌜ Compiles (ofText (now (text .entry))) (now (table .entry)) (now (table .exit)) r ⌝ }
@@ -52,7 +55,7 @@ pub fn compile(text: &[u8], table: &mut [u8]) -> Compiling
     compiler::compile(text, table)
 }
 
-// Whether the bytes are a sound table, with anything behind it. The questions ask this first, and refuse with 11.
+// Whether the bytes are a sound table, with anything after it. The questions ask this first, and refuse with 11.
 //
 //     tegzhumbi::is_sound(&memory)      // true, once compile has accepted; tegzhumbi::is_sound(b"") is false
 pub fn is_sound(table: &[u8]) -> bool
@@ -73,7 +76,8 @@ fn asked(context: Context) -> decisions::Context
 
 // Valid context: whether the role is among the user's, and the type among the role's, or the role is named `object_r`.
 //
-//     tegzhumbi::valid(&table, Context { user: User(0), role: Role(2), kind: Type(5) })   // Valid, NotValid or Refused { number }
+//     tegzhumbi::valid(&table, Context { user: User(0), role: Role(2), kind: Type(5) })
+//     // Valid, NotValid or Refused { number }
 pub fn valid(table: &[u8], context: Context) -> Validity
     ensures { λ r. ⌜ validityOf r ≡ validOn (now (table .entry)) (contextOf context) ⌝ }
 {
@@ -81,11 +85,12 @@ pub fn valid(table: &[u8], context: Context) -> Validity
     questions::valid(table, c.user, c.role, c.kind)
 }
 
-// Change: whether the source may do to the target, or become by it, what the permission names, by its place in the class. Denials in order: 1 the
-// source is not valid, 2 the target is not, 3 the role may not change so, 4 the constraint that fails first. With the answer goes the number
-// of constraints consulted.
+// Change: whether the source may do to the target, or become by it, what the permission names, by its place in the
+// class. Denials in order: 1 the source is not valid, 2 the target is not, 3 the role may not change so, 4 the
+// constraint that fails first. With the answer goes the number of constraints consulted.
 //
-//     tegzhumbi::change(&table, source, target, Class(0), Permission(2))   // Granted { consulted: 3 }, Failed { constraint: 7, consulted: 2 }, ..
+//     tegzhumbi::change(&table, source, target, Class(0), Permission(2))
+//     // Granted { consulted: 3 }, Failed { constraint: 7, consulted: 2 }, ..
 pub fn change(
     table: &[u8],
     source: Context,
@@ -104,7 +109,8 @@ pub fn change(
     )
 }
 
-// New role: that of the first transition of the role, the type and the class, else the role given. It is a proposal; the change is still asked.
+// New role: that of the first transition of the role, the type and the class, else the role given. It is a proposal;
+// the change is still asked.
 //
 //     tegzhumbi::new_role(&table, Role(1), Type(4), Class(0))   // Role { number: 3 }
 pub fn new_role(table: &[u8], role: Role, kind: Type, class: Class) -> NewRole
@@ -113,8 +119,9 @@ pub fn new_role(table: &[u8], role: Role, kind: Type, class: Class) -> NewRole
     questions::new_role(table, role.0 as usize, kind.0 as usize, class.0 as usize)
 }
 
-// Name of a sort and number: the part of the lent table that holds it, an empty part where there is none (where that points is free). Sorts: 0 user, 1 role,
-// 2 type, 3 to 5 their attributes, 6 class, 7 permission, whose number is class x 32 + its place.
+// Name of a sort and number: the part of the lent table that holds it, an empty part where there is none (where that
+// points is free). Sorts: 0 user, 1 role, 2 type, 3 to 5 their attributes, 6 class, 7 permission, whose number is
+// class x 32 + its place.
 //
 //     tegzhumbi::name_of(&table, 1, 0)   // the bytes of the first role's name, within the table
 pub fn name_of(table: &[u8], sort: usize, number: usize) -> &[u8]
@@ -132,7 +139,8 @@ pub fn name_place(table: &[u8], sort: usize, number: usize) -> Place
     table_parts::name_place(table, sort, number)
 }
 
-// Entry of a body 2 to 8 and its place there, from 0: the part of the lent table that holds it, an empty part where there is none.
+// Entry of a body 2 to 8 and its place there, from 0: the part of the lent table that holds it, an empty part where
+// there is none.
 //
 //     tegzhumbi::entry(&table, 2, 0)   // the 16 bytes of the first user's roles
 pub fn entry(table: &[u8], body: usize, place: usize) -> &[u8]
@@ -156,10 +164,11 @@ pub enum Decision {
     Answered(Change),
 }
 
-// Compiles a text and asks a change of its table, in one step: the answer is what the statements of the text answer, and its promise speaks of
-// the text and the question alone.
+// Compiles a text and asks a change of its table, in one step: the answer is what the statements of the text answer,
+// and its promise speaks of the text and the question alone.
 //
-//     tegzhumbi::decide(text, &mut memory, source, target, Class(0), Permission(0))   // Answered(Granted { consulted: 1 })
+//     tegzhumbi::decide(text, &mut memory, source, target, Class(0), Permission(0))
+//     // Answered(Granted { consulted: 1 })
 pub fn decide(
     text: &[u8],
     table: &mut [u8],

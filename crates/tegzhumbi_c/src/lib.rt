@@ -1,5 +1,5 @@
-// The library for other languages: each function takes bytes and numbers, and gives its answer as a struct of numbers. include/tegzhumbi.h
-// declares them for C.
+// The library for other languages: each function takes bytes and numbers, and gives its answer as a struct of
+// numbers. include/tegzhumbi.h declares them for C.
 use answer_numbers::Answer;
 use answer_numbers::Compiled;
 use answer_numbers::Part;
@@ -12,7 +12,8 @@ ghost use Rattle.decisions.specs.Asked.{context};
 ghost use Rattle.tegzhumbi_c.specs.Compiles.{Compiles};
 ghost use Rattle.answer_numbers.specs.Numbers.{asking, soundNumber, validNumbers, changeNumbers, newRoleNumbers, partNumbers};
 
-// Compiles a text: its table stands at the start of the lent memory, or a refusal 1 to 10 is answered and the lent memory is as it was.
+// Compiles a text: its table is at the start of the lent memory, or a refusal 1 to 10 is answered and the lent memory
+// is as it was.
 #[no_mangle]
 pub extern "C" fn tegzhumbi_compile(text: &[u8], table: &mut [u8]) -> Compiled
     ensures { λ r. ⌜ Compiles (ofText (now (text .entry))) (now (table .entry)) (now (table .exit)) r ⌝ }
@@ -31,7 +32,8 @@ pub extern "C" fn tegzhumbi_sound(table: &[u8]) -> u32
     0
 }
 
-// **Valid context**: whether the role is among the user's, and the type, `kind`, among the role's, or the role is named `object_r`.
+// **Valid context**: whether the role is among the user's, and the type, `kind`, among the role's, or the role is
+// named `object_r`.
 #[no_mangle]
 pub extern "C" fn tegzhumbi_valid(table: &[u8], user: u64, role: u64, kind: u64) -> Answer
     ensures { λ r. ⌜ r ≡ validNumbers (validOn (now (table .entry)) (context user role kind)) ⌝ }

@@ -1,5 +1,5 @@
-// Compiles a policy, asks of its table, alters the bytes behind the table and asks again. The lines are held to those that the statements give, worked
-// out by hand (beside each question).
+// Compiles a policy, asks of its table, alters the bytes after the table and asks again. The lines are held to those
+// that the statements give, worked out by hand (beside each question).
 use tegzhumbi::Class;
 use tegzhumbi::Context;
 use tegzhumbi::Permission;
@@ -10,8 +10,9 @@ use tegzhumbi::User;
 // How much memory is lent for the table.
 const LENT: usize = 1_024;
 
-// Users u v; roles a b c; types s t; classes process (transition fork) and file (read). The attribute x is used before its set is given: it
-// stands for a and b. So u has the roles a and b, v has b; a has the types s and t, b has t. From a to b a role may change, not back.
+// Users u v; roles a b c; types s t; classes process (transition fork) and file (read). The attribute x is used
+// before its set is given: it stands for a and b. So u has the roles a and b, v has b; a has the types s and t, b has
+// t. From a to b a role may change, not back.
 fn policy() -> [u8; 436] {
     *b"(class process (transition fork)) (class file (read))
 (user u) (user v) (role a) (role b) (role c) (type s) (type t)
@@ -96,7 +97,7 @@ fn main() {
     let compiled = tegzhumbi::compile(&text, &mut table);
     answer_show::show_compiling(compiled);
     ask(&table);
-    // the table has 599 bytes; what stands behind it does not matter
+    // the table has 599 bytes; what is after it does not matter
     table[599] = 255;
     table[LENT - 1] = 0;
     ask(&table);

@@ -1,4 +1,4 @@
--- The turns of the writing of a number: no digit, the only digit, the last digit behind the others. Assumes nothing.
+-- The turns of the writing of a number: no digit, the only digit, the last digit after the others. Assumes nothing.
 use mathlib.Core.Path.{_≡_, refl, sym, ap, _∙_}
 use mathlib.Core.Bool.{Bool, true, false}
 use mathlib.Core.List.{List, [], _∷_, _++_}
@@ -55,7 +55,7 @@ module _ (t : List ℕ) (at : ℕ) where
   unfolding digits-by
   one-digit k n h l d = rw (digits-of k n true l (lt-ltb n 10 d)) (by-sets ((48 + n) ∷ []) (set t at (48 + n)) (at + 1) (omega arith) refl refl)
 
-  -- the last digit, behind the others
+  -- the last digit, after the others
   pub last-digit : (k n past : ℕ) (u : List ℕ) → at + k ≤ length t → 0 < k → 10 ≤ n → Appends t at (digits (k - 1) (n / 10)) u past
       → Appends t at (digits k n) (set u past (48 + n % 10)) (past + 1)
   unfolding digits-by

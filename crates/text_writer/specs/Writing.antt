@@ -5,7 +5,7 @@ use Prim.Native.Nat.{ℕ, _+_}
 use lib.ListN.{length}
 use Rattle.bitset.specs.Parts.{put}
 
--- the bytes stand from the place at on, nothing else is changed, and past is the place behind them
+-- the bytes are from the place at on, nothing else is changed, and past is the place after them
 pub record Appends (before : List ℕ) (at : ℕ) (bytes after : List ℕ) (past : ℕ) : Type 0 where
   pub written : after ≡ put before at bytes
   pub ends : past ≡ at + length bytes

@@ -7,7 +7,7 @@ ghost use Rattle.text_writer.specs.Writing.{Appends};
 // The most decimal digits of a usize.
 pub const MAX_DIGITS: usize = 20;
 
-// Writes the bytes at a place, and answers the place behind them.
+// Writes the bytes at a place, and answers the place after them.
 pub fn put_bytes(out: &mut [u8], at: usize, bytes: &[u8]) -> usize
     requires { ⌜ at + length (now bytes) ≤ length (now out) ⌝ }
     ensures { λ r. ⌜ Appends (now (out .entry)) at (now (bytes .entry)) (now (out .exit)) r ⌝ }
@@ -33,7 +33,7 @@ fn put_digits(out: &mut [u8], at: usize, n: usize, most: usize) -> usize
     last + 1
 }
 
-// Writes a number in decimal digits, and answers the place behind them.
+// Writes a number in decimal digits, and answers the place after them.
 pub fn put_decimal(out: &mut [u8], at: usize, n: usize) -> usize
     requires { ⌜ at + 20 ≤ length (now out) ⌝ }
     ensures { λ r. ⌜ Appends (now (out .entry)) at (decimal n) (now (out .exit)) r ⌝ }

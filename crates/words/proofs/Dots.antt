@@ -35,7 +35,7 @@ dotless-by w = sym (no-dot w 0 ∙ ap (eqb (partEnd w 0)) (zero-add (length w)))
 
 -- ---- the parts of a word, one after the other
 
--- the parts behind the dot that some bytes start with, or none where there are no bytes
+-- the parts after the dot that some bytes start with, or none where there are no bytes
 abbrev behind : List ℕ → List Name
 behind [] = []
 behind (b ∷ bs) = parts bs
@@ -69,7 +69,7 @@ module _ (w : Name) (at : ℕ) where
       split (drop at w) at (end - at) (sym d)
       ∙ ap (λ (l : List ℕ). take (end - at) (drop at w) ∷ behind l) (drop-drop (end - at) at w ∙ ap (λ (n : ℕ). drop n w) d)
 
-  -- the parts of a word from a place on are the part that ends next and those behind its dot, or that part alone where the word ends with it
+  -- the parts of a word from a place on are the part that ends next and those after its dot, or that part alone where the word ends with it
   one-more : end < length w → parts (drop at w) ≡ take (end - at) (drop at w) ∷ parts (drop (end + 1) w)
   one-more h = part-then ∙ ap (λ (l : List ℕ). take (end - at) (drop at w) ∷ behind l) (bytes-there w end h)
 

@@ -66,7 +66,7 @@ short w n low l h s e =
     let none : unle (drop 8 w) ≡ 0 = ap unle (drop-of-length-le w {i = 8} (omega arith)) in
     ap (λ (k : ℕ). numberBy k low 0) (sym l) ∙ ap₂ (numberBy (length w)) (e ∙ all) (sym none) ∙ by-keys w s
 
--- a word of eight letters and n behind them
+-- a word of eight letters and n after them
 pub long : (w : Name) (n low high : ℕ) → length w ≡ 8 + n → Small w → low ≡ unle (take 8 w) → high ≡ unle (take n (drop 8 w))
     → numberBy (8 + n) low high ≡ numberOf w
 long w n low high l s e f =

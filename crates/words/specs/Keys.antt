@@ -1,4 +1,4 @@
--- A word by its length and two numbers, little endian: that of its first eight letters and that of the letters behind them. Words of bytes are the same if
+-- A word by its length and two numbers, little endian: that of its first eight letters and that of the letters after them. Words of bytes are the same if
 -- and only if these are, so the numbers may be compared in place of the letters. Assumes nothing.
 use Prim.Native.Nat.{ℕ, _+_}
 use mathlib.Core.Bool.{_&&_, cond}

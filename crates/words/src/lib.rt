@@ -102,7 +102,8 @@ impl Word {
     pub const LAST_RESERVED: usize = 23;
 }
 
-// What a name may be: any name, or one part, which has no dot, as names that are declared, names of blocks and permissions are.
+// What a name may be: any name, or one part, which has no dot, as names that are declared, names of blocks and
+// permissions are.
 pub enum NameKind {
     Name,
     Part,
@@ -200,7 +201,7 @@ impl Letters {
     const ESET: usize = b'e' as usize
         + 256 * (b's' as usize + 256 * (b'e' as usize + 256 * (b't' as usize)));
 
-    // More letters: four, and those behind them.
+    // More letters: four, and those after them.
     const DOMBY: usize = Letters::DOMB + FOUR_ON * (b'y' as usize);
 
     const CLASS: usize = Letters::CLAS + FOUR_ON * (b's' as usize);
@@ -254,8 +255,8 @@ fn six(w: &[u8], at: usize) -> usize
     get4(w, at) + FOUR_ON * get2(w, at + 4)
 }
 
-// The number of a word of two letters; below those of the other lengths. `low` is the number of the first eight letters, `high` that of the letters behind
-// them.
+// The number of a word of two letters; below those of the other lengths. `low` is the number of the first eight
+// letters, `high` that of the letters after them.
 fn of_two(low: usize) -> usize
     ensures { λ r. ⌜ r ≡ numberBy 2 low 0 ⌝ }
 {
@@ -413,7 +414,7 @@ pub fn number_of(w: &[u8]) -> usize
     }
 }
 
-// The number of the word that stands in a text, by the place of its first byte and its length.
+// The number of the word that is in a text, by the place of its first byte and its length.
 pub fn number_at(text: &[u8], start: usize, len: usize) -> usize
     requires { ⌜ start + len ≤ length (now text) ⌝ }
     ensures { λ r. ⌜ r ≡ numberOf (take len (drop start (now (text .entry)))) ⌝ }
@@ -471,7 +472,8 @@ pub fn has_reserved_part(w: &[u8]) -> bool
     }
 }
 
-// Whether the word that stands in a text may be a name of the kind: the reserved words are none, nor are words with a reserved part.
+// Whether the word that is in a text may be a name of the kind: the reserved words are none, nor are words with a
+// reserved part.
 pub fn is_name(kind: NameKind, text: &[u8], start: usize, len: usize) -> bool
     requires { ⌜ start + len ≤ length (now text) ⌝ }
     ensures { λ r. ⌜ r ≡ mayBe kind (take len (drop start (now (text .entry)))) ⌝ }

@@ -46,4 +46,6 @@ returns-4 : tie.Need-returns-4
 returns-4 c = rw (c .before .before .answer4 .given .1) (c .refusal .ensures)
 
 pub change-numbers-spec : {M : Type 1} → statement M
-change-numbers-spec = tie.close (tie.spec enum-known-answer cast-t8 enum-known-answer-2 cast-t9 enum-known-answer-3 cast-t10 cast-t11 enum-known-answer-4 refusal-requires returns returns-2 returns-3 returns-4)
+change-numbers-spec =
+    tie.close (tie.spec enum-known-answer cast-t8 enum-known-answer-2 cast-t9 enum-known-answer-3 cast-t10 cast-t11 enum-known-answer-4 refusal-requires
+    returns returns-2 returns-3 returns-4)

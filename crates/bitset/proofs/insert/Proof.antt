@@ -9,7 +9,8 @@ returns : tie.Need-returns
 returns c = insert-past _ (c .before .before .before .args .n) (λ j. c .before .before .slice-known .given j .fits) (c .if1 .taken)
 
 returns-2 : tie.Need-returns-2
-returns-2 c = rw (c .before .before .bit-of .ensures) (insert-byte _ (c .before .before .before .before .args .n) (λ j. c .before .before .before .slice-known .given j .fits) (omega arith))
+returns-2 c =
+    rw (c .before .before .bit-of .ensures) (insert-byte _ (c .before .before .before .before .args .n) (λ j. c .before .before .before .slice-known .given j .fits) (omega arith))
 
 pub insert-spec : {M : Type 1} → statement M
 insert-spec =

@@ -25,8 +25,12 @@ loop-again c =
     let at-loop = c .before .before .before in
     let a = at-loop .before .before .args in
     let i = at-loop .loop .i in
-    let small = c .before .shared-slice-known2 .given i .fits in
-    (search needs, rw (c .mask .ensures) (all-more (withinRule (a .total) (a .set .now)) i (at-loop .loop .beyond) _ (lt-of-le-of-lt (and-le-l _ _) small) (within-bits (a .total) (a .set .now) i) (at-loop .loop .inv .1)))
+    let small = c .before .shared-slice-known2 .given i .fits in (
+      search needs,
+      rw (c .mask .ensures)
+          (all-more (withinRule (a .total) (a .set .now)) i (at-loop .loop .beyond) _ (lt-of-le-of-lt (and-le-l _ _) small) (within-bits (a .total) (a .set .now) i)
+          (at-loop .loop .inv .1)),
+    )
 
 returns : tie.Need-returns Inv-loop μ-loop
 unfolding within

@@ -1,4 +1,4 @@
--- `bitset::keep_below` meets its contract: the bytes behind the total's own become 0, and that one keeps its low bits. Assumes nothing.
+-- `bitset::keep_below` meets its contract: the bytes after the total's own become 0, and that one keeps its low bits. Assumes nothing.
 use Prim.Native.Nat.{ℕ, _+_, _/_, _<_}
 use borrow.Author.Needs.{needs}
 use lib.ListN.{length, getD}
@@ -22,4 +22,5 @@ returns-2 c =
 pub keep-below-spec : {M : Type 1} → statement M
 keep-below-spec =
     tie.close
-    (tie.spec returns (λ c. search needs) (λ c. search needs) (λ c. search needs) (λ c κs. search needs) (λ c κs. search needs) (λ c. search needs) (λ c. search needs) (λ c. search needs) returns-2)
+    (tie.spec returns (λ c. search needs) (λ c. search needs) (λ c. search needs) (λ c κs. search needs) (λ c κs. search needs) (λ c. search needs)
+    (λ c. search needs) (λ c. search needs) returns-2)

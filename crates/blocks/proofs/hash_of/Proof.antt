@@ -4,7 +4,7 @@ use mathlib.Core.Path.{_≡_, refl, sym, _∙_}
 use native.Mathlib.Omega.{arith}
 use borrow.Author.Needs.{needs}
 use lib.ListN.{length, drop}
-use Rattle.name_filter.specs.Filter.{hashFrom}
+use Rattle.bloom_filter.specs.Filter.{hashFrom}
 use Rattle.blocks.proofs.Filtering.{hash-next, hash-end}
 use Rattle.blocks.proofs.hash_of.Statement.{statement}
 use Rattle.blocks.proofs.hash_of.Tie as tie
@@ -22,8 +22,8 @@ loop-again : tie.Need-loop-again Inv-loop μ-loop
 loop-again c =
     let at-loop = c .before .before .before .before in
     let s = at-loop .before .before in (
-      c .step .ensures .1,
-      rw (c .step .ensures .0, c .before .wide .ensures .0)
+      c .hash-step .ensures .1,
+      rw (c .hash-step .ensures .0, c .before .wide .ensures .0)
           (sym (hash-next (s .args .name .now) (at-loop .loop .i) (at-loop .loop .hash) (omega arith)) ∙ at-loop .loop .inv .1),
     )
 
@@ -31,7 +31,7 @@ returns : tie.Need-returns Inv-loop μ-loop
 returns c =
     let l = c .before .before .loop in
     let s = c .before .before .before .before in
-    (c .step2 .ensures .0 ∙ hash-end (s .args .name .now) (l .i) (l .hash) (s .args .parent) (omega arith) (l .inv .1), c .step2 .ensures .1)
+    (c .hash-step2 .ensures .0 ∙ hash-end (s .args .name .now) (l .i) (l .hash) (s .args .parent) (omega arith) (l .inv .1), c .hash-step2 .ensures .1)
 
 pub hash-of-spec : {M : Type 1} → statement M
 hash-of-spec =

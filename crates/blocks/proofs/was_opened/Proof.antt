@@ -6,10 +6,10 @@ use Rattle.blocks.proofs.was_opened.Statement.{statement}
 use Rattle.blocks.proofs.was_opened.Tie as tie
 
 returns : tie.Need-returns
-returns c = asked-filter (c .before .before .before .shares-marks .ensures) (not-true _ (c .if1 .taken))
+returns c = asked-filter (c .before .before .before .insert-in-filter .ensures) (not-true _ (c .if1 .taken))
 
 returns-2 : tie.Need-returns-2
-returns-2 c = asked-walk (c .before .before .before .before .shares-marks .ensures) (c .is-opened .ensures)
+returns-2 c = asked-walk (c .before .before .before .before .insert-in-filter .ensures) (c .is-opened .ensures)
 
 pub was-opened-spec : {M : Type 1} → statement M
 was-opened-spec =

@@ -20,9 +20,13 @@ slice-aggregate-grant-at-2 : tie.Need-slice-aggregate-grant-at-2
 slice-aggregate-grant-at-2 c = sym (ap length (c .before .before .before .reference2 .ensures) ∙ length-setOf 64 _)
 
 returns-2 : tie.Need-returns-2
-returns-2 c = rw (c .before .before .grant-at .ensures, c .before .before .before .before .before .before .before .before .before .reference .ensures, c .before .before .before .before .before .before .reference2 .ensures)
+returns-2 c =
+    let at-reference2 = c .before .before .before .before .before .before in
+    let at-reference = at-reference2 .before .before .before in
+    rw (c .before .before .grant-at .ensures, at-reference .reference .ensures, at-reference2 .reference2 .ensures)
 
 pub grant-line-spec : {M : Type 1} → statement M
 grant-line-spec =
     tie.close
-    (tie.spec (λ c κs. search needs) (λ c. search needs) returns (λ c κs. search needs) (λ c κs. search needs) slice-aggregate-grant-at slice-aggregate-grant-at-2 (λ c κs. search needs) (λ c. search needs) returns-2)
+    (tie.spec (λ c κs. search needs) (λ c. search needs) returns (λ c κs. search needs) (λ c κs. search needs) slice-aggregate-grant-at
+    slice-aggregate-grant-at-2 (λ c κs. search needs) (λ c. search needs) returns-2)

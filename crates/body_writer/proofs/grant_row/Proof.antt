@@ -40,8 +40,10 @@ returns-2 c =
     let row = part t (a .at + start) v in
     let long = ap length (c .before .before .before .before .before .before .before .part .ensures) in
     c .before .before .insert-at .ensures
-    ∙ ap (put t (a .at + start)) (sym (union-one row 64 (a .to) (omega (arith, length-part-le t (a .at + start) v))) ∙ ap (unionOf row) (thing-alone (a .sets .now) (a .to) (omega arith)))
-    ∙ row-at (a .width) 64 t _ (a .at) (a .size) (λ i. c .before .before .before .before .before .before .before .before .before .slice-known .given i .fits) (a .thing) (omega arith) v
+    ∙ ap (put t (a .at + start))
+    (sym (union-one row 64 (a .to) (omega (arith, length-part-le t (a .at + start) v))) ∙ ap (unionOf row) (thing-alone (a .sets .now) (a .to) (omega arith)))
+    ∙ row-at (a .width) 64 t _ (a .at) (a .size) (λ i. c .before .before .before .before .before .before .before .before .before .slice-known .given i .fits)
+    (a .thing) (omega arith) v
     (omega arith) (c .before .before .before .before .before .least .ensures ∙ ap (λ (n : ℕ). min (a .width) (n - start)) long)
 
 slice-aggregate-union-at : tie.Need-slice-aggregate-union-at
@@ -49,18 +51,24 @@ slice-aggregate-union-at c = sym (ap length (c .before .before .reference .ensur
 
 returns-3 : tie.Need-returns-3
 returns-3 c =
-    let a = c .before .before .before .before .before .before .before .before .before .before .before .before .before .before .args in
+    let at-reference = c .before .before .before .before .before in
+    let at-least = at-reference .before .before .before .before in
+    let at-part = at-least .before .before in
+    let at-slice-known = at-part .before .before in
+    let at-args = at-slice-known .before in
+    let a = at-args .args in
     let t = a .table .now in
     let start = a .width * a .thing in
-    let v = c .before .before .before .before .before .before .before .before .before .least .result in
+    let v = at-least .least .result in
     let row = part t (a .at + start) v in
-    let long = ap length (c .before .before .before .before .before .before .before .before .before .before .before .part .ensures) in
+    let long = ap length (at-part .part .ensures) in
     c .before .before .union-at .ensures
-    ∙ ap (λ (s : List ℕ). put t (a .at + start) (unionOf row s)) (c .before .before .before .before .before .reference .ensures)
-    ∙ row-at (a .width) 64 t _ (a .at) (a .size) (λ i. c .before .before .before .before .before .before .before .before .before .before .before .before .before .slice-known .given i .fits) (a .thing) (omega arith) v
-    (omega arith) (c .before .before .before .before .before .before .before .before .before .least .ensures ∙ ap (λ (n : ℕ). min (a .width) (n - start)) long)
+    ∙ ap (λ (s : List ℕ). put t (a .at + start) (unionOf row s)) (at-reference .reference .ensures)
+    ∙ row-at (a .width) 64 t _ (a .at) (a .size) (λ i. at-slice-known .slice-known .given i .fits) (a .thing) (omega arith) v
+    (omega arith) (at-least .least .ensures ∙ ap (λ (n : ℕ). min (a .width) (n - start)) long)
 
 pub grant-row-spec : {M : Type 1} → statement M
 grant-row-spec =
     tie.close
-    (tie.spec (λ c κs. search needs) mul-start (λ c. search needs) returns add-row (λ c. search needs) (λ c κs. search needs) (λ c κs. search needs) (λ c. search needs) returns-2 (λ c κs. search needs) slice-aggregate-union-at (λ c κs. search needs) (λ c. search needs) returns-3)
+    (tie.spec (λ c κs. search needs) mul-start (λ c. search needs) returns add-row (λ c. search needs) (λ c κs. search needs) (λ c κs. search needs)
+    (λ c. search needs) returns-2 (λ c κs. search needs) slice-aggregate-union-at (λ c κs. search needs) (λ c. search needs) returns-3)

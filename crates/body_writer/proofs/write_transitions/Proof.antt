@@ -28,14 +28,25 @@ loop-holds : tie.Need-loop-holds Inv-loop μ-loop
 loop-holds c = (refl, λ p ok q hr ht. start p _ _ q (bytes-none p _ _))
 
 loop-again : tie.Need-loop-again Inv-loop μ-loop
-loop-again c = (
-  search needs,
-  λ p ok q hr ht.
-      move-more p _ _ ok _ _ _ (c .before .before .before .before .before .before .before .before .loop-test .taken) (c .before .before .before .before .before .before .before .next-statement .ensures .0) _ _ (c .before .before .before .before .before .before .before .before .before .loop .inv .1 p ok q hr ht) (c .before .before .before .before .before .if1 .taken) _ (c .before .before .before .before .transition .ensures) _ _ hr ht _ _ (c .before .before .write-transition .ensures),
-)
+loop-again c =
+    let at-transition = c .before .before .before .before in
+    let at-if1 = at-transition .before in
+    let at-next-statement = at-if1 .before .before in
+    let at-loop-test = at-next-statement .before in
+    let at-loop = at-loop-test .before in (
+      search needs,
+      λ p ok q hr ht.
+          move-more p _ _ ok _ _ _ (at-loop-test .loop-test .taken) (at-next-statement .next-statement .ensures .0) _ _ (at-loop .loop .inv .1 p ok q hr ht)
+          (at-if1 .if1 .taken) _ (at-transition .transition .ensures) _ _ hr ht _ _ (c .before .before .write-transition .ensures),
+    )
 
 loop-again-2 : tie.Need-loop-again-2 Inv-loop μ-loop
-loop-again-2 c = (search needs, λ p ok q hr ht. move-over p _ _ ok _ _ _ (c .before .before .before .loop-test .taken) (c .before .before .next-statement .ensures .0) _ _ (c .before .before .before .before .loop .inv .1 p ok q hr ht) (c .if1 .left))
+loop-again-2 c =
+    let at-loop = c .before .before .before .before in (
+      search needs,
+      λ p ok q hr ht. move-over p _ _ ok _ _ _ (c .before .before .before .loop-test .taken) (c .before .before .next-statement .ensures .0) _ _
+          (at-loop .loop .inv .1 p ok q hr ht) (c .if1 .left),
+    )
 
 returns : tie.Need-returns Inv-loop μ-loop
 returns c = record { body = λ p ok q hr ht room. bytes-all p _ _ _ _ room (finish (items p) _ _ _ (c .loop-test .left) (c .before .loop .inv .1 p ok q hr ht)) }
@@ -43,4 +54,5 @@ returns c = record { body = λ p ok q hr ht room. bytes-all p _ _ _ _ room (fini
 pub write-transitions-spec : {M : Type 1} → statement M
 write-transitions-spec =
     tie.close
-    (tie.spec Inv-loop μ-loop loop-holds (λ c κs. search needs) (λ c. search needs) (λ c. search needs) (λ c κs. search needs) (λ c κs. search needs) (λ c. search needs) loop-again (λ c. search needs) loop-again-2 (λ c. search needs) returns)
+    (tie.spec Inv-loop μ-loop loop-holds (λ c κs. search needs) (λ c. search needs) (λ c. search needs) (λ c κs. search needs) (λ c κs. search needs)
+    (λ c. search needs) loop-again (λ c. search needs) loop-again-2 (λ c. search needs) returns)

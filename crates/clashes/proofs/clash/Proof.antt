@@ -1,4 +1,4 @@
--- `clashes::clash` meets its contract: all transitions stand in the code from the first one on. Assumes nothing.
+-- `clashes::clash` meets its contract: all transitions are in the code from the first one on. Assumes nothing.
 use Prim.Native.Nat.{_-_}
 use native.Mathlib.Omega.{arith}
 use mathlib.Core.Path.{ap, _∙_}

@@ -15,7 +15,9 @@ returns-2 c = rw (eq-eqb _ _ (c .before .before .before .if1 .left), eq-eqb _ _ 
 
 returns-3 : tie.Need-returns-3
 unfolding clashesOf
-returns-3 c = rw (eq-eqb _ _ (c .before .before .before .before .before .before .if1 .left), ne-eqb _ _ (c .before .before .before .if2 .left), ← c .before .before .share .ensures, c .before .if3 .taken) (c .share2 .ensures)
+returns-3 c =
+    let at-if1 = c .before .before .before .before .before .before in
+    rw (eq-eqb _ _ (at-if1 .if1 .left), ne-eqb _ _ (c .before .before .before .if2 .left), ← c .before .before .share .ensures, c .before .if3 .taken) (c .share2 .ensures)
 
 returns-4 : tie.Need-returns-4
 unfolding clashesOf

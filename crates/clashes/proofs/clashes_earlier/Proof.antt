@@ -27,18 +27,30 @@ loop-holds : tie.Need-loop-holds Inv-loop μ-loop
 loop-holds c = λ p part t ok s q codes hr ht. earlier-start p ok part s t _ q
 
 returns : tie.Need-returns Inv-loop μ-loop
-returns c = λ p part t ok s q codes hr ht.
-    earlier-found p ok part s t _ _ (c .before .before .before .before .before .loop-test .taken) (c .before .before .before .before .before .before .loop .inv p part t ok s q codes hr ht) (c .before .before .if1 .taken) _ _ hr ht _ _ codes (refl, refl, refl, refl)
+returns c =
+    let at-loop-test = c .before .before .before .before .before in
+    let at-loop = at-loop-test .before in
+    λ p part t ok s q codes hr ht.
+    earlier-found p ok part s t _ _ (at-loop-test .loop-test .taken) (at-loop .loop .inv p part t ok s q codes hr ht) (c .before .before .if1 .taken) _ _ hr ht
+    _ _ codes (refl, refl, refl, refl)
     (sym (c .before .clashes-at .ensures) ∙ c .if2 .taken)
 
 loop-again : tie.Need-loop-again Inv-loop μ-loop
-loop-again c = λ p part t ok s q codes hr ht.
-    earlier-on p ok part s t _ _ (c .before .before .before .before .before .loop-test .taken) (c .before .before .before .before .before .before .loop .inv p part t ok s q codes hr ht) (c .before .before .if1 .taken) _ _ hr ht _ _ codes (refl, refl, refl, refl)
-    _ (c .before .before .before .before .next-statement .ensures .0) (sym (c .before .clashes-at .ensures) ∙ c .if2 .left)
+loop-again c =
+    let at-next-statement = c .before .before .before .before in
+    let at-loop-test = at-next-statement .before in
+    let at-loop = at-loop-test .before in
+    λ p part t ok s q codes hr ht.
+    earlier-on p ok part s t _ _ (at-loop-test .loop-test .taken) (at-loop .loop .inv p part t ok s q codes hr ht) (c .before .before .if1 .taken) _ _ hr ht _
+    _ codes (refl, refl, refl, refl)
+    _ (at-next-statement .next-statement .ensures .0) (sym (c .before .clashes-at .ensures) ∙ c .if2 .left)
 
 loop-again-2 : tie.Need-loop-again-2 Inv-loop μ-loop
-loop-again-2 c = λ p part t ok s q codes hr ht.
-    earlier-over p ok part s t _ _ (c .before .before .before .loop-test .taken) (c .before .before .before .before .loop .inv p part t ok s q codes hr ht) _ (c .before .before .next-statement .ensures .0) (c .if1 .left)
+loop-again-2 c =
+    let at-loop = c .before .before .before .before in
+    λ p part t ok s q codes hr ht.
+    earlier-over p ok part s t _ _ (c .before .before .before .loop-test .taken) (at-loop .loop .inv p part t ok s q codes hr ht) _
+    (c .before .before .next-statement .ensures .0) (c .if1 .left)
 
 returns-2 : tie.Need-returns-2 Inv-loop μ-loop
 returns-2 c = λ p part t ok s q codes hr ht. earlier-none p ok part s t (finish (items part) _ _ _ (c .loop-test .left) (c .before .loop .inv p part t ok s q codes hr ht))
@@ -46,4 +58,5 @@ returns-2 c = λ p part t ok s q codes hr ht. earlier-none p ok part s t (finish
 pub clashes-earlier-spec : {M : Type 1} → statement M
 clashes-earlier-spec =
     tie.close
-    (tie.spec Inv-loop μ-loop loop-holds (λ c κs. search needs) (λ c. search needs) (λ c. search needs) (λ c κs. search needs) returns (λ c. search needs) loop-again (λ c. search needs) loop-again-2 returns-2)
+    (tie.spec Inv-loop μ-loop loop-holds (λ c κs. search needs) (λ c. search needs) (λ c. search needs) (λ c κs. search needs) returns (λ c. search needs)
+    loop-again (λ c. search needs) loop-again-2 returns-2)

@@ -33,18 +33,32 @@ slice-aggregate-clashes-earlier : tie.Need-slice-aggregate-clashes-earlier Inv-l
 slice-aggregate-clashes-earlier c = sym (length-take-le _ _ (omega arith))
 
 returns : tie.Need-returns Inv-loop μ-loop
-returns c = λ p part ok s q hr ht. rw (c .unit .ensures)
-    (clash-found p ok part s _ q _ (c .before .before .before .before .before .before .before .before .loop-test .taken) (c .before .before .before .before .before .before .before .before .before .loop .inv p part ok s q hr ht) (c .before .before .before .before .before .if1 .taken) _ _ hr ht _ (c .before .before .before .transition .ensures) _ (c .before .before .clashes-earlier .ensures)
+returns c =
+    let at-if1 = c .before .before .before .before .before in
+    let at-loop-test = at-if1 .before .before .before in
+    let at-loop = at-loop-test .before in
+    λ p part ok s q hr ht. rw (c .unit .ensures)
+    (clash-found p ok part s _ q _ (at-loop-test .loop-test .taken) (at-loop .loop .inv p part ok s q hr ht) (at-if1 .if1 .taken) _ _ hr ht _
+    (c .before .before .before .transition .ensures) _ (c .before .before .clashes-earlier .ensures)
     (c .before .if2 .taken))
 
 loop-again : tie.Need-loop-again Inv-loop μ-loop
-loop-again c = λ p part ok s q hr ht.
-    looks-on p ok part s _ q _ (c .before .before .before .before .before .before .before .loop-test .taken) (c .before .before .before .before .before .before .before .before .loop .inv p part ok s q hr ht) (c .before .before .before .before .if1 .taken) _ _ hr ht _ (c .before .before .transition .ensures) _ (c .before .clashes-earlier .ensures)
-    _ (c .before .before .before .before .before .before .next-statement .ensures .0) (c .if2 .left)
+loop-again c =
+    let at-if1 = c .before .before .before .before in
+    let at-next-statement = at-if1 .before .before in
+    let at-loop-test = at-next-statement .before in
+    let at-loop = at-loop-test .before in
+    λ p part ok s q hr ht.
+    looks-on p ok part s _ q _ (at-loop-test .loop-test .taken) (at-loop .loop .inv p part ok s q hr ht) (at-if1 .if1 .taken) _ _ hr ht _
+    (c .before .before .transition .ensures) _ (c .before .clashes-earlier .ensures)
+    _ (at-next-statement .next-statement .ensures .0) (c .if2 .left)
 
 loop-again-2 : tie.Need-loop-again-2 Inv-loop μ-loop
-loop-again-2 c = λ p part ok s q hr ht.
-    looks-over p ok part s _ q _ (c .before .before .before .loop-test .taken) (c .before .before .before .before .loop .inv p part ok s q hr ht) _ (c .before .before .next-statement .ensures .0) (c .if1 .left)
+loop-again-2 c =
+    let at-loop = c .before .before .before .before in
+    λ p part ok s q hr ht.
+    looks-over p ok part s _ q _ (c .before .before .before .loop-test .taken) (at-loop .loop .inv p part ok s q hr ht) _
+    (c .before .before .next-statement .ensures .0) (c .if1 .left)
 
 returns-2 : tie.Need-returns-2 Inv-loop μ-loop
 returns-2 c = λ p part ok s q hr ht. looks-none p ok part s (finish (items part) _ _ _ (c .loop-test .left) (c .before .loop .inv p part ok s q hr ht))
@@ -52,4 +66,5 @@ returns-2 c = λ p part ok s q hr ht. looks-none p ok part s (finish (items part
 pub first-clash-spec : {M : Type 1} → statement M
 first-clash-spec =
     tie.close
-    (tie.spec Inv-loop μ-loop loop-holds (λ c κs. search needs) (λ c. search needs) (λ c. search needs) slice-aggregate-clashes-earlier (λ c κs. search needs) (λ c κs. search needs) (λ c κs. search needs) (λ c. search needs) returns (λ c. search needs) loop-again (λ c. search needs) loop-again-2 returns-2)
+    (tie.spec Inv-loop μ-loop loop-holds (λ c κs. search needs) (λ c. search needs) (λ c. search needs) slice-aggregate-clashes-earlier (λ c κs. search needs)
+    (λ c κs. search needs) (λ c κs. search needs) (λ c. search needs) returns (λ c. search needs) loop-again (λ c. search needs) loop-again-2 returns-2)

@@ -30,7 +30,8 @@ returns c = (
 
 loop-again : tie.Need-loop-again Inv-loop μ-loop
 loop-again c = λ p ok q.
-    still-over p ok _ q _ (c .before .before .before .loop-test .taken) (c .before .before .before .before .loop .inv p ok q) _ (c .next-statement .ensures .0) (c .before .if1 .left)
+    still-over p ok _ q _ (c .before .before .before .loop-test .taken) (c .before .before .before .before .loop .inv p ok q) _ (c .next-statement .ensures .0)
+    (c .before .if1 .left)
 
 returns-2 : tie.Need-returns-2 Inv-loop μ-loop
 returns-2 c = (omega arith, λ p ok q. still-none p ok _ q _ (c .loop-test .left) (c .before .loop .inv p ok q))

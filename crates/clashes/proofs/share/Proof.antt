@@ -14,7 +14,10 @@ returns-2 c = c .stands-for2 .ensures ∙ sym (shares-second _ _ _ (c .before .i
 
 returns-3 : tie.Need-returns-3
 returns-3 c =
-    rw (shares-sets _ _ _ (c .before .before .before .before .before .before .before .if1 .left) (c .before .before .before .before .before .before .if2 .left), ← c .before .row-of2 .ensures, ← c .before .before .before .before .row-of .ensures, ← c .before .before .before .part .ensures)
+    let at-row-of = c .before .before .before .before in
+    let at-if2 = at-row-of .before .before in
+    let at-if1 = at-if2 .before in
+    rw (shares-sets _ _ _ (at-if1 .if1 .left) (at-if2 .if2 .left), ← c .before .row-of2 .ensures, ← at-row-of .row-of .ensures, ← c .before .before .before .part .ensures)
     (c .meets-at .ensures)
 
 pub share-spec : {M : Type 1} → statement M

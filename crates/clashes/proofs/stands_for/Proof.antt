@@ -13,7 +13,8 @@ returns-2 c = rw (lt-ltb _ 512 (c .before .if1 .left), lt-ltb _ 1024 (c .if2 .ta
 
 returns-3 : tie.Need-returns-3
 unfolding setsIn
-returns-3 c = rw (lt-ltb _ 512 (c .before .before .before .before .if1 .left), le-ltb _ 1024 (c .before .before .before .if2 .left), ← c .before .row-of .ensures) (c .contains-at .ensures)
+returns-3 c =
+    rw (lt-ltb _ 512 (c .before .before .before .before .if1 .left), le-ltb _ 1024 (c .before .before .before .if2 .left), ← c .before .row-of .ensures) (c .contains-at .ensures)
 
 pub stands-for-spec : {M : Type 1} → statement M
 stands-for-spec =

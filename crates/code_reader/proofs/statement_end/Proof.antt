@@ -19,10 +19,24 @@ loop-holds : tie.Need-loop-holds Inv-loop μ-loop
 loop-holds c = refl
 
 returns : tie.Need-returns Inv-loop μ-loop
-returns c = omega (arith, c .before .before .before .loop .inv, ap length (operands-tag (c .before .before .before .before .args .code .now) (c .before .before .before .loop .at) (c .before .before .loop-test .taken) (c .if1 .taken)))
+returns c =
+    let at-args = c .before .before .before .before in
+    omega (
+      arith,
+      c .before .before .before .loop .inv,
+      ap length
+          (operands-tag (at-args .args .code .now) (c .before .before .before .loop .at) (c .before .before .loop-test .taken) (c .if1 .taken)),
+    )
 
 loop-again : tie.Need-loop-again Inv-loop μ-loop
-loop-again c = omega (arith, c .before .before .before .loop .inv, ap length (operands-next (c .before .before .before .before .args .code .now) (c .before .before .before .loop .at) (c .before .before .loop-test .taken) (c .if1 .left)))
+loop-again c =
+    let at-args = c .before .before .before .before in
+    omega (
+      arith,
+      c .before .before .before .loop .inv,
+      ap length
+          (operands-next (at-args .args .code .now) (c .before .before .before .loop .at) (c .before .before .loop-test .taken) (c .if1 .left)),
+    )
 
 returns-2 : tie.Need-returns-2 Inv-loop μ-loop
 returns-2 c = omega (arith, c .before .loop .inv, ap length (operands-past (c .before .before .args .code .now) (c .before .loop .at) (c .loop-test .left)))

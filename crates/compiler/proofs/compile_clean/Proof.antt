@@ -5,11 +5,14 @@ use Rattle.compiler.proofs.compile_clean.Statement.{statement}
 use Rattle.compiler.proofs.compile_clean.Tie as tie
 
 returns : tie.Need-returns
-returns c = record {
-  says = λ clean.
-      let read = accepted-read (c .before .before .before .before .before .before .before .before .before .before .before .parse .ensures) clean _ (c .before .before .before .before .before .before .before .before .before .parsed .given .1) in
-      accepted-gives _ (read .0) (read .1) (c .before .before .compile-statements .ensures .says (read .0) _ (read .2));
-}
+returns c =
+    let at-parsed = c .before .before .before .before .before .before .before .before .before in
+    let at-parse = at-parsed .before .before in
+    record {
+      says = λ clean.
+          let read = accepted-read (at-parse .parse .ensures) clean _ (at-parsed .parsed .given .1) in
+          accepted-gives _ (read .0) (read .1) (c .before .before .compile-statements .ensures .says (read .0) _ (read .2));
+    }
 
 returns-2 : tie.Need-returns-2
 returns-2 c = record {

@@ -17,14 +17,14 @@ abbrev μ-loop : tie.MeasureT-loop
 loop-holds : tie.Need-loop-holds Inv-loop μ-loop
 loop-holds c = begun
 
-look-requires : tie.Need-look-requires Inv-loop μ-loop
-look-requires c κs = search needs
+next-item-requires : tie.Need-next-item-requires Inv-loop μ-loop
+next-item-requires c κs = search needs
 
 enum-known-item : tie.Need-enum-known-item Inv-loop μ-loop
 enum-known-item c = search needs
 
 add-end : tie.Need-add-end Inv-loop μ-loop
-add-end c = omega (arith, sees (c .before .before .before .look .ensures) (c .before .item .given .1) .ahead .3)
+add-end c = omega (arith, sees (c .before .before .before .next-item .ensures) (c .before .item .given .1) .ahead .3)
 
 sub-name : tie.Need-sub-name Inv-loop μ-loop
 sub-name c = search needs
@@ -33,7 +33,7 @@ part-name-start : tie.Need-part-name-start Inv-loop μ-loop
 part-name-start c = search needs
 
 part-name-end : tie.Need-part-name-end Inv-loop μ-loop
-part-name-end c = omega (arith, sees (c .before .before .before .look .ensures) (c .before .item .given .1) .ahead .3)
+part-name-end c = omega (arith, sees (c .before .before .before .next-item .ensures) (c .before .item .given .1) .ahead .3)
 
 lookup-permission-requires : tie.Need-lookup-permission-requires Inv-loop μ-loop
 lookup-permission-requires c κs = search needs
@@ -48,7 +48,7 @@ returns : tie.Need-returns Inv-loop μ-loop
 returns c =
     let item = c .before .before .before .before .before in
     let looked = item .before .before in
-    let l = sees (looked .look .ensures) (item .item .given .1) in
+    let l = sees (looked .next-item .ensures) (item .item .given .1) in
     not-of-class (looked .before .loop .inv) l (c .before .before .lookup-permission .ensures) (c .enum-told .given .1)
 
 with-permission-requires : tie.Need-with-permission-requires Inv-loop μ-loop
@@ -57,7 +57,7 @@ with-permission-requires c κs = search needs
 loop-less : tie.Need-loop-less Inv-loop μ-loop
 loop-less c =
     let item = c .before .before .before .before .before .before .before in
-    let l = sees (item .before .before .look .ensures) (item .item .given .1) in
+    let l = sees (item .before .before .next-item .ensures) (item .item .given .1) in
     omega (arith, l .ahead .0, l .ahead .1)
 
 loop-again : tie.Need-loop-again Inv-loop μ-loop
@@ -65,17 +65,17 @@ loop-again c =
     let found = c .before .before .before .before in
     let item = found .before .before .before in
     let looked = item .before .before in
-    let l = sees (looked .look .ensures) (item .item .given .1) in
+    let l = sees (looked .next-item .ensures) (item .item .given .1) in
     one-more (looked .before .loop .inv) l (found .lookup-permission .ensures) (c .before .before .found .given .1) (c .with-permission .ensures)
 
 enum-known-item-2 : tie.Need-enum-known-item-2 Inv-loop μ-loop
 enum-known-item-2 c = search needs
 
 returns-2 : tie.Need-returns-2 Inv-loop μ-loop
-returns-2 c = finished (c .before .before .before .before .loop .inv) (sees (c .before .before .before .look .ensures) (c .before .item2 .given .1))
+returns-2 c = finished (c .before .before .before .before .loop .inv) (sees (c .before .before .before .next-item .ensures) (c .before .item2 .given .1))
 
 returns-3 : tie.Need-returns-3 Inv-loop μ-loop
-returns-3 c = no-names (c .before .before .loop .inv) (c .before .look .ensures) (c .match .keys3)
+returns-3 c = no-names (c .before .before .loop .inv) (c .before .next-item .ensures) (c .match .keys3)
 
 pub permission-mask-spec : {M : Type 1} → statement M
 permission-mask-spec =
@@ -84,7 +84,7 @@ permission-mask-spec =
     Inv-loop
     μ-loop
     loop-holds
-    look-requires
+    next-item-requires
     enum-known-item
     add-end
     sub-name

@@ -17,7 +17,7 @@ use Rattle.items.specs.declared.Wanted.{Wanted}
 use Rattle.items.proofs.Items.{sees, by-part, by-close, too-deep, alike}
 use Rattle.items.proofs.Rows.{told, refuse, at-close, beyond}
 use Rattle.items.proofs.ended.Reads as ended-reads
-use Rattle.items.proofs.look.Reads as look-reads
+use Rattle.items.proofs.next_item.Reads as look-reads
 use Rattle.constraint_grammar.proofs.Expressions.{heads, both-read, part-operand, close-operand, end-operand, word-operand}
 use Rattle.constraint_grammar.proofs.constraint_form.Reads as constraint-form
 use Rattle.constraint_grammar.proofs.constraint_form.Kinds as constraint-form-kinds
@@ -78,15 +78,15 @@ module _ (t : ℕ) where
       let h = heads (c .before .before .head-of .ensures) in
       (omega (arith, h .ahead), h .end, h .joins (c .if1 .left) _)
 
-  look-requires : lts.Need-look-requires (claims t) (at-level t) constraint-form.Post Inv-loop μ-loop
-  look-requires c κs = search needs
+  next-item-requires : lts.Need-next-item-requires (claims t) (at-level t) constraint-form.Post Inv-loop μ-loop
+  next-item-requires c κs = search needs
 
   enum-known-item : lts.Need-enum-known-item (claims t) (at-level t) constraint-form.Post Inv-loop μ-loop
   enum-known-item c = search needs
 
   returns-2 : lts.Need-returns-2 (claims t) (at-level t) constraint-form.Post Inv-loop μ-loop
   returns-2 c =
-      let l = sees (c .before .before .before .before .look .ensures) (c .before .before .item .given .1) in
+      let l = sees (c .before .before .before .before .next-item .ensures) (c .before .before .item .given .1) in
       refuse (sym (c .before .before .before .before .before .loop .inv .2) ∙ too-deep (left _ _) _ l (c .if2 .taken) ∙ end-operand _ _)
 
   sub-constraint-form : lts.Need-sub-constraint-form (claims t) (at-level t) constraint-form.Post Inv-loop μ-loop
@@ -101,14 +101,14 @@ module _ (t : ℕ) where
   add-count : lts.Need-add-count (claims t) (at-level t) constraint-form.Post Inv-loop μ-loop
   add-count c =
       let at-item = c .before .before .before .before .before .before in
-      let l = sees (at-item .before .before .look .ensures) (at-item .item .given .1) in
+      let l = sees (at-item .before .before .next-item .ensures) (at-item .item .given .1) in
       let g = told (c .before .before .before .constraint-form .ensures) (c .before .operand .given .1) in
       omega (arith, at-item .before .before .before .loop .inv .0, l .ahead .0, g .less, g .fits)
 
   loop-less : lts.Need-loop-less (claims t) (at-level t) constraint-form.Post Inv-loop μ-loop
   loop-less c =
       let at-item = c .before .before .before .before .before .before in
-      let l = sees (at-item .before .before .look .ensures) (at-item .item .given .1) in
+      let l = sees (at-item .before .before .next-item .ensures) (at-item .item .given .1) in
       let g = told (c .before .before .before .constraint-form .ensures) (c .before .operand .given .1) in
       omega (arith, l .ahead .0, g .less, g .fits)
 
@@ -116,7 +116,7 @@ module _ (t : ℕ) where
   loop-again c =
       let at-item = c .before .before .before .before .before .before in
       let at-loop = at-item .before .before .before in
-      let l = sees (at-item .before .before .look .ensures) (at-item .item .given .1) in
+      let l = sees (at-item .before .before .next-item .ensures) (at-item .item .given .1) in
       let g = told (c .before .before .before .constraint-form .ensures) (c .before .operand .given .1) in (
         omega (arith, at-loop .loop .inv .0, l .ahead .0, g .less),
         sym (beyond _ l (g .end)) ∙ at-loop .loop .inv .1,
@@ -129,7 +129,7 @@ module _ (t : ℕ) where
   returns-3 : lts.Need-returns-3 (claims t) (at-level t) constraint-form.Post Inv-loop μ-loop
   returns-3 c =
       let at-item = c .before .before .before .before .before in
-      let l = sees (at-item .before .before .look .ensures) (at-item .item .given .1) in
+      let l = sees (at-item .before .before .next-item .ensures) (at-item .item .given .1) in
       refuse
       (sym (at-item .before .before .before .loop .inv .2)
       ∙ by-part (left _ _) _ _ l refl (c .before .before .before .if2 .left)
@@ -143,7 +143,7 @@ module _ (t : ℕ) where
 
   returns-4 : lts.Need-returns-4 (claims t) (at-level t) constraint-form.Post Inv-loop μ-loop
   returns-4 c =
-      let l = sees (c .before .before .before .before .look .ensures) (c .before .before .item2 .given .1) in
+      let l = sees (c .before .before .before .before .next-item .ensures) (c .before .before .item2 .given .1) in
       let at-loop = c .before .before .before .before .before in
       at-close _ _ (c .ended .ensures) (sym (at-loop .loop .inv .2) ∙ by-close (left _ _) _ l ∙ close-operand _ _) (sym (at-loop .loop .inv .1) ∙ l .end)
       (omega (arith, at-loop .loop .inv .0, l .ahead .0)) (l .ahead .1)
@@ -152,7 +152,7 @@ module _ (t : ℕ) where
   returns-5 c =
       refuse
       (sym (c .before .before .loop .inv .2)
-      ∙ alike (left _ _) (λ f. false) _ _ _ (0 ∷ 3 ∷ []) _ (word-operand _ _, tt, tt, end-operand _ _) (c .before .look .ensures) (c .match .keys3))
+      ∙ alike (left _ _) (λ f. false) _ _ _ (0 ∷ 3 ∷ []) _ (word-operand _ _, tt, tt, end-operand _ _) (c .before .next-item .ensures) (c .match .keys3))
 
 pub +constraint-form-spec : {M : Type 1} → statement M
 +constraint-form-spec =
@@ -162,7 +162,7 @@ pub +constraint-form-spec : {M : Type 1} → statement M
     (both-sides-requires t)
     (returns t)
     (loop-holds t)
-    (look-requires t)
+    (next-item-requires t)
     (enum-known-item t)
     (returns-2 t)
     (sub-constraint-form t)

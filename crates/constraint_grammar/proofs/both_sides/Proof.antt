@@ -11,8 +11,8 @@ use Rattle.constraint_grammar.proofs.both_sides.Tie as tie
 use Rattle.constraint_grammar.proofs.both_sides.Reads as reads
 use Rattle.constraint_grammar.proofs.both_sides.Lts as lts
 
-look-requires : tie.Need-look-requires
-look-requires c κs = search needs
+next-item-requires : tie.Need-next-item-requires
+next-item-requires c κs = search needs
 
 enum-known-item : tie.Need-enum-known-item
 enum-known-item c = search needs
@@ -22,13 +22,13 @@ second-side-requires c κs = search needs
 
 returns : tie.Need-returns
 returns c =
-    let l = sees (c .before .before .before .before .look .ensures) (c .before .before .item .given .1) in
+    let l = sees (c .before .before .before .before .next-item .ensures) (c .before .before .item .given .1) in
     after-word l (ap (bothSides _) (l .here) ∙ rw (l .ahead .2)) (c .second-side .ensures)
 
 returns-2 : tie.Need-returns-2
-returns-2 c = refuse (alike-here (bothSides _) (λ f. false) _ _ _ (1 ∷ 2 ∷ 3 ∷ []) (tt, λ x f g. refl, refl, refl) (c .before .look .ensures) (c .match .keys2))
+returns-2 c = refuse (alike-here (bothSides _) (λ f. false) _ _ _ (1 ∷ 2 ∷ 3 ∷ []) (tt, λ x f g. refl, refl, refl) (c .before .next-item .ensures) (c .match .keys2))
 
 pub both-sides-spec : {M : Type 1} → statement M
 both-sides-spec =
     tie.close
-    (tie.spec look-requires enum-known-item second-side-requires returns returns-2)
+    (tie.spec next-item-requires enum-known-item second-side-requires returns returns-2)

@@ -25,7 +25,7 @@ use Rattle.constraint_writer.proofs.comparison.Reads as comparison-read
 use Rattle.constraint_writer.proofs.kind_of.Reads as kind-of-reads
 use Rattle.constraint_writer.proofs.larger.Reads as larger-reads
 use Rattle.constraint_writer.proofs.put_row.Reads as put-row-reads
-use Rattle.items.proofs.look.Reads as look-reads
+use Rattle.items.proofs.next_item.Reads as look-reads
 use Rattle.constraint_writer.proofs.+write_constraint.{statement}
 use Rattle.constraint_writer.proofs.+write_constraint.Tie.{close}
 
@@ -62,15 +62,15 @@ abbrev μ-loop : lts.MeasureT-loop
 μ-loop text at levels symbols rows₀ row number next kind i₀ n₀ count₀ need₀ rows i n count need = length text - i
 
 module _ (t : ℕ) where
-  look-requires : lts.Need-look-requires (claims t) (at-level t) write-constraint.Post Inv-loop μ-loop
-  look-requires c κs = search needs
+  next-item-requires : lts.Need-next-item-requires (claims t) (at-level t) write-constraint.Post Inv-loop μ-loop
+  next-item-requires c κs = search needs
 
   enum-known-first : lts.Need-enum-known-first (claims t) (at-level t) write-constraint.Post Inv-loop μ-loop
   enum-known-first c = search needs
 
   returns : lts.Need-returns (claims t) (at-level t) write-constraint.Post Inv-loop μ-loop
   returns c =
-      no-form (all-kept _ _) (alike expressionIn (λ f. none) _ _ _ (1 ∷ 2 ∷ 3 ∷ []) _ no-word (c .before .look .ensures) (c .match .keys2))
+      no-form (all-kept _ _) (alike expressionIn (λ f. none) _ _ _ (1 ∷ 2 ∷ 3 ∷ []) _ no-word (c .before .next-item .ensures) (c .match .keys2))
 
   kind-of-requires : lts.Need-kind-of-requires (claims t) (at-level t) write-constraint.Post Inv-loop μ-loop
   kind-of-requires c κs = search needs
@@ -78,7 +78,7 @@ module _ (t : ℕ) where
   comparison-requires : lts.Need-comparison-requires (claims t) (at-level t) write-constraint.Post Inv-loop μ-loop
   comparison-requires c κs =
       let at-first = c .before .before .before .before in
-      let l = sees (at-first .before .before .look .ensures) (at-first .first .given .1) in
+      let l = sees (at-first .before .before .next-item .ensures) (at-first .first .given .1) in
       omega (arith, l .ahead .0, at-first .before .before .before .before .before .before .pre .1)
 
   same-length : lts.Need-same-length (claims t) (at-level t) write-constraint.Post Inv-loop μ-loop
@@ -87,17 +87,17 @@ module _ (t : ℕ) where
   returns-2 : lts.Need-returns-2 (claims t) (at-level t) write-constraint.Post Inv-loop μ-loop
   returns-2 c =
       let at-first = c .before .before .before .before .before .before .before in
-      let l = sees (at-first .before .before .look .ensures) (at-first .first .given .1) in
+      let l = sees (at-first .before .before .next-item .ensures) (at-first .first .given .1) in
       let at-test = c .before .before .before .before in
       moved (sym (around-of l)) (l .ahead .0) (compares l (at-test .before .kind-of .ensures) _ (at-test .if1 .taken)) (c .before .before .comparison .ensures)
 
   loop-holds : lts.Need-loop-holds (claims t) (at-level t) write-constraint.Post Inv-loop μ-loop
   loop-holds c =
-      let l = sees (c .before .before .before .before .before .look .ensures) (c .before .before .before .first .given .1) in
+      let l = sees (c .before .before .before .before .before .next-item .ensures) (c .before .before .before .first .given .1) in
       begun l (c .before .kind-of .ensures) _ (c .if1 .left)
 
-  look-requires-2 : lts.Need-look-requires-2 (claims t) (at-level t) write-constraint.Post Inv-loop μ-loop
-  look-requires-2 c κs = search needs
+  next-item-requires-2 : lts.Need-next-item-requires-2 (claims t) (at-level t) write-constraint.Post Inv-loop μ-loop
+  next-item-requires-2 c κs = search needs
 
   enum-known-item : lts.Need-enum-known-item (claims t) (at-level t) write-constraint.Post Inv-loop μ-loop
   enum-known-item c = search needs
@@ -107,7 +107,7 @@ module _ (t : ℕ) where
 
   returns-3 : lts.Need-returns-3 (claims t) (at-level t) write-constraint.Post Inv-loop μ-loop
   returns-3 c =
-      let l = sees (c .before .before .before .before .look2 .ensures) (c .before .before .item .given .1) in
+      let l = sees (c .before .before .before .before .next-item2 .ensures) (c .before .before .item .given .1) in
       no-operand (c .before .before .before .before .before .loop .inv) (too-deep expressions _ l (c .if2 .taken) ∙ end-none)
 
   sub-write-constraint : lts.Need-sub-write-constraint (claims t) (at-level t) write-constraint.Post Inv-loop μ-loop
@@ -115,7 +115,7 @@ module _ (t : ℕ) where
 
   write-constraint-requires : lts.Need-write-constraint-requires (claims t) (at-level t) write-constraint.Post Inv-loop μ-loop
   write-constraint-requires c κs =
-      let l = sees (c .before .before .before .before .before .look2 .ensures) (c .before .before .before .item .given .1) in
+      let l = sees (c .before .before .before .before .before .next-item2 .ensures) (c .before .before .before .item .given .1) in
       let at-loop = c .before .before .before .before .before .before in
       let at-start = at-loop .before .before .before .before .before .before .before .before .before .before in
       (omega arith, omega (arith, at-loop .loop .inv .few, at-loop .loop .inv .ahead, l .ahead .0, l .ahead .1, at-start .pre .1))
@@ -134,7 +134,7 @@ module _ (t : ℕ) where
   returns-4 : lts.Need-returns-4 (claims t) (at-level t) write-constraint.Post Inv-loop μ-loop
   returns-4 c =
       let at-item = c .before .before .before .before .before .before .before .before in
-      let l = sees (at-item .before .before .look2 .ensures) (at-item .item .given .1) in
+      let l = sees (at-item .before .before .next-item2 .ensures) (at-item .item .given .1) in
       operand-undeclared (at-item .before .before .before .loop .inv) l (c .before .before .before .before .before .before .if2 .left)
       (told (c .before .before .before .before .write-constraint .ensures) (c .enum-told .given .1))
 
@@ -142,7 +142,7 @@ module _ (t : ℕ) where
   add-larger c =
       let at-operand = c .before in
       let at-item = at-operand .before .before .before .before .before .before .before .before in
-      let l = sees (at-item .before .before .look2 .ensures) (at-item .item .given .1) in
+      let l = sees (at-item .before .before .next-item2 .ensures) (at-item .item .given .1) in
       let w = told (at-operand .before .before .before .before .write-constraint .ensures) (at-operand .operand .given .1) in
       omega (arith, at-item .before .before .before .loop .inv .few-operands, l .ahead .0, w .reads .few-values, w .reads .fits)
 
@@ -153,7 +153,7 @@ module _ (t : ℕ) where
   add-count c =
       let at-operand = c .before .before in
       let at-item = at-operand .before .before .before .before .before .before .before .before in
-      let l = sees (at-item .before .before .look2 .ensures) (at-item .item .given .1) in
+      let l = sees (at-item .before .before .next-item2 .ensures) (at-item .item .given .1) in
       let w = told (at-operand .before .before .before .before .write-constraint .ensures) (at-operand .operand .given .1) in
       omega (arith, at-item .before .before .before .loop .inv .few-operands, l .ahead .0, w .reads .less, w .reads .fits)
 
@@ -161,7 +161,7 @@ module _ (t : ℕ) where
   loop-less c =
       let at-operand = c .before .before in
       let at-item = at-operand .before .before .before .before .before .before .before .before in
-      let l = sees (at-item .before .before .look2 .ensures) (at-item .item .given .1) in
+      let l = sees (at-item .before .before .next-item2 .ensures) (at-item .item .given .1) in
       let w = told (at-operand .before .before .before .before .write-constraint .ensures) (at-operand .operand .given .1) in
       omega (arith, l .ahead .0, w .reads .less, w .reads .fits)
 
@@ -169,7 +169,7 @@ module _ (t : ℕ) where
   loop-again c =
       let at-operand = c .before .before in
       let at-item = at-operand .before .before .before .before .before .before .before .before in
-      let l = sees (at-item .before .before .look2 .ensures) (at-item .item .given .1) in
+      let l = sees (at-item .before .before .next-item2 .ensures) (at-item .item .given .1) in
       let w = told (at-operand .before .before .before .before .write-constraint .ensures) (at-operand .operand .given .1) in
       operand-done (at-item .before .before .before .loop .inv) l (at-operand .before .before .before .before .before .before .if2 .left) w
       (c .larger .ensures)
@@ -184,7 +184,7 @@ module _ (t : ℕ) where
   add-row c =
       let at-item = c .before .before .before .before .before in
       let at-loop = at-item .before .before .before in
-      let l = sees (at-item .before .before .look2 .ensures) (at-item .item2 .given .1) in
+      let l = sees (at-item .before .before .next-item2 .ensures) (at-item .item2 .given .1) in
       let at-start = at-loop .before .before .before .before .before .before .before .before .before .before in
       omega (arith, at-loop .loop .inv .few, at-loop .loop .inv .ahead, l .ahead .0, l .ahead .1, at-start .pre .1)
 
@@ -194,7 +194,7 @@ module _ (t : ℕ) where
   returns-5 : lts.Need-returns-5 (claims t) (at-level t) write-constraint.Post Inv-loop μ-loop
   returns-5 c =
       let at-item = c .before .before .before .before .before in
-      let l = sees (at-item .before .before .look2 .ensures) (at-item .item2 .given .1) in
+      let l = sees (at-item .before .before .next-item2 .ensures) (at-item .item2 .given .1) in
       finished (at-item .before .before .before .loop .inv) l (c .before .before .put-row .ensures)
 
   same-length-5 : lts.Need-same-length-5 (claims t) (at-level t) write-constraint.Post Inv-loop μ-loop
@@ -203,13 +203,13 @@ module _ (t : ℕ) where
   returns-6 : lts.Need-returns-6 (claims t) (at-level t) write-constraint.Post Inv-loop μ-loop
   returns-6 c =
       no-operand (c .before .before .loop .inv)
-      (alike expressions (λ f. none) _ _ _ (0 ∷ 3 ∷ []) _ (word-none, tt, tt, end-none) (c .before .look2 .ensures) (c .match2 .keys3))
+      (alike expressions (λ f. none) _ _ _ (0 ∷ 3 ∷ []) _ (word-none, tt, tt, end-none) (c .before .next-item2 .ensures) (c .match2 .keys3))
 
 pub +write-constraint-spec : {M : Type 1} → statement M
 +write-constraint-spec =
     close μ
     (λ t. lts.spec (claims t) (at-level t) write-constraint.Post Inv-loop μ-loop
-    (look-requires t)
+    (next-item-requires t)
     (enum-known-first t)
     (returns t)
     (kind-of-requires t)
@@ -217,7 +217,7 @@ pub +write-constraint-spec : {M : Type 1} → statement M
     (same-length t)
     (returns-2 t)
     (loop-holds t)
-    (look-requires-2 t)
+    (next-item-requires-2 t)
     (enum-known-item t)
     (same-length-2 t)
     (returns-3 t)

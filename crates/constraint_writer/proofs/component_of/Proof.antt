@@ -37,7 +37,20 @@ returns-6 c = rw (c .if6 .taken)
 
 returns-7 : tie.Need-returns-7
 unfolding same lookup reserved keywords words componentOf agreeing every isAmong any
-returns-7 c = sym (ap codeOf (other-words componentOf (11 ∷ 12 ∷ 14 ∷ 15 ∷ 17 ∷ 18 ∷ []) refl refl refl (c .before .before .before .before .before .before .args .number) (rw (ne-eqb _ _ (c .before .before .before .before .before .if1 .left), ne-eqb _ _ (c .before .before .before .before .if2 .left), ne-eqb _ _ (c .before .before .before .if3 .left), ne-eqb _ _ (c .before .before .if4 .left), ne-eqb _ _ (c .before .if5 .left), ne-eqb _ _ (c .if6 .left)))))
+returns-7 c =
+    let at-if2 = c .before .before .before .before in
+    let at-if1 = at-if2 .before in
+    let at-args = at-if1 .before in
+    sym (ap codeOf (other-words componentOf (11 ∷ 12 ∷ 14 ∷ 15 ∷ 17 ∷ 18 ∷ []) refl refl refl (at-args .args .number)
+    (rw (
+      ne-eqb _ _ (at-if1 .if1 .left),
+      ne-eqb _ _ (at-if2 .if2 .left),
+      ne-eqb _ _ (c .before .before .before .if3 .left),
+      ne-eqb _ _
+          (c .before .before .if4 .left),
+      ne-eqb _ _ (c .before .if5 .left),
+      ne-eqb _ _ (c .if6 .left),
+    ))))
 
 pub component-of-spec : {M : Type 1} → statement M
 component-of-spec = tie.close (tie.spec returns returns-2 returns-3 returns-4 returns-5 returns-6 returns-7)

@@ -25,7 +25,9 @@ returns-3 c = rw (c .if3 .taken)
 
 returns-4 : tie.Need-returns-4
 unfolding same lookup reserved keywords words expressionWord agreeing every isAmong any
-returns-4 c = sym (ap kindOf (other-words expressionWord (5 ∷ 2 ∷ 3 ∷ []) refl refl refl (c .before .before .before .args .number) (rw (ne-eqb _ _ (c .before .before .if1 .left), ne-eqb _ _ (c .before .if2 .left), ne-eqb _ _ (c .if3 .left)))))
+returns-4 c =
+    sym (ap kindOf (other-words expressionWord (5 ∷ 2 ∷ 3 ∷ []) refl refl refl (c .before .before .before .args .number)
+    (rw (ne-eqb _ _ (c .before .before .if1 .left), ne-eqb _ _ (c .before .if2 .left), ne-eqb _ _ (c .if3 .left)))))
 
 pub kind-of-spec : {M : Type 1} → statement M
 kind-of-spec = tie.close (tie.spec returns returns-2 returns-3 returns-4)

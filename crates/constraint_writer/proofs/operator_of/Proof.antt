@@ -33,7 +33,18 @@ returns-5 c = rw (c .if5 .taken)
 
 returns-6 : tie.Need-returns-6
 unfolding same lookup reserved keywords words opOf agreeing every isAmong any
-returns-6 c = sym (ap operatorOf (other-words opOf (6 ∷ 7 ∷ 8 ∷ 9 ∷ 10 ∷ []) refl refl refl (c .before .before .before .before .before .args .number) (rw (ne-eqb _ _ (c .before .before .before .before .if1 .left), ne-eqb _ _ (c .before .before .before .if2 .left), ne-eqb _ _ (c .before .before .if3 .left), ne-eqb _ _ (c .before .if4 .left), ne-eqb _ _ (c .if5 .left)))))
+returns-6 c =
+    let at-if1 = c .before .before .before .before in
+    let at-args = at-if1 .before in
+    sym (ap operatorOf (other-words opOf (6 ∷ 7 ∷ 8 ∷ 9 ∷ 10 ∷ []) refl refl refl (at-args .args .number)
+    (rw (
+      ne-eqb _ _ (at-if1 .if1 .left),
+      ne-eqb _ _ (c .before .before .before .if2 .left),
+      ne-eqb _ _ (c .before .before .if3 .left),
+      ne-eqb _ _
+          (c .before .if4 .left),
+      ne-eqb _ _ (c .if5 .left),
+    ))))
 
 pub operator-of-spec : {M : Type 1} → statement M
 operator-of-spec = tie.close (tie.spec returns returns-2 returns-3 returns-4 returns-5 returns-6)

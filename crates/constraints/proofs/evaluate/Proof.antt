@@ -61,7 +61,8 @@ loop-again c =
       (
         boundedTurn v (rowAt (drop (a .bodies .rows + 6 * l .number) (a .table .now))) (l .inv .2 .0),
         subst (λ (r : Row). c .row-step .result .bits ≡ code (boundedTurn v r (l .inv .2 .0))) (c .before .row-at .ensures) (c .row-step .ensures (l .inv .2 .0) (l .inv .2 .1)),
-        rw (records-step 6 rowAt (a .table .now) (a .bodies .rows + 6 * l .number) (a .bodies .rows + 6 * (l .number + 1)) (l .left) (l .left - 1) (omega arith) (omega arith)) at (l .inv .2 .2),
+        rw (records-step 6 rowAt (a .table .now) (a .bodies .rows + 6 * l .number) (a .bodies .rows + 6 * (l .number + 1)) (l .left) (l .left - 1)
+            (omega arith) (omega arith)) at (l .inv .2 .2),
       ),
     )
 

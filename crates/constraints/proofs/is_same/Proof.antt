@@ -35,7 +35,17 @@ contains-at-requires : tie.Need-contains-at-requires
 contains-at-requires c κs = search needs
 
 returns-3 : tie.Need-returns-3
-returns-3 c = rw (ne-eqb _ _ (c .before .before .before .before .if1 .left), ne-eqb _ _ (c .before .before .before .if2 .left), c .contains-at .ensures, c .before .set-width .ensures, c .before .before .set-start .ensures, c .before .before .before .before .before .side .ensures)
+returns-3 c =
+    let at-if1 = c .before .before .before .before in
+    let at-side = at-if1 .before in
+    rw (
+      ne-eqb _ _ (at-if1 .if1 .left),
+      ne-eqb _ _ (c .before .before .before .if2 .left),
+      c .contains-at .ensures,
+      c .before .set-width .ensures,
+      c .before .before .set-start .ensures,
+      at-side .side .ensures,
+    )
 
 pub is-same-spec : {M : Type 1} → statement M
 is-same-spec =

@@ -23,7 +23,10 @@ body-start-requires-3 : tie.Need-body-start-requires-3
 body-start-requires-3 c κs = search needs
 
 returns : tie.Need-returns
-returns c = located (c .before .before .before .before .before .args .table .now) (c .before .before .before .before .before .args .userattributes) (c .before .before .before .before .before .args .roleattributes) _ (rw (c .body-start3 .ensures, c .before .body-start2 .ensures, c .before .before .body-length .ensures, c .before .before .before .body-start .ensures))
+returns c =
+    let at-args = c .before .before .before .before .before in
+    located (at-args .args .table .now) (at-args .args .userattributes) (at-args .args .roleattributes) _
+    (rw (c .body-start3 .ensures, c .before .body-start2 .ensures, c .before .before .body-length .ensures, c .before .before .before .body-start .ensures))
 
 pub locate-spec : {M : Type 1} → statement M
 locate-spec =

@@ -14,7 +14,8 @@ returns : tie.Need-returns
 returns c = rw (ne-eqb _ _ (c .if1 .taken))
 
 returns-2 : tie.Need-returns-2
-returns-2 c = rw (eq-eqb _ _ (c .before .if1 .left), bit-past (c .before .before .before .args .constraint .mask) (c .before .before .before .args .permission) (omega arith) (c .if2 .taken))
+returns-2 c =
+    rw (eq-eqb _ _ (c .before .if1 .left), bit-past (c .before .before .before .args .constraint .mask) (c .before .before .before .args .permission) (omega arith) (c .if2 .taken))
 
 cast-result : tie.Need-cast-result
 cast-result c = search needs

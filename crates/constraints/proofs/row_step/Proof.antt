@@ -29,7 +29,15 @@ push-requires : tie.Need-push-requires
 push-requires c κs = search needs
 
 returns-4 : tie.Need-returns-4
-returns-4 c = λ s e. rw (ne-eqb _ _ (c .before .before .before .before .if1 .left), ne-eqb _ _ (c .before .before .before .if2 .left), ne-eqb _ _ (c .before .before .if3 .left), ← c .before .compare .ensures) (c .push .ensures s e)
+returns-4 c =
+    let at-if1 = c .before .before .before .before in
+    λ s e. rw (
+      ne-eqb _ _ (at-if1 .if1 .left),
+      ne-eqb _ _ (c .before .before .before .if2 .left),
+      ne-eqb _ _ (c .before .before .if3 .left),
+      ←
+          c .before .compare .ensures,
+    ) (c .push .ensures s e)
 
 pub row-step-spec : {M : Type 1} → statement M
 row-step-spec =

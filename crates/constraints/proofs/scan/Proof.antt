@@ -22,7 +22,8 @@ abbrev Inv-loop : tie.InvT-loop
 Inv-loop table bodies class permission sides start count consulted₀ next₀ consulted next =
     (next ≤ bodies .count)
     × (consulted ≤ next)
-    × Left (headNames class permission) (headHolds table bodies sides) (firstFailing (headNames class permission) (headHolds table bodies sides) 0 (headsIn table bodies)) consulted next
+    × Left (headNames class permission) (headHolds table bodies sides)
+    (firstFailing (headNames class permission) (headHolds table bodies sides) 0 (headsIn table bodies)) consulted next
     (records 10 headAt (bodies .count - next) (drop (bodies .constraints + 10 * next) table))
 
 abbrev μ-loop : tie.MeasureT-loop
@@ -37,10 +38,15 @@ ahead : (c : tie.After-constraint-at Inv-loop μ-loop) →
     Left n h (firstFailing n h 0 (headsIn (now (a .table)) (a .bodies))) (l .consulted) (l .next)
     (headOf (c .constraint-at .result) ∷ records 10 headAt (a .bodies .count - (l .next + 1)) (drop (a .bodies .constraints + 10 * (l .next + 1)) (now (a .table))))
 ahead c =
-    let a = c .before .before .before .before .before .args in
+    let at-args = c .before .before .before .before .before in
+    let a = at-args .args in
     let l = c .before .before .loop in
     let at = a .bodies .constraints + 10 * l .next in
-    rw (c .constraint-at .ensures, ← records-step 10 headAt (now (a .table)) at (a .bodies .constraints + 10 * (l .next + 1)) (a .bodies .count - l .next) (a .bodies .count - (l .next + 1)) (omega arith) (omega arith))
+    rw (
+      c .constraint-at .ensures,
+      ← records-step 10 headAt (now (a .table)) at (a .bodies .constraints + 10 * (l .next + 1)) (a .bodies .count - l .next)
+          (a .bodies .count - (l .next + 1)) (omega arith) (omega arith),
+    )
     (l .inv .2)
 
 loop-holds : tie.Need-loop-holds Inv-loop μ-loop
@@ -73,14 +79,20 @@ cast-t14 c = omega arith
 
 returns : tie.Need-returns Inv-loop μ-loop
 returns c =
-    let a = ahead (c .before .before .before .before) in left-fail _ _ a (sym (c .before .before .before .names .ensures) ∙ not-false _ (c .before .before .if1 .left)) (sym (c .before .holds .ensures) ∙ not-true _ (c .if2 .taken))
+    let a = ahead (c .before .before .before .before) in left-fail _ _ a
+    (sym (c .before .before .before .names .ensures) ∙ not-false _ (c .before .before .if1 .left)) (sym (c .before .holds .ensures) ∙ not-true _ (c .if2 .taken))
 
 loop-less-2 : tie.Need-loop-less-2 Inv-loop μ-loop
 loop-less-2 c = omega arith
 
 loop-again-2 : tie.Need-loop-again-2 Inv-loop μ-loop
 loop-again-2 c =
-    let a = ahead (c .before .before .before .before) in (omega arith, omega arith, left-pass _ _ a (sym (c .before .before .before .names .ensures) ∙ not-false _ (c .before .before .if1 .left)) (sym (c .before .holds .ensures) ∙ not-false _ (c .if2 .left)))
+    let a = ahead (c .before .before .before .before) in (
+      omega arith,
+      omega arith,
+      left-pass _ _ a (sym (c .before .before .before .names .ensures) ∙ not-false _ (c .before .before .if1 .left))
+          (sym (c .before .holds .ensures) ∙ not-false _ (c .if2 .left)),
+    )
 
 returns-2 : tie.Need-returns-2 Inv-loop μ-loop
 returns-2 c =

@@ -1,4 +1,4 @@
--- `decisions::matches_at` meets its contract: field by field, each where it stands in the table. Assumes nothing.
+-- `decisions::matches_at` meets its contract: field by field, each where it is in the table. Assumes nothing.
 use mathlib.Core.Path.{sym, ap, _∙_}
 use borrow.Author.Tests.{not-true, not-false}
 use Rattle.policy.specs.Questions.{matches}
@@ -23,10 +23,17 @@ returns-2 c =
 
 returns-3 : tie.Need-returns-3
 returns-3 c =
-    let a = c .before .before .before .before .before .before .args in
+    let at-contains-at = c .before .before .before .before in
+    let at-args = at-contains-at .before .before in
+    let a = at-args .args in
     sym
     (ap (matches (a .role) (a .kind) (a .class)) (transition-fields (a .at) (a .table .now))
-    ∙ rw (sym (c .before .before .before .before .contains-at .ensures) ∙ not-false _ (c .before .before .before .if1 .left), sym (c .before .before .contains-at2 .ensures) ∙ not-false _ (c .before .if2 .left), ← c .byte-at .ensures))
+    ∙ rw (
+      sym (at-contains-at .contains-at .ensures) ∙ not-false _ (c .before .before .before .if1 .left),
+      sym (c .before .before .contains-at2 .ensures) ∙
+          not-false _ (c .before .if2 .left),
+      ← c .byte-at .ensures,
+    ))
 
 pub matches-at-spec : {M : Type 1} → statement M
 matches-at-spec =

@@ -30,7 +30,8 @@ returns-3 c =
     let t = a .table .now in
     let asks = asksRoleIn t (a .class) (a .permission) in
     let may = setHas t 3 16 (a .source) (a .target) in
-    ap not (c .asks-role .ensures) ∙ role-asked asks (a .source) (a .target) may (c .before .before .before .if1 .left) (sym (c .before .before .set-has .ensures) ∙ c .before .if2 .left)
+    ap not (c .asks-role .ensures) ∙ role-asked asks (a .source) (a .target) may (c .before .before .before .if1 .left)
+    (sym (c .before .before .set-has .ensures) ∙ c .before .if2 .left)
 
 pub role-may-spec : {M : Type 1} → statement M
 role-may-spec =

@@ -1,4 +1,4 @@
--- `decisions::set_has` meets its contract: a set of a body stands a width behind the one before it. Assumes nothing.
+-- `decisions::set_has` meets its contract: a set of a body stands a width after the one before it. Assumes nothing.
 use native.Mathlib.Nat.{mul-le-mul}
 use native.Mathlib.Omega.{arith}
 use borrow.Author.Tests.{lt-ltb, le-ltb}
@@ -12,10 +12,12 @@ unfolding setHas
 returns c = rw (le-ltb _ _ (c .if1 .taken))
 
 mul-contains-at : tie.Need-mul-contains-at
-mul-contains-at c = omega (arith, mul-le-mul {n₁ = c .before .before .before .args .width} {m₁ = c .before .before .before .args .set} {n₂ = 65535} {m₂ = 65535} (omega arith) (omega arith))
+mul-contains-at c =
+    omega (arith, mul-le-mul {n₁ = c .before .before .before .args .width} {m₁ = c .before .before .before .args .set} {n₂ = 65535} {m₂ = 65535} (omega arith) (omega arith))
 
 add-contains-at : tie.Need-add-contains-at
-add-contains-at c = omega (arith, mul-le-mul {n₁ = c .before .before .before .args .width} {m₁ = c .before .before .before .args .set} {n₂ = 65535} {m₂ = 65535} (omega arith) (omega arith))
+add-contains-at c =
+    omega (arith, mul-le-mul {n₁ = c .before .before .before .args .width} {m₁ = c .before .before .before .args .set} {n₂ = 65535} {m₂ = 65535} (omega arith) (omega arith))
 
 returns-2 : tie.Need-returns-2
 unfolding setHas

@@ -7,12 +7,12 @@ use Rattle.declarations.proofs.add_name.Statement.{statement}
 use Rattle.declarations.proofs.add_name.Tie as tie
 
 returns : tie.Need-returns
-returns c = name-taken _ _ _ _ (stands-told (c .before .before .stands .ensures) (c .enum-told .given .1))
+returns c = name-taken _ _ _ _ (stands-told (c .before .before .status-of .ensures) (c .enum-told .given .1))
 
 returns-2 : tie.Need-returns-2
 returns-2 c =
     let known = c .before .before .before in
-    name-full _ _ _ _ (stands-told (known .before .before .stands .ensures) (known .known .given .1)) (c .before .most .ensures) (c .if1 .taken)
+    name-full _ _ _ _ (stands-told (known .before .before .status-of .ensures) (known .known .given .1)) (c .before .most .ensures) (c .if1 .taken)
 
 add-requires : tie.Need-add-requires
 add-requires c κs =
@@ -23,7 +23,7 @@ returns-3 : tie.Need-returns-3
 returns-3 c =
     let test = c .before .before .before .before .before in
     let known = test .before .before .before in
-    name-added _ _ _ _ (stands-told (known .before .before .stands .ensures) (known .known .given .1)) (test .before .most .ensures) _ (test .if1 .left) _ _
+    name-added _ _ _ _ (stands-told (known .before .before .status-of .ensures) (known .known .given .1)) (test .before .most .ensures) _ (test .if1 .left) _ _
     (c .before .before .before .add .ensures) (c .answer .ensures)
 
 pub add-name-spec : {M : Type 1} → statement M

@@ -28,13 +28,21 @@ loop-holds : tie.Need-loop-holds Inv-loop μ-loop
 loop-holds c = λ p f ok t q. start p _ _ q (c .before .clear .ensures ∙ rows-none f (ofS _ _) _ (c .before .before .clear-arg .given .0 .1))
 
 loop-again : tie.Need-loop-again Inv-loop μ-loop
-loop-again c = λ p f ok t q.
-    add-step p ok f _ _ _ _ (c .before .before .before .before .before .before .loop-test .taken) (c .before .before .before .before .before .next-statement .ensures .0) _ (c .before .before .before .before .before .before .before .loop .inv p f ok t q) (c .before .before .before .if1 .taken ∙ t) _ (c .before .before .unit .ensures) _
+loop-again c =
+    let at-next-statement = c .before .before .before .before .before in
+    let at-loop-test = at-next-statement .before in
+    let at-loop = at-loop-test .before in
+    λ p f ok t q.
+    add-step p ok f _ _ _ _ (at-loop-test .loop-test .taken) (at-next-statement .next-statement .ensures .0) _ (at-loop .loop .inv p f ok t q)
+    (c .before .before .before .if1 .taken ∙ t) _ (c .before .before .unit .ensures) _
     (λ s rest h k d. c .add-set .ensures s rest h d)
 
 loop-again-2 : tie.Need-loop-again-2 Inv-loop μ-loop
-loop-again-2 c = λ p f ok t q.
-    over-step p ok f _ _ _ _ (c .before .before .before .loop-test .taken) (c .before .before .next-statement .ensures .0) _ (c .before .before .before .before .loop .inv p f ok t q) (λ h. c .if1 .left (h ∙ sym t))
+loop-again-2 c =
+    let at-loop = c .before .before .before .before in
+    λ p f ok t q.
+    over-step p ok f _ _ _ _ (c .before .before .before .loop-test .taken) (c .before .before .next-statement .ensures .0) _ (at-loop .loop .inv p f ok t q)
+    (λ h. c .if1 .left (h ∙ sym t))
 
 returns : tie.Need-returns Inv-loop μ-loop
 returns c = λ p ok q n.
@@ -44,4 +52,5 @@ returns c = λ p ok q n.
 pub round-spec : {M : Type 1} → statement M
 round-spec =
     tie.close
-    (tie.spec Inv-loop μ-loop (λ c κs. search needs) (λ c κs. search needs) (λ c. search needs) loop-holds (λ c κs. search needs) (λ c. search needs) (λ c. search needs) (λ c. search needs) (λ c κs. search needs) (λ c κs. search needs) (λ c. search needs) loop-again (λ c. search needs) loop-again-2 returns)
+    (tie.spec Inv-loop μ-loop (λ c κs. search needs) (λ c κs. search needs) (λ c. search needs) loop-holds (λ c κs. search needs) (λ c. search needs)
+    (λ c. search needs) (λ c. search needs) (λ c κs. search needs) (λ c κs. search needs) (λ c. search needs) loop-again (λ c. search needs) loop-again-2 returns)

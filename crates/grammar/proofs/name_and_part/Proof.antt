@@ -9,14 +9,14 @@ use Rattle.items.proofs.Rows.{refuse, after-word}
 use Rattle.grammar.proofs.name_and_part.Statement.{statement}
 use Rattle.grammar.proofs.name_and_part.Tie as tie
 
-look-requires : tie.Need-look-requires
-look-requires c κs = search needs
+next-item-requires : tie.Need-next-item-requires
+next-item-requires c κs = search needs
 
 enum-known-item : tie.Need-enum-known-item
 enum-known-item c = search needs
 
 is-name-requires : tie.Need-is-name-requires
-is-name-requires c κs = sees (c .before .before .before .look .ensures) (c .before .item .given .1) .ahead .3
+is-name-requires c κs = sees (c .before .before .before .next-item .ensures) (c .before .item .given .1) .ahead .3
 
 only-part-requires : tie.Need-only-part-requires
 only-part-requires c κs = search needs
@@ -25,7 +25,7 @@ returns : tie.Need-returns
 returns c =
     let looked = c .before .before .before .before .before .before in
     let kind = looked .before .before .args .kind in
-    let l = sees (looked .look .ensures) (c .before .before .before .before .item .given .1) in
+    let l = sees (looked .next-item .ensures) (c .before .before .before .before .item .given .1) in
     after-word l
     (by-word (nameAndPart kind _) _ l ∙ rw (sym (c .before .before .is-name .ensures) ∙ c .before .if1 .taken))
     (c .only-part .ensures)
@@ -34,19 +34,19 @@ returns-2 : tie.Need-returns-2
 returns-2 c =
     let looked = c .before .before .before .before .before in
     let kind = looked .before .before .args .kind in
-    let l = sees (looked .look .ensures) (c .before .before .before .item .given .1) in
+    let l = sees (looked .next-item .ensures) (c .before .before .before .item .given .1) in
     refuse (by-word (nameAndPart kind _) _ l ∙ rw (sym (c .before .is-name .ensures) ∙ c .if1 .left))
 
 returns-3 : tie.Need-returns-3
 returns-3 c =
     let kind = c .before .before .before .args .kind in
-    refuse (alike (nameAndPart kind _) (λ f. false) _ _ _ (1 ∷ 2 ∷ 3 ∷ []) _ (tt, λ x f g. refl, refl, refl) (c .before .look .ensures) (c .match .keys2))
+    refuse (alike (nameAndPart kind _) (λ f. false) _ _ _ (1 ∷ 2 ∷ 3 ∷ []) _ (tt, λ x f g. refl, refl, refl) (c .before .next-item .ensures) (c .match .keys2))
 
 pub name-and-part-spec : {M : Type 1} → statement M
 name-and-part-spec =
     tie.close
     (tie.spec
-    look-requires
+    next-item-requires
     enum-known-item
     is-name-requires
     only-part-requires

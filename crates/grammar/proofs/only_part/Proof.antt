@@ -12,14 +12,14 @@ use Rattle.grammar.proofs.only_part.Tie as tie
 use Rattle.grammar.proofs.only_part.Reads as reads
 use Rattle.grammar.proofs.only_part.Lts as lts
 
-look-requires : tie.Need-look-requires
-look-requires c κs = search needs
+next-item-requires : tie.Need-next-item-requires
+next-item-requires c κs = search needs
 
 enum-known-item : tie.Need-enum-known-item
 enum-known-item c = search needs
 
 returns : tie.Need-returns
-returns c = refuse (too-deep (onlyPart _) _ (sees (c .before .before .before .before .look .ensures) (c .before .before .item .given .1)) (c .if1 .taken))
+returns c = refuse (too-deep (onlyPart _) _ (sees (c .before .before .before .before .next-item .ensures) (c .before .before .item .given .1)) (c .if1 .taken))
 
 sub-content-form : tie.Need-sub-content-form
 sub-content-form c = search needs
@@ -38,23 +38,24 @@ enum-told c = search needs
 
 returns-2 : tie.Need-returns-2
 returns-2 c =
-    let l = sees (c .before .before .before .before .before .before .before .before .before .look .ensures) (c .before .before .before .before .before .before .before .item .given .1) in
+    let l = sees (c .before .before .before .before .before .before .before .before .before .next-item .ensures)
+    (c .before .before .before .before .before .before .before .item .given .1) in
     let g = told (c .before .before .before .before .content-form .ensures) (c .before .before .inner .given .1) in
     after-part l g (by-part (onlyPart _) _ _ l (g .end) (c .before .before .before .before .before .if1 .left) ∙ rw (g .good) (trim-closed _ _)) (c .close-form .ensures)
 
 returns-3 : tie.Need-returns-3
 returns-3 c =
-    let l = sees (c .before .before .before .before .before .before .before .look .ensures) (c .before .before .before .before .before .item .given .1) in
+    let l = sees (c .before .before .before .before .before .before .before .next-item .ensures) (c .before .before .before .before .before .item .given .1) in
     refuse (by-part (onlyPart _) _ _ l refl (c .before .before .before .if1 .left) ∙ rw (told (c .before .before .content-form .ensures) (c .enum-told .given .1)))
 
 returns-4 : tie.Need-returns-4
-returns-4 c = refuse (alike (onlyPart _) (λ f. false) _ _ _ (0 ∷ 2 ∷ 3 ∷ []) _ (λ s b f. refl, tt, refl, refl) (c .before .look .ensures) (c .match .keys2))
+returns-4 c = refuse (alike (onlyPart _) (λ f. false) _ _ _ (0 ∷ 2 ∷ 3 ∷ []) _ (λ s b f. refl, tt, refl, refl) (c .before .next-item .ensures) (c .match .keys2))
 
 pub only-part-spec : {M : Type 1} → statement M
 only-part-spec =
     tie.close
     (tie.spec
-    look-requires
+    next-item-requires
     enum-known-item
     returns
     sub-content-form

@@ -29,7 +29,7 @@ loop-less c =
     let looked = c .before .before .before .before in
     let text = looked .before .before .before .args .text .now in
     let next = c .before .before .item .given .0 .1 .0 in
-    let l = sees (looked .look .ensures) (c .before .before .item .given .1) in
+    let l = sees (looked .next-item .ensures) (c .before .before .item .given .1) in
     omega (arith, c .row-end .ensures, l .ahead .0, ends-ahead text next (l .ahead .1))
 
 loop-again : tie.Need-loop-again Inv-loop μ-loop
@@ -39,7 +39,7 @@ loop-again c =
     let at-loop = looked .before in
     let text = at-loop .before .before .args .text .now in
     let next = c .before .before .item .given .0 .1 .0 in
-    let l = sees (looked .look .ensures) (c .before .before .item .given .1) in (
+    let l = sees (looked .next-item .ensures) (c .before .before .item .given .1) in (
       omega (arith, c .row-end .ensures, at-loop .loop .inv .0, l .ahead .0, ends-ahead text next (l .ahead .1)),
       ap (rowEnd text) (c .row-end .ensures) ∙ sym (l .end) ∙ at-loop .loop .inv .1,
       ap (λ (n : ℕ). partsAlone (framesAt text n .here)) (c .row-end .ensures) ∙ sym (ap partsAlone (l .here)) ∙ at-loop .loop .inv .2,
@@ -50,7 +50,7 @@ unfolding partsAlone
 returns c =
     let looked = c .before .before .before in
     let at-loop = looked .before in
-    let l = sees (looked .look .ensures) (c .before .item2 .given .1) in
+    let l = sees (looked .next-item .ensures) (c .before .item2 .given .1) in
     give
     (sym (at-loop .loop .inv .2) ∙ ap partsAlone (l .here))
     (sym (at-loop .loop .inv .1) ∙ l .end)
@@ -62,7 +62,7 @@ unfolding partsAlone
 returns-2 c =
     refuse
     (sym (c .before .before .loop .inv .2)
-    ∙ alike-here partsAlone (λ f. false) _ _ _ (0 ∷ 3 ∷ []) (λ s b f. refl, tt, tt, refl) (c .before .look .ensures) (c .match .keys3))
+    ∙ alike-here partsAlone (λ f. false) _ _ _ (0 ∷ 3 ∷ []) (λ s b f. refl, tt, tt, refl) (c .before .next-item .ensures) (c .match .keys3))
 
 pub parts-form-spec : {M : Type 1} → statement M
 parts-form-spec =

@@ -1,4 +1,4 @@
--- `lexer::bare_dot` meets its contract: at a dot by the byte behind it, and nowhere else. Assumes nothing.
+-- `lexer::bare_dot` meets its contract: at a dot by the byte after it, and nowhere else. Assumes nothing.
 use mathlib.Core.Path.{sym, ap, _∙_}
 use mathlib.Core.Bool.{not}
 use borrow.Author.Needs.{needs}

@@ -30,8 +30,10 @@ ends-comment-requires c κs = search needs
 
 returns : tie.Need-returns Inv-loop μ-loop
 returns c =
-    let l = c .before .before .before .before .before in
-    sym (found _ endsComment _ (told endsComment (c .before .before .class-in .ensures) (c .before .ends-comment .ensures) (c .if1 .taken)) (c .before .before .before .before .loop-test .taken)) ∙ l .loop .inv
+    let at-before = c .before .before .before .before in
+    let l = at-before .before in
+    sym (found _ endsComment _ (told endsComment (c .before .before .class-in .ensures) (c .before .ends-comment .ensures) (c .if1 .taken))
+    (at-before .loop-test .taken)) ∙ l .loop .inv
 
 add-i : tie.Need-add-i Inv-loop μ-loop
 add-i c = search needs
@@ -41,8 +43,10 @@ loop-less c = search needs
 
 loop-again : tie.Need-loop-again Inv-loop μ-loop
 loop-again c =
-    let l = c .before .before .before .before .before in
-    sym (further _ endsComment _ (told endsComment (c .before .before .class-in .ensures) (c .before .ends-comment .ensures) (c .if1 .left)) (c .before .before .before .before .loop-test .taken)) ∙ l .loop .inv
+    let at-before = c .before .before .before .before in
+    let l = at-before .before in
+    sym (further _ endsComment _ (told endsComment (c .before .before .class-in .ensures) (c .before .ends-comment .ensures) (c .if1 .left))
+    (at-before .loop-test .taken)) ∙ l .loop .inv
 
 returns-2 : tie.Need-returns-2 Inv-loop μ-loop
 returns-2 c = sym (none-left _ endsComment _ (c .loop-test .left)) ∙ c .before .loop .inv

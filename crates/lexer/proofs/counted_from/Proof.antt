@@ -1,4 +1,4 @@
--- `lexer::counted_from` meets its contract: behind a dot, or at the first byte. Assumes nothing.
+-- `lexer::counted_from` meets its contract: after a dot, or at the first byte. Assumes nothing.
 use mathlib.Core.Path.{sym, _∙_}
 use mathlib.Core.Bool.{true, false}
 use borrow.Author.Needs.{needs}

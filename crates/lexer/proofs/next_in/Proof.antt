@@ -103,7 +103,8 @@ returns-3 c =
     let l = k .before .before .before in
     rw (c .word-end .ensures)
     (sym (word-here (l .before .before .args .text .now) (l .loop .i))
-    ∙ ap firstOf (sym (turn _ (l .loop .i) _ _ (k .before .before .loop-test .taken) (k .class-in .ensures) (name-like (l .loop .i) (k .class-in .result) (c .before .match .keys5))))
+    ∙ ap firstOf (sym (turn _ (l .loop .i) _ _ (k .before .before .loop-test .taken) (k .class-in .ensures)
+    (name-like (l .loop .i) (k .class-in .result) (c .before .match .keys5))))
     ∙ l .loop .inv)
 
 returns-4 : tie.Need-returns-4 Inv-loop μ-loop

@@ -9,7 +9,7 @@ returns : tie.Need-returns
 returns c = sym (no-part-at-end _ _ (c .if1 .taken))
 
 returns-2 : tie.Need-returns-2
-returns-2 c = c .starts-name .ensures ∙ sym (part-at-byte _ _ (c .before .before .if1 .left))
+returns-2 c = c .starts-part .ensures ∙ sym (part-at-byte _ _ (c .before .before .if1 .left))
 
 pub part-starts-spec : {M : Type 1} → statement M
 part-starts-spec =

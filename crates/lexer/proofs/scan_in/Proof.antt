@@ -34,7 +34,7 @@ textHere s = s .before .before .before .before .before .before .args .text .now
 abbrev textThere : tie.Then3 Inv-loop μ-loop Inv-text μ-text → List ℕ
 textThere c = textHere (c .before .before .before .before .before .before .before .before)
 
--- a byte between names that was one step leaves the scan of the bytes behind it
+-- a byte between names that was one step leaves the scan of the bytes after it
 stepped : (s : tie.After-step-between Inv-loop μ-loop Inv-text μ-text) (x : Step) → s .step-between .result ≡ x
     → let a = s .before .before .before .before in
     scanFrom (textHere s) (drop (a .text .at + 1) (textHere s)) (stateOf (a .text .level) (a .text .at) x) (a .text .at + 1) ≡ scan (textHere s)

@@ -1,4 +1,4 @@
--- `little_endian::get4` meets its contract: two bytes, and two behind them (WidthLaws). Assumes nothing.
+-- `little_endian::get4` meets its contract: two bytes, and two after them (WidthLaws). Assumes nothing.
 use native.Mathlib.Omega.{arith}
 use borrow.Author.Needs.{needs}
 use Rattle.little_endian.proofs.WidthLaws.{unle-split}

@@ -1,4 +1,4 @@
--- `little_endian::get8` meets its contract: four bytes, and four behind them (WidthLaws). Assumes nothing.
+-- `little_endian::get8` meets its contract: four bytes, and four after them (WidthLaws). Assumes nothing.
 use native.Mathlib.Omega.{arith}
 use borrow.Author.Needs.{needs}
 use Rattle.little_endian.proofs.WidthLaws.{unle-split}

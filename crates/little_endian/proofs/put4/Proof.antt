@@ -1,4 +1,4 @@
--- `little_endian::put4` meets its contract: two bytes, and two behind them (WidthLaws). Assumes nothing.
+-- `little_endian::put4` meets its contract: two bytes, and two after them (WidthLaws). Assumes nothing.
 use Prim.Native.Nat.{ℕ, _+_, _/_}
 use mathlib.Core.Path.{refl, ap, _∙_}
 use mathlib.Core.List.{List}

@@ -1,4 +1,4 @@
--- `little_endian::put8` meets its contract: four bytes, and four behind them (WidthLaws). Assumes nothing.
+-- `little_endian::put8` meets its contract: four bytes, and four after them (WidthLaws). Assumes nothing.
 use Prim.Native.Nat.{ℕ, _+_, _/_}
 use mathlib.Core.Path.{refl, ap, _∙_}
 use mathlib.Core.List.{List}

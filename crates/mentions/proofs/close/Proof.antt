@@ -23,7 +23,7 @@ loop-again : tie.Need-loop-again Inv-loop μ-loop
 unfolding closedOf
 loop-again c =
     let at-loop = c .before .before .before .loop in
-    (omega arith, c .through .ensures ∙ ap (λ (t : List ℕ). throughOf t (at-loop .k)) (at-loop .inv .1) ∙ rw (add-one (at-loop .k)))
+    (omega arith, c .close-through .ensures ∙ ap (λ (t : List ℕ). throughOf t (at-loop .k)) (at-loop .inv .1) ∙ rw (add-one (at-loop .k)))
 
 returns : tie.Need-returns Inv-loop μ-loop
 returns c =

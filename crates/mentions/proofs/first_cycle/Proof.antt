@@ -31,27 +31,38 @@ loop-holds : tie.Need-loop-holds Inv-loop μ-loop
 loop-holds c = (omega arith, λ p f ok t q on. start p _ _ q (seeks-first p f))
 
 returns : tie.Need-returns Inv-loop μ-loop
-returns c = λ p ok q on.
-    let f = familyOf (c .before .before .before .before .before .before .before .before .before .before .args .family) in
-    let tag = ap (λ (n : ℕ). 4096 + n) (c .before .before .before .before .before .before .before .before .family-number .ensures .0) in
+returns c =
+    let at-loop-test = c .before .before .before .before .before .before in
+    let at-loop = at-loop-test .before in
+    let at-family-number = at-loop .before in
+    let at-args = at-family-number .before .before in
+    λ p ok q on.
+    let f = familyOf (at-args .args .family) in
+    let tag = ap (λ (n : ℕ). 4096 + n) (at-family-number .family-number .ensures .0) in
     rw (c .unit .ensures)
-    (found-here p ok f _ _ _ (c .before .before .before .before .before .before .loop-test .taken) (c .before .before .before .before .before .before .before .loop .inv .1 p f ok tag q on) (c .before .before .before .if1 .taken ∙ tag)
+    (found-here p ok f _ _ _ (at-loop-test .loop-test .taken) (at-loop .loop .inv .1 p f ok tag q on) (c .before .before .before .if1 .taken ∙ tag)
     (sym (on _) ∙ sym (c .before .before .mentions-itself .ensures) ∙ c .before .if2 .taken))
 
 loop-again : tie.Need-loop-again Inv-loop μ-loop
-loop-again c = (
-  omega (arith, c .before .before .before .before .next-statement .ensures .0),
-  λ p f ok t q on.
-      seeks-on p ok f _ _ _ (c .before .before .before .before .before .loop-test .taken) (c .before .before .before .before .before .before .loop .inv .1 p f ok t q on) _ (c .before .before .before .before .next-statement .ensures .0) (c .before .before .if1 .taken ∙ t)
-      (sym (on _) ∙ sym (c .before .mentions-itself .ensures) ∙ c .if2 .left),
-)
+loop-again c =
+    let at-next-statement = c .before .before .before .before in
+    let at-loop-test = at-next-statement .before in
+    let at-loop = at-loop-test .before in (
+      omega (arith, at-next-statement .next-statement .ensures .0),
+      λ p f ok t q on.
+          seeks-on p ok f _ _ _ (at-loop-test .loop-test .taken) (at-loop .loop .inv .1 p f ok t q on) _ (at-next-statement .next-statement .ensures .0)
+          (c .before .before .if1 .taken ∙ t)
+          (sym (on _) ∙ sym (c .before .mentions-itself .ensures) ∙ c .if2 .left),
+    )
 
 loop-again-2 : tie.Need-loop-again-2 Inv-loop μ-loop
-loop-again-2 c = (
-  omega (arith, c .before .before .next-statement .ensures .0),
-  λ p f ok t q on.
-      seeks-over p ok f _ _ _ (c .before .before .before .loop-test .taken) (c .before .before .before .before .loop .inv .1 p f ok t q on) _ (c .before .before .next-statement .ensures .0) (λ h. c .if1 .left (h ∙ sym t)),
-)
+loop-again-2 c =
+    let at-loop = c .before .before .before .before in (
+      omega (arith, c .before .before .next-statement .ensures .0),
+      λ p f ok t q on.
+          seeks-over p ok f _ _ _ (c .before .before .before .loop-test .taken) (at-loop .loop .inv .1 p f ok t q on) _
+          (c .before .before .next-statement .ensures .0) (λ h. c .if1 .left (h ∙ sym t)),
+    )
 
 returns-2 : tie.Need-returns-2 Inv-loop μ-loop
 returns-2 c = λ p ok q on.
@@ -61,4 +72,5 @@ returns-2 c = λ p ok q on.
 pub first-cycle-spec : {M : Type 1} → statement M
 first-cycle-spec =
     tie.close
-    (tie.spec Inv-loop μ-loop (λ c κs. search needs) (λ c. search needs) loop-holds (λ c κs. search needs) (λ c. search needs) (λ c. search needs) (λ c κs. search needs) (λ c κs. search needs) (λ c. search needs) returns (λ c. search needs) (λ c. search needs) loop-again (λ c. search needs) loop-again-2 returns-2)
+    (tie.spec Inv-loop μ-loop (λ c κs. search needs) (λ c. search needs) loop-holds (λ c κs. search needs) (λ c. search needs) (λ c. search needs)
+    (λ c κs. search needs) (λ c κs. search needs) (λ c. search needs) returns (λ c. search needs) (λ c. search needs) loop-again (λ c. search needs) loop-again-2 returns-2)

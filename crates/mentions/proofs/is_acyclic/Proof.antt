@@ -32,8 +32,11 @@ loop-again : tie.Need-loop-again Inv-loop μ-loop
 loop-again c =
     let a = c .before .before .before .loop .a in
     let rows = c .before .before .before .before .args .rows .now in
-    let own = ap (λ (t : Bool). t && setsIn rows a a) (sym (lt-ltb a 64 (omega arith))) in
-    (omega arith, c .before .before .before .loop .inv .1 ∙ below-more (λ x. not (setsIn rows x x)) a true (ap not (own ∙ sym (c .before .mentions-itself .ensures) ∙ c .if1 .left)))
+    let own = ap (λ (t : Bool). t && setsIn rows a a) (sym (lt-ltb a 64 (omega arith))) in (
+      omega arith,
+      c .before .before .before .loop .inv .1 ∙ below-more (λ x. not (setsIn rows x x)) a true
+          (ap not (own ∙ sym (c .before .mentions-itself .ensures) ∙ c .if1 .left)),
+    )
 
 returns-2 : tie.Need-returns-2 Inv-loop μ-loop
 returns-2 c =

@@ -15,21 +15,21 @@ abbrev μ-loop : tie.MeasureT-loop
 μ-loop section symbols₀ at₀ end₀ symbols at end = length section - at
 
 sub-len : tie.Need-sub-len Inv-loop μ-loop
-sub-len c = let w = met (c .before .before .before .look .ensures) (c .before .entry .given .1) .within in omega (arith, w .ahead)
+sub-len c = let w = met (c .before .before .before .next-entry .ensures) (c .before .entry .given .1) .within in omega (arith, w .ahead)
 
 sub-len-2 : tie.Need-sub-len-2 Inv-loop μ-loop
-sub-len-2 c = let w = met (c .before .before .before .look .ensures) (c .before .entry .given .1) .within in omega (arith, w .ahead)
+sub-len-2 c = let w = met (c .before .before .before .next-entry .ensures) (c .before .entry .given .1) .within in omega (arith, w .ahead)
 
 add-enter : tie.Need-add-enter Inv-loop μ-loop
 add-enter c =
     let at-entry = c .before .before .before .before .before in
-    let w = met (at-entry .before .before .look .ensures) (at-entry .entry .given .1) .within in
+    let w = met (at-entry .before .before .next-entry .ensures) (at-entry .entry .given .1) .within in
     omega (arith, w .ahead, w .stored)
 
 loop-less : tie.Need-loop-less Inv-loop μ-loop
 loop-less c =
     let at-entry = c .before .before .before .before .before .before in
-    let w = met (at-entry .before .before .look .ensures) (at-entry .entry .given .1) .within in
+    let w = met (at-entry .before .before .next-entry .ensures) (at-entry .entry .given .1) .within in
     omega (arith, w .ahead, w .stored)
 
 pub enter-all-spec : {M : Type 1} → statement M

@@ -1,4 +1,4 @@
--- `name_index::front_of` meets its contract: the number of a name's first bytes, or that of the first four and of those behind them (Words). Assumes nothing.
+-- `name_index::front_of` meets its contract: the number of a name's first bytes, or that of the first four and of those after them (Words). Assumes nothing.
 use Prim.Native.Nat.{_-_, _≤_, _<_}
 use mathlib.Core.Path.{_∙_}
 use native.Mathlib.Omega.{arith}
@@ -16,7 +16,7 @@ returns c =
     let at-part = c .before .before in
     c .number .ensures .0 ∙ front-is (at-part .before .before .args .name .now) (at-part .part .result .now) (at-part .part .ensures)
 
--- behind the first four bytes there are at most four
+-- after the first four bytes there are at most four
 rest-short : (c : tie.After-part) → length (take (length (c .part .result .now) - 4) (drop 4 (c .part .result .now))) ≤ 4
 unfolding part
 rest-short c =

@@ -1,4 +1,4 @@
--- `name_index::word` meets its contract: four bytes, and behind them four. Assumes nothing.
+-- `name_index::word` meets its contract: four bytes, and after them four. Assumes nothing.
 use Prim.Native.Nat.{_+_, _*_}
 use native.Mathlib.Omega.{arith}
 use borrow.Author.Needs.{needs}

@@ -1,4 +1,4 @@
--- `name_rows::count_names` meets its contract. The loop's invariant: so many names stand before the place. Assumes nothing.
+-- `name_rows::count_names` meets its contract. The loop's invariant: so many names are before the place. Assumes nothing.
 use Prim.Native.Nat.{_-_}
 use native.Mathlib.Omega.{arith}
 use borrow.Author.Needs.{needs}

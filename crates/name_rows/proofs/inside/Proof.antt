@@ -1,4 +1,4 @@
--- `name_rows::inside` meets its contract: what stands behind an open parenthesis is the row of the part. Assumes nothing.
+-- `name_rows::inside` meets its contract: what is after an open parenthesis is the row of the part. Assumes nothing.
 use native.Mathlib.Omega.{arith}
 use borrow.Author.Needs.{needs}
 use Rattle.lexer.proofs.Seen.{seen}

@@ -29,7 +29,8 @@ enum-told c = search needs
 
 returns : tie.Need-returns Inv-loop μ-loop
 returns c =
-    not-among-none _ _ (c .before .before .before .before .loop .left) _ (told (c .before .before .word-at .ensures) (c .enum-told .given .1) .is) ∙ c .before .before .before .before .loop .inv
+    not-among-none _ _ (c .before .before .before .before .loop .left) _ (told (c .before .before .word-at .ensures) (c .enum-told .given .1) .is) ∙
+    c .before .before .before .before .loop .inv
 
 same-name-requires : tie.Need-same-name-requires Inv-loop μ-loop
 same-name-requires c κs =

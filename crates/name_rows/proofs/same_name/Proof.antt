@@ -11,7 +11,8 @@ use Rattle.name_rows.proofs.same_name.Tie as tie
 returns : tie.Need-returns
 returns c =
     let s = c .before .before .before in
-    sym (same-length _ _ (λ e. c .if1 .taken (sym (length-part (s .args .a .now) (s .args .i) (s .args .m) (s .pre .0)) ∙ e ∙ length-part (s .args .b .now) (s .args .j) (s .args .n) (s .pre .1))))
+    sym (same-length _ _
+    (λ e. c .if1 .taken (sym (length-part (s .args .a .now) (s .args .i) (s .args .m) (s .pre .0)) ∙ e ∙ length-part (s .args .b .now) (s .args .j) (s .args .n) (s .pre .1))))
 
 same-requires : tie.Need-same-requires
 same-requires c κs = search needs

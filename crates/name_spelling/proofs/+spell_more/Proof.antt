@@ -7,13 +7,13 @@ use borrow.Author.Needs.{needs}
 use borrow.Author.Tests.{not-true, not-false}
 use borrow.Fn.Kinds.{In}
 use borrow.Fn.PlainCycle.{Measures, is, falls, and}
-use Rattle.name_filter.specs.Filter.{stepped}
+use Rattle.bloom_filter.specs.Filter.{stepped}
 use Rattle.name_spelling.proofs.SpellingLaws.{a-byte, more-none, more-no-dot, more-no-start, more-parts, is-part, ends, goes-behind}
 use Rattle.name_spelling.proofs.spell_more.Reads as spell-more
 use Rattle.name_spelling.proofs.spell_more.Kinds as spell-more-kinds
 use Rattle.name_spelling.proofs.+spell_more.Lts-spell_more as lts
 use Rattle.lexer.proofs.is_dot.Reads as is-dot-reads
-use Rattle.name_filter.proofs.step.Reads as step-reads
+use Rattle.bloom_filter.proofs.hash_step.Reads as step-reads
 use Rattle.name_spelling.proofs.read_part.Reads as read-part-reads
 use Rattle.name_spelling.proofs.starts_part.Reads as starts-part-reads
 use Rattle.name_spelling.proofs.unless_reserved.Reads as unless-reserved-reads
@@ -72,7 +72,7 @@ module _ (t : ℕ) where
       let b = c .before .before .before in
       let s = b .before .before .before .before .before .before .before in
       let starts = sym (b .before .starts-part .ensures) ∙ not-false _ (b .if3 .left) in
-      (s .pre .1 .0, a-byte (s .args .dot + 1) (s .args .past) _ starts, s .pre .1 .3, c .step .ensures .1)
+      (s .pre .1 .0, a-byte (s .args .dot + 1) (s .args .past) _ starts, s .pre .1 .3, c .hash-step .ensures .1)
 
   spell-more-requires : lts.Need-spell-more-requires (claims t) (at-level t) spell-more.Post
   spell-more-requires c κs =
@@ -108,9 +108,9 @@ module _ (t : ℕ) where
       let x = r .read-part .ensures in
       let starts = sym (b .before .starts-part .ensures) ∙ not-false _ (b .if3 .left) in
       let some-left : 0 < a .left = omega (arith, b .before .before .before .before .before .if1 .left) in
-      more-parts (a .table .now) (a .from) (a .dot) (a .past) (a .before) (a .left) (r .before .step .result) (c .before .if4 .hash) _
+      more-parts (a .table .now) (a .from) (a .dot) (a .past) (a .before) (a .left) (r .before .hash-step .result) (c .before .if4 .hash) _
       (sym (b .before .before .before .is-dot .ensures) ∙ not-false _ (b .before .before .if2 .left))
-      (r .before .step .ensures .0 ∙ ap (stepped (a .before)) (r .before .before .wide .ensures .0))
+      (r .before .hash-step .ensures .0 ∙ ap (stepped (a .before)) (r .before .before .wide .ensures .0))
       (⊎-elim
       (λ y. y .2 ∙ y .1 .ensures ∙ sym (goes-behind (a .table .now) (a .dot + 1) (a .past) _ _ (s .pre .1 .3) starts x (a .left) some-left (y .0 .taken)))
       (λ y. y .2 ∙ y .1 .ensures ∙ sym (ends (a .table .now) (a .dot + 1) (a .past) _ _ (s .pre .1 .3) starts x (a .left) some-left (y .0 .left)))

@@ -3,7 +3,7 @@ use mathlib.Core.Path.{sym, ap, _∙_}
 use Prim.Native.Nat.{_-_}
 use native.Mathlib.Omega.{arith}
 use borrow.Author.Needs.{needs}
-use Rattle.name_filter.specs.Filter.{stepped}
+use Rattle.bloom_filter.specs.Filter.{stepped}
 use Rattle.name_spelling.specs.Spelling.{ReadTo}
 use Rattle.name_spelling.proofs.SpellingLaws.{a-byte, read-first, read-next}
 use Rattle.name_spelling.proofs.read_part.Statement.{statement}
@@ -19,7 +19,7 @@ loop-holds : tie.Need-loop-holds Inv-loop μ-loop
 loop-holds c =
     let s = c .before .before .before .before in
     read-first (s .args .table .now) (s .args .from) (s .args .past) (s .args .before) _ (s .pre .2) (s .pre .1)
-    (c .step .ensures .0 ∙ ap (stepped (s .args .before)) (c .before .wide .ensures .0)) (c .step .ensures .1)
+    (c .hash-step .ensures .0 ∙ ap (stepped (s .args .before)) (c .before .wide .ensures .0)) (c .hash-step .ensures .1)
 
 shared-slice-read-wide-2 : tie.Need-shared-slice-read-wide-2 Inv-loop μ-loop
 shared-slice-read-wide-2 c =
@@ -27,8 +27,8 @@ shared-slice-read-wide-2 c =
     let s = l .before .before .before .before .before in
     omega (arith, s .pre .2, a-byte (l .loop .i) (s .args .past) _ (sym (c .before .before .goes-on .ensures) ∙ c .before .if1 .taken))
 
-step-requires-2 : tie.Need-step-requires-2 Inv-loop μ-loop
-step-requires-2 c κs = c .before .before .before .before .loop .inv .small
+hash-step-requires-2 : tie.Need-hash-step-requires-2 Inv-loop μ-loop
+hash-step-requires-2 c κs = c .before .before .before .before .loop .inv .small
 
 loop-less : tie.Need-loop-less Inv-loop μ-loop
 loop-less c =
@@ -42,7 +42,7 @@ loop-again c =
     let s = l .before .before .before .before .before in
     read-next (s .args .table .now) (s .args .from) (s .args .past) (s .args .before) (l .loop .hash) (s .pre .2) (l .loop .i) (l .loop .inv) _
     (sym (c .before .before .before .before .goes-on .ensures) ∙ c .before .before .before .if1 .taken)
-    (c .step2 .ensures .0 ∙ ap (stepped (l .loop .hash)) (c .before .wide2 .ensures .0)) (c .step2 .ensures .1)
+    (c .hash-step2 .ensures .0 ∙ ap (stepped (l .loop .hash)) (c .before .wide2 .ensures .0)) (c .hash-step2 .ensures .1)
 
 returns : tie.Need-returns Inv-loop μ-loop
 returns c = record { read = c .before .before .loop .inv; stops = sym (c .before .goes-on .ensures) ∙ c .if1 .left }
@@ -61,7 +61,7 @@ read-part-spec =
     (λ c κs. search needs)
     shared-slice-read-wide-2
     (λ c κs. search needs)
-    step-requires-2
+    hash-step-requires-2
     (λ c. search needs)
     loop-less
     loop-again

@@ -1,4 +1,4 @@
--- `name_spelling::spell` meets its contract: a name is its first part, and what stands behind it. Assumes nothing.
+-- `name_spelling::spell` meets its contract: a name is its first part, and what is after it. Assumes nothing.
 use mathlib.Core.Path.{_≡_, sym, _∙_}
 use native.Mathlib.Omega.{arith}
 use borrow.Author.Needs.{needs}

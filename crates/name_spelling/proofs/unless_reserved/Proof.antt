@@ -13,7 +13,8 @@ shared-slice-read-may-be-reserved c = omega (arith, c .before .before .pre .0, c
 returns : tie.Need-returns
 returns c =
     let s = c .before .before .before .before in
-    rw (not-reserved-here (s .args .table .now) (s .args .from) (s .args .past) (s .pre .0) (s .pre .1) (s .pre .2) (sym (c .before .may-be-reserved .ensures) ∙ not-true _ (c .if1 .taken)))
+    rw (not-reserved-here (s .args .table .now) (s .args .from) (s .args .past) (s .pre .0) (s .pre .1) (s .pre .2)
+    (sym (c .before .may-be-reserved .ensures) ∙ not-true _ (c .if1 .taken)))
 
 is-reserved-requires : tie.Need-is-reserved-requires
 is-reserved-requires c κs = omega (arith, c .before .before .before .before .pre .0)

@@ -10,15 +10,24 @@ returns : tie.Need-returns
 returns c = no-header (c .before .before .block-form .ensures) (c .enum-told .given .1)
 
 add-t17 : tie.Need-add-t17
-add-t17 c = omega (arith, inside-text (c .before .before .before .before .before .before .before .before .before .before .block-form .ensures) (c .before .before .before .before .before .before .before .before .header .given .1))
+add-t17 c =
+    let at-header = c .before .before .before .before .before .before .before .before in
+    let at-block-form = at-header .before .before in
+    omega (arith, inside-text (at-block-form .block-form .ensures) (at-header .header .given .1))
 
 returns-2 : tie.Need-returns-2
 returns-2 c =
-    entered (c .before .before .before .before .before .before .before .before .before .before .block-form .ensures) (c .before .before .before .before .before .before .before .before .header .given .1) (c .before .before .before .open-block .ensures) _ (ap (answerOf _) (sym (c .before .opened .given .1)))
+    let at-header = c .before .before .before .before .before .before .before .before in
+    let at-block-form = at-header .before .before in
+    entered (at-block-form .block-form .ensures) (at-header .header .given .1) (c .before .before .before .open-block .ensures) _
+    (ap (answerOf _) (sym (c .before .opened .given .1)))
 
 returns-3 : tie.Need-returns-3
 returns-3 c =
-    entered (c .before .before .before .before .before .before .before .before .before .before .block-form .ensures) (c .before .before .before .before .before .before .before .before .header .given .1) (c .before .before .before .open-block .ensures) _ (ap (answerOf _) (sym (c .before .opened2 .given .1)))
+    let at-header = c .before .before .before .before .before .before .before .before in
+    let at-block-form = at-header .before .before in
+    entered (at-block-form .block-form .ensures) (at-header .header .given .1) (c .before .before .before .open-block .ensures) _
+    (ap (answerOf _) (sym (c .before .opened2 .given .1)))
 
 pub enter-spec : {M : Type 1} → statement M
 enter-spec =

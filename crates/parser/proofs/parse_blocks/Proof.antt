@@ -29,7 +29,8 @@ loop-less : tie.Need-loop-less Inv-loop μ-loop
 loop-less c =
     let entered = c .before .before .before .before .before .before in
     let inside = subst (EnteredAhead _ _) (entered .entered .given .1) (entered .before .before .enter .ensures .ahead) in
-    falls-inside (c .read-statements .ensures) (c .before .before .before .before .before .before .before .before .before .before .before .before .before .run .given .1) (inside .0)
+    falls-inside (c .read-statements .ensures)
+    (c .before .before .before .before .before .before .before .before .before .before .before .before .before .run .given .1) (inside .0)
 
 loop-again : tie.Need-loop-again Inv-loop μ-loop
 loop-again c =
@@ -41,19 +42,27 @@ loop-again c =
     (block-entered clean (subst (RunBy _ lent _ _ _ _) block (turn .loop .inv lent clean begun)) (entered .before .before .enter .ensures) (entered .entered .given .1))
 
 returns : tie.Need-returns Inv-loop μ-loop
-returns c = record {
-  reads = λ lent clean begun.
-      block-refused clean (subst (RunBy _ lent _ _ _ _) (c .before .before .before .before .before .before .before .before .run .given .1) (c .before .before .before .before .before .before .before .before .before .before .loop .inv lent clean begun)) (c .before .before .before .enter .ensures) (c .before .entered2 .given .1);
-}
+returns c =
+    let at-run = c .before .before .before .before .before .before .before .before in
+    let at-loop = at-run .before .before in
+    record {
+      reads = λ lent clean begun.
+          block-refused clean (subst (RunBy _ lent _ _ _ _) (at-run .run .given .1) (at-loop .loop .inv lent clean begun))
+          (c .before .before .before .enter .ensures) (c .before .entered2 .given .1);
+    }
 
 -- the close of one
 loop-less-2 : tie.Need-loop-less-2 Inv-loop μ-loop
 loop-less-2 c = falls-behind (c .read-statements2 .ensures) (c .before .before .before .before .before .before .before .before .before .run2 .given .1)
 
 loop-again-2 : tie.Need-loop-again-2 Inv-loop μ-loop
-loop-again-2 c = λ lent clean begun.
+loop-again-2 c =
+    let at-close-block = c .before .before .before .before .before in
+    let at-run2 = at-close-block .before .before .before .before in
+    let at-loop = at-run2 .before .before in
+    λ lent clean begun.
     c .read-statements2 .ensures .says lent _ _ _ clean
-    (block-closed (subst (RunBy _ lent _ _ _ _) (c .before .before .before .before .before .before .before .before .before .run2 .given .1) (c .before .before .before .before .before .before .before .before .before .before .before .loop .inv lent clean begun)) (c .before .before .before .before .before .close-block .ensures))
+    (block-closed (subst (RunBy _ lent _ _ _ _) (at-run2 .run2 .given .1) (at-loop .loop .inv lent clean begun)) (at-close-block .close-block .ensures))
 
 -- the end of the text
 returns-2 : tie.Need-returns-2 Inv-loop μ-loop

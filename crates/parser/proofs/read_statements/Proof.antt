@@ -8,7 +8,7 @@ use borrow.Author.Needs.{needs}
 use lib.ListN.{length}
 use Rattle.lexer.specs.declared.Scanned.{Scanned}
 use Rattle.lexer.specs.Scan.{scan}
-use Rattle.block_reader.specs.declared.Open.{Open}
+use Rattle.block_reader.specs.declared.OpenBlocks.{OpenBlocks}
 use Rattle.statement_reader.specs.Memory.{Memory, memory}
 use Rattle.items.proofs.Frames.{sees}
 use Rattle.parser.specs.Left.{Rest}
@@ -19,7 +19,7 @@ use Rattle.parser.proofs.read_statements.Tie as tie
 
 abbrev Inv-loop : tie.InvT-loop
 Inv-loop text start symbols₀ code₀ constraints₀ rows₀ progress₀ at₀ symbols code constraints rows progress at =
-    (start ≤ at) × ((lent : Memory) (keys filter : List ℕ) (o : Open) → scan text ≡ Scanned.Clean
+    (start ≤ at) × ((lent : Memory) (keys filter : List ℕ) (o : OpenBlocks) → scan text ≡ Scanned.Clean
     → Rest text start lent (memory symbols₀ code₀ constraints₀ rows₀) keys filter progress₀ o → Rest text at lent (memory symbols code constraints rows) keys filter progress o)
 
 abbrev μ-loop : tie.MeasureT-loop
@@ -35,8 +35,8 @@ returns c =
     let turn = item .before .before .before in
     let starts = sym (c .before .before .starts-block .ensures) ∙ c .before .if1 .taken in
     let opens = item .item .given .1 in
-    let looked = item .before .before .look .ensures in
-    let far = block-ahead _ (turn .loop .at) _ looked opens (first .look2 .ensures) starts in
+    let looked = item .before .before .next-item .ensures in
+    let far = block-ahead _ (turn .loop .at) _ looked opens (first .next-item2 .ensures) starts in
     record {
       says = λ lent keys filter o clean rest. record {
         here = turn .loop .at;
@@ -44,7 +44,7 @@ returns c =
         first = _;
         rest = turn .loop .inv .1 lent keys filter o clean rest;
         opens = sym opens ∙ looked;
-        first-is = first .look2 .ensures;
+        first-is = first .next-item2 .ensures;
         starts = starts;
         behind = c .behind .ensures;
       };
@@ -56,7 +56,8 @@ loop-less c =
     let read = c .before .before .before in
     let first = read .before .before .before .before .before .before .before in
     let item = first .before .before in
-    past-statement (item .before .before .before .loop .at) (item .before .before .look .ensures) (item .item .given .1) (read .read .ensures _ (first .look2 .ensures)) (c .before .stated .given .1)
+    past-statement (item .before .before .before .loop .at) (item .before .before .next-item .ensures) (item .item .given .1)
+    (read .read .ensures _ (first .next-item2 .ensures)) (c .before .stated .given .1)
 
 loop-again : tie.Need-loop-again Inv-loop μ-loop
 loop-again c =
@@ -64,9 +65,10 @@ loop-again c =
     let first = read .before .before .before .before .before .before .before in
     let item = first .before .before in
     let turn = item .before .before .before in
-    let looked = item .before .before .look .ensures in
-    let plain = no-block-word _ _ (first .look2 .ensures) (sym (read .before .before .before .before .before .before .starts-block .ensures) ∙ read .before .before .before .before .before .if1 .left) in
-    let stated = read .read .ensures _ (first .look2 .ensures) in (
+    let looked = item .before .before .next-item .ensures in
+    let plain = no-block-word _ _ (first .next-item2 .ensures)
+    (sym (read .before .before .before .before .before .before .starts-block .ensures) ∙ read .before .before .before .before .before .if1 .left) in
+    let stated = read .read .ensures _ (first .next-item2 .ensures) in (
       omega (arith, turn .loop .inv .0, past-statement (turn .loop .at) looked (item .item .given .1) stated (c .before .stated .given .1)),
       λ lent keys filter o clean rest.
           statement-on (turn .loop .inv .1 lent keys filter o clean rest) (opens-at clean looked (item .item .given .1)) plain stated (c .before .stated .given .1),
@@ -78,19 +80,20 @@ returns-2 c =
     let first = read .before .before .before .before .before .before .before in
     let item = first .before .before in
     let turn = item .before .before .before in
-    let looked = item .before .before .look .ensures in
-    let plain = no-block-word _ _ (first .look2 .ensures) (sym (read .before .before .before .before .before .before .starts-block .ensures) ∙ read .before .before .before .before .before .if1 .left) in
+    let looked = item .before .before .next-item .ensures in
+    let plain = no-block-word _ _ (first .next-item2 .ensures)
+    (sym (read .before .before .before .before .before .before .starts-block .ensures) ∙ read .before .before .before .before .before .if1 .left) in
     record {
       says = λ lent keys filter o clean rest.
           statement-stops (turn .loop .inv .1 lent keys filter o clean rest) (opens-at clean looked (item .item .given .1)) plain
-          (read .read .ensures _ (first .look2 .ensures)) (c .before .stated2 .given .1);
+          (read .read .ensures _ (first .next-item2 .ensures)) (c .before .stated2 .given .1);
       ahead = tt;
     }
 
 returns-3 : tie.Need-returns-3 Inv-loop μ-loop
 returns-3 c =
     let turn = c .before .before .before .before in
-    let looked = c .before .before .before .look .ensures in
+    let looked = c .before .before .before .next-item .ensures in
     let far = sees looked (c .before .item2 .given .1) .ahead in
     record {
       says = λ lent keys filter o clean rest. record {
@@ -103,7 +106,7 @@ returns-3 c =
 
 returns-4 : tie.Need-returns-4 Inv-loop μ-loop
 returns-4 c = record {
-  says = λ lent keys filter o clean rest. finishes _ (c .before .look .ensures) (c .match .keys3) (c .before .before .loop .inv .1 lent keys filter o clean rest);
+  says = λ lent keys filter o clean rest. finishes _ (c .before .next-item .ensures) (c .match .keys3) (c .before .before .loop .inv .1 lent keys filter o clean rest);
   ahead = tt;
 }
 

@@ -7,30 +7,63 @@ use Rattle.resolver.proofs.resolve.Statement.{statement}
 use Rattle.resolver.proofs.resolve.Tie as tie
 
 returns : tie.Need-returns
-returns c = λ p ok q u r t. record {
-  user-sets = c .before .before .before .before .before .before .before .before .before .resolve-family .ensures p ok q u .0;
-  role-sets = c .before .before .before .before .before .before .before .resolve-family2 .ensures p ok q r .0;
-  type-sets = c .before .before .before .before .before .resolve-family3 .ensures p ok q t .0;
-  answer = cycle-first p _ (sym (ap foundOf (c .before .cycle .given .1)) ∙ cycle-found p (c .before .before .before .before .first-found .ensures) (c .before .before .before .first-found2 .ensures) (c .before .before .before .before .before .before .before .before .before .resolve-family .ensures p ok q u .1) (c .before .before .before .before .before .before .before .resolve-family2 .ensures p ok q r .1) (c .before .before .before .before .before .resolve-family3 .ensures p ok q t .1));
-}
+returns c =
+    let at-first-found = c .before .before .before .before in
+    let at-resolve-family3 = at-first-found .before in
+    let at-resolve-family2 = at-resolve-family3 .before .before in
+    let at-resolve-family = at-resolve-family2 .before .before in
+    λ p ok q u r t. record {
+      user-sets = at-resolve-family .resolve-family .ensures p ok q u .0;
+      role-sets = at-resolve-family2 .resolve-family2 .ensures p ok q r .0;
+      type-sets = at-resolve-family3 .resolve-family3 .ensures p ok q t .0;
+      answer =
+          cycle-first p _ (sym (ap foundOf (c .before .cycle .given .1)) ∙ cycle-found p (at-first-found .first-found .ensures)
+          (c .before .before .before .first-found2 .ensures) (at-resolve-family .resolve-family .ensures p ok q u .1)
+          (at-resolve-family2 .resolve-family2 .ensures p ok q r .1) (at-resolve-family3 .resolve-family3 .ensures p ok q t .1));
+    }
 
 returns-2 : tie.Need-returns-2
-returns-2 c = λ p ok q u r t. record {
-  user-sets = c .before .before .before .before .before .before .before .before .before .before .before .before .before .before .resolve-family .ensures p ok q u .0;
-  role-sets = c .before .before .before .before .before .before .before .before .before .before .before .before .resolve-family2 .ensures p ok q r .0;
-  type-sets = c .before .before .before .before .before .before .before .before .before .before .resolve-family3 .ensures p ok q t .0;
-  answer = clash-next p _ (sym (ap foundOf (c .before .before .before .before .before .before .enum-told .given .1)) ∙ cycle-found p (c .before .before .before .before .before .before .before .before .before .first-found .ensures) (c .before .before .before .before .before .before .before .before .first-found2 .ensures) (c .before .before .before .before .before .before .before .before .before .before .before .before .before .before .resolve-family .ensures p ok q u .1) (c .before .before .before .before .before .before .before .before .before .before .before .before .resolve-family2 .ensures p ok q r .1) (c .before .before .before .before .before .before .before .before .before .before .resolve-family3 .ensures p ok q t .1)) (sym (ap foundOf (c .before .place .given .1)) ∙ c .before .before .before .clash .ensures p ok q (c .before .before .before .before .before .before .before .before .before .before .before .before .resolve-family2 .ensures p ok q r .0) (c .before .before .before .before .before .before .before .before .before .before .resolve-family3 .ensures p ok q t .0));
-}
+returns-2 c =
+    let at-enum-told = c .before .before .before .before .before .before in
+    let at-first-found2 = at-enum-told .before .before in
+    let at-first-found = at-first-found2 .before in
+    let at-resolve-family3 = at-first-found .before in
+    let at-resolve-family2 = at-resolve-family3 .before .before in
+    let at-resolve-family = at-resolve-family2 .before .before in
+    λ p ok q u r t. record {
+      user-sets = at-resolve-family .resolve-family .ensures p ok q u .0;
+      role-sets = at-resolve-family2 .resolve-family2 .ensures p ok q r .0;
+      type-sets = at-resolve-family3 .resolve-family3 .ensures p ok q t .0;
+      answer =
+          clash-next p _ (sym (ap foundOf (at-enum-told .enum-told .given .1)) ∙ cycle-found p (at-first-found .first-found .ensures)
+          (at-first-found2 .first-found2 .ensures) (at-resolve-family .resolve-family .ensures p ok q u .1)
+          (at-resolve-family2 .resolve-family2 .ensures p ok q r .1) (at-resolve-family3 .resolve-family3 .ensures p ok q t .1))
+          (sym (ap foundOf (c .before .place .given .1)) ∙ c .before .before .before .clash .ensures p ok q
+          (at-resolve-family2 .resolve-family2 .ensures p ok q r .0) (at-resolve-family3 .resolve-family3 .ensures p ok q t .0));
+    }
 
 returns-3 : tie.Need-returns-3
-returns-3 c = λ p ok q u r t. record {
-  user-sets = c .before .before .before .before .before .before .before .before .before .before .before .before .before .resolve-family .ensures p ok q u .0;
-  role-sets = c .before .before .before .before .before .before .before .before .before .before .before .resolve-family2 .ensures p ok q r .0;
-  type-sets = c .before .before .before .before .before .before .before .before .before .resolve-family3 .ensures p ok q t .0;
-  answer = sound-last p (sym (ap foundOf (c .before .before .before .before .before .enum-told .given .1)) ∙ cycle-found p (c .before .before .before .before .before .before .before .before .first-found .ensures) (c .before .before .before .before .before .before .before .first-found2 .ensures) (c .before .before .before .before .before .before .before .before .before .before .before .before .before .resolve-family .ensures p ok q u .1) (c .before .before .before .before .before .before .before .before .before .before .before .resolve-family2 .ensures p ok q r .1) (c .before .before .before .before .before .before .before .before .before .resolve-family3 .ensures p ok q t .1)) (sym (ap foundOf (c .enum-told2 .given .1)) ∙ c .before .before .clash .ensures p ok q (c .before .before .before .before .before .before .before .before .before .before .before .resolve-family2 .ensures p ok q r .0) (c .before .before .before .before .before .before .before .before .before .resolve-family3 .ensures p ok q t .0));
-}
+returns-3 c =
+    let at-enum-told = c .before .before .before .before .before in
+    let at-first-found2 = at-enum-told .before .before in
+    let at-first-found = at-first-found2 .before in
+    let at-resolve-family3 = at-first-found .before in
+    let at-resolve-family2 = at-resolve-family3 .before .before in
+    let at-resolve-family = at-resolve-family2 .before .before in
+    λ p ok q u r t. record {
+      user-sets = at-resolve-family .resolve-family .ensures p ok q u .0;
+      role-sets = at-resolve-family2 .resolve-family2 .ensures p ok q r .0;
+      type-sets = at-resolve-family3 .resolve-family3 .ensures p ok q t .0;
+      answer =
+          sound-last p (sym (ap foundOf (at-enum-told .enum-told .given .1)) ∙ cycle-found p (at-first-found .first-found .ensures)
+          (at-first-found2 .first-found2 .ensures) (at-resolve-family .resolve-family .ensures p ok q u .1)
+          (at-resolve-family2 .resolve-family2 .ensures p ok q r .1) (at-resolve-family3 .resolve-family3 .ensures p ok q t .1))
+          (sym (ap foundOf (c .enum-told2 .given .1)) ∙ c .before .before .clash .ensures p ok q (at-resolve-family2 .resolve-family2 .ensures p ok q r .0)
+          (at-resolve-family3 .resolve-family3 .ensures p ok q t .0));
+    }
 
 pub resolve-spec : {M : Type 1} → statement M
 resolve-spec =
     tie.close
-    (tie.spec (λ c κs. search needs) (λ c κs. search needs) (λ c κs. search needs) (λ c κs. search needs) (λ c κs. search needs) (λ c. search needs) returns (λ c. search needs) (λ c κs. search needs) (λ c. search needs) returns-2 (λ c. search needs) returns-3)
+    (tie.spec (λ c κs. search needs) (λ c κs. search needs) (λ c κs. search needs) (λ c κs. search needs) (λ c κs. search needs) (λ c. search needs) returns
+    (λ c. search needs) (λ c κs. search needs) (λ c. search needs) returns-2 (λ c. search needs) returns-3)

@@ -1,4 +1,4 @@
--- `roll_lines::put_acceptance` meets its contract: the parts stand one behind the other. Assumes nothing.
+-- `roll_lines::put_acceptance` meets its contract: the parts are one after the other. Assumes nothing.
 use native.Mathlib.Omega.{arith}
 use Rattle.text_writer.proofs.Digits.{few-digits}
 use Rattle.roll_lines.proofs.Appending.{three-parts}
@@ -7,10 +7,19 @@ use Rattle.roll_lines.proofs.put_acceptance.Statement.{statement}
 use Rattle.roll_lines.proofs.put_acceptance.Tie as tie
 
 put-bytes-requires-2 : tie.Need-put-bytes-requires-2
-put-bytes-requires-2 c κs = omega (arith, c .before .before .before .before .before .before .before .before .before .before .before .before .pre, few-digits 20 (c .before .before .before .before .before .before .before .before .before .before .before .before .args .bytes), c .before .before .before .before .before .before .before .before .put-bytes .ensures .ends, c .before .before .before .before .put-decimal .ensures .ends)
+put-bytes-requires-2 c κs =
+    let at-put-decimal = c .before .before .before .before in
+    let at-put-bytes = at-put-decimal .before .before .before .before in
+    let at-pre = at-put-bytes .before .before .before .before in
+    omega (arith, at-pre .pre, few-digits 20 (at-pre .args .bytes), at-put-bytes .put-bytes .ensures .ends, at-put-decimal .put-decimal .ensures .ends)
 
 returns : tie.Need-returns
-returns c = three-parts (omega (arith, c .before .before .before .before .before .before .before .before .before .before .before .before .before .before .before .pre, few-digits 20 (c .before .before .before .before .before .before .before .before .before .before .before .before .before .before .before .args .bytes))) (c .before .before .before .before .before .before .before .before .before .before .before .put-bytes .ensures) (c .before .before .before .before .before .before .before .put-decimal .ensures) (c .before .before .put-bytes2 .ensures)
+returns c =
+    let at-put-decimal = c .before .before .before .before .before .before .before in
+    let at-put-bytes = at-put-decimal .before .before .before .before in
+    let at-pre = at-put-bytes .before .before .before .before in
+    three-parts (omega (arith, at-pre .pre, few-digits 20 (at-pre .args .bytes))) (at-put-bytes .put-bytes .ensures) (at-put-decimal .put-decimal .ensures)
+    (c .before .before .put-bytes2 .ensures)
 
 pub put-acceptance-spec : {M : Type 1} → statement M
 put-acceptance-spec =

@@ -1,4 +1,4 @@
--- `roll_lines::put_labelled` meets its contract: the number stands behind the word. Assumes nothing.
+-- `roll_lines::put_labelled` meets its contract: the number is after the word. Assumes nothing.
 use native.Mathlib.Omega.{arith}
 use Rattle.text_writer.proofs.Digits.{few-digits}
 use Rattle.roll_lines.proofs.Appending.{appends-then}

@@ -21,20 +21,35 @@ put-lines-requires c κs =
 
 put-lines-requires-2 : tie.Need-put-lines-requires-2
 put-lines-requires-2 c κs =
-    let s = c .before .before .before .before .before .before .before .before .before .before .before .before .before .before .before in
+    let at-put-lines = c .before .before .before .before .before in
+    let at-put-acceptance = at-put-lines .before .before .before .before .before .before in
+    let at-before = at-put-acceptance .before .before .before in
+    let s = at-before .before in
     record {
       sound = s .pre .0;
       short = s .pre .1;
       thing = omega arith;
       kind-short = omega arith;
       of-short = omega arith;
-      room = omega (arith, s .pre .2, acceptance-short (s .args .bytes), c .before .before .before .before .before .before .before .before .before .before .before .put-acceptance .ensures .ends, c .before .before .before .before .before .put-lines .ensures .near, c .before .before .before .before .before .put-lines .ensures .same);
+      room =
+          omega (
+            arith,
+            s .pre .2,
+            acceptance-short (s .args .bytes),
+            at-put-acceptance .put-acceptance .ensures .ends,
+            at-put-lines .put-lines .ensures .near,
+            at-put-lines .put-lines .ensures .same,
+          );
     }
 
 returns : tie.Need-returns
 returns c =
-    let s = c .before .before .before .before .before .before .before .before .before .before .before .before .before .before .before .before .before .before in
-    roll-put (all-places (λ k. k < 256) (s .args .table .now) 0 (λ i l. c .before .before .before .before .before .before .before .before .before .before .before .before .before .before .before .before .before .shared-slice-known .given i .fits)) (s .pre .2) (c .before .before .before .before .before .before .before .before .before .before .before .before .before .before .put-acceptance .ensures) (c .before .before .before .before .before .before .before .before .put-lines .ensures) (c .before .before .put-lines2 .ensures)
+    let at-put-lines = c .before .before .before .before .before .before .before .before in
+    let at-put-acceptance = at-put-lines .before .before .before .before .before .before in
+    let at-before = at-put-acceptance .before .before .before in
+    let s = at-before .before in
+    roll-put (all-places (λ k. k < 256) (s .args .table .now) 0 (λ i l. at-before .shared-slice-known .given i .fits)) (s .pre .2)
+    (at-put-acceptance .put-acceptance .ensures) (at-put-lines .put-lines .ensures) (c .before .before .put-lines2 .ensures)
 
 pub put-roll-spec : {M : Type 1} → statement M
 put-roll-spec =

@@ -19,17 +19,17 @@ abbrev μ-loop : tie.MeasureT-loop
 sub-part : tie.Need-sub-part Inv-loop μ-loop
 sub-part c =
     let s = c .before .before .before .before in
-    omega (arith, dot-some (s .args .name .now) (sym (c .before .has-dot .ensures) ∙ c .if1 .taken))
+    omega (arith, dot-some (s .args .name .now) (sym (c .before .has-dot-in-front .ensures) ∙ c .if1 .taken))
 
 returns : tie.Need-returns Inv-loop μ-loop
 returns c =
     let at-dot = c .before .before .before in
     let s = at-dot .before .before .before in
-    dot-resolves (s .args .symbols .now) (s .args .family) (s .args .name .now) (sym (at-dot .has-dot .ensures) ∙ c .before .before .if1 .taken)
+    dot-resolves (s .args .symbols .now) (s .args .family) (s .args .name .now) (sym (at-dot .has-dot-in-front .ensures) ∙ c .before .before .if1 .taken)
     (c .before .part .ensures) (c .find .ensures)
 
 loop-holds : tie.Need-loop-holds Inv-loop μ-loop
-loop-holds c = (c .long-of .ensures .0, walk-starts _ _ _ (c .long-of .ensures .1))
+loop-holds c = (c .scope-length .ensures .0, walk-starts _ _ _ (c .scope-length .ensures .1))
 
 returns-2 : tie.Need-returns-2 Inv-loop μ-loop
 returns-2 c =
@@ -39,7 +39,7 @@ returns-2 c =
     let l = at-loop .loop in
     let tried = c .before .before .try-in in
     hit-resolves (s .args .symbols .now) (s .args .family) (s .args .name .now) (l .n) (tried .result) (l .inv .0) (s .pre) (omega arith) (tried .ensures)
-    (sym (c .before .is-missing .ensures) ∙ not-true _ (c .if2 .taken)) (sym (at-dot .has-dot .ensures) ∙ at-loop .before .before .if1 .left) (l .inv .1)
+    (sym (c .before .is-missing .ensures) ∙ not-true _ (c .if2 .taken)) (sym (at-dot .has-dot-in-front .ensures) ∙ at-loop .before .before .if1 .left) (l .inv .1)
 
 loop-again : tie.Need-loop-again Inv-loop μ-loop
 loop-again c =
@@ -47,13 +47,13 @@ loop-again c =
     let s = at-loop .before .before .before .before .before .before in
     let l = at-loop .loop in
     let tried = c .before .before .before .try-in in (
-      omega (arith, c .cut .ensures .2),
+      omega (arith, c .last-dot .ensures .2),
       turn (s .args .symbols .now) (s .args .family) (s .args .name .now) (l .n) (tried .result) (l .inv .0) (s .pre) (omega arith) (tried .ensures)
-          (c .cut .result) (sym (c .before .before .is-missing .ensures) ∙ not-false _ (c .before .if2 .left)) (c .cut .ensures .0) (c .cut .ensures .2) (l .inv .1),
+          (c .last-dot .result) (sym (c .before .before .is-missing .ensures) ∙ not-false _ (c .before .if2 .left)) (c .last-dot .ensures .0) (c .last-dot .ensures .2) (l .inv .1),
     )
 
 loop-less : tie.Need-loop-less Inv-loop μ-loop
-loop-less c = c .cut .ensures .1 (omega arith)
+loop-less c = c .last-dot .ensures .1 (omega arith)
 
 returns-3 : tie.Need-returns-3 Inv-loop μ-loop
 returns-3 c =
@@ -62,7 +62,7 @@ returns-3 c =
     let s = at-dot .before .before .before in
     let l = at-loop .loop in
     last-resolves (s .args .symbols .now) (s .args .family) (s .args .name .now) (l .n) (omega (arith, c .before .loop-test))
-    (sym (at-dot .has-dot .ensures) ∙ at-loop .before .before .if1 .left) (c .find2 .ensures) (l .inv .1)
+    (sym (at-dot .has-dot-in-front .ensures) ∙ at-loop .before .before .if1 .left) (c .find2 .ensures) (l .inv .1)
 
 pub find-spec : {M : Type 1} → statement M
 find-spec =

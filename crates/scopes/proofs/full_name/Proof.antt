@@ -7,7 +7,7 @@ use Rattle.scopes.proofs.full_name.Tie as tie
 returns : tie.Need-returns
 returns c =
     let composed = c .before .before in
-    named (composed .before .before .before .long-of .ensures .1) (composed .before .before .part .ensures) (composed .compose .ensures)
+    named (composed .before .before .before .scope-length .ensures .1) (composed .before .before .part .ensures) (composed .compose .ensures)
 
 pub full-name-spec : {M : Type 1} → statement M
 full-name-spec =

@@ -1,7 +1,7 @@
 -- `scopes::in_block` meets its contract: by the length of the scope. Assumes nothing.
 use native.Mathlib.Omega.{arith}
 use borrow.Author.Needs.{needs}
-use Rattle.scopes.specs.Scope.{longIn}
+use Rattle.scopes.specs.Scope.{scopeLength}
 use Rattle.scopes.proofs.Open.{open-by-length}
 use Rattle.scopes.proofs.in_block.Statement.{statement}
 use Rattle.scopes.proofs.in_block.Tie as tie
@@ -10,7 +10,7 @@ returns : tie.Need-returns
 returns c = record { answers = λ path sc. absurd (omega (arith, c .if1 .taken, sc .room)) }
 
 returns-2 : tie.Need-returns-2
-unfolding longIn
+unfolding scopeLength
 returns-2 c = record { answers = λ path sc. open-by-length path sc }
 
 pub in-block-spec : {M : Type 1} → statement M

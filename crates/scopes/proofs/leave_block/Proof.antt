@@ -7,8 +7,8 @@ use Rattle.scopes.proofs.leave_block.Tie as tie
 returns : tie.Need-returns
 returns c =
     let s = c .before .before .before .before .before in
-    let n = c .before .before .long-of in
-    left (s .args .symbols .now) (n .result) (c .cut .result) (s .pre) (n .ensures .0) (n .ensures .1) (c .cut .ensures .0) (c .cut .ensures .2)
+    let n = c .before .before .scope-length in
+    left (s .args .symbols .now) (n .result) (c .last-dot .result) (s .pre) (n .ensures .0) (n .ensures .1) (c .last-dot .ensures .0) (c .last-dot .ensures .2)
 
 pub leave-block-spec : {M : Type 1} → statement M
 leave-block-spec =

@@ -1,5 +1,5 @@
 -- `set_code::evaluate` meets its contract. It calls itself on each operand, and the code that is left falls. The loop's invariant: whatever S
--- stands at the place, what was read and what is ahead make it. Assumes nothing.
+-- is at the place, what was read and what is ahead make it. Assumes nothing.
 use Prim.Native.Nat.{_-_, ℕ, _<_}
 use native.Mathlib.Omega.{arith}
 use mathlib.Core.List.{List, [], _++_}
@@ -34,7 +34,22 @@ abbrev below : ℕ → In 3 evaluate-kinds.ps
 below t = and 3 evaluate-kinds.ps (falls 3 evaluate-kinds.ps _<_ μ t) evaluate.Pre
 
 abbrev claims : ℕ → lts.Claims
-claims t = (reference-reads.Asked, reference-reads.Learnt, start-reads.Asked, start-reads.Learnt, fill-reads.Asked, fill-reads.Learnt, adds-reference-reads.Asked, adds-reference-reads.Learnt, add-reference-reads.Asked, add-reference-reads.Learnt, below t, evaluate.Post, join-reads.Asked, join-reads.Learnt)
+claims t = (
+  reference-reads.Asked,
+  reference-reads.Learnt,
+  start-reads.Asked,
+  start-reads.Learnt,
+  fill-reads.Asked,
+  fill-reads.Learnt,
+  adds-reference-reads.Asked,
+  adds-reference-reads.Learnt,
+  add-reference-reads.Asked,
+  add-reference-reads.Learnt,
+  below t,
+  evaluate.Post,
+  join-reads.Asked,
+  join-reads.Learnt,
+)
 
 abbrev Inv-loop : lts.InvT-loop
 Inv-loop code at total sets out₀ operator place₀ out place =
@@ -58,8 +73,11 @@ module _ (t : ℕ) where
 
   loop-again : lts.Need-loop-again (claims t) (at-level t) evaluate.Post Inv-loop μ-loop
   loop-again c =
-      let adds = c .before .before .before .adds-reference .ensures (c .before .before .if4 .taken) in
-      (omega arith, λ e rest n q. rw (c .add-reference .ensures) (further-reference _ _ _ _ _ _ _ e rest (c .before .before .before .before .before .before .before .loop .inv .1 e rest n q) (adds .0) (adds .1)))
+      let adds = c .before .before .before .adds-reference .ensures (c .before .before .if4 .taken) in (
+        omega arith,
+        λ e rest n q. rw (c .add-reference .ensures)
+            (further-reference _ _ _ _ _ _ _ e rest (c .before .before .before .before .before .before .before .loop .inv .1 e rest n q) (adds .0) (adds .1)),
+      )
 
   evaluate-requires : lts.Need-evaluate-requires (claims t) (at-level t) evaluate.Post Inv-loop μ-loop
   evaluate-requires c κs = (omega arith, tt)
@@ -68,7 +86,12 @@ module _ (t : ℕ) where
   loop-less-2 c = let moves = c .before .before .before .evaluate .ensures .forward in omega (arith, moves (omega arith))
 
   loop-again-2 : lts.Need-loop-again-2 (claims t) (at-level t) evaluate.Post Inv-loop μ-loop
-  loop-again-2 c = (omega (arith, c .before .before .before .evaluate .ensures .forward (omega arith)), λ e rest n q. rw (c .join .ensures) (further _ _ _ _ _ _ _ e rest (c .before .before .before .before .before .before .before .before .before .before .loop .inv .1 e rest n q) (c .before .before .before .before .before .before .before .if3 .left) _ _ (c .before .before .before .evaluate .ensures)))
+  loop-again-2 c = (
+    omega (arith, c .before .before .before .evaluate .ensures .forward (omega arith)),
+    λ e rest n q. rw (c .join .ensures)
+        (further _ _ _ _ _ _ _ e rest (c .before .before .before .before .before .before .before .before .before .before .loop .inv .1 e rest n q)
+        (c .before .before .before .before .before .before .before .if3 .left) _ _ (c .before .before .before .evaluate .ensures)),
+  )
 
   returns-4 : lts.Need-returns-4 (claims t) (at-level t) evaluate.Post Inv-loop μ-loop
   returns-4 c = record { forward = λ l. omega arith; right = λ e rest n q. absurd (not-past _ _ _ _ _ _ _ e rest (c .before .loop .inv .1 e rest n q) (c .loop-test .left)) }

@@ -11,8 +11,8 @@ use Rattle.set_grammar.proofs.set_start.Tie as tie
 use Rattle.set_grammar.proofs.set_start.Reads as reads
 use Rattle.set_grammar.proofs.set_start.Lts as lts
 
-look-requires : tie.Need-look-requires
-look-requires c κs = search needs
+next-item-requires : tie.Need-next-item-requires
+next-item-requires c κs = search needs
 
 enum-known-item : tie.Need-enum-known-item
 enum-known-item c = search needs
@@ -27,22 +27,28 @@ enum-told-2 : tie.Need-enum-told-2
 enum-told-2 c = search needs
 
 returns : tie.Need-returns
-returns c = rw (← c .before .before .before .before .before .before .look .ensures, c .before .before .before .before .item .given .1, ← c .before .before .operands-of .ensures, c .enum-told .given .1)
+returns c =
+    let at-item = c .before .before .before .before in
+    let at-next-item = at-item .before .before in
+    rw (← at-next-item .next-item .ensures, at-item .item .given .1, ← c .before .before .operands-of .ensures, c .enum-told .given .1)
 
 returns-2 : tie.Need-returns-2
-returns-2 c = rw (← c .before .before .before .before .before .before .look .ensures, c .before .before .before .before .item .given .1, ← c .before .before .operands-of .ensures, c .enum-told2 .given .1)
+returns-2 c =
+    let at-item = c .before .before .before .before in
+    let at-next-item = at-item .before .before in
+    rw (← at-next-item .next-item .ensures, at-item .item .given .1, ← c .before .before .operands-of .ensures, c .enum-told2 .given .1)
 
 returns-3 : tie.Need-returns-3
 returns-3 c =
     let at = c .before .before .before .args .at in
-    rw (← c .before .look .ensures)
-    (among (1 ∷ 2 ∷ 3 ∷ []) (λ (r : Item). begun Wanted.OneOrMore at ≡ startOf at r) (tt, λ p q. refl, λ q. refl, refl) (c .before .look .result) (c .match .keys2))
+    rw (← c .before .next-item .ensures)
+    (among (1 ∷ 2 ∷ 3 ∷ []) (λ (r : Item). begun Wanted.OneOrMore at ≡ startOf at r) (tt, λ p q. refl, λ q. refl, refl) (c .before .next-item .result) (c .match .keys2))
 
 pub set-start-spec : {M : Type 1} → statement M
 set-start-spec =
     tie.close
     (tie.spec
-    look-requires
+    next-item-requires
     enum-known-item
     operands-of-requires
     enum-told

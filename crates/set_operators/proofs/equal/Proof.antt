@@ -26,12 +26,17 @@ loop-again c =
     let a = at-loop .before .before .before .before .args in
     let i = at-loop .loop .i in
     let x = at-loop .before .before .before .shared-slice-known .given i .fits in
-    let y = at-loop .before .before .shared-slice-known2 .given i .fits in
-    (search needs, rw (c .before .byte .ensures, c .byte2 .ensures) (all-more (sameRule (a .a .now) (a .b .now)) i (at-loop .loop .differing) _ (xor-lt 8 _ _ x y) (same-bits (a .a .now) (a .b .now) i) (at-loop .loop .inv .1)))
+    let y = at-loop .before .before .shared-slice-known2 .given i .fits in (
+      search needs,
+      rw (c .before .byte .ensures, c .byte2 .ensures)
+          (all-more (sameRule (a .a .now) (a .b .now)) i (at-loop .loop .differing) _ (xor-lt 8 _ _ x y) (same-bits (a .a .now) (a .b .now) i) (at-loop .loop .inv .1)),
+    )
 
 returns : tie.Need-returns Inv-loop μ-loop
 unfolding equal
-returns c = all-done _ _ (c .before .loop .i) (c .before .loop .differing) (omega (arith, c .before .before .greatest .ensures)) (omega (arith, c .before .before .greatest .ensures)) (c .before .loop .inv .1)
+returns c =
+    all-done _ _ (c .before .loop .i) (c .before .loop .differing) (omega (arith, c .before .before .greatest .ensures))
+    (omega (arith, c .before .before .greatest .ensures)) (c .before .loop .inv .1)
 
 pub equal-spec : {M : Type 1} → statement M
 equal-spec =

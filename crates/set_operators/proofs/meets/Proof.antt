@@ -27,8 +27,11 @@ loop-again c =
     let a = at-loop .before .before .before .args in
     let i = at-loop .loop .i in
     let x = c .before .shared-slice-known3 .given i .fits in
-    let y = at-loop .before .shared-slice-known2 .given i .fits in
-    (search needs, rw (c .byte .ensures) (all-more (apartRule (a .a .now) (a .b .now)) i (at-loop .loop .common) _ (and-lt 8 _ _ x y) (apart-bits (a .a .now) (a .b .now) i) (at-loop .loop .inv .1)))
+    let y = at-loop .before .shared-slice-known2 .given i .fits in (
+      search needs,
+      rw (c .byte .ensures)
+          (all-more (apartRule (a .a .now) (a .b .now)) i (at-loop .loop .common) _ (and-lt 8 _ _ x y) (apart-bits (a .a .now) (a .b .now) i) (at-loop .loop .inv .1)),
+    )
 
 returns : tie.Need-returns Inv-loop μ-loop
 returns c = ap not (all-done _ _ (c .before .loop .i) (c .before .loop .common) (search needs) (c .loop-test .left) (c .before .loop .inv .1)) ∙ sym (meets-apart _ _)

@@ -8,8 +8,11 @@ use Rattle.set_rows.proofs.combine_at.Tie as tie
 
 returns : tie.Need-returns
 returns c =
-    let a = c .before .before .before .before .before .before .before .before .args in
-    put-back (a .table .now) (a .o) (a .w) _ _ (λ p. combined (a .op) p (a .src .now)) _ (c .before .before .before .before .before .least .ensures) (c .before .before .before .before .end-of .ensures)
+    let at-end-of = c .before .before .before .before in
+    let at-least = at-end-of .before in
+    let at-args = at-least .before .before .before in
+    let a = at-args .args in
+    put-back (a .table .now) (a .o) (a .w) _ _ (λ p. combined (a .op) p (a .src .now)) _ (at-least .least .ensures) (at-end-of .end-of .ensures)
     (λ p. length-combined (a .op) p (a .src .now)) (c .before .before .combine .ensures)
 
 pub combine-at-spec : {M : Type 1} → statement M

@@ -74,4 +74,6 @@ returns-2 c =
 pub grant-spec : {M : Type 1} → statement M
 grant-spec =
     tie.close
-    (tie.spec Inv-loop μ-loop returns (λ c κs. search needs) loop-holds (λ c κs. search needs) (λ c. search needs) (λ c κs. search needs) (λ c. search needs) (λ c. search needs) loop-again mul-start sub-reach (λ c κs. search needs) (λ c κs. search needs) (λ c. search needs) (λ c. search needs) loop-again-2 (λ c. search needs) returns-2)
+    (tie.spec Inv-loop μ-loop returns (λ c κs. search needs) loop-holds (λ c κs. search needs) (λ c. search needs) (λ c κs. search needs) (λ c. search needs)
+    (λ c. search needs) loop-again mul-start sub-reach (λ c κs. search needs) (λ c κs. search needs) (λ c. search needs) (λ c. search needs) loop-again-2
+    (λ c. search needs) returns-2)

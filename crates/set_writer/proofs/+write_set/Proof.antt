@@ -1,4 +1,4 @@
--- `set_writer::write_set` meets its contract. It calls itself with one level less; between two operands, what is left of S stands in the row at hand.
+-- `set_writer::write_set` meets its contract. It calls itself with one level less; between two operands, what is left of S is in the row at hand.
 -- Assumes nothing.
 use mathlib.Core.Path.{_∙_}
 use mathlib.Core.List.{List}
@@ -9,8 +9,8 @@ use borrow.Fn.Kinds.{In}
 use borrow.Fn.PlainCycle.{Measures, is, falls, and}
 use lib.ListN.{length}
 use Rattle.items.proofs.Frames.{sees}
-use Rattle.items.proofs.look.Reads as look-reads
-use Rattle.set_writer.proofs.Going.{Going, going, past-word, stop-word, stop-deep, past-part, stop-part, past-close, stop-end, past}
+use Rattle.items.proofs.next_item.Reads as look-reads
+use Rattle.set_writer.proofs.SetOperands.{Going, going, past-word, stop-word, stop-deep, past-part, stop-part, past-close, stop-end, past}
 use Rattle.set_writer.proofs.write_set.Reads as write-set
 use Rattle.set_writer.proofs.write_set.Kinds as write-set-kinds
 use Rattle.set_writer.proofs.+write_set.Lts-write_set as lts
@@ -30,7 +30,18 @@ abbrev below : ℕ → In 3 write-set-kinds.ps
 below t = and 3 write-set-kinds.ps (falls 3 write-set-kinds.ps _<_ μ t) write-set.Pre
 
 abbrev claims : ℕ → lts.Claims
-claims t = (set-start-reads.Asked, set-start-reads.Learnt, put-unit-reads.Asked, put-unit-reads.Learnt, look-reads.Asked, look-reads.Learnt, reference-reads.Asked, reference-reads.Learnt, below t, write-set.Post)
+claims t = (
+  set-start-reads.Asked,
+  set-start-reads.Learnt,
+  put-unit-reads.Asked,
+  put-unit-reads.Learnt,
+  look-reads.Asked,
+  look-reads.Learnt,
+  reference-reads.Asked,
+  reference-reads.Learnt,
+  below t,
+  write-set.Post,
+)
 
 -- what held of the operands where they begin holds of those that are left
 abbrev Inv-loop : lts.InvT-loop
@@ -50,14 +61,14 @@ module _ (t : ℕ) where
   loop-holds : lts.Need-loop-holds (claims t) (at-level t) write-set.Post Inv-loop μ-loop
   loop-holds c before g = g
 
-  look-requires : lts.Need-look-requires (claims t) (at-level t) write-set.Post Inv-loop μ-loop
-  look-requires c κs = search needs
+  next-item-requires : lts.Need-next-item-requires (claims t) (at-level t) write-set.Post Inv-loop μ-loop
+  next-item-requires c κs = search needs
 
   enum-known-item : lts.Need-enum-known-item (claims t) (at-level t) write-set.Post Inv-loop μ-loop
   enum-known-item c = search needs
 
   add-end : lts.Need-add-end (claims t) (at-level t) write-set.Post Inv-loop μ-loop
-  add-end c = omega (arith, sees (c .before .before .before .look .ensures) (c .before .item .given .1) .ahead .3)
+  add-end c = omega (arith, sees (c .before .before .before .next-item .ensures) (c .before .item .given .1) .ahead .3)
 
   sub-name : lts.Need-sub-name (claims t) (at-level t) write-set.Post Inv-loop μ-loop
   sub-name c = search needs
@@ -66,7 +77,7 @@ module _ (t : ℕ) where
   part-name-start c = search needs
 
   part-name-end : lts.Need-part-name-end (claims t) (at-level t) write-set.Post Inv-loop μ-loop
-  part-name-end c = omega (arith, sees (c .before .before .before .look .ensures) (c .before .item .given .1) .ahead .3)
+  part-name-end c = omega (arith, sees (c .before .before .before .next-item .ensures) (c .before .item .given .1) .ahead .3)
 
   reference-requires : lts.Need-reference-requires (claims t) (at-level t) write-set.Post Inv-loop μ-loop
   reference-requires c κs = search needs
@@ -90,7 +101,7 @@ module _ (t : ℕ) where
       let at-loop = looked .before in
       let operator = at-loop .before .before .before in
       let o = at-loop .loop .inv _ (going _ _ _ (operator .before .before .set-start .ensures) (operator .put-unit .ensures)) in
-      let l = sees (looked .look .ensures) (c .before .before .before .before .before .item .given .1) in
+      let l = sees (looked .next-item .ensures) (c .before .before .before .before .before .item .given .1) in
       stop-word o l (c .before .before .reference .ensures) (c .enum-told .given .1)
 
   put-unit-requires-2 : lts.Need-put-unit-requires-2 (claims t) (at-level t) write-set.Post Inv-loop μ-loop
@@ -99,7 +110,7 @@ module _ (t : ℕ) where
   loop-less : lts.Need-loop-less (claims t) (at-level t) write-set.Post Inv-loop μ-loop
   loop-less c =
       let item = c .before .before .before .before .before .before .before .before .before .before in
-      let l = sees (item .before .before .look .ensures) (item .item .given .1) in
+      let l = sees (item .before .before .next-item .ensures) (item .item .given .1) in
       omega (arith, l .ahead .0, l .ahead .1)
 
   loop-again : lts.Need-loop-again (claims t) (at-level t) write-set.Post Inv-loop μ-loop
@@ -107,7 +118,7 @@ module _ (t : ℕ) where
       let reference = c .before .before .before .before .before .before .before in
       let item = reference .before .before .before in
       let looked = item .before .before in
-      let l = sees (looked .look .ensures) (item .item .given .1) in
+      let l = sees (looked .next-item .ensures) (item .item .given .1) in
       past-word (looked .before .loop .inv before g) l (reference .reference .ensures) (c .before .before .before .before .before .referred .given .1)
       (c .before .before .put-unit2 .ensures)
 
@@ -116,13 +127,17 @@ module _ (t : ℕ) where
 
   same-length-2 : lts.Need-same-length-2 (claims t) (at-level t) write-set.Post Inv-loop μ-loop
   same-length-2 c =
-      let o = c .before .before .before .before .before .loop .inv _ (going _ _ _ (c .before .before .before .before .before .before .before .before .before .before .set-start .ensures) (c .before .before .before .before .before .before .before .before .put-unit .ensures)) in
+      let o = c .before .before .before .before .before .loop .inv _
+      (going _ _ _ (c .before .before .before .before .before .before .before .before .before .before .set-start .ensures)
+      (c .before .before .before .before .before .before .before .before .put-unit .ensures)) in
       o .keeps .long
 
   returns-2 : lts.Need-returns-2 (claims t) (at-level t) write-set.Post Inv-loop μ-loop
   returns-2 c =
-      let o = c .before .before .before .before .before .loop .inv _ (going _ _ _ (c .before .before .before .before .before .before .before .before .before .before .set-start .ensures) (c .before .before .before .before .before .before .before .before .put-unit .ensures)) in
-      let l = sees (c .before .before .before .before .look .ensures) (c .before .before .item2 .given .1) in
+      let o = c .before .before .before .before .before .loop .inv _
+      (going _ _ _ (c .before .before .before .before .before .before .before .before .before .before .set-start .ensures)
+      (c .before .before .before .before .before .before .before .before .put-unit .ensures)) in
+      let l = sees (c .before .before .before .before .next-item .ensures) (c .before .before .item2 .given .1) in
       stop-deep o l (c .if1 .taken)
 
   sub-write-set : lts.Need-sub-write-set (claims t) (at-level t) write-set.Post Inv-loop μ-loop
@@ -139,25 +154,42 @@ module _ (t : ℕ) where
 
   same-length-3 : lts.Need-same-length-3 (claims t) (at-level t) write-set.Post Inv-loop μ-loop
   same-length-3 c =
-      let o = c .before .before .before .before .before .before .before .before .before .before .before .loop .inv _ (going _ _ _ (c .before .before .before .before .before .before .before .before .before .before .before .before .before .before .before .before .set-start .ensures) (c .before .before .before .before .before .before .before .before .before .before .before .before .before .before .put-unit .ensures)) in
-      c .before .before .before .before .write-set .ensures .keeps .long ∙ o .keeps .long
+      let at-write-set = c .before .before .before .before in
+      let at-loop = at-write-set .before .before .before .before .before .before .before in
+      let at-put-unit = at-loop .before .before .before in
+      let at-set-start = at-put-unit .before .before in
+      let o = at-loop .loop .inv _
+      (going _ _ _ (at-set-start .set-start .ensures) (at-put-unit .put-unit .ensures)) in
+      at-write-set .write-set .ensures .keeps .long ∙ o .keeps .long
 
   returns-3 : lts.Need-returns-3 (claims t) (at-level t) write-set.Post Inv-loop μ-loop
   returns-3 c =
-      let o = c .before .before .before .before .before .before .before .before .before .before .before .loop .inv _ (going _ _ _ (c .before .before .before .before .before .before .before .before .before .before .before .before .before .before .before .before .set-start .ensures) (c .before .before .before .before .before .before .before .before .before .before .before .before .before .before .put-unit .ensures)) in
-      let l = sees (c .before .before .before .before .before .before .before .before .before .before .look .ensures) (c .before .before .before .before .before .before .before .before .item2 .given .1) in
-      stop-part o l (c .before .before .before .before .before .before .if1 .left) (c .before .before .before .before .write-set .ensures) (c .enum-told2 .given .1)
+      let at-write-set = c .before .before .before .before in
+      let at-if1 = at-write-set .before .before in
+      let at-item2 = at-if1 .before .before in
+      let at-next-item = at-item2 .before .before in
+      let at-loop = at-next-item .before in
+      let at-put-unit = at-loop .before .before .before in
+      let at-set-start = at-put-unit .before .before in
+      let o = at-loop .loop .inv _
+      (going _ _ _ (at-set-start .set-start .ensures) (at-put-unit .put-unit .ensures)) in
+      let l = sees (at-next-item .next-item .ensures)
+      (at-item2 .item2 .given .1) in
+      stop-part o l (at-if1 .if1 .left) (at-write-set .write-set .ensures) (c .enum-told2 .given .1)
 
   loop-less-2 : lts.Need-loop-less-2 (claims t) (at-level t) write-set.Post Inv-loop μ-loop
   loop-less-2 c =
-      let l = sees (c .before .before .before .before .before .before .before .before .before .before .before .look .ensures) (c .before .before .before .before .before .before .before .before .before .item2 .given .1) in
+      let l = sees (c .before .before .before .before .before .before .before .before .before .before .before .next-item .ensures)
+      (c .before .before .before .before .before .before .before .before .before .item2 .given .1) in
       let g = past (c .before .before .before .before .before .write-set .ensures) (c .before .operand .given .1) in
       omega (arith, l .ahead .0, g .less, g .fits)
 
   loop-again-2 : lts.Need-loop-again-2 (claims t) (at-level t) write-set.Post Inv-loop μ-loop
   loop-again-2 c before g =
-      let l = sees (c .before .before .before .before .before .before .before .before .before .before .before .look .ensures) (c .before .before .before .before .before .before .before .before .before .item2 .given .1) in
-      past-part (c .before .before .before .before .before .before .before .before .before .before .before .before .loop .inv before g) l (c .before .before .before .before .before .before .before .if1 .left) (c .before .before .before .before .before .write-set .ensures) (c .before .operand .given .1)
+      let l = sees (c .before .before .before .before .before .before .before .before .before .before .before .next-item .ensures)
+      (c .before .before .before .before .before .before .before .before .before .item2 .given .1) in
+      past-part (c .before .before .before .before .before .before .before .before .before .before .before .before .loop .inv before g) l
+      (c .before .before .before .before .before .before .before .if1 .left) (c .before .before .before .before .before .write-set .ensures) (c .before .operand .given .1)
 
   enum-known-item-3 : lts.Need-enum-known-item-3 (claims t) (at-level t) write-set.Post Inv-loop μ-loop
   enum-known-item-3 c = search needs
@@ -167,13 +199,17 @@ module _ (t : ℕ) where
 
   same-length-4 : lts.Need-same-length-4 (claims t) (at-level t) write-set.Post Inv-loop μ-loop
   same-length-4 c =
-      let o = c .before .before .before .before .before .before .before .before .loop .inv _ (going _ _ _ (c .before .before .before .before .before .before .before .before .before .before .before .before .before .set-start .ensures) (c .before .before .before .before .before .before .before .before .before .before .before .put-unit .ensures)) in
+      let o = c .before .before .before .before .before .before .before .before .loop .inv _
+      (going _ _ _ (c .before .before .before .before .before .before .before .before .before .before .before .before .before .set-start .ensures)
+      (c .before .before .before .before .before .before .before .before .before .before .before .put-unit .ensures)) in
       c .before .before .put-unit3 .ensures .keeps .long ∙ o .keeps .long
 
   returns-4 : lts.Need-returns-4 (claims t) (at-level t) write-set.Post Inv-loop μ-loop
   returns-4 c =
-      let o = c .before .before .before .before .before .before .before .before .loop .inv _ (going _ _ _ (c .before .before .before .before .before .before .before .before .before .before .before .before .before .set-start .ensures) (c .before .before .before .before .before .before .before .before .before .before .before .put-unit .ensures)) in
-      let l = sees (c .before .before .before .before .before .before .before .look .ensures) (c .before .before .before .before .before .item3 .given .1) in
+      let o = c .before .before .before .before .before .before .before .before .loop .inv _
+      (going _ _ _ (c .before .before .before .before .before .before .before .before .before .before .before .before .before .set-start .ensures)
+      (c .before .before .before .before .before .before .before .before .before .before .before .put-unit .ensures)) in
+      let l = sees (c .before .before .before .before .before .before .before .next-item .ensures) (c .before .before .before .before .before .item3 .given .1) in
       past-close o l (c .before .before .put-unit3 .ensures)
 
   enum-told-3 : lts.Need-enum-told-3 (claims t) (at-level t) write-set.Post Inv-loop μ-loop
@@ -181,13 +217,17 @@ module _ (t : ℕ) where
 
   same-length-5 : lts.Need-same-length-5 (claims t) (at-level t) write-set.Post Inv-loop μ-loop
   same-length-5 c =
-      let o = c .before .before .before .loop .inv _ (going _ _ _ (c .before .before .before .before .before .before .before .before .set-start .ensures) (c .before .before .before .before .before .before .put-unit .ensures)) in
+      let o = c .before .before .before .loop .inv _
+      (going _ _ _ (c .before .before .before .before .before .before .before .before .set-start .ensures)
+      (c .before .before .before .before .before .before .put-unit .ensures)) in
       o .keeps .long
 
   returns-5 : lts.Need-returns-5 (claims t) (at-level t) write-set.Post Inv-loop μ-loop
   returns-5 c =
-      let o = c .before .before .before .loop .inv _ (going _ _ _ (c .before .before .before .before .before .before .before .before .set-start .ensures) (c .before .before .before .before .before .before .put-unit .ensures)) in
-      let l = sees (c .before .before .look .ensures) (c .enum-told3 .given .1) in
+      let o = c .before .before .before .loop .inv _
+      (going _ _ _ (c .before .before .before .before .before .before .before .before .set-start .ensures)
+      (c .before .before .before .before .before .before .put-unit .ensures)) in
+      let l = sees (c .before .before .next-item .ensures) (c .enum-told3 .given .1) in
       stop-end o l
 
 pub +write-set-spec : {M : Type 1} → statement M
@@ -197,7 +237,7 @@ pub +write-set-spec : {M : Type 1} → statement M
     (set-start-requires t)
     (put-unit-requires t)
     (loop-holds t)
-    (look-requires t)
+    (next-item-requires t)
     (enum-known-item t)
     (add-end t)
     (sub-name t)

@@ -14,13 +14,15 @@ cast-if1 : tie.Need-cast-if1
 cast-if1 c = search needs
 
 returns : tie.Need-returns
-returns c = refers (c .before .before .before .before .lookup .ensures) (rw (c .before .before .found .given .1) (too-large (c .before .before .found .given .0 .0) _ (c .if1 .taken)))
+returns c =
+    refers (c .before .before .before .before .lookup .ensures) (rw (c .before .before .found .given .1) (too-large (c .before .before .found .given .0 .0) _ (c .if1 .taken)))
 
 cast-t10 : tie.Need-cast-t10
 cast-t10 c = search needs
 
 returns-2 : tie.Need-returns-2
-returns-2 c = refers (c .before .before .before .before .before .lookup .ensures) (rw (c .before .before .before .found .given .1) (a-thing _ _ (c .before .if1 .left) (c .if2 .taken)))
+returns-2 c =
+    refers (c .before .before .before .before .before .lookup .ensures) (rw (c .before .before .before .found .given .1) (a-thing _ _ (c .before .if1 .left) (c .if2 .taken)))
 
 cast-t11 : tie.Need-cast-t11
 cast-t11 c = search needs
@@ -32,7 +34,8 @@ enum-told : tie.Need-enum-told
 enum-told c = search needs
 
 returns-3 : tie.Need-returns-3
-returns-3 c = refers (c .before .before .before .before .before .lookup .ensures) (rw (c .before .before .before .found .given .1) (an-attribute _ _ (c .before .if1 .left) (c .if2 .left)))
+returns-3 c =
+    refers (c .before .before .before .before .before .lookup .ensures) (rw (c .before .before .before .found .given .1) (an-attribute _ _ (c .before .if1 .left) (c .if2 .left)))
 
 returns-4 : tie.Need-returns-4
 returns-4 c = refers (c .before .before .lookup .ensures) (rw (c .enum-told .given .1))

@@ -1,4 +1,4 @@
--- `set_writer::set_start` meets its contract: an operator at the start stands before its operands; any other item is the first operand of a union.
+-- `set_writer::set_start` meets its contract: an operator at the start is before its operands; any other item is the first operand of a union.
 -- Assumes nothing.
 use mathlib.Core.Path.{refl}
 use mathlib.Core.List.{[], _∷_}
@@ -10,8 +10,8 @@ use Rattle.set_writer.proofs.Starting.{starts-operator, starts-name, un
 use Rattle.set_writer.proofs.set_start.Statement.{statement}
 use Rattle.set_writer.proofs.set_start.Tie as tie
 
-look-requires : tie.Need-look-requires
-look-requires c κs = search needs
+next-item-requires : tie.Need-next-item-requires
+next-item-requires c κs = search needs
 
 enum-known-item : tie.Need-enum-known-item
 enum-known-item c = search needs
@@ -21,19 +21,19 @@ operator-of-requires c κs = search needs
 
 returns : tie.Need-returns
 returns c =
-    let l = sees (c .before .before .before .before .before .look .ensures) (c .before .before .before .item .given .1) in
+    let l = sees (c .before .before .before .before .before .next-item .ensures) (c .before .before .before .item .given .1) in
     starts-name _ l (c .before .operator-of .ensures) (c .if1 .taken)
 
 returns-2 : tie.Need-returns-2
 returns-2 c =
-    let l = sees (c .before .before .before .before .before .look .ensures) (c .before .before .before .item .given .1) in
+    let l = sees (c .before .before .before .before .before .next-item .ensures) (c .before .before .before .item .given .1) in
     starts-operator _ l (c .before .operator-of .ensures) (c .if1 .left)
 
 returns-3 : tie.Need-returns-3
 unfolding setIn
-returns-3 c = starts-other λ n. alike setIn unworded _ _ _ (1 ∷ 2 ∷ 3 ∷ []) n (tt, (λ x f g. refl), refl, refl) (c .before .look .ensures) (c .match .keys2)
+returns-3 c = starts-other λ n. alike setIn unworded _ _ _ (1 ∷ 2 ∷ 3 ∷ []) n (tt, (λ x f g. refl), refl, refl) (c .before .next-item .ensures) (c .match .keys2)
 
 pub set-start-spec : {M : Type 1} → statement M
 set-start-spec =
     tie.close
-    (tie.spec look-requires enum-known-item operator-of-requires returns returns-2 returns-3)
+    (tie.spec next-item-requires enum-known-item operator-of-requires returns returns-2 returns-3)

@@ -10,7 +10,10 @@ returns : tie.Need-returns
 returns c = rw (c .enum-told .given .1)
 
 returns-2 : tie.Need-returns-2
-returns-2 c = rw (c .before .before .before .before .written .given .1, c .before .enum-told4 .given .1, le-ltb (c .before .before .before .before .before .before .args .progress .transitions) maxTransitions (omega (arith, c .if1 .taken)))
+returns-2 c =
+    let at-written = c .before .before .before .before in
+    let at-args = at-written .before .before in
+    rw (at-written .written .given .1, c .before .enum-told4 .given .1, le-ltb (at-args .args .progress .transitions) maxTransitions (omega (arith, c .if1 .taken)))
 
 returns-3 : tie.Need-returns-3
 returns-3 c = rw (c .before .before .before .before .written .given .1, c .before .enum-told2 .given .1, c .past-code .ensures)
@@ -19,9 +22,19 @@ returns-4 : tie.Need-returns-4
 returns-4 c = rw (c .before .before .before .before .written .given .1, c .before .enum-told3 .given .1, c .past-code2 .ensures)
 
 returns-5 : tie.Need-returns-5
-returns-5 c = rw (c .before .before .before .before .before .written .given .1, c .before .before .enum-told4 .given .1, lt-ltb (c .before .before .before .before .before .before .before .args .progress .transitions) maxTransitions (omega (arith, c .before .if1 .left)), c .past-code3 .ensures)
+returns-5 c =
+    let at-written = c .before .before .before .before .before in
+    let at-args = at-written .before .before in
+    rw (
+      at-written .written .given .1,
+      c .before .before .enum-told4 .given .1,
+      lt-ltb (at-args .args .progress .transitions) maxTransitions
+          (omega (arith, c .before .if1 .left)),
+      c .past-code3 .ensures,
+    )
 
 pub coded-step-spec : {M : Type 1} → statement M
 coded-step-spec =
     tie.close
-    (tie.spec (λ c. search needs) (λ c. search needs) returns (λ c. search needs) (λ c κs. search needs) (λ c. search needs) (λ c κs. search needs) (λ c. search needs) returns-2 (λ c. search needs) (λ c κs. search needs) returns-3 returns-4 returns-5)
+    (tie.spec (λ c. search needs) (λ c. search needs) returns (λ c. search needs) (λ c κs. search needs) (λ c. search needs) (λ c κs. search needs)
+    (λ c. search needs) returns-2 (λ c. search needs) (λ c κs. search needs) returns-3 returns-4 returns-5)

@@ -7,10 +7,14 @@ use Rattle.statement_reader.proofs.declare_attribute.Statement.{stateme
 use Rattle.statement_reader.proofs.declare_attribute.Tie as tie
 
 returns : tie.Need-returns
-returns c = λ cs rs.
-    let s = attributeOf (familyOf (c .before .before .before .before .before .before .before .before .args .family)) in
+returns c =
+    let at-declare = c .before .before .before .before in
+    let at-attribute-sort = at-declare .before .before in
+    let at-args = at-attribute-sort .before .before in
+    λ cs rs.
+    let s = attributeOf (familyOf (at-args .args .family)) in
     rw (c .declared-step .ensures, c .before .past-code .ensures)
-    (declared-steps (c .before .before .before .before .declare .result) (c .before .before .before .before .declare .ensures .of s (c .before .before .before .before .before .before .attribute-sort .ensures))
+    (declared-steps (at-declare .declare .result) (at-declare .declare .ensures .of s (at-attribute-sort .attribute-sort .ensures))
     (record { of = λ w i. (plain s (i .0), i .1, c .before .before .write-attribute .ensures .wrote) }))
 
 pub declare-attribute-spec : {M : Type 1} → statement M

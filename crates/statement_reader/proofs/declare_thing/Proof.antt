@@ -11,7 +11,8 @@ returns : tie.Need-returns
 returns c = λ place co cs rs.
     let s = thingOf (familyOf (c .before .before .before .before .before .args .family)) in
     rw (c .declared-step .ensures)
-    (declared-steps (c .before .declare .result) (c .before .declare .ensures .of s (c .before .before .before .thing-sort .ensures)) (record { of = λ w i. (plain s (i .0), i .1, wrote-none co _) }))
+    (declared-steps (c .before .declare .result) (c .before .declare .ensures .of s (c .before .before .before .thing-sort .ensures))
+    (record { of = λ w i. (plain s (i .0), i .1, wrote-none co _) }))
 
 pub declare-thing-spec : {M : Type 1} → statement M
 declare-thing-spec = tie.close (tie.spec (λ c κs. search needs) (λ c κs. search needs) (λ c κs. search needs) returns)

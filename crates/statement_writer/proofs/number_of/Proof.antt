@@ -14,13 +14,21 @@ enum-known-found : tie.Need-enum-known-found
 enum-known-found c = search needs
 
 returns : tie.Need-returns
-returns c = numbers (c .before .before .before .before .before .family-of .ensures) (c .before .before .before .before .lookup .ensures) (rw (c .before .before .found .given .1) (other-sort _ _ (c .before .before .found .given .0 .1 .0) (c .if1 .taken)))
+returns c =
+    let at-lookup = c .before .before .before .before in
+    let at-family-of = at-lookup .before in
+    numbers (at-family-of .family-of .ensures) (at-lookup .lookup .ensures)
+    (rw (c .before .before .found .given .1) (other-sort _ _ (c .before .before .found .given .0 .1 .0) (c .if1 .taken)))
 
 cast-if2 : tie.Need-cast-if2
 cast-if2 c = search needs
 
 returns-2 : tie.Need-returns-2
-returns-2 c = numbers (c .before .before .before .before .before .before .family-of .ensures) (c .before .before .before .before .before .lookup .ensures) (rw (c .before .before .before .found .given .1) (too-large _ _ _ (c .before .if1 .left) (c .if2 .taken)))
+returns-2 c =
+    let at-lookup = c .before .before .before .before .before in
+    let at-family-of = at-lookup .before in
+    numbers (at-family-of .family-of .ensures) (at-lookup .lookup .ensures)
+    (rw (c .before .before .before .found .given .1) (too-large _ _ _ (c .before .if1 .left) (c .if2 .taken)))
 
 cast-t11 : tie.Need-cast-t11
 cast-t11 c = search needs
@@ -29,7 +37,11 @@ enum-told : tie.Need-enum-told
 enum-told c = search needs
 
 returns-3 : tie.Need-returns-3
-returns-3 c = numbers (c .before .before .before .before .before .before .family-of .ensures) (c .before .before .before .before .before .lookup .ensures) (rw (c .before .before .before .found .given .1) (of-the-sort _ _ _ (c .before .if1 .left) (c .if2 .left)))
+returns-3 c =
+    let at-lookup = c .before .before .before .before .before in
+    let at-family-of = at-lookup .before in
+    numbers (at-family-of .family-of .ensures) (at-lookup .lookup .ensures)
+    (rw (c .before .before .before .found .given .1) (of-the-sort _ _ _ (c .before .if1 .left) (c .if2 .left)))
 
 returns-4 : tie.Need-returns-4
 returns-4 c = numbers (c .before .before .before .family-of .ensures) (c .before .before .lookup .ensures) (rw (c .enum-told .given .1))

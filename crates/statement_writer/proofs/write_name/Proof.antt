@@ -11,17 +11,18 @@ use Rattle.statement_writer.proofs.RowNames.{no-word, no-name, one-name
 use Rattle.statement_writer.proofs.write_name.Statement.{statement}
 use Rattle.statement_writer.proofs.write_name.Tie as tie
 
-look-requires : tie.Need-look-requires
-look-requires c κs = search needs
+next-item-requires : tie.Need-next-item-requires
+next-item-requires c κs = search needs
 
 enum-known-item : tie.Need-enum-known-item
 enum-known-item c = search needs
 
 returns : tie.Need-returns
-returns c = no-word λ env levels. alike (firstUnit env _) (λ f. none) _ _ _ (1 ∷ 2 ∷ 3 ∷ []) levels (tt, λ x f g. refl, refl, refl) (c .before .look .ensures) (c .match .keys2)
+returns c =
+    no-word λ env levels. alike (firstUnit env _) (λ f. none) _ _ _ (1 ∷ 2 ∷ 3 ∷ []) levels (tt, λ x f g. refl, refl, refl) (c .before .next-item .ensures) (c .match .keys2)
 
 add-end : tie.Need-add-end
-add-end c = omega (arith, sees (c .before .before .before .look .ensures) (c .before .item .given .1) .ahead .3)
+add-end c = omega (arith, sees (c .before .before .before .next-item .ensures) (c .before .item .given .1) .ahead .3)
 
 sub-name : tie.Need-sub-name
 sub-name c = search needs
@@ -30,7 +31,7 @@ part-name-start : tie.Need-part-name-start
 part-name-start c = search needs
 
 part-name-end : tie.Need-part-name-end
-part-name-end c = omega (arith, sees (c .before .before .before .look .ensures) (c .before .item .given .1) .ahead .3)
+part-name-end c = omega (arith, sees (c .before .before .before .next-item .ensures) (c .before .item .given .1) .ahead .3)
 
 name-unit-requires : tie.Need-name-unit-requires
 name-unit-requires c κs = search needs
@@ -44,7 +45,7 @@ enum-told c = search needs
 returns-2 : tie.Need-returns-2
 returns-2 c =
     let item = c .before .before .before .before .before in
-    no-name (sees (item .before .before .look .ensures) (item .item .given .1)) (c .before .before .name-unit .ensures) (c .enum-told .given .1)
+    no-name (sees (item .before .before .next-item .ensures) (item .item .given .1)) (c .before .before .name-unit .ensures) (c .enum-told .given .1)
 
 put-unit-requires : tie.Need-put-unit-requires
 put-unit-requires c κs = search needs
@@ -56,14 +57,14 @@ returns-3 : tie.Need-returns-3
 returns-3 c =
     let unit = c .before .before .before .before .before .before .before in
     let item = unit .before .before .before in
-    one-name (sees (item .before .before .look .ensures) (item .item .given .1)) (unit .name-unit .ensures)
+    one-name (sees (item .before .before .next-item .ensures) (item .item .given .1)) (unit .name-unit .ensures)
     (c .before .before .before .before .before .referred .given .1) (c .before .before .put-unit .ensures)
 
 pub write-name-spec : {M : Type 1} → statement M
 write-name-spec =
     tie.close
     (tie.spec
-    look-requires
+    next-item-requires
     enum-known-item
     returns
     add-end

@@ -1,4 +1,4 @@
--- `statement_writer::write_pair` meets its contract: a name, and a name behind it. Assumes nothing.
+-- `statement_writer::write_pair` meets its contract: a name, and a name after it. Assumes nothing.
 use borrow.Author.Needs.{needs}
 use mathlib.Core.Path.{_∙_}
 use mathlib.Core.List.{[], _∷_}
@@ -28,7 +28,10 @@ same-length-2 : tie.Need-same-length-2
 same-length-2 c = c .before .before .write-name2 .ensures .keeps .long ∙ c .before .before .before .before .before .before .before .before .before .write-name .ensures .keeps .long
 
 returns-2 : tie.Need-returns-2
-returns-2 c = names-then (_ ∷ []) (_ ∷ []) (c .before .before .before .before .before .before .before .before .before .write-name .ensures) (c .before .before .before .before .before .name .given .1) (c .before .before .write-name2 .ensures)
+returns-2 c =
+    let at-name = c .before .before .before .before .before in
+    let at-write-name = at-name .before .before .before .before in
+    names-then (_ ∷ []) (_ ∷ []) (at-write-name .write-name .ensures) (at-name .name .given .1) (c .before .before .write-name2 .ensures)
 
 pub write-pair-spec : {M : Type 1} → statement M
 write-pair-spec =

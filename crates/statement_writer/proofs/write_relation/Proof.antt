@@ -31,16 +31,36 @@ enum-told : tie.Need-enum-told
 enum-told c = search needs
 
 same-length : tie.Need-same-length
-same-length c = c .before .before .before .before .before .write-pair .ensures .keeps .long ∙ c .before .before .before .before .before .before .before .before .before .before .before .write-head .ensures .keeps .long
+same-length c =
+    let at-write-pair = c .before .before .before .before .before in
+    let at-write-head = at-write-pair .before .before .before .before .before .before in
+    at-write-pair .write-pair .ensures .keeps .long ∙ at-write-head .write-head .ensures .keeps .long
 
 returns : tie.Need-returns
-returns c = relation-coded (NamesWritten.Next _ _) (c .before .names .given .1) _ _ (c .before .before .before .before .before .before .before .before .before .before .before .before .before .relation-number .ensures .0) (c .before .before .before .before .before .before .before .before .before .before .before .write-head .ensures) (c .before .before .before .before .before .before .before .before .first-family .ensures) (c .before .before .before .before .before .before .before .second-family .ensures) (c .before .before .before .before .before .write-pair .ensures)
+returns c =
+    let at-write-pair = c .before .before .before .before .before in
+    let at-second-family = at-write-pair .before .before in
+    let at-first-family = at-second-family .before in
+    let at-write-head = at-first-family .before .before .before in
+    let at-relation-number = at-write-head .before .before in
+    relation-coded (NamesWritten.Next _ _) (c .before .names .given .1) _ _ (at-relation-number .relation-number .ensures .0)
+    (at-write-head .write-head .ensures) (at-first-family .first-family .ensures) (at-second-family .second-family .ensures) (at-write-pair .write-pair .ensures)
 
 same-length-2 : tie.Need-same-length-2
-same-length-2 c = c .before .before .before .before .write-pair .ensures .keeps .long ∙ c .before .before .before .before .before .before .before .before .before .before .write-head .ensures .keeps .long
+same-length-2 c =
+    let at-write-pair = c .before .before .before .before in
+    let at-write-head = at-write-pair .before .before .before .before .before .before in
+    at-write-pair .write-pair .ensures .keeps .long ∙ at-write-head .write-head .ensures .keeps .long
 
 returns-2 : tie.Need-returns-2
-returns-2 c = relation-coded NamesWritten.Undeclared (c .enum-told .given .1) _ _ (c .before .before .before .before .before .before .before .before .before .before .before .before .relation-number .ensures .0) (c .before .before .before .before .before .before .before .before .before .before .write-head .ensures) (c .before .before .before .before .before .before .before .first-family .ensures) (c .before .before .before .before .before .before .second-family .ensures) (c .before .before .before .before .write-pair .ensures)
+returns-2 c =
+    let at-write-pair = c .before .before .before .before in
+    let at-second-family = at-write-pair .before .before in
+    let at-first-family = at-second-family .before in
+    let at-write-head = at-first-family .before .before .before in
+    let at-relation-number = at-write-head .before .before in
+    relation-coded NamesWritten.Undeclared (c .enum-told .given .1) _ _ (at-relation-number .relation-number .ensures .0) (at-write-head .write-head .ensures)
+    (at-first-family .first-family .ensures) (at-second-family .second-family .ensures) (at-write-pair .write-pair .ensures)
 
 pub write-relation-spec : {M : Type 1} → statement M
 write-relation-spec =

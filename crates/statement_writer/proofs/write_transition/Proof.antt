@@ -23,10 +23,15 @@ enum-told : tie.Need-enum-told
 enum-told c = search needs
 
 same-length : tie.Need-same-length
-same-length c = c .before .before .before .before .write-pair .ensures .keeps .long ∙ c .before .before .before .before .before .before .before .before .write-head .ensures .keeps .long
+same-length c =
+    c .before .before .before .before .write-pair .ensures .keeps .long ∙ c .before .before .before .before .before .before .before .before .write-head .ensures .keeps .long
 
 returns : tie.Need-returns
-returns c = transition-coded NamesWritten.Undeclared refl (c .before .before .before .before .before .before .before .before .write-head .ensures) (names-stop (Kind.Reference Family.Roles ∷ Kind.Reference Family.Types ∷ []) (Kind.Class ∷ Kind.Role ∷ []) (c .before .before .before .before .write-pair .ensures) (c .enum-told .given .1))
+returns c =
+    let at-write-pair = c .before .before .before .before in
+    let at-write-head = at-write-pair .before .before .before .before in
+    transition-coded NamesWritten.Undeclared refl (at-write-head .write-head .ensures)
+    (names-stop (Kind.Reference Family.Roles ∷ Kind.Reference Family.Types ∷ []) (Kind.Class ∷ Kind.Role ∷ []) (at-write-pair .write-pair .ensures) (c .enum-told .given .1))
 
 write-pair-requires-2 : tie.Need-write-pair-requires-2
 write-pair-requires-2 c κs = search needs
@@ -38,16 +43,38 @@ enum-told-2 : tie.Need-enum-told-2
 enum-told-2 c = search needs
 
 same-length-2 : tie.Need-same-length-2
-same-length-2 c = c .before .before .before .before .before .write-pair2 .ensures .keeps .long ∙ c .before .before .before .before .before .before .before .before .before .before .before .before .write-pair .ensures .keeps .long ∙ c .before .before .before .before .before .before .before .before .before .before .before .before .before .before .before .before .write-head .ensures .keeps .long
+same-length-2 c =
+    let at-write-pair2 = c .before .before .before .before .before in
+    let at-write-pair = at-write-pair2 .before .before .before .before .before .before .before in
+    let at-write-head = at-write-pair .before .before .before .before in
+    at-write-pair2 .write-pair2 .ensures .keeps .long ∙ at-write-pair .write-pair .ensures .keeps .long ∙ at-write-head .write-head .ensures .keeps .long
 
 returns-2 : tie.Need-returns-2
-returns-2 c = transition-coded (NamesWritten.Next _ _) (c .before .others .given .1) (c .before .before .before .before .before .before .before .before .before .before .before .before .before .before .before .before .write-head .ensures) (names-then (Kind.Reference Family.Roles ∷ Kind.Reference Family.Types ∷ []) (Kind.Class ∷ Kind.Role ∷ []) (c .before .before .before .before .before .before .before .before .before .before .before .before .write-pair .ensures) (c .before .before .before .before .before .before .before .before .names .given .1) (c .before .before .before .before .before .write-pair2 .ensures))
+returns-2 c =
+    let at-write-pair2 = c .before .before .before .before .before in
+    let at-names = at-write-pair2 .before .before .before in
+    let at-write-pair = at-names .before .before .before .before in
+    let at-write-head = at-write-pair .before .before .before .before in
+    transition-coded (NamesWritten.Next _ _) (c .before .others .given .1) (at-write-head .write-head .ensures)
+    (names-then (Kind.Reference Family.Roles ∷ Kind.Reference Family.Types ∷ []) (Kind.Class ∷ Kind.Role ∷ []) (at-write-pair .write-pair .ensures)
+    (at-names .names .given .1) (at-write-pair2 .write-pair2 .ensures))
 
 same-length-3 : tie.Need-same-length-3
-same-length-3 c = c .before .before .before .before .write-pair2 .ensures .keeps .long ∙ c .before .before .before .before .before .before .before .before .before .before .before .write-pair .ensures .keeps .long ∙ c .before .before .before .before .before .before .before .before .before .before .before .before .before .before .before .write-head .ensures .keeps .long
+same-length-3 c =
+    let at-write-pair2 = c .before .before .before .before in
+    let at-write-pair = at-write-pair2 .before .before .before .before .before .before .before in
+    let at-write-head = at-write-pair .before .before .before .before in
+    at-write-pair2 .write-pair2 .ensures .keeps .long ∙ at-write-pair .write-pair .ensures .keeps .long ∙ at-write-head .write-head .ensures .keeps .long
 
 returns-3 : tie.Need-returns-3
-returns-3 c = transition-coded NamesWritten.Undeclared (c .enum-told2 .given .1) (c .before .before .before .before .before .before .before .before .before .before .before .before .before .before .before .write-head .ensures) (names-then (Kind.Reference Family.Roles ∷ Kind.Reference Family.Types ∷ []) (Kind.Class ∷ Kind.Role ∷ []) (c .before .before .before .before .before .before .before .before .before .before .before .write-pair .ensures) (c .before .before .before .before .before .before .before .names .given .1) (c .before .before .before .before .write-pair2 .ensures))
+returns-3 c =
+    let at-write-pair2 = c .before .before .before .before in
+    let at-names = at-write-pair2 .before .before .before in
+    let at-write-pair = at-names .before .before .before .before in
+    let at-write-head = at-write-pair .before .before .before .before in
+    transition-coded NamesWritten.Undeclared (c .enum-told2 .given .1) (at-write-head .write-head .ensures)
+    (names-then (Kind.Reference Family.Roles ∷ Kind.Reference Family.Types ∷ []) (Kind.Class ∷ Kind.Role ∷ []) (at-write-pair .write-pair .ensures)
+    (at-names .names .given .1) (at-write-pair2 .write-pair2 .ensures))
 
 pub write-transition-spec : {M : Type 1} → statement M
 write-transition-spec =

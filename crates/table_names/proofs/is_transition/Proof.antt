@@ -4,7 +4,7 @@ use Rattle.policy.specs.Basics.{any}
 use Rattle.policy.specs.Words.{transitionWords}
 use Rattle.policy.specs.Deciding.{Reply}
 use Rattle.policy.specs.Questions.{Part}
-use Rattle.table_names.specs.TableNames.{bearsOne}
+use Rattle.table_names.specs.TableNames.{hasOneName}
 use Rattle.table_names.proofs.WordLaws.{or-second}
 use borrow.Author.Needs.{needs}
 use Rattle.table_names.proofs.is_transition.Statement.{statement}
@@ -15,7 +15,7 @@ unfolding any
 returns c =
     let asked = c .before .before .before in
     let t = asked .before .before .args .table .now in
-    sym (ap (λ (p : Reply Part). bearsOne t p transitionWords) (sym (asked .permission-name .ensures))
+    sym (ap (λ (p : Reply Part). hasOneName t p transitionWords) (sym (asked .permission-name .ensures))
     ∙ rw (sym (c .before .is-word .ensures) ∙ c .if1 .taken))
 
 returns-2 : tie.Need-returns-2
@@ -23,7 +23,7 @@ unfolding any
 returns-2 c =
     let asked = c .before .before .before .before .before in
     let t = asked .before .before .args .table .now in
-    sym (ap (λ (p : Reply Part). bearsOne t p transitionWords) (sym (asked .permission-name .ensures))
+    sym (ap (λ (p : Reply Part). hasOneName t p transitionWords) (sym (asked .permission-name .ensures))
     ∙ or-second _ _ (sym (c .before .before .before .is-word .ensures) ∙ c .before .before .if1 .left)
     ∙ sym (c .is-word2 .ensures))
 

@@ -22,12 +22,12 @@ loop-holds c = tally-begins (c .before .before .before .args .table .now) (c .na
 
 loop-less : tie.Need-loop-less Inv-loop μ-loop
 loop-less c =
-    let m = met (c .before .before .before .before .look .ensures) (c .before .before .k .given .1) in
+    let m = met (c .before .before .before .before .next-entry .ensures) (c .before .before .k .given .1) in
     less-left m
 
 loop-again : tie.Need-loop-again Inv-loop μ-loop
 loop-again c =
-    let m = met (c .before .before .before .before .look .ensures) (c .before .before .k .given .1) in
+    let m = met (c .before .before .before .before .next-entry .ensures) (c .before .before .k .given .1) in
     let l = c .before .before .before .before .before .loop in
     let t = c .before .before .before .before .before .before .before .before .before .args .table .now in
     let end = c .before .before .before .before .before .before .names-end .result in
@@ -39,7 +39,7 @@ slice-read-counts c =
 
 add-counts : tie.Need-add-counts Inv-loop μ-loop
 add-counts c =
-    let m = met (c .before .before .before .before .before .look .ensures) (c .before .before .before .k .given .1) in
+    let m = met (c .before .before .before .before .before .next-entry .ensures) (c .before .before .before .k .given .1) in
     let l = c .before .before .before .before .before .before .loop in
     let t = c .before .before .before .before .before .before .before .before .before .before .args .table .now in
     let end = c .before .before .before .before .before .before .before .names-end .result in
@@ -51,32 +51,42 @@ slice-write-counts c =
 
 loop-less-2 : tie.Need-loop-less-2 Inv-loop μ-loop
 loop-less-2 c =
-    let m = met (c .before .before .before .before .before .look .ensures) (c .before .before .before .k .given .1) in
+    let m = met (c .before .before .before .before .before .next-entry .ensures) (c .before .before .before .k .given .1) in
     less-left m
 
 loop-again-2 : tie.Need-loop-again-2 Inv-loop μ-loop
 loop-again-2 c =
-    let m = met (c .before .before .before .before .before .look .ensures) (c .before .before .before .k .given .1) in
-    let l = c .before .before .before .before .before .before .loop in
-    let t = c .before .before .before .before .before .before .before .before .before .before .args .table .now in
-    let end = c .before .before .before .before .before .before .before .names-end .result in
-    tally-counts t end (l .at) _ (l .inv) (c .before .before .before .k .given .0 .0) (c .before .before .before .k .given .0 .1 .0) (c .before .before .before .k .given .0 .1 .1 .0) m (c .before .if1 .left)
+    let at-next-entry = c .before .before .before .before .before in
+    let at-loop = at-next-entry .before in
+    let at-names-end = at-loop .before in
+    let at-args = at-names-end .before .before .before in
+    let m = met (at-next-entry .next-entry .ensures) (c .before .before .before .k .given .1) in
+    let l = at-loop .loop in
+    let t = at-args .args .table .now in
+    let end = at-names-end .names-end .result in
+    tally-counts t end (l .at) _ (l .inv) (c .before .before .before .k .given .0 .0) (c .before .before .before .k .given .0 .1 .0)
+    (c .before .before .before .k .given .0 .1 .1 .0) m (c .before .if1 .left)
 
 same-length : tie.Need-same-length Inv-loop μ-loop
 same-length c = c .before .before .before .loop .inv .eight ∙ sym (ap length (c .before .before .before .before .before .before .before .pre))
 
 returns : tie.Need-returns Inv-loop μ-loop
 returns c =
+    let at-names-end = c .before .before .before .before in
+    let at-args = at-names-end .before .before .before in
     let l = c .before .before .before .loop in
-    tally-ends (c .before .before .before .before .before .before .before .args .table .now) (c .before .before .before .before .names-end .result) (l .at) _ (l .inv) (none-done (met (c .before .before .look .ensures) (c .enum-told .given .1)))
+    tally-ends (at-args .args .table .now) (at-names-end .names-end .result) (l .at) _ (l .inv) (none-done (met (c .before .before .next-entry .ensures) (c .enum-told .given .1)))
 
 same-length-2 : tie.Need-same-length-2 Inv-loop μ-loop
 same-length-2 c = c .before .before .before .loop .inv .eight ∙ sym (ap length (c .before .before .before .before .before .before .before .pre))
 
 returns-2 : tie.Need-returns-2 Inv-loop μ-loop
 returns-2 c =
+    let at-names-end = c .before .before .before .before in
+    let at-args = at-names-end .before .before .before in
     let l = c .before .before .before .loop in
-    tally-ends (c .before .before .before .before .before .before .before .args .table .now) (c .before .before .before .before .names-end .result) (l .at) _ (l .inv) (none-broken (met (c .before .before .look .ensures) (c .enum-told2 .given .1)))
+    tally-ends (at-args .args .table .now) (at-names-end .names-end .result) (l .at) _ (l .inv)
+    (none-broken (met (c .before .before .next-entry .ensures) (c .enum-told2 .given .1)))
 
 pub tally-spec : {M : Type 1} → statement M
 tally-spec =

@@ -3,7 +3,7 @@ use mathlib.Core.Path.{sym, _∙_}
 use mathlib.Core.List.{[]}
 use native.Mathlib.Omega.{arith}
 use native.Mathlib.Nat.{mul-le-mul}
-use Rattle.table_parts.proofs.Runs.{run-here, run-past, no-run}
+use Rattle.table_parts.proofs.RecordLaws.{run-here, run-past, no-run}
 use Rattle.table_parts.proofs.record_place.Statement.{statement}
 use Rattle.table_parts.proofs.record_place.Tie as tie
 

@@ -1,6 +1,6 @@
 -- `table_parts::set_place` meets its contract: one run after the other. Assumes nothing.
 use mathlib.Core.Path.{sym, _∙_}
-use Rattle.table_parts.proofs.Runs.{first-run, run-past}
+use Rattle.table_parts.proofs.RecordLaws.{first-run, run-past}
 use borrow.Author.Needs.{needs}
 use Rattle.table_parts.proofs.set_place.Statement.{statement}
 use Rattle.table_parts.proofs.set_place.Tie as tie

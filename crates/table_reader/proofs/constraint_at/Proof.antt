@@ -33,7 +33,15 @@ u16-at-requires-3 : tie.Need-u16-at-requires-3
 u16-at-requires-3 c κs = search needs
 
 returns : tie.Need-returns
-returns c = rw (head-fields (c .before .before .before .before .before .args .start + 10 * c .before .before .before .before .before .args .number) (c .before .before .before .before .before .args .table .now), c .u16-at3 .ensures, c .before .u16-at2 .ensures, c .before .before .u32-at .ensures, c .before .before .before .u16-at .ensures)
+returns c =
+    let at-args = c .before .before .before .before .before in
+    rw (
+      head-fields (at-args .args .start + 10 * at-args .args .number) (at-args .args .table .now),
+      c .u16-at3 .ensures,
+      c .before .u16-at2 .ensures,
+      c .before .before .u32-at .ensures,
+      c .before .before .before .u16-at .ensures,
+    )
 
 pub constraint-at-spec : {M : Type 1} → statement M
 constraint-at-spec =

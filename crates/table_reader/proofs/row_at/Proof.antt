@@ -33,7 +33,15 @@ u16-at-requires : tie.Need-u16-at-requires
 u16-at-requires c κs = search needs
 
 returns : tie.Need-returns
-returns c = rw (row-fields (c .before .before .before .before .before .args .start + 6 * c .before .before .before .before .before .args .number) (c .before .before .before .before .before .args .table .now), c .u16-at .ensures, c .before .byte-at3 .ensures, c .before .before .byte-at2 .ensures, c .before .before .before .byte-at .ensures)
+returns c =
+    let at-args = c .before .before .before .before .before in
+    rw (
+      row-fields (at-args .args .start + 6 * at-args .args .number) (at-args .args .table .now),
+      c .u16-at .ensures,
+      c .before .byte-at3 .ensures,
+      c .before .before .byte-at2 .ensures,
+      c .before .before .before .byte-at .ensures,
+    )
 
 pub row-at-spec : {M : Type 1} → statement M
 row-at-spec =

@@ -6,10 +6,20 @@ use Rattle.table_writer.proofs.past.Statement.{statement}
 use Rattle.table_writer.proofs.past.Tie as tie
 
 mul-result : tie.Need-mul-result
-mul-result c = omega (arith, mul-le-mul {n₁ = c .before .before .before .args .many} {m₁ = c .before .before .before .args .width} {n₂ = 100000000} {m₂ = 100000000} (omega arith) (omega arith))
+mul-result c =
+    omega (
+      arith,
+      mul-le-mul {n₁ = c .before .before .before .args .many} {m₁ = c .before .before .before .args .width} {n₂ = 100000000} {m₂ = 100000000}
+          (omega arith) (omega arith),
+    )
 
 add-result : tie.Need-add-result
-add-result c = omega (arith, mul-le-mul {n₁ = c .before .before .before .args .many} {m₁ = c .before .before .before .args .width} {n₂ = 100000000} {m₂ = 100000000} (omega arith) (omega arith))
+add-result c =
+    omega (
+      arith,
+      mul-le-mul {n₁ = c .before .before .before .args .many} {m₁ = c .before .before .before .args .width} {n₂ = 100000000} {m₂ = 100000000}
+          (omega arith) (omega arith),
+    )
 
 pub past-spec : {M : Type 1} → statement M
 past-spec =

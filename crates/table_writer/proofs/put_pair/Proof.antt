@@ -1,4 +1,4 @@
--- `table_writer::put_pair` meets its contract: two numbers, one behind the other. Assumes nothing.
+-- `table_writer::put_pair` meets its contract: two numbers, one after the other. Assumes nothing.
 use native.Mathlib.Omega.{arith}
 use borrow.Author.Needs.{needs}
 use Rattle.table_laws.proofs.LittleEndian.{le-length}
@@ -13,7 +13,9 @@ returns-2 : tie.Need-returns-2
 returns-2 c h = absurd (omega arith)
 
 returns-3 : tie.Need-returns-3
-returns-3 c h = puts-then (c .before .before .before .before .before .before .put-u32 .ensures) (c .before .before .put-u322 .ensures) (omega (arith, le-length 4 (c .before .before .before .before .before .before .before .before .before .before .before .args .start)))
+returns-3 c h =
+    puts-then (c .before .before .before .before .before .before .put-u32 .ensures) (c .before .before .put-u322 .ensures)
+    (omega (arith, le-length 4 (c .before .before .before .before .before .before .before .before .before .before .before .args .start)))
 
 pub put-pair-spec : {M : Type 1} → statement M
 put-pair-spec =

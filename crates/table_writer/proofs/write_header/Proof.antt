@@ -1,4 +1,4 @@
--- `table_writer::write_header` meets its contract: the first four bytes, and the pairs behind them. Assumes nothing.
+-- `table_writer::write_header` meets its contract: the first four bytes, and the pairs after them. Assumes nothing.
 use mathlib.Core.Path.{refl}
 use borrow.Author.Needs.{needs}
 use Rattle.policy.specs.Basics.{le}

@@ -1,4 +1,4 @@
--- `table_writer::write_table` meets its contract: header and bodies, one behind the other, are the table. Assumes nothing.
+-- `table_writer::write_table` meets its contract: header and bodies, one after the other, are the table. Assumes nothing.
 use native.Mathlib.Omega.{arith}
 use borrow.Author.Needs.{needs}
 use Rattle.table_writer.proofs.BodyLengths.{few, starts-of}
@@ -8,20 +8,26 @@ use Rattle.table_writer.proofs.write_table.Statement.{statement}
 use Rattle.table_writer.proofs.write_table.Tie as tie
 
 returns : tie.Need-returns
-returns c = record {
-  says = λ p from sizes names cs rs room.
-      let ok = from .accepted in
-      let s = c .before .before .before .before .before .before .before .before .before .before .before .before .before .before .before .before .before .before .before .before .before .before .args .sizes in
-      let r = c .before .before .before .before .before .before .before .before .before .before .before .before .before .before .before .before .body-starts .result in
-      let at = starts-of p ok s sizes r (c .before .before .before .before .before .before .before .before .before .before .before .before .before .before .before .before .body-starts .ensures (few p ok s sizes)) in
-      puts-front
-      (puts-same (table-is p)
-      (puts-then (c .before .before .before .before .before .before .before .before .before .before .before .before .before .before .write-header .ensures .says p at)
-      (puts-then (c .before .before .before .before .before .before .before .before .before .before .write-relations .ensures .says p from sizes at names)
-      (puts-then (c .before .before .before .before .before .before .write-rules .ensures .says p _ from sizes at cs rs) (c .before .before .write-attributes .ensures .says p _ from sizes at)
-      (rules-end p r at)) (relations-end p r at)) (omega (arith, header-long p))))
-      room;
-}
+returns c =
+    let at-write-rules = c .before .before .before .before .before .before in
+    let at-write-relations = at-write-rules .before .before .before .before in
+    let at-write-header = at-write-relations .before .before .before .before in
+    let at-body-starts = at-write-header .before .before in
+    let at-args = at-body-starts .before .before .before .before .before .before in
+    record {
+      says = λ p from sizes names cs rs room.
+          let ok = from .accepted in
+          let s = at-args .args .sizes in
+          let r = at-body-starts .body-starts .result in
+          let at = starts-of p ok s sizes r (at-body-starts .body-starts .ensures (few p ok s sizes)) in
+          puts-front
+          (puts-same (table-is p)
+          (puts-then (at-write-header .write-header .ensures .says p at)
+          (puts-then (at-write-relations .write-relations .ensures .says p from sizes at names)
+          (puts-then (at-write-rules .write-rules .ensures .says p _ from sizes at cs rs) (c .before .before .write-attributes .ensures .says p _ from sizes at)
+          (rules-end p r at)) (relations-end p r at)) (omega (arith, header-long p))))
+          room;
+    }
 
 pub write-table-spec : {M : Type 1} → statement M
 write-table-spec =

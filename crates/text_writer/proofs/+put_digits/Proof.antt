@@ -64,7 +64,14 @@ module _ (t : ℕ) where
   slice-write-out-2 c =
       let s = c .before .before .before .before .before .before .before in
       let a = c .before .before .put-digits .ensures in
-      omega (arith, s .pre .1, a .ends, few-digits (s .args .most - 1) (s .args .n / 10), ap length (a .written) ∙ length-put _ _ _ (omega (arith, s .pre .1, few-digits (s .args .most - 1) (s .args .n / 10))))
+      omega (
+        arith,
+        s .pre .1,
+        a .ends,
+        few-digits (s .args .most - 1) (s .args .n / 10),
+        ap length (a .written) ∙ length-put _ _ _
+            (omega (arith, s .pre .1, few-digits (s .args .most - 1) (s .args .n / 10))),
+      )
 
   add-result-2 : lts.Need-add-result-2 (claims t) (at-level t) put-digits.Post
   add-result-2 c =

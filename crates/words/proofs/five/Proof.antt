@@ -1,4 +1,4 @@
--- `words::five` meets its contract: four letters, and one behind them. Assumes nothing.
+-- `words::five` meets its contract: four letters, and one after them. Assumes nothing.
 use Prim.Native.Nat.{_+_}
 use native.Mathlib.Omega.{arith}
 use borrow.Author.Needs.{needs}

@@ -1,4 +1,4 @@
--- `words::six` meets its contract: four letters, and two behind them. Assumes nothing.
+-- `words::six` meets its contract: four letters, and two after them. Assumes nothing.
 use native.Mathlib.Omega.{arith}
 use borrow.Author.Needs.{needs}
 use Rattle.little_endian.proofs.WidthLaws.{unle-split}

@@ -1,4 +1,4 @@
--- `words::three` meets its contract: two letters, and one behind them. Assumes nothing.
+-- `words::three` meets its contract: two letters, and one after them. Assumes nothing.
 use Prim.Native.Nat.{_+_}
 use native.Mathlib.Omega.{arith}
 use borrow.Author.Needs.{needs}

@@ -1,0 +1,273 @@
+// Whether the bodies of a table stand where its header says, and whether the bodies 2 to 8 are sound for what the
+// names of body 1 declare. Every function answers for every table, whatever its bytes are.
+use policy::Constraint;
+use policy::NameCounts;
+use policy::Role;
+use policy::Row;
+use policy::Section;
+use policy::Table;
+use policy::Transition;
+use policy::Type;
+use policy::User;
+ghost use mathlib.Core.Path.{_≡_};
+ghost use Prim.Native.Nat.{_+_, _*_, _<_};
+ghost use lib.ListN.{length, take, drop};
+ghost use Rattle.bitset.specs.Sets.{within};
+ghost use Rattle.bitset.specs.Parts.{part};
+ghost use Rattle.policy.specs.Sound.{bodiesIn, transitionAt};
+ghost use Rattle.sound_constraints.specs.Totals.{thingsOf, attributesOf, totalsIn};
+ghost use Rattle.sound_constraints.specs.SoundRows.{isSome};
+ghost use Rattle.sound_bodies.specs.FewSets.{Few};
+ghost use Rattle.sound_bodies.specs.SoundBodies.{follow, setsWithin, setsSound, fitsTransition, transitionsFit, transitionsSound, constraintsSound, attributesSound, bodiesSound};
+
+// ---- the layout
+
+// Whether each body starts where the one before it ends, and the last ends within the table.
+fn bodies_follow(table: &[u8]) -> bool
+    ensures { λ r. ⌜ r ≡ follow 8 68 (length (now (table .entry))) (drop 4 (now (table .entry))) ⌝ }
+{
+    let mut end = Table::HEADER_BYTES;
+    let mut body = 0;
+    while body < Table::SECTIONS {
+        if table_reader::body_start(table, body) as usize != end {
+            return false;
+        }
+        end += table_reader::body_length(table, body) as usize;
+        body += 1;
+    }
+    end <= table.len()
+}
+
+// Whether the table has a header and eight bodies that are one after the other. Where they stand, the header says.
+pub fn is_laid_out(table: &[u8]) -> bool
+    ensures { λ r. ⌜ r ≡ isSome (bodiesIn (now (table .entry))) ⌝ }
+{
+    if table.len() < Table::HEADER_BYTES {
+        return false;
+    }
+    if table_reader::u16_at(table, 0) != Table::EDITION {
+        return false;
+    }
+    if table_reader::u16_at(table, 2) != Table::SECTIONS as u16 {
+        return false;
+    }
+    bodies_follow(table)
+}
+
+// ---- sets
+
+// Whether the set in the `width` bytes at a place has no number at or above total. The bytes whose numbers are all
+// below it are not looked at.
+fn is_within_at(table: &[u8], place: usize, width: usize, total: usize) -> bool
+    requires { ⌜ place + width < 18446744073709551616 ⌝ }
+    ensures { λ r. ⌜ r ≡ within total (part (now (table .entry)) place width) ⌝ }
+{
+    let filled = total / 8;
+    if width <= filled {
+        return true;
+    }
+    set_rows::is_within_at(table, place + filled, width - filled, total % 8)
+}
+
+// Whether so many sets of `width` bytes from `start` on have no number at or above total. The start is so low that no
+// place overflows.
+fn sets_within(table: &[u8], start: usize, count: usize, width: usize, total: usize) -> bool
+    requires { ⌜ (start < 1099511627776) × (count < 65536) × (width < 65536) ⌝ }
+    ensures { λ r. ⌜ r ≡ setsWithin count width total (drop start (now (table .entry))) ⌝ }
+{
+    let mut place = start;
+    let mut left = count;
+    while 0 < left {
+        if !is_within_at(table, place, width, total) {
+            return false;
+        }
+        place += width;
+        left -= 1;
+    }
+    true
+}
+
+// Whether a body, counted from 0, is so many sets of `width` bytes that have no number at or above total.
+fn sets_sound(table: &[u8], body: u8, count: usize, width: usize, total: usize) -> bool
+    requires { ⌜ (count < 65536) × (width < 65536) ⌝ }
+    ensures { λ r. ⌜ r ≡ setsSound body count width total (now (table .entry)) ⌝ }
+{
+    if table_reader::body_length(table, body) as usize != count * width {
+        return false;
+    }
+    sets_within(
+        table,
+        table_reader::body_start(table, body) as usize,
+        count,
+        width,
+        total,
+    )
+}
+
+// ---- transitions
+
+// Whether the transition of this number, where the transitions of 82 bytes start at `start`, names nothing undeclared.
+fn fits_transition(table: &[u8], start: u32, number: u32, counts: NameCounts) -> bool
+    ensures { λ r. ⌜ r ≡ fitsTransition (thingsOf counts) (counts .classes) (transitionAt (take 82 (drop (start + 82 * number) (now (table .entry))))) ⌝ }
+{
+    let at = start as usize + Transition::BYTES * (number as usize);
+    if !is_within_at(table, at, Role::SET_BYTES, counts.roles) {
+        return false;
+    }
+    if !is_within_at(
+        table,
+        at + Transition::TYPES_AT,
+        Type::SET_BYTES,
+        counts.types,
+    ) {
+        return false;
+    }
+    if counts.classes <= table_reader::byte_at(table, at + Transition::CLASS_AT) as usize {
+        return false;
+    }
+    (table_reader::byte_at(table, at + Transition::NEW_ROLE_AT) as usize) < counts.roles
+}
+
+// Whether so many transitions from `start` on name nothing undeclared.
+fn transitions_fit(table: &[u8], start: u32, count: u32, counts: NameCounts) -> bool
+    ensures { λ r. ⌜ r ≡ transitionsFit (thingsOf counts) (counts .classes) count (drop start (now (table .entry))) ⌝ }
+{
+    let mut number = 0;
+    while number < count {
+        if !fits_transition(table, start, number, counts) {
+            return false;
+        }
+        number += 1;
+    }
+    true
+}
+
+// Whether body 5 is sound.
+fn transitions_sound(table: &[u8], counts: NameCounts) -> bool
+    ensures { λ r. ⌜ r ≡ transitionsSound (thingsOf counts) (counts .classes) (now (table .entry)) ⌝ }
+{
+    let length = table_reader::body_length(table, Section::TRANSITIONS);
+    let count = length / Transition::BYTES as u32;
+    if length != count * Transition::BYTES as u32 {
+        return false;
+    }
+    if (Transition::MAX as u32) < count {
+        return false;
+    }
+    transitions_fit(
+        table,
+        table_reader::body_start(table, Section::TRANSITIONS),
+        count,
+        counts,
+    )
+}
+
+// ---- constraints
+
+// Whether the bodies 6 and 7 are sound.
+fn constraints_sound(table: &[u8], counts: NameCounts, permissions: &[usize]) -> bool
+    ensures { λ r. ⌜ r ≡ constraintsSound (totalsIn counts (now (permissions .entry))) (now (table .entry)) ⌝ }
+{
+    let heads = table_reader::body_length(table, Section::CONSTRAINTS);
+    let count = heads / Constraint::BYTES as u32;
+    if heads != count * Constraint::BYTES as u32 {
+        return false;
+    }
+    if (Constraint::MAX as u32) < count {
+        return false;
+    }
+    let lines = table_reader::body_length(table, Section::ROWS);
+    let rows = lines / Row::BYTES as u32;
+    if lines != rows * Row::BYTES as u32 {
+        return false;
+    }
+    if (Row::MAX as u32) < rows {
+        return false;
+    }
+    let first = table_reader::body_start(table, Section::CONSTRAINTS);
+    let start = table_reader::body_start(table, Section::ROWS);
+    sound_constraints::constraints_fit(table, first, count, start, rows as u16, counts, permissions)
+}
+
+// ---- attributes, and all
+
+// Whether body 8 is sound.
+fn attributes_sound(table: &[u8], counts: NameCounts) -> bool
+    requires { ⌜ Few counts ⌝ }
+    ensures { λ r. ⌜ r ≡ attributesSound (thingsOf counts) (attributesOf counts) (now (table .entry)) ⌝ }
+{
+    let users = User::SET_BYTES * counts.user_attributes;
+    let roles = Role::SET_BYTES * counts.role_attributes;
+    let types = Type::SET_BYTES * counts.type_attributes;
+    if table_reader::body_length(table, Section::ATTRIBUTE_SETS) as usize != users + roles + types {
+        return false;
+    }
+    let start = table_reader::body_start(table, Section::ATTRIBUTE_SETS) as usize;
+    if !sets_within(
+        table,
+        start,
+        counts.user_attributes,
+        User::SET_BYTES,
+        counts.users,
+    ) {
+        return false;
+    }
+    if !sets_within(
+        table,
+        start + users,
+        counts.role_attributes,
+        Role::SET_BYTES,
+        counts.roles,
+    ) {
+        return false;
+    }
+    sets_within(
+        table,
+        start + users + roles,
+        counts.type_attributes,
+        Type::SET_BYTES,
+        counts.types,
+    )
+}
+
+// Whether the bodies 2 to 8 are sound, where body 1 declares so many things of each sort and `permissions` holds how
+// many permissions each class has.
+pub fn bodies_sound(table: &[u8], counts: NameCounts, permissions: &[usize]) -> bool
+    requires { ⌜ Few counts ⌝ }
+    ensures { λ r. ⌜ r ≡ bodiesSound (totalsIn counts (now (permissions .entry))) (now (table .entry)) ⌝ }
+{
+    if !sets_sound(
+        table,
+        Section::USER_ROLES,
+        counts.users,
+        Role::SET_BYTES,
+        counts.roles,
+    ) {
+        return false;
+    }
+    if !sets_sound(
+        table,
+        Section::ROLE_TYPES,
+        counts.roles,
+        Type::SET_BYTES,
+        counts.types,
+    ) {
+        return false;
+    }
+    if !sets_sound(
+        table,
+        Section::ROLE_ROLES,
+        counts.roles,
+        Role::SET_BYTES,
+        counts.roles,
+    ) {
+        return false;
+    }
+    if !transitions_sound(table, counts) {
+        return false;
+    }
+    if !constraints_sound(table, counts, permissions) {
+        return false;
+    }
+    attributes_sound(table, counts)
+}

@@ -1,0 +1,22 @@
+-- `sound_names::most` meets its contract, test by test. Assumes nothing.
+use borrow.Author.Tests.{lt-ltb, le-ltb, ne-eqb}
+use Rattle.sound_names.proofs.most.Statement.{statement}
+use Rattle.sound_names.proofs.most.Tie as tie
+
+returns : tie.Need-returns
+returns c = rw (c .if1 .taken)
+
+returns-2 : tie.Need-returns-2
+returns-2 c = rw (c .if2 .taken)
+
+returns-3 : tie.Need-returns-3
+returns-3 c = rw (c .if3 .taken)
+
+returns-4 : tie.Need-returns-4
+returns-4 c = rw (ne-eqb _ 0 (c .before .before .before .if1 .left), ne-eqb _ 1 (c .before .before .if2 .left), ne-eqb _ 2 (c .before .if3 .left), lt-ltb _ 6 (c .if4 .taken))
+
+returns-5 : tie.Need-returns-5
+returns-5 c = rw (ne-eqb _ 0 (c .before .before .before .if1 .left), ne-eqb _ 1 (c .before .before .if2 .left), ne-eqb _ 2 (c .before .if3 .left), le-ltb _ 6 (c .if4 .left))
+
+pub most-spec : {M : Type 1} → statement M
+most-spec = tie.close (tie.spec returns returns-2 returns-3 returns-4 returns-5)
