@@ -1,6 +1,5 @@
 -- Document 02, W-201: document 01's own rule of a valid context and what was answered by it, so that it can be said what stays as it was. Assumes nothing.
 use Prim.Native.Nat.{ℕ}
-use mathlib.Core.Path.{_≡_}
 use mathlib.Core.Bool.{Bool, _&&_, cond}
 use mathlib.Core.List.{List}
 use mathlib.Core.Option.{Option, none, some}

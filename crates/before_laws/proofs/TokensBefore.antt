@@ -6,7 +6,7 @@ use mathlib.Core.List.{List, [], _∷_, _++_}
 use Rattle.lexer.specs.Class.{classOf, isDot}
 use Rattle.lexer.specs.Scan.{Mode, between, inComment, inName}
 use Rattle.lexer.specs.Token.{modeThen, ending, tokensFrom, tokensAt, tokens}
-use Rattle.lexer.specs.Forms.{Forms, build, framesAt, formsOf}
+use Rattle.lexer.specs.Forms.{build, framesAt, formsOf}
 use Rattle.lexer.specs.declared.ByteClass.{ByteClass}
 use Rattle.lexer.specs.declared.Token.{Token}
 use Rattle.lexer.proofs.Names.{part-in-word}

@@ -10,9 +10,10 @@ use lib.ListN.{length, getD, set}
 use borrow.Author.Tests.{lt-ltb, le-ltb}
 use Rattle.bitset.specs.Sets.{member, setOf, emptied, complementOf, maskOf}
 use Rattle.bitset.specs.Complements.{flipped, keptBelow}
-use Rattle.bitset.specs.Parts.{part, put}
+use Rattle.byte_slices.specs.Parts.{part, put}
 use Rattle.bitset.proofs.BitLaws.{bit-and, bit-fromBits, fromBits-lt}
-use Rattle.bitset.proofs.PartLaws.{length-part, put-setOf}
+use Rattle.byte_slices.proofs.PartLaws.{length-part}
+use Rattle.bitset.proofs.SetParts.{put-setOf}
 use Rattle.bitset.proofs.SetLaws.{length-setOf, small-setOf, member-past, member-at, member-setOf-within, set-eq, setOf-member, map-setOf}
 use Rattle.bitset.proofs.StoreLaws.{ltb-same, set-byte}
 

@@ -3,7 +3,7 @@ pub mod BitLaws
 pub mod CountLaws
 pub mod KeptLaws
 pub mod LoopLaws
-pub mod PartLaws
+pub mod SetParts
 pub mod SetLaws
 pub mod StoreLaws
 pub mod Tests

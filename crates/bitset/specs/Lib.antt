@@ -1,4 +1,3 @@
 pub mod Sets
 pub mod Complements
-pub mod Parts
 pub mod Relations

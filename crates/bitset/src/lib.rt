@@ -6,23 +6,16 @@
 // larger slice are the matter of `set_rows`, but for `part` and `clear_at`, which are here because `complement` needs
 // them.
 ghost use mathlib.Core.Path.{_≡_};
-ghost use Prim.Native.Nat.{_+_, _*_, _≤_, _<_, min};
+ghost use Prim.Native.Nat.{_+_, _*_, _≤_, _<_};
 ghost use lib.Count.{ones};
-ghost use lib.ListN.{length, getD};
+ghost use lib.ListN.{length};
 ghost use Rattle.bitset.specs.Sets as sets;
 ghost use Rattle.bitset.specs.Sets.{member, inserted, removed, emptied, complementOf, within, bitByte, maskOf};
 ghost use Rattle.bitset.specs.Complements.{flipped, keptBelow};
-ghost use Rattle.bitset.specs.Parts as parts;
-ghost use Rattle.bitset.specs.Parts.{put};
+ghost use Rattle.byte_slices.specs.Parts as parts;
+ghost use Rattle.byte_slices.specs.Parts.{put};
 
 // ---- bytes
-
-// The byte at a place, and 0 past the end.
-pub fn byte(set: &[u8], at: usize) -> u8
-    ensures { λ r. ⌜ r ≡ getD (now (set .entry)) at 0 ⌝ }
-{
-    if at < set.len() { set[at] } else { 0 }
-}
 
 // The byte with the bit of n alone.
 fn bit_of(n: usize) -> u8
@@ -52,20 +45,13 @@ fn ones_of(b: u8) -> usize
     u8::count_ones(b) as usize
 }
 
-// The lesser of two numbers.
-pub fn least(a: usize, b: usize) -> usize
-    ensures { λ r. ⌜ r ≡ min a b ⌝ }
-{
-    if a < b { a } else { b }
-}
-
 // ---- one number
 
 // Whether the set has the number n.
 pub fn contains(set: &[u8], n: usize) -> bool
     ensures { λ r. ⌜ r ≡ member (now (set .entry)) n ⌝ }
 {
-    (byte(set, n / 8) >> (n % 8)) % 2 == 1
+    (byte_slices::byte(set, n / 8) >> (n % 8)) % 2 == 1
 }
 
 // Puts n into the set.
@@ -165,28 +151,11 @@ pub fn count(set: &[u8]) -> usize
 
 // ---- the set in the w bytes at offset o of a larger slice
 
-// Where w bytes at offset o end, in a slice of len bytes.
-pub fn end_of(o: usize, w: usize, len: usize) -> usize
-    ensures { λ r. ⌜ r ≡ min (o + w) len ⌝ }
-{
-    let start = least(o, len);
-    start + least(w, len - start)
-}
-
-// The w bytes at offset o, or as many of them as the table has.
-pub fn part(table: &[u8], o: usize, w: usize) -> &[u8]
-    ensures { λ r. ⌜ now r ≡ parts.part (now (table .entry)) o w ⌝ }
-{
-    let start = least(o, table.len());
-    let end = end_of(o, w, table.len());
-    &table[start..end]
-}
-
 // The set at o becomes empty.
 pub fn clear_at(table: &mut [u8], o: usize, w: usize)
     ensures { λ _. ⌜ now (table .exit) ≡ put (now (table .entry)) o (emptied (parts.part (now (table .entry)) o w)) ⌝ }
 {
-    let start = least(o, table.len());
-    let end = end_of(o, w, table.len());
+    let start = byte_slices::least(o, table.len());
+    let end = byte_slices::end_of(o, w, table.len());
     clear(&mut table[start..end]);
 }

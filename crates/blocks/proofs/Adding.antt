@@ -9,7 +9,7 @@ use lib.Dec.{ltb}
 use lib.ListN.{length, getD, set, length-set}
 use lib.Seq.{getD-set-same, getD-set-other}
 use borrow.Author.Tests.{ltb-true, ltb-false, ne-eqb, eq-eqb}
-use Rattle.bitset.specs.Parts.{part}
+use Rattle.byte_slices.specs.Parts.{part}
 use Rattle.bitset.proofs.AllLaws.{either}
 use Rattle.policy.specs.Basics.{Name, same, any}
 use Rattle.blocks.specs.Opened.{Block, blockOf, key, blockIn, openedIn, isBlock, isOpened, CoversBlocks, Asks, Fits, Adds}

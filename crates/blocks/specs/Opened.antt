@@ -7,7 +7,7 @@ use mathlib.Core.List.{List, [], _∷_}
 use Prim.Native.Nat.{ℕ, zero, suc, _+_, _*_, _/_, _%_, _<_}
 use lib.Dec.{eqb}
 use lib.ListN.{length, getD}
-use Rattle.bitset.specs.Parts.{part}
+use Rattle.byte_slices.specs.Parts.{part}
 use Rattle.policy.specs.Basics.{Name, same, any}
 use Rattle.bloom_filter.specs.Filter.{isMarked, marked, Covers}
 

@@ -41,7 +41,7 @@ fn is_block(text: &[u8], k: u64, parent: usize, name: &[u8]) -> bool
     }
     let at = (k / PLACE) as usize;
     let len = (k / LENGTH % LIMIT) as usize;
-    symbols::same_bytes(name, bitset::part(text, at, len))
+    symbols::same_bytes(name, byte_slices::part(text, at, len))
 }
 
 // Whether one of the first count blocks is the one of a name inside a block.
@@ -119,7 +119,7 @@ pub fn add(
     if keys.len() <= count {
         return false;
     }
-    let name = bitset::part(text, at, len);
+    let name = byte_slices::part(text, at, len);
     if was_opened(text, keys, filter, count, parent, name) {
         return false;
     }

@@ -7,10 +7,10 @@ use native.Mathlib.Nat.{mul-comm}
 use native.Mathlib.Omega.{arith}
 use lib.ListN.{length, take}
 use Rattle.bitset.specs.Sets.{setOf, tabulate}
-use Rattle.bitset.specs.Parts.{part, put}
+use Rattle.byte_slices.specs.Parts.{part, put}
 use Rattle.bitset.specs.Relations.{joined, relation}
 use Rattle.bitset.proofs.SetLaws.{setOf-ext, length-setOf}
-use Rattle.bitset.proofs.PartLaws.{part-setOf}
+use Rattle.bitset.proofs.SetParts.{part-setOf}
 use Rattle.set_rows.proofs.GrantLaws.{row-of, place-of, row-next}
 use Rattle.set_rows.proofs.RelationLaws.{setOf-add, relation-setOf, length-relation, row-relation}
 use Rattle.policy.specs.Statements.{Family, users, roles, types, Policy}

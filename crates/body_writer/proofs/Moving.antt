@@ -5,7 +5,7 @@ use Prim.Native.Nat.{ℕ, _+_, _*_, _≤_, _<_}
 use native.Mathlib.Omega.{arith}
 use lib.ListN.{length, getD, take, length-append}
 use Rattle.bitset.specs.Sets.{setOf}
-use Rattle.bitset.specs.Parts.{put}
+use Rattle.byte_slices.specs.Parts.{put}
 use Rattle.bitset.specs.Relations.{joined}
 use Rattle.bitset.proofs.SetLaws.{length-setOf}
 use Rattle.policy.specs.Basics.{each, gather}

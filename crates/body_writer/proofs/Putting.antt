@@ -8,9 +8,9 @@ use native.Mathlib.Omega.{arith}
 use lib.ListN.{length, getD, take, drop, set, length-append}
 use lib.Seq.{length-take-le, take-at, drop-append-add, drop-append-seam, set-split}
 use Rattle.bitset.specs.Sets.{member, setOf, copyOf}
-use Rattle.bitset.specs.Parts.{part, put}
+use Rattle.byte_slices.specs.Parts.{part, put}
 use Rattle.bitset.proofs.SetLaws.{setOf-ext, setOf-member}
-use Rattle.bitset.proofs.PartLaws.{length-part, small-part, length-put, put-none, put-put}
+use Rattle.byte_slices.proofs.PartLaws.{length-part, small-part, length-put, put-none, put-put}
 use Rattle.set_rows.proofs.GrantLaws.{member-take}
 use Rattle.body_writer.specs.Writing.{Appended, Copies}
 

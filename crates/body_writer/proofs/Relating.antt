@@ -7,9 +7,9 @@ use Prim.Native.Nat.{ℕ, _+_, _*_, _≤_, _<_}
 use native.Mathlib.Omega.{arith}
 use lib.ListN.{length, getD}
 use Rattle.bitset.specs.Sets.{setOf, emptied}
-use Rattle.bitset.specs.Parts.{part, put}
+use Rattle.byte_slices.specs.Parts.{part, put}
 use Rattle.bitset.specs.Relations.{joined, relation, granted}
-use Rattle.bitset.proofs.PartLaws.{length-part, part-put-same}
+use Rattle.byte_slices.proofs.PartLaws.{length-part, part-put-same}
 use Rattle.set_rows.proofs.RelationLaws.{relation-ext, length-relation, emptied-relation, granted-sets}
 use Rattle.policy.specs.Basics.{any, gather, keep}
 use Rattle.policy.specs.Statements.{thingOf, attributeOf, plain, class, Reference, Relation, userrole, roletype, roleallow, fromOf, toOf, Statement, declare}

@@ -9,7 +9,7 @@ ghost use Prim.Native.Nat.{_<_, _≤_};
 ghost use lib.Dec.{eqb};
 ghost use lib.ListN.{length, take};
 ghost use Rattle.bitset.specs.Sets.{setOf};
-ghost use Rattle.bitset.specs.Parts.{part, put};
+ghost use Rattle.byte_slices.specs.Parts.{part, put};
 ghost use Rattle.bitset.specs.Relations.{granted};
 ghost use Rattle.set_code.specs.Evaluation.{valueOf};
 ghost use Rattle.body_writer.specs.Writing.{Appended, Copies};
@@ -69,7 +69,7 @@ pub fn write_sets(sets: &[u8; FAMILY_BYTES], many: usize, width: usize, table: &
         if many <= a {
             return;
         }
-        let set = bitset::part(sets, Type::SET_BYTES * a, Type::SET_BYTES);
+        let set = byte_slices::part(sets, Type::SET_BYTES * a, Type::SET_BYTES);
         to = append(set, width, table, to);
         a += 1;
     }
@@ -93,13 +93,13 @@ fn grant_row(
     ensures { λ _. ⌜ now (table .exit) ≡ put (now (table .entry)) at (granted width (part (now (table .entry)) at size)
         (setOf 64 (λ n. eqb n thing)) (setOf 64 (valueOf (now (sets .entry)) to))) ⌝ }
 {
-    let body = bitset::part(table, at, size).len();
+    let body = byte_slices::part(table, at, size).len();
     let start = width * thing;
     if body <= start {
         return;
     }
     let row = at + start;
-    let reach = bitset::least(width, body - start);
+    let reach = byte_slices::least(width, body - start);
     if to < Unit::ATTRIBUTE {
         set_rows::insert_at(table, row, reach, to as usize);
         return;

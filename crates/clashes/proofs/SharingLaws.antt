@@ -10,9 +10,9 @@ use lib.Dec.{eqb, ltb}
 use lib.ListN.{length}
 use borrow.Author.Tests.{lt-ltb, le-ltb, ltb-true, ltb-false, eq-eqb, ne-eqb, eqb-true}
 use Rattle.bitset.specs.Sets.{member, meet, meets}
-use Rattle.bitset.specs.Parts.{part}
+use Rattle.byte_slices.specs.Parts.{part}
 use Rattle.bitset.proofs.SetLaws.{member-past}
-use Rattle.bitset.proofs.PartLaws.{length-part-le}
+use Rattle.byte_slices.proofs.PartLaws.{length-part-le}
 use Rattle.set_code.specs.Evaluation.{setsIn, valueOf}
 use Rattle.meaning_laws.proofs.ListLaws.{decided}
 use Rattle.meaning_laws.proofs.ClashTest.{meet-there}

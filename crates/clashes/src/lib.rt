@@ -54,7 +54,7 @@ fn share(sets: &[u8; FAMILY_BYTES], x: u16, y: u16) -> bool
     if y < Unit::ATTRIBUTE {
         return stands_for(sets, x, y);
     }
-    let second = bitset::part(sets, row_of(y), Type::SET_BYTES);
+    let second = byte_slices::part(sets, row_of(y), Type::SET_BYTES);
     set_rows::meets_at(sets, row_of(x), Type::SET_BYTES, second)
 }
 

@@ -8,10 +8,10 @@ use lib.Dec.{eqb}
 use lib.ListN.{length}
 use borrow.Author.Tests.{eq-eqb, ne-eqb}
 use Rattle.bitset.specs.Sets.{setOf, unionOf, emptied}
-use Rattle.bitset.specs.Parts.{part, put}
+use Rattle.byte_slices.specs.Parts.{part, put}
 use Rattle.bitset.specs.Relations.{relation}
 use Rattle.bitset.proofs.SetLaws.{union-setOf}
-use Rattle.bitset.proofs.PartLaws.{put-setOf}
+use Rattle.bitset.proofs.SetParts.{put-setOf}
 use Rattle.set_rows.proofs.GrantLaws.{row-of, place-of}
 use Rattle.set_rows.proofs.RelationLaws.{relation-ext, relation-setOf, relation-empty, row-relation, member-relation}
 use Rattle.policy.specs.Basics.{any}

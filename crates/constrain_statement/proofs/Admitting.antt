@@ -5,7 +5,7 @@ use mathlib.Core.List.{List}
 use Prim.Native.Nat.{ℕ, _-_, _*_, _≤_, _<_}
 use borrow.Author.Tests.{lt-ltb, le-ltb, le-leb, lt-leb}
 use lib.Dec.{ltb}
-use Rattle.bitset.specs.Parts.{put}
+use Rattle.byte_slices.specs.Parts.{put}
 use Rattle.policy.specs.Encode.{headBytes}
 use Rattle.constrain_statement.specs.Constraining.{headWith, fitsBefore, Admits}
 use Rattle.constrain_statement.specs.declared.Constrained.{Constrained}

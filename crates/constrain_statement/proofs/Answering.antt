@@ -9,7 +9,7 @@ use borrow.Author.Tests.{leb-true}
 use lib.Dec.{leb, ltb}
 use lib.ListN.{length}
 use types.Run.{OneOf}
-use Rattle.bitset.specs.Parts.{put}
+use Rattle.byte_slices.specs.Parts.{put}
 use Rattle.bitset.specs.Relations.{joined}
 use Rattle.lexer.specs.Scan.{maxLevel}
 use Rattle.lexer.specs.Forms.{Forms, closed, part, framesAt, trim}

@@ -4,8 +4,8 @@ use mathlib.Core.List.{List, _++_}
 use Prim.Native.Nat.{ℕ, _+_, _≤_}
 use native.Mathlib.Omega.{arith}
 use lib.ListN.{length}
-use Rattle.bitset.specs.Parts.{put}
-use Rattle.bitset.proofs.PartLaws.{put-then}
+use Rattle.byte_slices.specs.Parts.{put}
+use Rattle.byte_slices.proofs.PartLaws.{put-then}
 use Rattle.policy.specs.Basics.{le}
 use Rattle.policy.specs.Encode.{headBytes}
 use Rattle.constrain_statement.specs.Constraining.{headWith}

@@ -6,7 +6,7 @@ ghost use Prim.Native.Nat.{_+_, _*_, _%_, _≤_};
 ghost use lib.Dec.{eqb};
 ghost use lib.ListN.{length};
 ghost use Rattle.bitset.specs.Sets.{bit, fromBits};
-ghost use Rattle.bitset.specs.Parts.{put};
+ghost use Rattle.byte_slices.specs.Parts.{put};
 ghost use Rattle.policy.specs.Encode.{headBytes};
 ghost use Rattle.constrain_statement.specs.Scopes.{Masks, Scopes};
 ghost use Rattle.constrain_statement.specs.Constraining.{headWith, Admits, WritesConstrain};

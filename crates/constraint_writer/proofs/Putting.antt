@@ -5,9 +5,9 @@ use Prim.Native.Nat.{ℕ, suc, _+_, _*_, _/_, _≤_, _<_}
 use native.Mathlib.Omega.{arith}
 use lib.ListN.{length, take, set, length-set, length-append}
 use lib.Seq.{sets, length-sets, take-set-le, take-take}
-use Rattle.bitset.specs.Parts.{put}
+use Rattle.byte_slices.specs.Parts.{put}
 use Rattle.bitset.specs.Relations.{joined}
-use Rattle.bitset.proofs.PartLaws.{put-none, put-put, sets-put}
+use Rattle.byte_slices.proofs.PartLaws.{put-none, put-put, sets-put}
 use Rattle.policy.specs.Basics.{each, le}
 use Rattle.policy.specs.Rows.{Row, row}
 use Rattle.policy.specs.Encode.{rowBytes}

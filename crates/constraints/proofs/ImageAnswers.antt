@@ -8,7 +8,7 @@ use native.Mathlib.Omega.{arith}
 use lib.Dec.{ltb}
 use lib.ListN.{length, getD, drop}
 use Rattle.bitset.specs.Sets.{member}
-use Rattle.bitset.specs.Parts.{part}
+use Rattle.byte_slices.specs.Parts.{part}
 use Rattle.bitset.specs.Relations.{joined}
 use Rattle.policy.specs.Basics.{each, every, All}
 use Rattle.policy.specs.Statements.{users, roles, types, attributeOf, Declaration, count, classNames, permissions}

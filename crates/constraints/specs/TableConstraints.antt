@@ -7,7 +7,7 @@ use Prim.Native.Nat.{ℕ, _+_, _*_, _/_}
 use lib.Dec.{eqb, ltb}
 use lib.ListN.{length, getD, drop}
 use Rattle.bitset.specs.Sets.{bit, member}
-use Rattle.bitset.specs.Parts.{part}
+use Rattle.byte_slices.specs.Parts.{part}
 use Rattle.policy.specs.Statements.{source, target}
 use Rattle.policy.specs.Meaning.{Contexts}
 use Rattle.policy.specs.Rows.{Row, View, top}

@@ -8,7 +8,7 @@ use mathlib.Core.Option.{Option, none, some}
 use lib.Dec.{ltb}
 use lib.ListN.{length, getD, getElem?, take, drop}
 use borrow.Author.Tests.{lt-ltb, le-ltb, ltb-true, ltb-false}
-use Rattle.bitset.specs.Parts.{part}
+use Rattle.byte_slices.specs.Parts.{part}
 use Rattle.policy.specs.Basics.{Name, same, isIn}
 use Rattle.policy.specs.Statements.{roles, thingOf, namesOf, count, classNames, permissions}
 use Rattle.policy.specs.Words.{process, transitionWords, objectR}

@@ -11,7 +11,7 @@ use lib.Seq.{take-at}
 use borrow.Author.Tests.{ltb-true, lt-ltb}
 use Rattle.bitset.specs.Relations.{joined}
 use Rattle.bitset.specs.Sets.{member}
-use Rattle.bitset.specs.Parts.{part}
+use Rattle.byte_slices.specs.Parts.{part}
 use Rattle.policy.specs.Basics.{each}
 use Rattle.policy.specs.Statements.{users, roles, types, Sort, thingOf, Declaration, count, classNames}
 use Rattle.policy.specs.Meaning.{Context}

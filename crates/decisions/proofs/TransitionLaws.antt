@@ -7,7 +7,7 @@ use mathlib.Core.List.{List}
 use lib.Dec.{ltb}
 use lib.ListN.{length, getD, take, drop}
 use lib.Seq.{drop-drop, getD-drop}
-use Rattle.bitset.specs.Parts.{part}
+use Rattle.byte_slices.specs.Parts.{part}
 use Rattle.bitset.specs.Relations.{joined}
 use Rattle.policy.specs.Basics.{each}
 use Rattle.policy.specs.Statements.{roles, types, thingOf}

@@ -5,7 +5,7 @@ use mathlib.Core.List.{List}
 use lib.Dec.{ltb}
 use lib.ListN.{drop}
 use Rattle.bitset.specs.Sets.{member}
-use Rattle.bitset.specs.Parts.{part}
+use Rattle.byte_slices.specs.Parts.{part}
 use Rattle.policy.specs.Meaning.{Context}
 use Rattle.policy.specs.Words.{objectR}
 use Rattle.policy.specs.Image.{TransitionEntry}

@@ -52,13 +52,13 @@ fn declares_context(counts: NameCounts, asked: Context) -> bool
 // ---- valid context
 
 // No sound table has so many sets in a body; below it no place overflows.
-const TOO_MANY: usize = 65_536;
+const SET_LIMIT: usize = 65_536;
 
 // Whether the set of this number, among the sets of `width` bytes of a body, has a number.
 fn set_has(table: &[u8], body: u8, width: u16, set: usize, number: usize) -> bool
     ensures { λ r. ⌜ r ≡ setHas (now (table .entry)) body width set number ⌝ }
 {
-    if TOO_MANY <= set {
+    if SET_LIMIT <= set {
         return false;
     }
     let start = table_reader::body_start(table, body) as usize;
@@ -134,7 +134,7 @@ fn matches_at(table: &[u8], at: usize, role: usize, kind: usize, class: usize) -
     if !set_rows::contains_at(table, at + Transition::TYPES_AT, Type::SET_BYTES, kind) {
         return false;
     }
-    table_reader::byte_at(table, at + Transition::CLASS_AT) as usize == class
+    byte_slices::byte(table, at + Transition::CLASS_AT) as usize == class
 }
 
 // The new role of the first transition that matches; else the role given.
@@ -147,7 +147,7 @@ fn first_transition(table: &[u8], role: usize, kind: usize, class: usize) -> usi
     while 0 < left {
         let at = start + Transition::BYTES * ((count - left) as usize);
         if matches_at(table, at, role, kind, class) {
-            return table_reader::byte_at(table, at + Transition::NEW_ROLE_AT) as usize;
+            return byte_slices::byte(table, at + Transition::NEW_ROLE_AT) as usize;
         }
         left -= 1;
     }
@@ -231,7 +231,7 @@ fn role_may(table: &[u8], source: usize, target: usize, class: usize, permission
 // ---- change: the constraints
 
 // A number of attributes. A sound table has no more than may be declared, so that it fits.
-fn few(attributes: usize) -> u16
+fn attribute_count(attributes: usize) -> u16
     ensures { λ r. ⌜ (attributes ≤ 64 → r ≡ attributes) ⌝ }
 {
     if Attribute::MAX < attributes {
@@ -260,8 +260,8 @@ fn ask_constraints(
         source.kind,
         target.kind,
     ];
-    let users = few(counts.user_attributes);
-    let roles = few(counts.role_attributes);
+    let users = attribute_count(counts.user_attributes);
+    let roles = attribute_count(counts.role_attributes);
     let bodies = constraints::locate(table, users, roles);
     constraints::first_failing(table, bodies, class, permission, &sides)
 }

@@ -8,7 +8,7 @@ use native.Mathlib.Omega.{arith}
 use borrow.Author.Tests.{lt-ltb, le-ltb, le-leb, lt-leb, not-true, not-false}
 use lib.Dec.{ltb, leb}
 use lib.ListN.{length, length-append}
-use Rattle.bitset.specs.Parts.{part}
+use Rattle.byte_slices.specs.Parts.{part}
 use Rattle.bitset.specs.Relations.{joined}
 use Rattle.lexer.specs.Forms.{framesAt}
 use Rattle.policy.specs.Basics.{Name, isIn, differ, every, each, All}

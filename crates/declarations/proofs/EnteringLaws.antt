@@ -6,16 +6,16 @@ use native.Mathlib.Nat.{add-zero}
 use native.Mathlib.Omega.{arith}
 use lib.ListN.{length, take, length-append}
 use lib.Seq.{length-take-le}
-use Rattle.bitset.specs.Parts.{part, put}
+use Rattle.byte_slices.specs.Parts.{part, put}
 use Rattle.bitset.specs.Relations.{joined}
-use Rattle.bitset.proofs.PartLaws.{put-none, put-put}
+use Rattle.byte_slices.proofs.PartLaws.{put-none, put-put}
 use Rattle.policy.specs.Basics.{Name, each, All}
 use Rattle.policy.specs.Encode.{NameEntry, nameEntry, entryBytes, permissionEntries}
 use Rattle.policy.proofs.Lists.{each-append, joined-append, all-right}
 use Rattle.name_chains.specs.Entered as symbol
 use Rattle.name_chains.specs.Chains.{Chained}
 use Rattle.symbols.proofs.AppendLaws.{entry-length}
-use Rattle.symbols.proofs.PartLaws.{part-whole}
+use Rattle.byte_slices.proofs.PartLaws.{part-whole}
 use Rattle.symbols.proofs.Declaring.{permission-more}
 use Rattle.scopes.proofs.Keeping.{scope-kept}
 use Rattle.declarations.specs.Entering.{Indexable, Entered, Fitting, Enters}

@@ -5,7 +5,7 @@ use mathlib.Core.List.{List, [], _∷_}
 use mathlib.Core.Option.{Option, none, some, Option·none-ne-some, Option·some-injective}
 use Prim.Native.Nat.{ℕ, _+_}
 use native.Mathlib.Omega.{arith}
-use Rattle.bitset.specs.Parts as parts
+use Rattle.byte_slices.specs.Parts as parts
 use Rattle.lexer.specs.Class.{isName}
 use Rattle.lexer.specs.Forms.{Forms, closed, ended, word, part, framesAt, namesGood}
 use Rattle.lexer.proofs.Trim.{same-words}

@@ -7,7 +7,7 @@ use Prim.Native.Nat.{ℕ, _≤_, _<_}
 use native.Mathlib.Omega.{arith}
 use borrow.Author.Tests.{lt-ltb, le-ltb, le-leb, lt-leb}
 use lib.ListN.{length}
-use Rattle.bitset.specs.Parts.{part}
+use Rattle.byte_slices.specs.Parts.{part}
 use Rattle.policy.specs.Basics.{Name, isIn}
 use Rattle.policy.specs.Statements.{Sort, Declaration, plain, familyOf, familyNames, count}
 use Rattle.policy.specs.Maxima.{maxOf}

@@ -5,7 +5,7 @@ use mathlib.Core.Bool.{true, false, _&&_}
 use mathlib.Core.List.{List, [], _∷_, _++_}
 use mathlib.Core.Option.{some}
 use lib.ListN.{length, take}
-use Rattle.bitset.specs.Parts.{put}
+use Rattle.byte_slices.specs.Parts.{put}
 use Rattle.bitset.specs.Relations.{joined}
 use Rattle.lexer.specs.Forms.{namesGood, framesAt}
 use Rattle.policy.specs.Basics.{Name, differ, each}

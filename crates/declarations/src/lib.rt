@@ -143,14 +143,14 @@ pub fn declare(
     };
     // Outside of blocks the name is its own full name, and nothing is copied.
     if !scopes::in_block(symbols) {
-        return add_name(symbols, end, sort, bitset::part(text, start, len));
+        return add_name(symbols, end, sort, byte_slices::part(text, start, len));
     }
     let mut whole = [0u8; lexer::Name::MAX];
     let named = scopes::full_name(symbols, text, start, len, &mut whole);
     let ComposedName::Length(long) = named else {
         return Declared::MaximumPassed;
     };
-    add_name(symbols, end, sort, bitset::part(&whole, 0, long))
+    add_name(symbols, end, sort, byte_slices::part(&whole, 0, long))
 }
 
 // Writes the entries of a class's permissions, the names in the row at a place, numbered from a first number on. The
@@ -167,7 +167,7 @@ fn add_permissions(symbols: &mut [u8], end: usize, first: usize, text: &[u8], at
         let NextWord::At { start, len } = name else {
             return Added::Past(past);
         };
-        let permission = bitset::part(text, start, len);
+        let permission = byte_slices::part(text, start, len);
         let added = add(symbols, past, Sort::PERMISSION, first + place, permission);
         let Added::Past(next) = added else {
             return Added::NoRoom;
@@ -221,12 +221,12 @@ pub fn declare_class(
     }
     // Outside of blocks the name is its own full name, and nothing is copied.
     if !scopes::in_block(symbols) {
-        return add_class(symbols, end, bitset::part(text, start, len), text, row);
+        return add_class(symbols, end, byte_slices::part(text, start, len), text, row);
     }
     let mut whole = [0u8; lexer::Name::MAX];
     let named = scopes::full_name(symbols, text, start, len, &mut whole);
     let ComposedName::Length(long) = named else {
         return Declared::MaximumPassed;
     };
-    add_class(symbols, end, bitset::part(&whole, 0, long), text, row)
+    add_class(symbols, end, byte_slices::part(&whole, 0, long), text, row)
 }

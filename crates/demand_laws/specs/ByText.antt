@@ -3,10 +3,10 @@ use Prim.Native.Nat.{ℕ}
 use mathlib.Core.Path.{_≡_}
 use mathlib.Core.Bool.{Bool, true, false}
 use mathlib.Core.List.{List, _++_}
-use lib.ListN.{length, take}
+use lib.ListN.{take}
 use Rattle.policy.specs.Statements.{Policy, declarations}
 use Rattle.policy.specs.Reading.{policy}
-use Rattle.policy.specs.Deciding.{Question, Verdict, granted, denied, fails, refuses, Answer, declaredQuestion}
+use Rattle.policy.specs.Deciding.{Question, Verdict, granted, denied, fails, refuses, declaredQuestion}
 use Rattle.policy.specs.Answer.{answer}
 use Rattle.policy.specs.Outcome.{Input, policyOf, after}
 use Rattle.policy.specs.Questions.{changeOn}

@@ -2,7 +2,7 @@
 -- answers something else. Assumes nothing.
 use Prim.Native.Nat.{ℕ, _+_, _/_, _%_}
 use mathlib.Core.Path.{_≡_}
-use mathlib.Core.List.{List, [], _∷_, _++_}
+use mathlib.Core.List.{List, _∷_, _++_}
 use lib.ListN.{take}
 use Rattle.lexer.specs.Spell.{bytes}
 use Rattle.bitset.specs.Relations.{joined}

@@ -14,7 +14,7 @@ pub fn line_of(text: &[u8], place: usize) -> usize
     if Text::MAX < place {
         return 0;
     }
-    let end = bitset::least(place, text.len());
+    let end = byte_slices::least(place, text.len());
     let mut line: usize = 1;
     let mut i = 0;
     while i < end {

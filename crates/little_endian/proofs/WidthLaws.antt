@@ -7,10 +7,10 @@ use native.Mathlib.Nat.{zero-add, suc-add, mul-assoc, pow-suc, mul-comm, div-one
 use native.Mathlib.Omega.{arith}
 use lib.ListN.{length, getD, take, drop, drop-of-length-le}
 use lib.Seq.{take-nil, drop-drop}
-use Rattle.bitset.specs.Parts.{put}
+use Rattle.byte_slices.specs.Parts.{put}
 use Rattle.policy.specs.Basics.{le, unle}
 use Rattle.table_laws.proofs.LittleEndian.{le-length}
-use Rattle.bitset.proofs.PartLaws.{put-put}
+use Rattle.byte_slices.proofs.PartLaws.{put-put}
 
 -- ---- read
 

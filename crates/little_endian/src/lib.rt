@@ -3,7 +3,7 @@
 ghost use mathlib.Core.Path.{_≡_};
 ghost use Prim.Native.Nat.{_+_, _^_, _≤_, _<_};
 ghost use lib.ListN.{length, take, drop};
-ghost use Rattle.bitset.specs.Parts.{put};
+ghost use Rattle.byte_slices.specs.Parts.{put};
 ghost use Rattle.policy.specs.Basics.{le, unle};
 
 // What a number is multiplied by if its bytes are after one other, after two and after four.

@@ -10,7 +10,7 @@ use lib.Dec.{eqb, ltb}
 use lib.ListN.{length, getD, take}
 use borrow.Author.Tests.{lt-ltb, ltb-true, ltb-false, eqb-true, eqb-false, not-true}
 use Rattle.bitset.specs.Sets.{member, setOf, allBelow, within}
-use Rattle.bitset.specs.Parts.{part}
+use Rattle.byte_slices.specs.Parts.{part}
 use Rattle.bitset.specs.Relations.{relation, granted}
 use Rattle.bitset.proofs.SetLaws.{setOf-ext, length-setOf, member-setOf, set-eq}
 use Rattle.set_rows.proofs.GrantLaws.{member-take}

@@ -9,7 +9,7 @@ use borrow.Author.Tests.{eqb-true, eqb-false}
 use lib.Dec.{eqb}
 use lib.ListN.{length, take, drop, length-append, length-drop, drop-of-length-le}
 use lib.Seq.{drop-append-le}
-use Rattle.bitset.specs.Parts.{part, put}
+use Rattle.byte_slices.specs.Parts.{part, put}
 use Rattle.policy.specs.Basics.{Name, unle}
 use Rattle.policy.specs.Encode.{NameEntry, nameEntry, entryBytes}
 use Rattle.symbols.specs.Append.{Appended}

@@ -6,8 +6,8 @@ use Prim.Native.Nat.{ℕ, suc, _+_, _-_, _*_, _<_, _≤_}
 use native.Mathlib.Omega.{arith}
 use lib.ListN.{length}
 use lib.Seq.{take-all}
-use Rattle.bitset.specs.Parts.{part}
-use Rattle.bitset.proofs.PartLaws.{small-part, length-part-min}
+use Rattle.byte_slices.specs.Parts.{part}
+use Rattle.byte_slices.proofs.PartLaws.{small-part, length-part-min}
 use Rattle.policy.specs.Basics.{Name, same, unle}
 use Rattle.policy.specs.Encode.{NameEntry, nameEntry}
 use Rattle.policy.proofs.Lists.{same-is}
@@ -16,7 +16,7 @@ use Rattle.symbols.specs.Section.{entriesAt, between, EntryIs}
 use Rattle.symbols.specs.Lookup.{familyNumber, firstNamed}
 use Rattle.symbols.specs.declared.Entry.{Entry}
 use Rattle.symbols.specs.declared.Found.{Found}
-use Rattle.symbols.proofs.PartLaws.{part-whole}
+use Rattle.byte_slices.proofs.PartLaws.{part-whole}
 use Rattle.name_chains.specs.Compared.{isCandidate, comparedIn, TriedIn}
 use Rattle.name_chains.specs.Chains.{howMany, Nth, Chained, ChainIs, HasChain, Tries, Compares}
 use Rattle.name_index.specs.Index.{frontOf, wordIn, chainIn, linkIn}

@@ -5,10 +5,10 @@ use mathlib.Core.List.{List, [], _∷_}
 use Prim.Native.Nat.{ℕ, suc, _+_, _-_, _*_, _<_, _≤_}
 use native.Mathlib.Omega.{arith}
 use lib.ListN.{length, getD, take}
-use Rattle.bitset.specs.Parts.{part, put}
+use Rattle.byte_slices.specs.Parts.{part, put}
 use Rattle.bitset.specs.Sets.{setOf, fromBits, emptied}
 use Rattle.bitset.proofs.SetLaws.{length-setOf, byte-setOf}
-use Rattle.bitset.proofs.PartLaws.{length-put, length-part, length-part-le, getD-part, getD-put-in, part-put-before}
+use Rattle.byte_slices.proofs.PartLaws.{length-put, length-part, length-part-le, getD-part, getD-put-in, part-put-before}
 use Rattle.policy.specs.Basics.{unle}
 use Rattle.symbols.specs.Lookup.{countSort}
 use Rattle.name_chains.specs.Chains.{Chained}

@@ -14,7 +14,7 @@ use Rattle.symbols.specs.Section.{entriesAt, between, EntryIs}
 use Rattle.symbols.specs.Lookup.{familyNumber, firstNamed}
 use Rattle.symbols.specs.declared.Entry.{Entry}
 use Rattle.symbols.specs.declared.Found.{Found}
-use Rattle.symbols.proofs.PartLaws.{same-length}
+use Rattle.symbols.proofs.SameLaws.{same-length}
 use Rattle.symbols.proofs.FindLaws.{ahead}
 use Rattle.symbols.proofs.Searching.{own-entry}
 use Rattle.name_chains.specs.Compared.{isCandidate, comparedIn, TriedIn}

@@ -6,7 +6,7 @@ use mathlib.Core.List.{List, [], _∷_}
 use Prim.Native.Nat.{ℕ, suc, _+_, _*_, _<_, _≤_}
 use lib.Dec.{eqb}
 use lib.ListN.{length, drop}
-use Rattle.bitset.specs.Parts.{part}
+use Rattle.byte_slices.specs.Parts.{part}
 use Rattle.policy.specs.Basics.{Name, same}
 use Rattle.policy.specs.Encode.{NameEntry}
 use Rattle.symbols.specs.Lookup.{familyNumber, countSort}

@@ -18,7 +18,7 @@ use symbols::Found;
 ghost use mathlib.Core.Path.{_≡_};
 ghost use Prim.Native.Nat.{_+_, _<_, _≤_};
 ghost use lib.ListN.{length};
-ghost use Rattle.bitset.specs.Parts.{part};
+ghost use Rattle.byte_slices.specs.Parts.{part};
 ghost use Rattle.policy.specs.Encode.{nameEntry};
 ghost use Rattle.symbols.specs.Section.{entriesAt};
 ghost use Rattle.name_chains.specs.Compared.{TriedIn};
@@ -168,7 +168,7 @@ pub fn enter(
     let at = 2 * (name_index::word(symbols, ALL) % ENTRIES);
     let long = past - end - 4;
     let family = symbols::family_of(sort, number) % FAMILIES;
-    let front = name_index::front_of(bitset::part(text, from, len));
+    let front = name_index::front_of(byte_slices::part(text, from, len));
     let link = name_index::link_word(Link {
         next: 0,
         sort,

@@ -9,8 +9,8 @@ use borrow.Author.Tests.{eq-eqb, ne-eqb, eqb-true, eqb-false}
 use lib.Dec.{eqb}
 use lib.ListN.{length, take}
 use lib.Seq.{take-length}
-use Rattle.bitset.specs.Parts.{part, put}
-use Rattle.bitset.proofs.PartLaws.{length-put, part-put-same, part-put-before, part-put-after, part-part}
+use Rattle.byte_slices.specs.Parts.{part, put}
+use Rattle.byte_slices.proofs.PartLaws.{length-put, part-put-same, part-put-before, part-put-after, part-part}
 use Rattle.policy.specs.Basics.{le, unle}
 use Rattle.policy.specs.Encode.{NameEntry, entryBytes}
 use Rattle.symbols.specs.Lookup.{familyNumber}

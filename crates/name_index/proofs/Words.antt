@@ -6,8 +6,8 @@ use native.Mathlib.Decide.{decLt}
 use native.Mathlib.Omega.{arith}
 use lib.ListN.{length, take, drop}
 use lib.Seq.{take-all}
-use Rattle.bitset.specs.Parts.{part, put}
-use Rattle.bitset.proofs.PartLaws.{length-part-le, length-put, part-put-same, part-put-before, part-put-after}
+use Rattle.byte_slices.specs.Parts.{part, put}
+use Rattle.byte_slices.proofs.PartLaws.{length-part-le, length-put, part-put-same, part-put-before, part-put-after}
 use Rattle.policy.specs.Basics.{le, unle}
 use Rattle.table_laws.proofs.LittleEndian.{le-length, unle-le}
 use Rattle.little_endian.proofs.WidthLaws.{unle-split}

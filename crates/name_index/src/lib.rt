@@ -152,7 +152,7 @@ pub const FRONT: usize = WORD_BYTES;
 pub fn front_of(name: &[u8]) -> usize
     ensures { λ r. ⌜ r ≡ frontOf (now (name .entry)) ⌝ }
 {
-    let first = bitset::part(name, 0, FRONT);
+    let first = byte_slices::part(name, 0, FRONT);
     if first.len() < 4 {
         return little_endian::number(first);
     }

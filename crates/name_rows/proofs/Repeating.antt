@@ -6,7 +6,7 @@ use Prim.Native.Nat.{ℕ, _+_, _≤_}
 use native.Mathlib.Omega.{arith}
 use lib.ListN.{length, take, drop, set, take-append-drop, length-set}
 use lib.Seq.{take-add}
-use Rattle.bitset.specs.Parts.{part}
+use Rattle.byte_slices.specs.Parts.{part}
 use Rattle.lexer.specs.Forms.{framesAt}
 use Rattle.lexer.proofs.Ends.{rest}
 use Rattle.policy.specs.Basics.{Name, isIn, differ}

@@ -7,7 +7,7 @@ use Prim.Native.Nat.{ℕ, suc, _+_, _-_, _<_, _≤_}
 use native.Mathlib.Omega.{arith}
 use lib.ListN.{length, take}
 use lib.Seq.{take-nil}
-use Rattle.bitset.specs.Parts as parts
+use Rattle.byte_slices.specs.Parts as parts
 use Rattle.lexer.specs.Token.{tokenAt}
 use Rattle.lexer.specs.Forms.{Forms, part, Frames, framesAt}
 use Rattle.lexer.specs.declared.Token.{Token}

@@ -5,7 +5,7 @@ use mathlib.Core.Bool.{Bool, _||_}
 use mathlib.Core.List.{List, [], _∷_}
 use lib.Dec.{eqb, ltb}
 use lib.ListN.{length, take}
-use Rattle.bitset.specs.Parts as parts
+use Rattle.byte_slices.specs.Parts as parts
 use Rattle.lexer.specs.Forms.{Forms, closed, ended, word, part, framesAt}
 use Rattle.policy.specs.Basics.{Name, any, isIn}
 use Rattle.name_rows.specs.declared.NextWord.{NextWord}

@@ -5,7 +5,7 @@ ghost use mathlib.Core.Path.{_≡_};
 ghost use mathlib.Core.Bool.{not, false};
 ghost use Prim.Native.Nat.{_+_, _≤_};
 ghost use lib.ListN.{length, set};
-ghost use Rattle.bitset.specs.Parts.{part};
+ghost use Rattle.byte_slices.specs.Parts.{part};
 ghost use Rattle.lexer.specs.Forms.{framesAt};
 ghost use Rattle.policy.specs.Basics as basics;
 ghost use Rattle.policy.specs.Basics.{differ};
@@ -135,7 +135,7 @@ pub fn repeats(text: &[u8], at: usize) -> bool
         let NextWord::At { start, len } = name else {
             return false;
         };
-        let front = name_index::front_of(bitset::part(text, start, len));
+        let front = name_index::front_of(byte_slices::part(text, start, len));
         let possible = may_be_among(&fronts, count, front);
         if is_repeated(text, at, count, start, len, possible) {
             return true;

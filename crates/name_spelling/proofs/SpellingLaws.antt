@@ -10,8 +10,8 @@ use borrow.Author.Tests.{lt-ltb, ltb-true, ltb-false, le-leb, lt-leb, leb-true, 
 use lib.Dec.{leb, ltb}
 use lib.ListN.{length, getD, drop}
 use lib.Seq.{getD-take, getD-drop}
-use Rattle.bitset.specs.Parts.{part}
-use Rattle.bitset.proofs.PartLaws.{length-part-min}
+use Rattle.byte_slices.specs.Parts.{part}
+use Rattle.byte_slices.proofs.PartLaws.{length-part-min}
 use Rattle.lexer.specs.Answers.{partStarts}
 use Rattle.lexer.specs.Class.{classOf, starts, goesOn, isDot, maxName, allGoOn, isPart, allParts, parts, hasGoodParts}
 use Rattle.lexer.proofs.Names.{dotted-from, no-part, some-part, cut-at-dot, only-part}
@@ -20,7 +20,7 @@ use Rattle.policy.specs.Words.{reserved, isReserved}
 use Rattle.policy.specs.Sound.{isGoodPart}
 use Rattle.policy.proofs.Lists.{both-true, true-both, either-true, same-is}
 use Rattle.symbols.specs.Section.{between}
-use Rattle.symbols.proofs.PartLaws.{part-cons, part-none, part-join}
+use Rattle.byte_slices.proofs.PartLaws.{part-cons, part-none, part-join}
 use Rattle.bloom_filter.specs.Filter.{stepped, hashFrom, hashOf}
 use Rattle.name_spelling.specs.Spelling.{mayBeReserved, hashIf, ReadTo, PartRead, partsSpelled, behindPart, moreSpelled, isSpelt, spelled}
 use Rattle.name_spelling.specs.declared.Part.{Part}

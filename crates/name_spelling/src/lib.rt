@@ -74,7 +74,7 @@ fn is_reserved(table: &[u8], from: usize, past: usize) -> bool
     requires { ⌜ from ≤ past ⌝ }
     ensures { λ r. ⌜ r ≡ isReserved (between (now (table .entry)) from past) ⌝ }
 {
-    words::has_reserved_part(bitset::part(table, from, past - from))
+    words::has_reserved_part(byte_slices::part(table, from, past - from))
 }
 
 // The hash, unless the part from a place to before another is reserved. Few parts end like a reserved word of their

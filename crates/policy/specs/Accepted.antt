@@ -2,10 +2,10 @@
 -- the form allows, and every maximum holds. These words carry facts from the reading to the passes after it and to the table; what the library promises of
 -- texts and tables does not use them.
 -- Assumes nothing.
-use Prim.Native.Nat.{ℕ, _<_, _≤_}
+use Prim.Native.Nat.{_<_, _≤_}
 use mathlib.Core.Path.{_≡_}
 use mathlib.Core.Bool.{true, _||_}
-use mathlib.Core.List.{List, [], _∷_}
+use mathlib.Core.List.{List, []}
 use lib.ListN.{length}
 use Rattle.policy.specs.Basics.{Name, All, every}
 use Rattle.policy.specs.Statements.{Family, roles, types, Reference, thing, attribute, SetExpr, nameS, allS, notS, andS, orS, xorS, unionS, emptyS}

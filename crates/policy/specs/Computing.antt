@@ -33,14 +33,14 @@ use Rattle.policy.specs.Roll.{digits, rollLines, rollOf, printed}
 -- to unfold this is to unfold all of them
 unfoldable pub computing : Unit {0}
 unfolding bit member fromBits tabulate setOf countBelow allBelow meet inserted removed unionOf intersectionOf symmetricDifferenceOf differenceOf
-    copyOf emptied complementOf within meets equal count bitByte maskOf joined relation granted classOf allGoOn isPart allParts parts hasGoodParts
-    isName build framesAt formsOf trim closes balanced namesGood scanFrom scan tokensFrom tokensAt tokens tokenAt same any every each eachOf
-    gather isIn isAmong differ indexOf lookup le unle namesOf familyNames classNames permissions count-of-Statements declarations setsFor
-    transitions constrains size need ofS countIn unionOf-of-Meaning nested final stands related holds isObject validBy firstFailing decide
-    declaredContext declaredQuestion asksRole mayBecome ruledBy answer reserved isReserved dotless keywordOf setWord expressionWord opOf
+    copyOf emptied complementOf within meets equal count bitByte maskOf joined relation granted classOf allGoOn isPart allParts parts
+    hasGoodParts isName build framesAt formsOf trim closes balanced namesGood scanFrom scan tokensFrom tokensAt tokens tokenAt same any every
+    each eachOf gather isIn isAmong differ indexOf lookup le unle namesOf familyNames classNames permissions count-of-Statements declarations
+    setsFor transitions constrains size need ofS countIn unionOf-of-Meaning nested final stands related holds isObject validBy firstFailing
+    decide declaredContext declaredQuestion asksRole mayBecome ruledBy answer reserved isReserved dotless keywordOf setWord expressionWord opOf
     componentOf operandRow operands setIn expressions expressionIn rowOf partsAlone full outward tries firstHit firstFrom environmentOf refer
-    numberIn scopedIn blocksIn referS referE rowCount judge readFrom readPolicy mentionsS mentions attributesIn below mentionedBy reach onCycle places
-    firstCycle cycle clashes firstClash clash rowsOf run balanced-of-Rows maskOf-of-Image imageOf permissionEntries entriesFrom entries
+    numberIn scopedIn blocksIn referS referE rowCount judge readFrom readPolicy mentionsS mentions attributesIn below mentionedBy reach onCycle
+    places firstCycle cycle clashes firstClash clash rowsOf run balanced-of-Rows maskOf-of-Image imageOf permissionEntries entriesFrom entries
     headsFrom bodies pairs encode goodFrom wellFormed bodyLengths splitBodies bodiesIn pieces entriesIn group sameNumbers namesAt assignRows
     imageIn valid change firstTransition newRole nameFrom nameOf recordFrom entryOf validOn newRoleOn nameOn entryOn changeOn accept policyOf
     compiled lineFeeds refusalOf outcome after digits rollLines rollOf printed

@@ -7,7 +7,7 @@ use lib.Dec.{eqb, ltb}
 use lib.ListN.{length, getD}
 use Rattle.policy.specs.Basics.{same, isIn}
 use Rattle.policy.specs.Words.{process, transitionWords, objectR}
-use Rattle.policy.specs.Statements.{users, roles, types, thingOf, Side, source, target, Declaration, namesOf, classNames, permissions, count, Relation}
+use Rattle.policy.specs.Statements.{users, roles, types, thingOf, source, target, Declaration, namesOf, classNames, permissions, count, Relation}
 use Rattle.policy.specs.Statements.{userrole, roletype, roleallow}
 use Rattle.policy.specs.Meaning.{Set, Context, Contexts}
 

@@ -1,11 +1,10 @@
 -- Document 01, "The table, contents first": the bytes of an image. Assumes nothing.
 use Prim.Native.Nat.{ℕ, _+_, _*_}
-use mathlib.Core.Bool.{Bool, true, false}
 use mathlib.Core.List.{List, [], _∷_, _++_}
 use lib.ListN.{length}
 use Rattle.bitset.specs.Relations.{joined}
 use Rattle.policy.specs.Basics.{Name, each, le}
-use Rattle.policy.specs.Statements.{Family, users, roles, types, Sort, thingOf, attributeOf, Declaration, plain, class, count, classNames}
+use Rattle.policy.specs.Statements.{users, roles, types, Sort, thingOf, attributeOf, Declaration, plain, class, count, classNames}
 use Rattle.policy.specs.Rows.{Row}
 use Rattle.policy.specs.Image.{Image, TransitionEntry, ConstraintEntry}
 

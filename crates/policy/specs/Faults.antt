@@ -1,17 +1,16 @@
 -- Document 01, faults 8 and 9 of a policy that passed 1 to 7. Assumes nothing.
 use Prim.Native.Nat.{ℕ, zero, suc, _+_}
-use mathlib.Core.Bool.{Bool, true, false, not, _&&_, _||_, cond}
+use mathlib.Core.Bool.{Bool, true, false, not, _&&_, _||_}
 use mathlib.Core.List.{List, [], _∷_, _++_}
 use mathlib.Core.Option.{Option, none, some}
 use lib.Dec.{eqb}
-use lib.ListN.{length}
 use Rattle.bitset.specs.Sets.{meet}
 use Rattle.bitset.specs.Relations.{joined}
 use Rattle.policy.specs.Basics.{any, gather, given, isAmong, each, orElse}
 use Rattle.policy.specs.Statements.{Family, users, roles, types, attributeOf, Declaration, plain, class, sameSort, Reference, thing, attribute, SetExpr}
 use Rattle.policy.specs.Statements.{nameS, allS, notS, andS, orS, xorS, unionS, emptyS, declare, attributeset, gives, roletransition, constrain, Line}
 use Rattle.policy.specs.Statements.{Policy, count, declarations, setsFor, Transition, transitions}
-use Rattle.policy.specs.Meaning.{Set, stands, countIn}
+use Rattle.policy.specs.Meaning.{stands, countIn}
 
 -- the attributes that S mentions, by its text
 abbrev pub mentionsR : Reference → List ℕ

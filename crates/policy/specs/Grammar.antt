@@ -2,7 +2,6 @@
 -- or a block is of no form, fault 3.
 -- A row that the end of the text cuts short (`ended`) is of no form; a text that the scan finds clean has no such row inside a statement.
 -- Assumes nothing.
-use Prim.Native.Nat.{ℕ}
 use mathlib.Core.Bool.{Bool, true, false, _&&_, _||_, cond}
 use mathlib.Core.List.{List, [], _∷_}
 use mathlib.Core.Option.{Option, none, some}
@@ -10,8 +9,8 @@ use Rattle.lexer.specs.Forms.{Forms, closed, ended, word, part}
 use Rattle.policy.specs.Basics.{Name, same, _>>=_, given, more, ofNone, ofOne, ofTwo}
 use Rattle.policy.specs.Words.{asName, asPart, blockWord, Keyword, declareK, classK, setK, relationK, transitionK, constrainK, keywordOf, Connective}
 use Rattle.policy.specs.Words.{allC, notC, andC, orC, xorC, setWord, expressionWord, opOf, isPlain, Component, componentOf}
-use Rattle.policy.specs.Statements.{Family, roles, Sort, plain, class, SetExpr, nameS, allS, notS, andS, orS, xorS, unionS, emptyS, source, target, Op}
-use Rattle.policy.specs.Statements.{Constraint, sidesE, nameE, notE, andE, orE, Relation, declare, attributeset, gives, roletransition, constrain}
+use Rattle.policy.specs.Statements.{Family, roles, plain, class, SetExpr, nameS, allS, notS, andS, orS, xorS, unionS, emptyS, source, target, Op}
+use Rattle.policy.specs.Statements.{Constraint, sidesE, nameE, notE, andE, orE, declare, attributeset, gives, roletransition, constrain}
 use Rattle.policy.specs.Statements.{Written, sameFamily}
 
 -- "one or more operands (their union)": an operand, and those after it

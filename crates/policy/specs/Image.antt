@@ -1,11 +1,9 @@
 -- Document 01, "The table": its content without its bytes. Assumes nothing.
-use Prim.Native.Nat.{ℕ, _+_, _*_}
-use mathlib.Core.Bool.{Bool, true, false, not, _&&_, _||_}
-use mathlib.Core.List.{List, [], _∷_, _++_}
-use mathlib.Core.Option.{Option, none, some}
-use lib.ListN.{length}
-use Rattle.policy.specs.Basics.{Name, each, isAmong}
-use Rattle.policy.specs.Statements.{Family, users, roles, types, Sort, thingOf, attributeOf, Declaration, plain, class, Policy, count, classNames}
+use Prim.Native.Nat.{ℕ}
+use mathlib.Core.List.{List}
+use mathlib.Core.Option.{none}
+use Rattle.policy.specs.Basics.{each, isAmong}
+use Rattle.policy.specs.Statements.{Family, users, roles, types, thingOf, attributeOf, Declaration, class, Policy, count}
 use Rattle.policy.specs.Statements.{declarations, transitions, Transition, constrains, Constrain, userrole, roletype, roleallow}
 use Rattle.policy.specs.Meaning.{Set, stands, related, final}
 use Rattle.bitset.specs.Sets.{setOf, fromBits, tabulate}

@@ -1,6 +1,6 @@
 -- Document 01, "How many": the maxima, each of the thing that it limits. Those of text, name and level are the lexer's. Assumes nothing.
 use Prim.Native.Nat.{ℕ}
-use Rattle.policy.specs.Statements.{Family, users, roles, types, Sort, thingOf, attributeOf}
+use Rattle.policy.specs.Statements.{users, roles, types, Sort, thingOf, attributeOf}
 
 -- "Users 128, roles 128, types 512, attributes 64 per family"
 abbrev pub maxOf : Sort → ℕ

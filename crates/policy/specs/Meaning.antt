@@ -1,7 +1,6 @@
 -- Document 01, "What a promise says here": what the statements say, each by its own form. No table, rows or stack. Assumes nothing.
 use Prim.Native.Nat.{ℕ, zero, suc}
-use mathlib.Core.Bool.{Bool, true, false, not, _&&_, _||_, cond}
-use mathlib.Core.List.{List, [], _∷_}
+use mathlib.Core.Bool.{Bool, true, false, not, _&&_, _||_}
 use lib.Dec.{eqb, ltb}
 use Rattle.policy.specs.Basics.{any}
 use Rattle.policy.specs.Statements.{Family, users, roles, types, thingOf, Reference, thing, attribute, SetExpr, nameS, allS, notS, andS, orS, xorS}

@@ -1,17 +1,17 @@
 -- Document 01, "Questions": the five questions on an image, and on the bytes of a table. Assumes nothing.
-use Prim.Native.Nat.{ℕ, zero, suc, _+_, _-_, _*_, _/_}
-use mathlib.Core.Bool.{Bool, true, false, not, _&&_, _||_, cond}
-use mathlib.Core.List.{List, [], _∷_, _++_}
+use Prim.Native.Nat.{ℕ, _+_, _-_, _*_, _/_}
+use mathlib.Core.Bool.{Bool, _&&_, cond}
+use mathlib.Core.List.{List, [], _∷_}
 use mathlib.Core.Option.{Option, none, some}
 use lib.Dec.{eqb, ltb}
 use lib.ListN.{length, getD, take}
 use Rattle.bitset.specs.Relations.{joined}
 use Rattle.policy.specs.Basics.{Name}
-use Rattle.policy.specs.Statements.{Family, users, roles, types, Side, source, target, thingOf, count, classNames, Relation, userrole, roletype, roleallow}
+use Rattle.policy.specs.Statements.{Family, users, roles, types, source, target, thingOf, count, classNames, Relation, userrole, roletype, roleallow}
 use Rattle.policy.specs.Meaning.{Context, Contexts}
 use Rattle.policy.specs.Deciding.{Given, Reply, answered, refused, validReply, Question, contextsOf, refuses, Answer, unconsulted, firstFailing, ruledBy}
 use Rattle.bitset.specs.Sets.{bit, member}
-use Rattle.policy.specs.Rows.{Row, View, run, top}
+use Rattle.policy.specs.Rows.{View, run, top}
 use Rattle.policy.specs.Image.{Image, TransitionEntry, ConstraintEntry}
 use Rattle.policy.specs.Encode.{NameEntry, entries, entryBytes, bodies, firstBody}
 use Rattle.policy.specs.Sound.{imageIn, ofComp}

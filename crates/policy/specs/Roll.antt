@@ -1,10 +1,9 @@
 -- Document 01, "The printed roll", with the line of document 02, W-202: what the program writes for a text. Assumes nothing.
-use Prim.Native.Nat.{ℕ, zero, suc, _+_, _*_, _/_, _%_}
-use mathlib.Core.Bool.{Bool, true, false, cond}
+use Prim.Native.Nat.{ℕ, zero, suc, _+_, _/_, _%_}
+use mathlib.Core.Bool.{true, false}
 use mathlib.Core.List.{List, [], _∷_, _++_}
-use mathlib.Core.Option.{Option, none, some}
 use lib.Dec.{ltb}
-use lib.ListN.{length, getD}
+use lib.ListN.{length}
 use Rattle.lexer.specs.Spell.{bytes}
 use Rattle.bitset.specs.Relations.{joined}
 use Rattle.policy.specs.Basics.{Name}
@@ -12,7 +11,7 @@ use Rattle.policy.specs.Statements.{users, roles, thingOf, namesOf}
 use Rattle.bitset.specs.Sets.{count}
 use Rattle.policy.specs.Image.{Image}
 use Rattle.policy.specs.Encode.{encode}
-use Rattle.policy.specs.Outcome.{Input, Compiled, compiles, refuses, compiled, Refusal, refusalOf}
+use Rattle.policy.specs.Outcome.{Input, compiles, refuses, compiled, Refusal, refusalOf}
 
 -- a number in decimal digits, at most k of them
 unfoldable pub digits : ℕ → ℕ → List ℕ

@@ -1,9 +1,8 @@
 -- Document 01, "The table", body 7: rows, and the stack that runs them. Assumes nothing.
-use mathlib.Core.Bool.{Bool, true, false, not, _&&_, _||_, cond}
+use mathlib.Core.Bool.{Bool, false, not, _&&_, _||_, cond}
 use mathlib.Core.List.{List, [], _∷_, _++_}
-use Prim.Native.Nat.{ℕ, suc, pred, _+_, _/_}
-use lib.Dec.{eqb, ltb, leb}
-use lib.ListN.{length}
+use Prim.Native.Nat.{ℕ, suc, pred, _+_}
+use lib.Dec.{eqb, leb}
 use Rattle.policy.specs.Statements.{Family, users, roles, types, Reference, thing, attribute, Side, source, target, Op, eq, neq, dom, domby, incomp}
 use Rattle.policy.specs.Statements.{Constraint, sidesE, nameE, notE, andE, orE}
 use Rattle.policy.specs.Maxima.{maxStack}

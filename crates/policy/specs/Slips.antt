@@ -1,23 +1,22 @@
 -- Document 01, "Slips we have seen", and "Both sides": worked examples that each slip would break, as one list under one claim. Assumes nothing.
 use Prim.Native.Nat.{ℕ, zero, suc, _+_, _/_, _%_}
 use mathlib.Core.Path.{_≡_, refl}
-use mathlib.Core.Bool.{Bool, true, false}
+use mathlib.Core.Bool.{true, false}
 use mathlib.Core.List.{List, [], _∷_, _++_}
 use lib.Dec.{eqb, ltb}
 use lib.ListN.{length}
 use Rattle.lexer.specs.Spell.{bytes}
 use Rattle.bitset.specs.Sets.{setOf, tabulate}
 use Rattle.bitset.specs.Relations.{joined}
-use Rattle.policy.specs.Statements.{users, roles, Op, eq, neq, Constraint, sidesE, andE, Reference}
+use Rattle.policy.specs.Statements.{users, roles, eq, neq, Constraint, sidesE, andE, Reference}
 use Rattle.policy.specs.Reading.{policy, refused, readPolicy, Read}
-use Rattle.policy.specs.Meaning.{Context, Standing, holds, related}
+use Rattle.policy.specs.Meaning.{related}
 use Rattle.policy.specs.Statements.{userrole}
-use Rattle.policy.specs.Deciding.{Question, Answer, granted, denied, fails, refuses, unconsulted}
+use Rattle.policy.specs.Deciding.{Question, Answer, granted, denied, refuses, unconsulted}
 use Rattle.policy.specs.Answer.{answer}
 use Rattle.policy.specs.Rows.{View, rowsOf, run}
-use Rattle.policy.specs.Encode.{encode}
 use Rattle.policy.specs.Questions.{changeOn, sideOf}
-use Rattle.policy.specs.Outcome.{ofText, compiles, refuses, compiled, policyOf}
+use Rattle.policy.specs.Outcome.{ofText, refuses, policyOf}
 use Rattle.policy.specs.Worked.{firstSet, tableOf, toRight, context}
 use Rattle.policy.specs.Computing.{computing}
 

@@ -6,7 +6,7 @@ use mathlib.Core.Option.{Option, none, some}
 use lib.Dec.{eqb, leb, ltb}
 use lib.ListN.{length, getD, getElem?, take, drop}
 use Rattle.bitset.specs.Relations.{joined}
-use Rattle.policy.specs.Basics.{Name, same, _>>=_, given, more, each, eachOf, every, unle}
+use Rattle.policy.specs.Basics.{Name, _>>=_, given, more, each, eachOf, every, unle}
 use Rattle.lexer.specs.Class.{maxName, isPart, parts, hasGoodParts}
 use Rattle.policy.specs.Words.{isReserved}
 use Rattle.policy.specs.Statements.{Family, users, roles, types, Sort, thingOf, attributeOf, Declaration, plain, class, count, classNames, permissions}

@@ -1,7 +1,7 @@
 -- Document 01, "Statements" and "How many": the statements as read, and what a list of them declares. Assumes nothing.
-use Prim.Native.Nat.{ℕ, suc, max, _+_}
+use Prim.Native.Nat.{ℕ, max, _+_}
 use mathlib.Core.Bool.{Bool, true, false, _&&_, cond}
-use mathlib.Core.List.{List, [], _∷_}
+use mathlib.Core.List.{List, []}
 use mathlib.Core.Option.{Option, none, some}
 use lib.Dec.{eqb}
 use lib.ListN.{length, getD}

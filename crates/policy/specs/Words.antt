@@ -1,11 +1,8 @@
 -- The keywords and reserved words of document 01, and what W-203 adds to them. Assumes nothing.
-use Prim.Native.Nat.{ℕ}
 use Prim.Native.String.{String}
-use mathlib.Core.Bool.{Bool, true, false, not, _&&_, _||_, cond}
+use mathlib.Core.Bool.{Bool, true, false, not, _&&_}
 use mathlib.Core.List.{List, [], _∷_}
-use mathlib.Core.Option.{Option, none, some}
-use lib.Dec.{leb}
-use lib.ListN.{length}
+use mathlib.Core.Option.{Option}
 use Rattle.lexer.specs.Spell.{bytes}
 use Rattle.lexer.specs.Class.{is, parts}
 use Rattle.policy.specs.Basics.{Name, isIn, any, Under, lookup, given}

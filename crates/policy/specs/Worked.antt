@@ -1,15 +1,15 @@
 -- Document 01, "Checked by hand": P1 to P12, proved of the rules themselves as one list under one claim. Assumes nothing.
 use Prim.Native.Nat.{ℕ, zero, suc, _+_, _*_}
 use mathlib.Core.Path.{_≡_, refl}
-use mathlib.Core.Bool.{Bool, true, false}
+use mathlib.Core.Bool.{true}
 use mathlib.Core.List.{List, [], _∷_, _++_}
 use lib.Dec.{eqb, ltb}
 use lib.ListN.{length, take, drop, replicate}
 use Rattle.lexer.specs.Spell.{bytes}
 use Rattle.policy.specs.Basics.{Name, unle}
-use Rattle.policy.specs.Statements.{users, roles, types, thingOf, plain, class, thing, Op, eq, Constraint, sidesE, andE, Reference, need, userrole}
+use Rattle.policy.specs.Statements.{users, roles, types, thingOf, plain, class, thing, eq, Constraint, sidesE, andE, Reference, need, userrole}
 use Rattle.policy.specs.Statements.{roletype, declare, gives, Statement, Line, Policy}
-use Rattle.policy.specs.Reading.{Read, policy, refused, readPolicy}
+use Rattle.policy.specs.Reading.{policy, refused, readPolicy}
 use Rattle.policy.specs.Meaning.{Context, final}
 use Rattle.policy.specs.Deciding.{Question, denied, unconsulted}
 use Rattle.policy.specs.Answer.{answer}

@@ -10,7 +10,7 @@ const TEXT_BYTES: usize = lexer::Text::MAX + 1;
 
 // Writes the first bytes of the memory to standard output.
 fn print(memory: &[u8; ROLL_BYTES], end: usize) {
-    io::write_all(STDOUT_FILENO, bitset::part(memory, 0, end));
+    io::write_all(STDOUT_FILENO, byte_slices::part(memory, 0, end));
 }
 
 fn main() {
@@ -18,7 +18,7 @@ fn main() {
     let mut table = [0u8; TABLE_BYTES];
     let mut roll = [0u8; ROLL_BYTES];
     let length = io::read_full(STDIN_FILENO, &mut memory);
-    let text = bitset::part(&memory, 0, length);
+    let text = byte_slices::part(&memory, 0, length);
     let end = roll_text::write_roll(text, &mut table, &mut roll);
     print(&roll, end);
 }

@@ -4,9 +4,9 @@ use mathlib.Core.List.{List, [], _∷_, _++_, append-nil}
 use Prim.Native.Nat.{ℕ, _+_, _≤_}
 use native.Mathlib.Omega.{arith}
 use lib.ListN.{length, length-append}
-use Rattle.bitset.specs.Parts.{put}
+use Rattle.byte_slices.specs.Parts.{put}
 use Rattle.bitset.specs.Relations.{joined}
-use Rattle.bitset.proofs.PartLaws.{length-put, put-put}
+use Rattle.byte_slices.proofs.PartLaws.{length-put, put-put}
 use Rattle.text_writer.specs.Writing.{Appends}
 
 module _ {t u : List ℕ} {at p : ℕ} {a : List ℕ} where

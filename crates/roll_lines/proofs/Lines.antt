@@ -7,10 +7,10 @@ use mathlib.Core.List.{List, [], _∷_, _++_, append-assoc, append-nil}
 use mathlib.Core.Option.{some, Option·none-ne-some, Option·some-injective}
 use lib.ListN.{length, length-append, getElem?, take}
 use lib.Seq.{take-all}
-use Rattle.bitset.specs.Parts.{part}
+use Rattle.byte_slices.specs.Parts.{part}
 use Rattle.bitset.specs.Relations.{joined}
 use Rattle.bitset.specs.Sets.{count}
-use Rattle.bitset.proofs.PartLaws.{put-none}
+use Rattle.byte_slices.proofs.PartLaws.{put-none}
 use Rattle.policy.specs.Basics.{Name}
 use Rattle.policy.specs.Image.{Image}
 use Rattle.policy.specs.Sound.{imageIn}

@@ -7,8 +7,8 @@ use mathlib.Core.Bool.{Bool, true, false, cond}
 use mathlib.Core.List.{List, [], _∷_, _++_}
 use mathlib.Core.Option.{Option, none, some, Option·none-ne-some, Option·some-injective}
 use lib.ListN.{length, getElem?, take, drop}
-use Rattle.bitset.specs.Parts.{part}
-use Rattle.bitset.proofs.PartLaws.{length-part-min}
+use Rattle.byte_slices.specs.Parts.{part}
+use Rattle.byte_slices.proofs.PartLaws.{length-part-min}
 use Rattle.policy.specs.Basics.{Name, All}
 use Rattle.policy.specs.Statements.{users, roles, Sort, thingOf, Declaration, plain, class, sameSort, ofSort, namesOf, count}
 use Rattle.policy.specs.Image.{Image}

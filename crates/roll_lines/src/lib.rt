@@ -69,8 +69,8 @@ fn set_at(table: &[u8], body: usize, number: usize) -> &[u8]
 {
     let place = table_parts::entry_place_in_sound(table, body, number);
     match place {
-        Place::Part { start, length } => bitset::part(table, start, length),
-        Place::Refused { number: _ } => bitset::part(table, 0, 0),
+        Place::Part { start, length } => byte_slices::part(table, start, length),
+        Place::Refused { number: _ } => byte_slices::part(table, 0, 0),
     }
 }
 
@@ -94,7 +94,7 @@ fn put_lines(
         let Place::Part { start, length } = place else {
             return end;
         };
-        let name = bitset::part(table, start, length);
+        let name = byte_slices::part(table, start, length);
         let set = set_at(table, body, number);
         end = put_line(out, end, kind, name, of, set);
         number += 1;

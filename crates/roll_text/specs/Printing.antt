@@ -3,7 +3,7 @@ use Prim.Native.Nat.{ℕ}
 use mathlib.Core.Path.{_≡_}
 use mathlib.Core.List.{List}
 use lib.ListN.{length}
-use Rattle.bitset.specs.Parts.{put}
+use Rattle.byte_slices.specs.Parts.{put}
 use Rattle.policy.specs.Outcome as outcomes
 use Rattle.policy.specs.Outcome.{Input}
 use Rattle.policy.specs.Roll.{printed}

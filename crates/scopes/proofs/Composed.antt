@@ -4,10 +4,10 @@ use mathlib.Core.List.{List, _∷_, _++_}
 use Prim.Native.Nat.{ℕ, suc, _+_, _-_, _<_, _≤_}
 use native.Mathlib.Omega.{arith}
 use lib.ListN.{length, set, length-set, length-append}
-use Rattle.bitset.specs.Parts.{part, put}
-use Rattle.bitset.proofs.PartLaws.{length-put, part-put-same, part-put-before, length-part, sets-put}
+use Rattle.byte_slices.specs.Parts.{part, put}
+use Rattle.byte_slices.proofs.PartLaws.{length-put, part-put-same, part-put-before, length-part, sets-put}
 use Rattle.policy.specs.Basics.{Name}
-use Rattle.symbols.proofs.PartLaws.{part-whole, part-join}
+use Rattle.byte_slices.proofs.PartLaws.{part-whole, part-join}
 use Rattle.scopes.specs.Path.{scopeOf}
 use Rattle.scopes.specs.Scope.{scopeLength, scopeIn, within, ComposedBy, Composes, ShortBy, Names}
 use Rattle.scopes.specs.declared.ComposedName.{ComposedName}

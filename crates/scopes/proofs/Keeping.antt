@@ -6,8 +6,8 @@ use Prim.Native.Nat.{ℕ, _+_, _*_, _%_, _<_, _≤_}
 use native.Mathlib.Omega.{arith}
 use lib.Dec.{eqb}
 use lib.ListN.{length, getD, take}
-use Rattle.bitset.specs.Parts.{part, put}
-use Rattle.bitset.proofs.PartLaws.{getD-part, length-put, part-put-after}
+use Rattle.byte_slices.specs.Parts.{part, put}
+use Rattle.byte_slices.proofs.PartLaws.{getD-part, length-put, part-put-after}
 use Rattle.policy.specs.Basics.{Name, le, unle}
 use Rattle.policy.specs.Encode.{NameEntry, entryBytes}
 use Rattle.symbols.specs.Lookup.{familyNumber}

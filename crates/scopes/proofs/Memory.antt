@@ -6,10 +6,10 @@ use Prim.Native.Nat.{ℕ, suc, _+_, _-_, _<_, _≤_}
 use native.Mathlib.Omega.{arith}
 use lib.ListN.{length, getD, take, drop, set, length-set}
 use lib.Seq.{split-at, drop-cons, length-take-le, getD-set-same}
-use Rattle.bitset.specs.Parts.{part, put}
-use Rattle.bitset.proofs.PartLaws.{length-part, getD-part, length-put, part-put-before, part-put-after, sets-put}
+use Rattle.byte_slices.specs.Parts.{part, put}
+use Rattle.byte_slices.proofs.PartLaws.{length-part, getD-part, length-put, part-put-before, part-put-after, sets-put}
 use Rattle.policy.specs.Words.{dotless}
-use Rattle.symbols.proofs.PartLaws.{take-part}
+use Rattle.byte_slices.proofs.PartLaws.{take-part}
 use Rattle.scopes.specs.Scope.{scopeLength, scopeIn, lastDot, SymbolsKept}
 use Rattle.scopes.proofs.PathLaws.{cut-dotless, cut-last, dotless-next, dotless-end}
 

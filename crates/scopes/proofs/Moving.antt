@@ -6,8 +6,8 @@ use Prim.Native.Nat.{ℕ, _+_, _≤_}
 use native.Mathlib.Omega.{arith}
 use lib.ListN.{length, take, set, length-set}
 use borrow.Author.Tests.{le-leb, lt-leb}
-use Rattle.bitset.specs.Parts.{part, put}
-use Rattle.bitset.proofs.PartLaws.{length-part, length-part-le, length-put, part-put-same}
+use Rattle.byte_slices.specs.Parts.{part, put}
+use Rattle.byte_slices.proofs.PartLaws.{length-part, length-part-le, length-put, part-put-same}
 use Rattle.policy.specs.Basics.{Name, every}
 use Rattle.policy.specs.Names.{full}
 use Rattle.scopes.specs.Path.{scopeOf}

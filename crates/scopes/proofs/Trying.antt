@@ -18,8 +18,8 @@ use Rattle.policy.proofs.Environments.{tried-once}
 use Rattle.scopes.specs.Path.{scopeOf, orElse, foundFirst, ifFound, deciding, Decides, isOnePart}
 use Rattle.scopes.specs.Scope.{scopeLength, scopeIn, InScope, within, lastDot, isMissing, isPlain, TriedOnce, Resolves}
 use Rattle.scopes.proofs.PathLaws.{cut-full, front-full, first-part, other-parts, no-block, within-full}
-use Rattle.bitset.specs.Parts.{part}
-use Rattle.symbols.proofs.PartLaws.{drop-part, part-whole}
+use Rattle.byte_slices.specs.Parts.{part}
+use Rattle.byte_slices.proofs.PartLaws.{drop-part, part-whole}
 use Rattle.name_chains.proofs.FindLaws.{no-length, chain-starts, chain-ends}
 use Rattle.scopes.proofs.Memory.{scope-long, scope-take, scope-none}
 

@@ -7,7 +7,7 @@ use Prim.Native.Nat.{ℕ, _+_, _<_, _≤_}
 use lib.Dec.{leb}
 use lib.ListN.{length, getD}
 use Rattle.lexer.specs.Spell.{bytes}
-use Rattle.bitset.specs.Parts.{part}
+use Rattle.byte_slices.specs.Parts.{part}
 use Rattle.policy.specs.Basics.{Name, every}
 use Rattle.policy.specs.Words.{dotless}
 use Rattle.policy.specs.Names.{full, hasDotInFront, tries}

@@ -8,7 +8,7 @@ ghost use mathlib.Core.Path.{_≡_};
 ghost use mathlib.Core.Bool.{true};
 ghost use Prim.Native.Nat.{_+_, _<_, _≤_};
 ghost use lib.ListN.{length};
-ghost use Rattle.bitset.specs.Parts.{part};
+ghost use Rattle.byte_slices.specs.Parts.{part};
 ghost use Rattle.policy.specs.Names.{hasDotInFront};
 ghost use Rattle.name_chains.specs.Chains.{Tries};
 ghost use Rattle.scopes.specs.Scope.{scopeLength, scopeIn, lastDot, isMissing, within, InBlock, Composes, Names, TriedOnce, Resolves, Starts, EntersBlock, LeavesBlock};
@@ -88,15 +88,15 @@ fn compose(symbols: &[u8], n: usize, name: &[u8], into: &mut [u8]) -> ComposedNa
         if lexer::Name::MAX < long {
             return ComposedName::TooLong;
         }
-        symbols::copy(into, 0, name, 0, long);
+        byte_slices::copy(into, 0, name, 0, long);
         return ComposedName::Length(long);
     }
     if lexer::Name::MAX - n <= long {
         return ComposedName::TooLong;
     }
-    symbols::copy(into, 0, symbols, SCOPE + 1, n);
+    byte_slices::copy(into, 0, symbols, SCOPE + 1, n);
     into[n] = lexer::Name::DOT;
-    symbols::copy(into, n + 1, name, 0, long);
+    byte_slices::copy(into, n + 1, name, 0, long);
     ComposedName::Length(n + 1 + long)
 }
 
@@ -114,7 +114,7 @@ pub fn full_name(
     compose(
         symbols,
         scope_length(symbols),
-        bitset::part(text, from, len),
+        byte_slices::part(text, from, len),
         into,
     )
 }
@@ -130,7 +130,7 @@ pub fn enter_block(symbols: &mut [u8], text: &[u8], from: usize, len: usize) -> 
     let ComposedName::Length(long) = named else {
         return false;
     };
-    symbols::copy(symbols, SCOPE + 1, &whole, 0, long);
+    byte_slices::copy(symbols, SCOPE + 1, &whole, 0, long);
     symbols[SCOPE] = long as u8;
     true
 }
@@ -159,7 +159,7 @@ fn try_in(symbols: &[u8], n: usize, family: usize, name: &[u8]) -> Tried
         ComposedName::Length(long) => name_chains::find(
             symbols,
             family,
-            bitset::part(&whole, 0, long),
+            byte_slices::part(&whole, 0, long),
         ),
         ComposedName::TooLong => Tried {
             found: Found::Missing,
@@ -194,7 +194,7 @@ pub fn find(symbols: &[u8], family: usize, name: &[u8]) -> Tried
     ensures { λ r. ⌜ Resolves (now (symbols .entry)) family (now (name .entry)) r ⌝ }
 {
     if has_dot_in_front(name) {
-        return name_chains::find(symbols, family, bitset::part(name, 1, name.len() - 1));
+        return name_chains::find(symbols, family, byte_slices::part(name, 1, name.len() - 1));
     }
     let mut n = scope_length(symbols);
     while 0 < n {

@@ -9,7 +9,7 @@ use lib.Dec.{eqb, ltb}
 use lib.ListN.{length}
 use borrow.Author.Tests.{lt-ltb, le-ltb}
 use Rattle.bitset.specs.Sets.{member, setOf, inserted, unionOf, copyOf, emptied, complementOf}
-use Rattle.bitset.specs.Parts.{part}
+use Rattle.byte_slices.specs.Parts.{part}
 use Rattle.bitset.proofs.SetLaws.{member-setOf, setOf-ext, inserted-setOf, complement-setOf, operator-setOf}
 use Rattle.policy.specs.Statements.{Reference, thing, attribute}
 use Rattle.policy.specs.Meaning.{standsIn}

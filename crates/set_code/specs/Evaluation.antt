@@ -6,8 +6,8 @@ use mathlib.Core.List.{List, _++_}
 use lib.Dec.{eqb, ltb}
 use lib.ListN.{length, drop}
 use Rattle.bitset.specs.Sets.{member, setOf}
-use Rattle.bitset.specs.Parts.{part}
-use Rattle.policy.specs.Statements.{Reference, thing, attribute, SetExpr, nameS, allS, notS, andS, orS, xorS, unionS, emptyS}
+use Rattle.byte_slices.specs.Parts.{part}
+use Rattle.policy.specs.Statements.{Reference, thing, attribute, SetExpr}
 use Rattle.policy.specs.Meaning.{Set, ofS}
 use Rattle.statement_code.specs.Numbered.{Numbered}
 use Rattle.statement_code.specs.Code.{allUnit, notUnit, andUnit, xorUnit, setCode}

@@ -7,7 +7,7 @@ ghost use mathlib.Core.Bool.{Bool, true, _||_};
 ghost use Prim.Native.Nat.{_<_};
 ghost use lib.Dec.{ltb};
 ghost use lib.ListN.{length};
-ghost use Rattle.bitset.specs.Sets.{setOf, member, unionOf};
+ghost use Rattle.bitset.specs.Sets.{setOf, unionOf};
 ghost use Rattle.statement_code.specs.Code.{allUnit};
 ghost use Rattle.set_code.specs.Evaluation.{Evaluates, startOf, joinOf, joinedBy, valueOf};
 use policy::Type;
@@ -86,7 +86,7 @@ fn add_reference(unit: u16, sets: &[u8], out: &mut [u8; Type::SET_BYTES])
         let attribute = (unit - Unit::ATTRIBUTE) as usize;
         set_operators::union(
             out,
-            bitset::part(sets, Type::SET_BYTES * attribute, Type::SET_BYTES),
+            byte_slices::part(sets, Type::SET_BYTES * attribute, Type::SET_BYTES),
         );
     }
 }

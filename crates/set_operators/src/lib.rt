@@ -61,7 +61,7 @@ pub fn combine(op: SetOp, dst: &mut [u8], src: &[u8])
     }
     let mut i = 0;
     while i < dst.len() {
-        dst[i] = apply(op, dst[i], bitset::byte(src, i));
+        dst[i] = apply(op, dst[i], byte_slices::byte(src, i));
         i += 1;
     }
 }
@@ -108,7 +108,7 @@ pub fn meets(a: &[u8], b: &[u8]) -> bool
     let mut common: u8 = 0;
     let mut i = 0;
     while i < a.len() {
-        common = common | (a[i] & bitset::byte(b, i));
+        common = common | (a[i] & byte_slices::byte(b, i));
         i += 1;
     }
     common != 0
@@ -122,7 +122,7 @@ pub fn equal(a: &[u8], b: &[u8]) -> bool
     let mut differing: u8 = 0;
     let mut i = 0;
     while i < longer {
-        differing = differing | (bitset::byte(a, i) ^ bitset::byte(b, i));
+        differing = differing | (byte_slices::byte(a, i) ^ byte_slices::byte(b, i));
         i += 1;
     }
     differing == 0

@@ -14,10 +14,11 @@ use lib.ListN.{length, getD, take}
 use lib.Seq.{getD-take}
 use borrow.Author.Tests.{lt-ltb, le-ltb, eq-eqb, ne-eqb}
 use Rattle.bitset.specs.Sets.{bit, member, setOf, unionOf}
-use Rattle.bitset.specs.Parts.{part, put}
+use Rattle.byte_slices.specs.Parts.{part, put}
 use Rattle.bitset.specs.Relations.{granted}
 use Rattle.bitset.proofs.SetLaws.{set-eq, setOf-ext, length-setOf, map-setOf, member-past, member-one, length-union}
-use Rattle.bitset.proofs.PartLaws.{length-part, length-part-le, small-part, part-part, part-setOf, put-same, put-part, put-setOf}
+use Rattle.byte_slices.proofs.PartLaws.{length-part, length-part-le, small-part, part-part, put-same, put-part}
+use Rattle.bitset.proofs.SetParts.{part-setOf, put-setOf}
 
 -- number n of row u, and back
 pub row-of : (w u n : ℕ) → n < 8 * w → (8 * (w * u) + n) / (8 * w) ≡ u

@@ -9,11 +9,11 @@ use native.Mathlib.Numerals.{add-one}
 use native.Mathlib.Omega.{arith}
 use lib.ListN.{length, getD, take}
 use Rattle.bitset.specs.Sets.{member, setOf, tabulate, fromBits, equal, emptied}
-use Rattle.bitset.specs.Parts.{part}
+use Rattle.byte_slices.specs.Parts.{part}
 use Rattle.bitset.specs.Relations.{joined, relation, granted}
 use Rattle.bitset.proofs.BitLaws.{fromBits-ext}
 use Rattle.bitset.proofs.SetLaws.{tabulate-ext, setOf-ext, member-setOf, length-setOf, small-setOf}
-use Rattle.bitset.proofs.PartLaws.{part-setOf}
+use Rattle.bitset.proofs.SetParts.{part-setOf}
 use Rattle.set_operators.proofs.TestLaws.{equal-bytes}
 use Rattle.set_rows.proofs.GrantLaws.{row-of, place-of, row-fits, member-take}
 

@@ -9,8 +9,8 @@ ghost use Prim.Native.Nat.{_+_, _*_, _<_};
 ghost use Rattle.bitset.specs.Sets as sets;
 ghost use Rattle.bitset.specs.Sets.{member, inserted, removed, unionOf, copyOf, within, Gap};
 ghost use Rattle.set_operators.specs.Operators.{combined};
-ghost use Rattle.bitset.specs.Parts as parts;
-ghost use Rattle.bitset.specs.Parts.{put};
+ghost use Rattle.byte_slices.specs.Parts as parts;
+ghost use Rattle.byte_slices.specs.Parts.{put};
 ghost use Rattle.bitset.specs.Relations.{granted, Rows};
 
 // ---- the set in the w bytes at offset o of a larger slice
@@ -19,28 +19,28 @@ ghost use Rattle.bitset.specs.Relations.{granted, Rows};
 pub fn contains_at(table: &[u8], o: usize, w: usize, n: usize) -> bool
     ensures { λ r. ⌜ r ≡ member (parts.part (now (table .entry)) o w) n ⌝ }
 {
-    bitset::contains(bitset::part(table, o, w), n)
+    bitset::contains(byte_slices::part(table, o, w), n)
 }
 
 // Whether every number in the set at o is below total.
 pub fn is_within_at(table: &[u8], o: usize, w: usize, total: usize) -> bool
     ensures { λ r. ⌜ r ≡ within total (parts.part (now (table .entry)) o w) ⌝ }
 {
-    bitset::is_within(bitset::part(table, o, w), total)
+    bitset::is_within(byte_slices::part(table, o, w), total)
 }
 
 // Whether a number is in the set at o and in b.
 pub fn meets_at(table: &[u8], o: usize, w: usize, b: &[u8]) -> bool
     ensures { λ r. ⌜ r ≡ sets.meets (parts.part (now (table .entry)) o w) (now (b .entry)) ⌝ }
 {
-    set_operators::meets(bitset::part(table, o, w), b)
+    set_operators::meets(byte_slices::part(table, o, w), b)
 }
 
 // Whether the same numbers are in the set at o and in b.
 pub fn equal_at(table: &[u8], o: usize, w: usize, b: &[u8]) -> bool
     ensures { λ r. ⌜ r ≡ sets.equal (parts.part (now (table .entry)) o w) (now (b .entry)) ⌝ }
 {
-    set_operators::equal(bitset::part(table, o, w), b)
+    set_operators::equal(byte_slices::part(table, o, w), b)
 }
 
 // How many numbers the set at o has.
@@ -48,22 +48,22 @@ pub fn count_at(table: &[u8], o: usize, w: usize) -> usize
     requires { ⌜ 8 * w < 18446744073709551616 ⌝ }
     ensures { λ r. ⌜ r ≡ sets.count (parts.part (now (table .entry)) o w) ⌝ }
 {
-    bitset::count(bitset::part(table, o, w))
+    bitset::count(byte_slices::part(table, o, w))
 }
 
 // dst becomes what the set at o has, as far as dst reaches.
 pub fn read_at(dst: &mut [u8], table: &[u8], o: usize, w: usize)
     ensures { λ _. ⌜ now (dst .exit) ≡ copyOf (now (dst .entry)) (parts.part (now (table .entry)) o w) ⌝ }
 {
-    set_operators::copy(dst, bitset::part(table, o, w));
+    set_operators::copy(dst, byte_slices::part(table, o, w));
 }
 
 // Puts n into the set at o.
 pub fn insert_at(table: &mut [u8], o: usize, w: usize, n: usize)
     ensures { λ _. ⌜ now (table .exit) ≡ put (now (table .entry)) o (inserted (parts.part (now (table .entry)) o w) n) ⌝ }
 {
-    let start = bitset::least(o, table.len());
-    let end = bitset::end_of(o, w, table.len());
+    let start = byte_slices::least(o, table.len());
+    let end = byte_slices::end_of(o, w, table.len());
     bitset::insert(&mut table[start..end], n);
 }
 
@@ -71,8 +71,8 @@ pub fn insert_at(table: &mut [u8], o: usize, w: usize, n: usize)
 pub fn remove_at(table: &mut [u8], o: usize, w: usize, n: usize)
     ensures { λ _. ⌜ now (table .exit) ≡ put (now (table .entry)) o (removed (parts.part (now (table .entry)) o w) n) ⌝ }
 {
-    let start = bitset::least(o, table.len());
-    let end = bitset::end_of(o, w, table.len());
+    let start = byte_slices::least(o, table.len());
+    let end = byte_slices::end_of(o, w, table.len());
     bitset::remove(&mut table[start..end], n);
 }
 
@@ -80,8 +80,8 @@ pub fn remove_at(table: &mut [u8], o: usize, w: usize, n: usize)
 fn combine_at(op: SetOp, table: &mut [u8], o: usize, w: usize, src: &[u8])
     ensures { λ _. ⌜ now (table .exit) ≡ put (now (table .entry)) o (combined op (parts.part (now (table .entry)) o w) (now (src .entry))) ⌝ }
 {
-    let start = bitset::least(o, table.len());
-    let end = bitset::end_of(o, w, table.len());
+    let start = byte_slices::least(o, table.len());
+    let end = byte_slices::end_of(o, w, table.len());
     set_operators::combine(op, &mut table[start..end], src);
 }
 
@@ -105,7 +105,7 @@ pub fn copy_at(table: &mut [u8], o: usize, w: usize, src: &[u8])
 fn gap_from(set: &[u8], n: usize) -> usize
     ensures { λ r. ⌜ Gap (now (set .entry)) n r ⌝ }
 {
-    let rest = (256 + bitset::byte(set, n / 8) as usize) >> (n % 8);
+    let rest = (256 + byte_slices::byte(set, n / 8) as usize) >> (n % 8);
     usize::trailing_zeros(rest) as usize
 }
 
@@ -133,11 +133,11 @@ pub fn grant(body: &mut [u8], us: &[u8], rs: &[u8], w: usize)
     while u < rows {
         let gap = gap_from(us, u);
         if 0 < gap {
-            u += bitset::least(gap, rows - u);
+            u += byte_slices::least(gap, rows - u);
             continue;
         }
         let start = w * u;
-        let reach = bitset::least(w, body.len() - start);
+        let reach = byte_slices::least(w, body.len() - start);
         union_at(body, start, reach, rs);
         u += 1;
     }
@@ -147,7 +147,7 @@ pub fn grant(body: &mut [u8], us: &[u8], rs: &[u8], w: usize)
 pub fn grant_at(table: &mut [u8], o: usize, size: usize, us: &[u8], rs: &[u8], w: usize)
     ensures { λ _. ⌜ now (table .exit) ≡ put (now (table .entry)) o (granted w (parts.part (now (table .entry)) o size) (now (us .entry)) (now (rs .entry))) ⌝ }
 {
-    let start = bitset::least(o, table.len());
-    let end = bitset::end_of(o, size, table.len());
+    let start = byte_slices::least(o, table.len());
+    let end = byte_slices::end_of(o, size, table.len());
     grant(&mut table[start..end], us, rs, w);
 }

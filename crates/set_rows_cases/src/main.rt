@@ -5,7 +5,7 @@
 const PLACES: [usize; 6] = [0, 1, 3, 20, 24, 18446744073709551615];
 
 fn ask_part(table: &[u8], o: usize, w: usize) {
-    set_show::line(b"part", o, w, bitset::part(table, o, w));
+    set_show::line(b"part", o, w, byte_slices::part(table, o, w));
     set_show::yes_or_no(b"contains_at", o, w, set_rows::contains_at(table, o, w, 7));
     if w < 65536 {
         set_show::how_many(b"count_at", o, w, set_rows::count_at(table, o, w));

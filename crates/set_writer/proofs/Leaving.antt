@@ -14,10 +14,10 @@ use Rattle.policy.specs.Grammar.{operands, setIn}
 use Rattle.policy.specs.Reading.{referS}
 use Rattle.policy.specs.Names.{Environment}
 use Rattle.statement_code.specs.Code.{setCode, endUnit}
-use Rattle.set_writer.specs.Writing.{Wrote}
+use Rattle.statement_code.specs.Writing.{Wrote}
 use Rattle.set_writer.specs.Sets.{setUnits, rowUnits, behind, Operands, Answers}
 use Rattle.set_writer.specs.declared.SetWritten.{SetWritten}
-use Rattle.set_writer.proofs.Putting.{wrote-then}
+use Rattle.statement_code.proofs.Putting.{wrote-then}
 
 -- ---- a row by its first operand
 

@@ -1,4 +1,3 @@
-pub mod Putting
 pub mod Referring
 pub mod Operating
 pub mod Leaving

@@ -17,14 +17,14 @@ use Rattle.items.specs.declared.Item.{Item}
 use Rattle.items.proofs.Frames.{around-of, closes, by-word, by-part, by-close, by-end, too-deep}
 use Rattle.items.proofs.Items.{word-lent}
 use Rattle.statement_code.specs.Code.{referenceUnit, setCode, endUnit}
-use Rattle.set_writer.specs.Writing.{Wrote, Keeps, Stored}
+use Rattle.statement_code.specs.Writing.{Wrote, Keeps, Stored}
 use Rattle.scopes.specs.Symbols.{Symbols}
 use Rattle.set_writer.specs.Naming.{Refers}
 use Rattle.set_writer.specs.Sets.{Begins, Past, Moves, Answers, WritesSet}
 use Rattle.set_writer.specs.declared.SetStart.{SetStart}
 use Rattle.set_writer.specs.declared.NameUnit.{NameUnit}
 use Rattle.set_writer.specs.declared.SetWritten.{SetWritten}
-use Rattle.set_writer.proofs.Putting.{keeps-then}
+use Rattle.statement_code.proofs.Putting.{keeps-then}
 use Rattle.set_writer.proofs.Referring.{known, unknown}
 use Rattle.set_writer.proofs.Leaving.{split-word, split-part, is-name, Left, begun, step, stop, done, cut, undeclared}
 

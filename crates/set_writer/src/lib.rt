@@ -4,7 +4,6 @@
 ghost use mathlib.Core.Path.{_≡_};
 ghost use Rattle.policy.specs.Words.{setWord};
 ghost use Rattle.words.specs.Numbers.{wordOf};
-ghost use Rattle.set_writer.specs.Writing.{Stored};
 ghost use Rattle.set_writer.specs.Naming.{Refers};
 ghost use Rattle.set_writer.specs.Sets.{operatorUnit, Begins, WritesSet};
 use items::Item;
@@ -29,17 +28,6 @@ struct SetStart {
 pub enum SetWritten {
     Next { at: usize, to: usize },
     Undeclared,
-}
-
-// Writes a unit at a place, if the code reaches there, and answers the next place.
-pub fn put_unit(code: &mut [u16], at: usize, unit: u16) -> usize
-    ensures { λ r. ⌜ Stored (now (code .entry)) at unit (now (code .exit)) r ⌝ }
-{
-    if at < code.len() {
-        code[at] = unit;
-        return at + 1;
-    }
-    at
 }
 
 // The unit of what a name names in a family.
@@ -110,7 +98,7 @@ pub fn write_set(
 {
     let begun = set_start(text, at);
     let mut i = begun.next;
-    let mut u = put_unit(code, to, begun.operator);
+    let mut u = statement_code::put_unit(code, to, begun.operator);
     loop {
         let item = items::next_item(text, i);
         match item {
@@ -126,7 +114,7 @@ pub fn write_set(
                 let NameUnit::Unit(unit) = referred else {
                     return SetWritten::Undeclared;
                 };
-                u = put_unit(code, u, unit);
+                u = statement_code::put_unit(code, u, unit);
                 i = next;
             }
             Item::Open { next, .. } => {
@@ -141,7 +129,7 @@ pub fn write_set(
                 u = v;
             }
             Item::Close { next } => {
-                let v = put_unit(code, u, Unit::END);
+                let v = statement_code::put_unit(code, u, Unit::END);
                 return SetWritten::Next { at: next, to: v };
             }
             Item::End => return SetWritten::Undeclared,

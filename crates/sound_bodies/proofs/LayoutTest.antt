@@ -63,25 +63,25 @@ follow-law (suc k) o p t h = by (λ l. follow-law k (o + unle (take 4 (drop 4 p)
 
 -- a table is laid out: long enough, of the edition, with eight bodies, and these follow each other
 pub laid-out : (t : List ℕ) → isSome (bodiesIn t)
-    ≡ (leb 68 (length t) && eqb (unle (take 2 t)) 1 && eqb (unle (take 2 (drop 2 t))) 8 && follow 8 68 (length t) (drop 4 t))
+    ≡ (leb firstBody (length t) && eqb (unle (take 2 t)) 1 && eqb (unle (take 2 (drop 2 t))) 8 && follow 8 firstBody (length t) (drop 4 t))
 unfolding bodiesIn
-laid-out t = by (leb 68 (length t)) refl
+laid-out t = by (leb firstBody (length t)) refl
   where
-    rest : (b c : Bool) → 68 ≤ length t
-        → isSome (cond (b && c) (bodyLengths 8 68 (drop 4 t)) none >>= λ ns. splitBodies ns (drop 68 t)) ≡ (b && c && follow 8 68 (length t) (drop 4 t))
-    rest true true h = follow-law 8 68 (drop 4 t) t h
+    rest : (b c : Bool) → firstBody ≤ length t
+        → isSome (cond (b && c) (bodyLengths 8 firstBody (drop 4 t)) none >>= λ ns. splitBodies ns (drop firstBody t)) ≡ (b && c && follow 8 firstBody (length t) (drop 4 t))
+    rest true true h = follow-law 8 firstBody (drop 4 t) t h
     rest true false h = refl
     rest false c h = refl
 
-    by : (b : Bool) → leb 68 (length t) ≡ b
-        → isSome (cond (b && eqb (unle (take 2 t)) 1 && eqb (unle (take 2 (drop 2 t))) 8) (bodyLengths 8 68 (drop 4 t)) none >>= λ ns. splitBodies ns (drop 68 t))
-        ≡ (b && eqb (unle (take 2 t)) 1 && eqb (unle (take 2 (drop 2 t))) 8 && follow 8 68 (length t) (drop 4 t))
-    by true e = rest (eqb (unle (take 2 t)) 1) (eqb (unle (take 2 (drop 2 t))) 8) (leb-true 68 (length t) e)
+    by : (b : Bool) → leb firstBody (length t) ≡ b
+        → isSome (cond (b && eqb (unle (take 2 t)) 1 && eqb (unle (take 2 (drop 2 t))) 8) (bodyLengths 8 firstBody (drop 4 t)) none >>= λ ns. splitBodies ns (drop firstBody t))
+        ≡ (b && eqb (unle (take 2 t)) 1 && eqb (unle (take 2 (drop 2 t))) 8 && follow 8 firstBody (length t) (drop 4 t))
+    by true e = rest (eqb (unle (take 2 t)) 1) (eqb (unle (take 2 (drop 2 t))) 8) (leb-true firstBody (length t) e)
     by false e = refl
 
 -- ONE BODY AFTER THE OTHER: the bodies from number k on follow from o on where all do
 
-module _ (t : List ℕ) (o k : ℕ) (less : k < 8) (left : follow (8 - k) o (length t) (drop (4 + 8 * k) t) ≡ follow 8 68 (length t) (drop 4 t)) where
+module _ (t : List ℕ) (o k : ℕ) (less : k < 8) (left : follow (8 - k) o (length t) (drop (4 + 8 * k) t) ≡ follow 8 firstBody (length t) (drop 4 t)) where
   step : follow (8 - k) o (length t) (drop (4 + 8 * k) t) ≡ (eqb (startIn t k) o && follow (8 - (k + 1)) (o + lengthIn t k) (length t) (drop (4 + 8 * (k + 1)) t))
   unfolding follow
   step =
@@ -90,15 +90,15 @@ module _ (t : List ℕ) (o k : ℕ) (less : k < 8) (left : follow (8 - k) o (len
       let e : 4 + 8 * k + 8 ≡ 4 + 8 * (k + 1) = omega arith in
       rw (s, drop-drop 4 (4 + 8 * k) t, drop-drop 8 (4 + 8 * k) t, f, e)
 
-  pub follow-not : (startIn t k ≡ o → ⊥) → false ≡ follow 8 68 (length t) (drop 4 t)
+  pub follow-not : (startIn t k ≡ o → ⊥) → false ≡ follow 8 firstBody (length t) (drop 4 t)
   follow-not h = rw (step, ne-eqb (startIn t k) o h) at left
 
   pub follow-next : {n : ℕ} → startIn t k ≡ o → n ≡ lengthIn t k
-      → follow (8 - (k + 1)) (o + n) (length t) (drop (4 + 8 * (k + 1)) t) ≡ follow 8 68 (length t) (drop 4 t)
+      → follow (8 - (k + 1)) (o + n) (length t) (drop (4 + 8 * (k + 1)) t) ≡ follow 8 firstBody (length t) (drop 4 t)
   follow-next h e = rw e (rw (step, eq-eqb (startIn t k) o h) at left)
 
-pub follow-end : (t : List ℕ) (o k : ℕ) → 8 ≤ k → follow (8 - k) o (length t) (drop (4 + 8 * k) t) ≡ follow 8 68 (length t) (drop 4 t)
-    → leb o (length t) ≡ follow 8 68 (length t) (drop 4 t)
+pub follow-end : (t : List ℕ) (o k : ℕ) → 8 ≤ k → follow (8 - k) o (length t) (drop (4 + 8 * k) t) ≡ follow 8 firstBody (length t) (drop 4 t)
+    → leb o (length t) ≡ follow 8 firstBody (length t) (drop 4 t)
 unfolding follow
 follow-end t o k h e = let z : 8 - k ≡ 0 = omega arith in rw z at e
 
@@ -155,10 +155,10 @@ pairs-at (suc m) o p t ns bs e f k h =
 pub bodies-at : (t : List ℕ) (bs : List (List ℕ)) → bodiesIn t ≡ some bs → (k : ℕ) → k < 8 → BodyAt t bs k
 unfolding bodiesIn
 bodies-at t bs e k h =
-    let test = leb 68 (length t) && eqb (unle (take 2 t)) 1 && eqb (unle (take 2 (drop 2 t))) 8 in
-    let s = bound (cond test (bodyLengths 8 68 (drop 4 t)) none) (λ ns. splitBodies ns (drop 68 t)) bs e in
-    let c = if-some test (bodyLengths 8 68 (drop 4 t)) (s .0) (s .1) in
-    let r = pairs-at 8 68 (drop 4 t) t (s .0) bs (c .1) (s .2) k h in
+    let test = leb firstBody (length t) && eqb (unle (take 2 t)) 1 && eqb (unle (take 2 (drop 2 t))) 8 in
+    let s = bound (cond test (bodyLengths 8 firstBody (drop 4 t)) none) (λ ns. splitBodies ns (drop firstBody t)) bs e in
+    let c = if-some test (bodyLengths 8 firstBody (drop 4 t)) (s .0) (s .1) in
+    let r = pairs-at 8 firstBody (drop 4 t) t (s .0) bs (c .1) (s .2) k h in
     let start : drop (8 * k) (drop 4 t) ≡ drop (4 + 8 * k) t = drop-drop (8 * k) 4 t in
     let sum : 4 + (8 * k + 4) ≡ 8 + 8 * k = omega arith in
     let size : drop (8 * k + 4) (drop 4 t) ≡ drop (8 + 8 * k) t = drop-drop (8 * k + 4) 4 t ∙ ap (λ (n : ℕ). drop n t) sum in

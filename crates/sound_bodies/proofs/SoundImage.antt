@@ -9,7 +9,7 @@ use mathlib.Core.Option.{Option, none, some, Option·some-injective}
 use lib.Dec.{eqb, leb, ltb}
 use lib.ListN.{length, getD, take, drop}
 use borrow.Author.Tests.{ltb-true}
-use Rattle.bitset.specs.Parts.{part}
+use Rattle.byte_slices.specs.Parts.{part}
 use Rattle.bitset.specs.Relations.{joined}
 use Rattle.policy.specs.Basics.{_>>=_, given, each, eachOf, every}
 use Rattle.policy.specs.Statements.{Family, users, roles, types, thingOf, attributeOf, Declaration, count, classNames, permissions}
@@ -20,6 +20,7 @@ use Rattle.policy.specs.Sound.{goodFrom, goodSets, goodTransition, goodConstrai
 use Rattle.policy.specs.Sound.{wellFormed, bodiesIn, imageFrom, imageIn}
 use Rattle.policy.proofs.Lists.{both-true, true-both, same-tests}
 use Rattle.policy.proofs.Options.{given-some, given-passes}
+use Rattle.policy.specs.Encode.{firstBody}
 use Rattle.table_laws.proofs.Constraints.{rowsIn}
 use Rattle.table_laws.proofs.ListLaws.{bound-then}
 use Rattle.table_laws.proofs.WellFormed.{formed}
@@ -129,13 +130,13 @@ module _ (t : List ℕ) (bs : List (List ℕ)) (at : (k : ℕ) → k < 8 → Bod
       ))
 
 -- body 1 starts right after the header
-pub names-at : (t : List ℕ) (bs : List (List ℕ)) → bodiesIn t ≡ some bs → getD bs 0 [] ≡ part t 68 (lengthIn t 0)
+pub names-at : (t : List ℕ) (bs : List (List ℕ)) → bodiesIn t ≡ some bs → getD bs 0 [] ≡ part t firstBody (lengthIn t 0)
 unfolding part joined
 names-at t bs e =
     let first = bodies-at t bs e 0 (omega arith) in first .bytes ∙ ap (λ (s : ℕ). take (lengthIn t 0) (drop s t)) (first .start)
 
 -- A TABLE IS SOUND EXACTLY WHERE IT IS LAID OUT, ITS NAMES ARE SOUND, AND THE OTHER BODIES ARE SOUND FOR WHAT THEY DECLARE
-pub image-sound : (t : List ℕ) → isSome (imageIn t) ≡ (isSome (bodiesIn t) && passes (soundNames (part t 68 (lengthIn t 0))) (λ ds. bodiesSound (totalsOf ds) t))
+pub image-sound : (t : List ℕ) → isSome (imageIn t) ≡ (isSome (bodiesIn t) && passes (soundNames (part t firstBody (lengthIn t 0))) (λ ds. bodiesSound (totalsOf ds) t))
 unfolding imageIn soundNames
 image-sound t = by (bodiesIn t) refl
   where
@@ -150,14 +151,14 @@ image-sound t = by (bodiesIn t) refl
 
     by : (o : Option (List (List ℕ))) → bodiesIn t ≡ o
         → isSome (o >>= λ bs. imageFrom bs >>= λ i. given (wellFormed i) i)
-        ≡ (isSome o && passes (soundNames (part t 68 (lengthIn t 0))) (λ ds. bodiesSound (totalsOf ds) t))
+        ≡ (isSome o && passes (soundNames (part t firstBody (lengthIn t 0))) (λ ds. bodiesSound (totalsOf ds) t))
     by none e = refl
     by (some bs) e =
         with-names bs e (namesAt (getD bs 0 [])) refl
         ∙ ap (λ (b : List ℕ). passes (soundNames b) (λ ds. bodiesSound (totalsOf ds) t)) (names-at t bs e)
 
 -- THE NAMES OF THE IMAGE THAT A SOUND TABLE HOLDS ARE THOSE OF BODY 1
-pub image-names : (t : List ℕ) (i : Image) → imageIn t ≡ some i → soundNames (part t 68 (lengthIn t 0)) ≡ some (i .names)
+pub image-names : (t : List ℕ) (i : Image) → imageIn t ≡ some i → soundNames (part t firstBody (lengthIn t 0)) ≡ some (i .names)
 unfolding imageIn soundNames
 image-names t i h =
     bound-then (bodiesIn t) _ i h λ bs cut h.
@@ -238,10 +239,10 @@ module _ (t : List ℕ) where
   not-laid-out e = image-sound t ∙ rw e
 
   -- its names are not sound
-  pub names-not-sound : soundNames (part t 68 (lengthIn t 0)) ≡ none → isSome (imageIn t) ≡ false
+  pub names-not-sound : soundNames (part t firstBody (lengthIn t 0)) ≡ none → isSome (imageIn t) ≡ false
   names-not-sound e = image-sound t ∙ rw e (and-false (isSome (bodiesIn t)))
 
   -- it is laid out, and its names are sound: the other bodies decide
-  pub bodies-decide : isSome (bodiesIn t) ≡ true → (ds : List Declaration) → soundNames (part t 68 (lengthIn t 0)) ≡ some ds → (ps : List ℕ) → PermissionsOf ds ps
+  pub bodies-decide : isSome (bodiesIn t) ≡ true → (ds : List Declaration) → soundNames (part t firstBody (lengthIn t 0)) ≡ some ds → (ps : List ℕ) → PermissionsOf ds ps
       → isSome (imageIn t) ≡ bodiesSound (totalsIn (countsOf ds) ps) t
   bodies-decide e ds f ps k = image-sound t ∙ rw (e, f) (sym (counted-sound ds ps k t))

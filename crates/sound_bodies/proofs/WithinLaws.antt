@@ -6,9 +6,10 @@ use mathlib.Core.Bool.{Bool, true, false, false≢true}
 use mathlib.Core.List.{List}
 use native.Mathlib.Decide.{decLt}
 use Rattle.bitset.specs.Sets.{member, within}
-use Rattle.bitset.specs.Parts.{part}
+use Rattle.byte_slices.specs.Parts.{part}
 use Rattle.bitset.proofs.SetLaws.{member-past}
-use Rattle.bitset.proofs.PartLaws.{length-part-le, member-part}
+use Rattle.byte_slices.proofs.PartLaws.{length-part-le}
+use Rattle.bitset.proofs.SetParts.{member-part}
 use Rattle.bitset.proofs.AllLaws.{within-below, within-of}
 
 module _ (t : List ℕ) (o w total : ℕ) where

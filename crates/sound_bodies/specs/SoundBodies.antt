@@ -4,16 +4,15 @@
 -- where the names of body 1 are known by their numbers alone. Bytes past the end read 0. Assumes nothing.
 use Prim.Native.Nat.{ℕ, zero, suc, _+_, _*_, _/_}
 use mathlib.Core.Bool.{Bool, _&&_}
-use mathlib.Core.List.{List, []}
-use mathlib.Core.Option.{Option}
+use mathlib.Core.List.{List}
 use lib.Dec.{eqb, leb, ltb}
 use lib.ListN.{take, drop}
 use Rattle.bitset.specs.Sets.{within}
-use Rattle.policy.specs.Basics.{_>>=_, given, each, every, unle}
-use Rattle.policy.specs.Statements.{Family, users, roles, types, Declaration}
+use Rattle.policy.specs.Basics.{each, every, unle}
+use Rattle.policy.specs.Statements.{Family, users, roles, types}
 use Rattle.policy.specs.Maxima.{maxTransitions, maxConstraints, maxRows}
 use Rattle.policy.specs.Image.{TransitionEntry}
-use Rattle.policy.specs.Sound.{pieces, goodFrom, namesAt, transitionAt, headAt}
+use Rattle.policy.specs.Sound.{pieces, transitionAt, headAt}
 use Rattle.table_reader.specs.Records.{startIn, lengthIn}
 use Rattle.sound_constraints.specs.Totals.{Totals}
 use Rattle.sound_constraints.specs.SoundRows.{constraintsFit}

@@ -13,7 +13,7 @@ ghost use mathlib.Core.Path.{_≡_};
 ghost use Prim.Native.Nat.{_+_, _*_, _<_};
 ghost use lib.ListN.{length, take, drop};
 ghost use Rattle.bitset.specs.Sets.{within};
-ghost use Rattle.bitset.specs.Parts.{part};
+ghost use Rattle.byte_slices.specs.Parts.{part};
 ghost use Rattle.policy.specs.Sound.{bodiesIn, transitionAt};
 ghost use Rattle.sound_constraints.specs.Totals.{thingsOf, attributesOf, totalsIn};
 ghost use Rattle.sound_constraints.specs.SoundRows.{isSome};
@@ -122,10 +122,10 @@ fn fits_transition(table: &[u8], start: u32, number: u32, counts: NameCounts) ->
     ) {
         return false;
     }
-    if counts.classes <= table_reader::byte_at(table, at + Transition::CLASS_AT) as usize {
+    if counts.classes <= byte_slices::byte(table, at + Transition::CLASS_AT) as usize {
         return false;
     }
-    (table_reader::byte_at(table, at + Transition::NEW_ROLE_AT) as usize) < counts.roles
+    (byte_slices::byte(table, at + Transition::NEW_ROLE_AT) as usize) < counts.roles
 }
 
 // Whether so many transitions from `start` on name nothing undeclared.
@@ -168,17 +168,17 @@ fn transitions_sound(table: &[u8], counts: NameCounts) -> bool
 fn constraints_sound(table: &[u8], counts: NameCounts, permissions: &[usize]) -> bool
     ensures { λ r. ⌜ r ≡ constraintsSound (totalsIn counts (now (permissions .entry))) (now (table .entry)) ⌝ }
 {
-    let heads = table_reader::body_length(table, Section::CONSTRAINTS);
-    let count = heads / Constraint::BYTES as u32;
-    if heads != count * Constraint::BYTES as u32 {
+    let constraint_bytes = table_reader::body_length(table, Section::CONSTRAINTS);
+    let count = constraint_bytes / Constraint::BYTES as u32;
+    if constraint_bytes != count * Constraint::BYTES as u32 {
         return false;
     }
     if (Constraint::MAX as u32) < count {
         return false;
     }
-    let lines = table_reader::body_length(table, Section::ROWS);
-    let rows = lines / Row::BYTES as u32;
-    if lines != rows * Row::BYTES as u32 {
+    let row_bytes = table_reader::body_length(table, Section::ROWS);
+    let rows = row_bytes / Row::BYTES as u32;
+    if row_bytes != rows * Row::BYTES as u32 {
         return false;
     }
     if (Row::MAX as u32) < rows {

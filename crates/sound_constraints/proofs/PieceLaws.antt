@@ -7,8 +7,8 @@ use mathlib.Core.Bool.{Bool, true, false, _&&_}
 use mathlib.Core.List.{List, [], _∷_}
 use lib.ListN.{length, getD, take, drop}
 use lib.Seq.{take-take, take-nil, drop-drop, getD-drop}
-use Rattle.bitset.specs.Parts.{part}
-use Rattle.bitset.proofs.PartLaws.{part-part, getD-part}
+use Rattle.byte_slices.specs.Parts.{part}
+use Rattle.byte_slices.proofs.PartLaws.{part-part, getD-part}
 use Rattle.policy.specs.Basics.{each, every, unle}
 use Rattle.policy.specs.Rows.{row}
 use Rattle.policy.specs.Sound.{pieces, transitionAt, headAt}

@@ -152,7 +152,7 @@ fn rows_fit(table: &[u8], start: u32, first: u16, count: u16, counts: NameCounts
     while 0 < left {
         let row = table_reader::row_at(table, start, number);
         let place = start as usize + Row::BYTES * (number as usize);
-        if table_reader::byte_at(table, place + 3) != 0 {
+        if byte_slices::byte(table, place + 3) != 0 {
             return false;
         }
         if !fits_row(row, counts) {
@@ -201,23 +201,23 @@ fn fits_mask(constraint: ConstraintRecord, counts: NameCounts, permissions: &[us
 }
 
 // Whether so many constraints take up so many rows in order, with none left, and are good. The constraints of 10
-// bytes start at `heads`, the rows of 6 bytes at `start`; `permissions` holds how many permissions each class has.
+// bytes start at `constraints`, the rows of 6 bytes at `start`; `permissions` holds how many permissions each class has.
 pub fn constraints_fit(
     table: &[u8],
-    heads: u32,
+    constraints: u32,
     count: u32,
     start: u32,
     rows: u16,
     counts: NameCounts,
     permissions: &[usize],
 ) -> bool
-    ensures { λ r. ⌜ r ≡ constraintsFit (totalsIn counts (now (permissions .entry))) (each headAt (pieces count 10 (drop heads (now (table .entry)))))
+    ensures { λ r. ⌜ r ≡ constraintsFit (totalsIn counts (now (permissions .entry))) (each headAt (pieces count 10 (drop constraints (now (table .entry)))))
         (pieces rows 6 (drop start (now (table .entry)))) ⌝ }
 {
     let mut next = 0;
     let mut taken = 0;
     while next < count {
-        let head = table_reader::constraint_at(table, heads, next);
+        let head = table_reader::constraint_at(table, constraints, next);
         if head.first != taken {
             return false;
         }

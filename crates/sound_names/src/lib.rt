@@ -33,7 +33,7 @@ fn is_first(table: &[u8], start: usize, at: usize, past: usize, family: usize) -
     requires { ⌜ at + 4 ≤ past ⌝ }
     ensures { λ r. ⌜ r ≡ not (isFound (firstNamed family (between (now (table .entry)) (at + 4) past) (entriesAt (now (table .entry)) start at))) ⌝ }
 {
-    let name = bitset::part(table, at + 4, past - (at + 4));
+    let name = byte_slices::part(table, at + 4, past - (at + 4));
     let tried = name_chains::find_in_section(table, start, at, family, name);
     let found = tried.found;
     match found {

@@ -6,12 +6,13 @@ use mathlib.Core.Bool.{Bool, true, false, false≢true}
 use mathlib.Core.List.{List, []}
 use mathlib.Core.Option.{Option}
 use lib.ListN.{length}
-use Rattle.bitset.specs.Parts.{part}
+use Rattle.byte_slices.specs.Parts.{part}
 use Rattle.bitset.proofs.SetLaws.{length-tabulate, getD-tabulate}
 use Rattle.policy.specs.Statements.{users, roles, types, thingOf, attributeOf, Declaration, permissions}
 use Rattle.policy.specs.Sound.{goodFrom, bodiesIn}
 use Rattle.policy.specs.declared.NameCounts.{NameCounts}
 use Rattle.policy.proofs.Counts.{few-of, few-classes}
+use Rattle.policy.specs.Encode.{firstBody}
 use Rattle.symbols.specs.Section.{between}
 use Rattle.sound_names.specs.declared.Counted as counted
 use Rattle.sound_names.specs.SoundNames.{soundNames, countsOf, countedOf, permissionCounts, permissionsAfter}
@@ -47,31 +48,31 @@ module _ (t ps : List ℕ) {r : counted.Counted} (h : Tells t r ps) where
     where
       by : (q : Bool) → isSound t ≡ q → false ≡ q
       by false e = refl
-      by true e = sym (names-not-sound t (answered-unsound (soundNames (part t 68 (lengthIn t 0))) (sym is ∙ h .counts e .0))) ∙ e
+      by true e = sym (names-not-sound t (answered-unsound (soundNames (part t firstBody (lengthIn t 0))) (sym is ∙ h .counts e .0))) ∙ e
 
 -- the layout refuses
 pub unlaid : (t : List ℕ) → isSome (bodiesIn t) ≡ false → false ≡ isSound t
 unfolding isSound
 unlaid t h = sym (not-laid-out t h)
 
-module _ (t : List ℕ) {end : ℕ} (ends : end ≡ 68 + lengthIn t 0) {r : counted.Counted} (answer : r ≡ countedOf (soundNames (between t 68 end))) where
-  body : between t 68 end ≡ part t 68 (lengthIn t 0)
-  body = ap (part t 68) (omega (arith, ends))
+module _ (t : List ℕ) {end : ℕ} (ends : end ≡ firstBody + lengthIn t 0) {r : counted.Counted} (answer : r ≡ countedOf (soundNames (between t firstBody end))) where
+  body : between t firstBody end ≡ part t firstBody (lengthIn t 0)
+  body = ap (part t firstBody) (omega (arith, ends))
 
-  answer-here : r ≡ countedOf (soundNames (part t 68 (lengthIn t 0)))
+  answer-here : r ≡ countedOf (soundNames (part t firstBody (lengthIn t 0)))
   answer-here = answer ∙ ap (λ (b : List ℕ). countedOf (soundNames b)) body
 
   -- the names refuse
   pub unnamed : r ≡ counted.Counted.Unsound → false ≡ isSound t
   unfolding isSound
-  unnamed is = sym (names-not-sound t (answered-unsound (soundNames (part t 68 (lengthIn t 0))) (sym is ∙ answer-here)))
+  unnamed is = sym (names-not-sound t (answered-unsound (soundNames (part t firstBody (lengthIn t 0))) (sym is ∙ answer-here)))
 
   module _ {n : NameCounts} (is : r ≡ counted.Counted.Sound n) where
-    named : Named n (soundNames (part t 68 (lengthIn t 0)))
-    named = answered-sound n (soundNames (part t 68 (lengthIn t 0))) (sym is ∙ answer-here)
+    named : Named n (soundNames (part t firstBody (lengthIn t 0)))
+    named = answered-sound n (soundNames (part t firstBody (lengthIn t 0))) (sym is ∙ answer-here)
 
     good : goodFrom [] (named .names) ≡ true
-    good = sound-good (part t 68 (lengthIn t 0)) (named .names) (named .are) .1
+    good = sound-good (part t firstBody (lengthIn t 0)) (named .names) (named .are) .1
 
     -- the counts of good names fit into two bytes
     few-counted : Few (countsOf (named .names))
@@ -86,7 +87,7 @@ module _ (t : List ℕ) {end : ℕ} (ends : end ≡ 68 + lengthIn t 0) {r : coun
     pub few : Few n
     few = subst Few (sym (named .counts)) few-counted
 
-    module _ (before : List ℕ) {ps : List ℕ} (after : ps ≡ permissionsAfter (soundNames (between t 68 end)) before) where
+    module _ (before : List ℕ) {ps : List ℕ} (after : ps ≡ permissionsAfter (soundNames (between t firstBody end)) before) where
       permissions-counted : ps ≡ permissionCounts (named .names)
       permissions-counted = after ∙ ap (λ (o : Option (List Declaration)). permissionsAfter o before) (ap soundNames body ∙ named .are)
 

@@ -4,7 +4,7 @@ use Prim.Native.Nat.{ℕ, _+_}
 use mathlib.Core.List.{List, [], _∷_, _++_}
 use Rattle.bitset.specs.Relations.{joined}
 use Rattle.policy.specs.Basics.{each}
-use Rattle.policy.specs.Statements.{Family, users, roles, types, Sort, thingOf, attributeOf, Declaration, plain, class, Reference, thing, attribute, SetExpr}
+use Rattle.policy.specs.Statements.{Family, users, roles, types, thingOf, attributeOf, Declaration, plain, class, Reference, thing, attribute, SetExpr}
 use Rattle.policy.specs.Statements.{nameS, allS, notS, andS, orS, xorS, unionS, emptyS, Relation, userrole, roletype, roleallow, Statement, declare}
 use Rattle.policy.specs.Statements.{attributeset, gives, roletransition, constrain, Line, Policy}
 

@@ -1,10 +1,12 @@
-// The units of the statement code that the parser writes and the resolver reads; what they stand for is in specs/.
+// The units of the statement code that the parser writes and the resolver reads, and how one is written; what they stand for is
+// in specs/.
 use policy::Family;
 use policy::Relation;
 ghost use mathlib.Core.Path.{_≡_};
 ghost use Prim.Native.Nat.{_≤_};
 ghost use Rattle.policy.specs.Answers.{familyOf, relationOf};
 ghost use Rattle.statement_code.specs.Code.{familyNumber, relationNumber};
+ghost use Rattle.statement_code.specs.Writing.{Stored};
 
 // A unit of the code.
 pub struct Unit(pub u16);
@@ -58,4 +60,15 @@ pub fn relation_number(relation: Relation) -> u16
         Relation::RoleType => 1,
         Relation::RoleAllow => 2,
     }
+}
+
+// Writes a unit at a place, if the code reaches there, and answers the next place.
+pub fn put_unit(code: &mut [u16], at: usize, unit: u16) -> usize
+    ensures { λ r. ⌜ Stored (now (code .entry)) at unit (now (code .exit)) r ⌝ }
+{
+    if at < code.len() {
+        code[at] = unit;
+        return at + 1;
+    }
+    at
 }

@@ -6,9 +6,9 @@ use mathlib.Core.Path.{_≡_, refl, sym, ap, ap₂, _∙_}
 use mathlib.Core.List.{List, [], _++_}
 use lib.ListN.{length, take, drop, length-append, length-drop}
 use lib.Seq.{take-at}
-use Rattle.bitset.specs.Parts.{put}
-use Rattle.set_writer.specs.Writing.{Wrote}
-use Rattle.bitset.proofs.PartLaws.{put-none, put-put}
+use Rattle.byte_slices.specs.Parts.{put}
+use Rattle.statement_code.specs.Writing.{Wrote}
+use Rattle.byte_slices.proofs.PartLaws.{put-none, put-put}
 use Rattle.statement_reader.specs.Memory.{Starts}
 
 -- nothing is there yet

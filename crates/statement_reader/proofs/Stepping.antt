@@ -10,7 +10,7 @@ use mathlib.Core.Option.{Option, none, some}
 use lib.Dec.{ltb, leb}
 use lib.ListN.{length, take, length-append}
 use lib.Seq.{take-take, length-take-le}
-use Rattle.bitset.specs.Parts.{put}
+use Rattle.byte_slices.specs.Parts.{put}
 use Rattle.bitset.specs.Relations.{joined}
 use Rattle.lexer.specs.Forms.{framesAt}
 use Rattle.policy.specs.Basics.{Name, each}
@@ -30,7 +30,7 @@ use Rattle.table_laws.proofs.Records.{head-wide, row-wide}
 use Rattle.reading_laws.proofs.ReadThen.{line}
 use Rattle.statement_code.specs.Code.{declarationCode, statementCode, codeOf}
 use Rattle.code_laws.proofs.CodeFits.{code-last}
-use Rattle.set_writer.specs.Writing.{Wrote}
+use Rattle.statement_code.specs.Writing.{Wrote}
 use Rattle.declarations.specs.Declaring as declaring
 use Rattle.declarations.specs.Declaring.{DeclaresAt, Declares}
 use Rattle.declarations.specs.declared.Declared.{Declared}

@@ -14,8 +14,8 @@ use Rattle.policy.specs.Grammar.{formed}
 use Rattle.policy.specs.Reading.{resolved}
 use Rattle.policy.specs.Names.{Environment}
 use Rattle.statement_code.specs.Code.{relationNumber, statementCode}
-use Rattle.set_writer.specs.Writing.{Wrote, Stored}
-use Rattle.set_writer.proofs.Putting.{wrote-then, keeps-then}
+use Rattle.statement_code.specs.Writing.{Wrote, Stored}
+use Rattle.statement_code.proofs.Putting.{wrote-then, keeps-then}
 use Rattle.statement_writer.specs.Naming.{namesUnits, AnswersNames, WritesNames}
 use Rattle.statement_writer.specs.Coding.{Stores, Answers, WritesStatement}
 use Rattle.statement_writer.specs.declared.Kind.{Kind}

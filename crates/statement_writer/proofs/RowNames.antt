@@ -11,9 +11,9 @@ use Rattle.policy.specs.Names.{Environment}
 use Rattle.items.specs.declared.Item.{Item}
 use Rattle.items.proofs.Frames.{FramesSeen, by-word}
 use Rattle.items.proofs.Items.{word-lent}
-use Rattle.set_writer.specs.Writing.{Stored}
+use Rattle.statement_code.specs.Writing.{Stored}
 use Rattle.set_writer.specs.declared.NameUnit.{NameUnit}
-use Rattle.set_writer.proofs.Putting.{wrote-then, keeps-then, keeps-all}
+use Rattle.statement_code.proofs.Putting.{wrote-then, keeps-then, keeps-all}
 use Rattle.statement_writer.specs.Naming.{unitIn, referredBy, Names, firstUnit, behindFirst, namesUnits, behindNames, Past, Moves, AnswersNames, WritesNames}
 use Rattle.statement_writer.specs.declared.Kind.{Kind}
 use Rattle.statement_writer.specs.declared.NamesWritten.{NamesWritten}

@@ -21,7 +21,7 @@ use Rattle.items.proofs.Frames.{FramesSeen, by-part}
 use Rattle.set_writer.specs.Sets as sets
 use Rattle.set_writer.specs.Sets.{WritesSet}
 use Rattle.set_writer.specs.declared.SetWritten.{SetWritten}
-use Rattle.set_writer.proofs.Putting.{wrote-then, keeps-then}
+use Rattle.statement_code.proofs.Putting.{wrote-then, keeps-then}
 use Rattle.statement_writer.specs.Naming.{firstUnit, behindFirst, AnswersNames, WritesNames}
 use Rattle.statement_writer.specs.Coding.{Stores, Answers, WritesStatement}
 use Rattle.statement_writer.specs.declared.Kind.{Kind}

@@ -12,7 +12,7 @@ use Rattle.policy.specs.Reading.{resolved}
 use Rattle.policy.specs.Names.{Environment}
 use Rattle.statement_code.specs.Code.{statementCode}
 use Rattle.scopes.specs.Symbols.{Symbols}
-use Rattle.set_writer.specs.Writing.{Wrote, Keeps}
+use Rattle.statement_code.specs.Writing.{Wrote, Keeps}
 use Rattle.statement_writer.specs.declared.CodeWritten.{CodeWritten}
 
 -- units are written from the place to on, and u is the place after them

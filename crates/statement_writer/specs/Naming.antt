@@ -11,7 +11,7 @@ use Rattle.policy.specs.Encode.{sortCode}
 use Rattle.policy.specs.Names.{refer, Environment, numberIn}
 use Rattle.statement_code.specs.Code.{referenceUnit}
 use Rattle.scopes.specs.Symbols.{Symbols}
-use Rattle.set_writer.specs.Writing.{Wrote, Keeps}
+use Rattle.statement_code.specs.Writing.{Wrote, Keeps}
 use Rattle.set_writer.specs.declared.NameUnit.{NameUnit}
 use Rattle.statement_writer.specs.declared.Kind.{Kind}
 use Rattle.statement_writer.specs.declared.NamesWritten.{NamesWritten}

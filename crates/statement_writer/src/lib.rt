@@ -107,7 +107,7 @@ fn write_name(
     let NameUnit::Unit(unit) = referred else {
         return NamesWritten::Undeclared;
     };
-    let u = set_writer::put_unit(code, to, unit);
+    let u = statement_code::put_unit(code, to, unit);
     NamesWritten::Next { at: next, to: u }
 }
 
@@ -136,8 +136,8 @@ fn write_pair(
 fn write_head(tag: u16, place: u16, code: &mut [u16], to: usize) -> usize
     ensures { λ r. ⌜ Stores (now (code .entry)) to (tag ∷ place ∷ []) (now (code .exit)) r ⌝ }
 {
-    let u = set_writer::put_unit(code, to, tag);
-    set_writer::put_unit(code, u, place)
+    let u = statement_code::put_unit(code, to, tag);
+    statement_code::put_unit(code, u, place)
 }
 
 // Writes the declaration of an attribute: its tag and place. The answer is the place after them.

@@ -1,46 +1,22 @@
 -- Bytes written one after the other are bytes put at a place: the turn of `copy`, and the head and name of `append`.
 -- Assumes nothing.
-use mathlib.Core.Path.{_≡_, refl, sym, ap, subst, _∙_}
-use mathlib.Core.List.{List, [], _∷_, _++_}
+use mathlib.Core.Path.{_≡_, sym, ap, subst, _∙_}
+use mathlib.Core.List.{List, _∷_}
 use Prim.Native.Nat.{ℕ, suc, _+_, _-_, _/_, _%_, _≤_, _<_}
 use native.Mathlib.Omega.{arith}
 use native.Mathlib.Decide.{decLt}
 use lib.ListN.{length, getD, take, set, length-set}
 use lib.Seq.{sets, ext-getD, getD-take, length-take-le}
-use Rattle.bitset.specs.Parts.{part, put}
-use Rattle.bitset.proofs.PartLaws.{getD-put-in, getD-put-before, getD-put-after, sets-put, sets-append, length-put, length-part-min}
+use Rattle.byte_slices.specs.Parts.{part, put}
+use Rattle.byte_slices.proofs.PartLaws.{getD-put-in, getD-put-before, getD-put-after, sets-put, length-put}
 use Rattle.policy.specs.Basics.{le}
 use Rattle.policy.specs.Encode.{NameEntry, nameEntry, entryBytes}
 use Rattle.symbols.specs.Append.{Appended}
-use Rattle.symbols.proofs.PartLaws.{part-whole, part-none, part-cons, part-join}
+use Rattle.byte_slices.proofs.PartLaws.{part-whole}
 
 pub entry-length : (e : NameEntry) → length (entryBytes e) ≡ 4 + length (e .name)
 unfolding le
 entry-length e = omega arith
-
--- ---- copy
-
-long : (x : List ℕ) (from i : ℕ) → i ≤ length x - from → length (part x from i) ≡ i
-long x from i h = length-part-min x from i ∙ omega arith
-
-part-snoc : (x : List ℕ) (from i : ℕ) → from + i < length x → part x from (i + 1) ≡ part x from i ++ (getD x (from + i) 0 ∷ [])
-part-snoc x from i h =
-    part-join x from i 1
-    ∙ ap (λ (r : List ℕ). part x from i ++ r)
-    (part-cons x (from + i) 1 (omega arith) h ∙ ap (λ (r : List ℕ). getD x (from + i) 0 ∷ r) (part-none x (from + i + 1) (1 - 1) refl))
-
-pub copy-turn : (t x : List ℕ) (at from i : ℕ) → i < length x - from
-    → set (sets t at (part x from i)) (at + i) (getD x (from + i) 0) ≡ sets t at (part x from (i + 1))
-copy-turn t x at from i h =
-    ap (λ (k : ℕ). set (sets t at (part x from i)) (at + k) (getD x (from + i) 0)) (sym (long x from i (omega arith)))
-    ∙ sets-append t at (part x from i) (getD x (from + i) 0 ∷ [])
-    ∙ ap (sets t at) (sym (part-snoc x from i (omega arith)))
-
-pub copy-none : (t x : List ℕ) (at from : ℕ) → t ≡ sets t at (part x from 0)
-copy-none t x at from = rw (part-none x from 0 refl)
-
-pub copied : (t x : List ℕ) (at from i len : ℕ) → at + len ≤ length t → len ≤ length x - from → i ≡ len → sets t at (part x from i) ≡ put t at (part x from len)
-copied t x at from i len h l e = rw e (sets-put t at (part x from len) (omega (arith, long x from len l)))
 
 -- ---- append: the head of an entry, and then its name
 

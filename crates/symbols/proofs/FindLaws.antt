@@ -11,7 +11,7 @@ use Rattle.policy.specs.Basics.{le}
 use Rattle.policy.specs.Encode.{NameEntry, nameEntry, entryBytes}
 use Rattle.policy.specs.Deciding.{refused}
 use Rattle.policy.specs.Questions.{nameFrom}
-use Rattle.bitset.proofs.PartLaws.{length-part-min}
+use Rattle.byte_slices.proofs.PartLaws.{length-part-min}
 use Rattle.symbols.specs.Section.{entriesRead, entriesAt, between, EntryIs}
 use Rattle.symbols.specs.Lookup.{replyOf}
 use Rattle.symbols.specs.declared.Entry.{Entry}

@@ -1,4 +1,4 @@
-pub mod PartLaws
+pub mod SameLaws
 pub mod SectionLaws
 pub mod LookLaws
 pub mod FindLaws

@@ -7,13 +7,13 @@ use native.Mathlib.Omega.{arith}
 use borrow.Author.Tests.{leb-true, leb-false}
 use lib.Dec.{leb}
 use lib.ListN.{length, getD, take, drop}
-use Rattle.bitset.specs.Parts.{part}
+use Rattle.byte_slices.specs.Parts.{part}
 use Rattle.policy.specs.Basics.{unle}
 use Rattle.policy.specs.Encode.{nameEntry}
 use Rattle.little_endian.proofs.WidthLaws.{unle-two}
 use Rattle.symbols.specs.Section.{entry, sectionIn, between, sectionAt, EntryIs}
 use Rattle.symbols.specs.declared.Entry.{Entry}
-use Rattle.symbols.proofs.PartLaws.{part-present}
+use Rattle.byte_slices.proofs.PartLaws.{part-present}
 use Rattle.symbols.proofs.SectionLaws.{at-entry, at-cut, at-end, at-short}
 
 -- what a caller of `look` knows of the answer k

@@ -5,11 +5,11 @@ use Prim.Native.Nat.{ℕ, zero, suc, min, _+_, _-_, _*_, _≤_, _<_}
 use native.Mathlib.Omega.{arith}
 use borrow.Author.Tests.{le-leb, lt-leb}
 use lib.ListN.{length, getD, take, drop, length-drop}
-use Rattle.bitset.specs.Parts.{part}
-use Rattle.bitset.proofs.PartLaws.{length-part-min}
+use Rattle.byte_slices.specs.Parts.{part}
+use Rattle.byte_slices.proofs.PartLaws.{length-part-min}
 use Rattle.policy.specs.Encode.{nameEntry}
 use Rattle.symbols.specs.Section.{done, broken, entry, readBy, sectionIn, between, sectionAt}
-use Rattle.symbols.proofs.PartLaws.{part-head, take-part, drop-part}
+use Rattle.byte_slices.proofs.PartLaws.{part-head, take-part, drop-part}
 
 -- more fuel than bytes reads no more
 fuel : (k m : ℕ) (s : List ℕ) → length s ≤ k → length s ≤ m → readBy k s ≡ readBy m s

@@ -7,12 +7,12 @@ use Prim.Native.Nat.{ℕ, suc, _+_, _-_, _*_, _≤_}
 use native.Mathlib.Omega.{arith}
 use lib.ListN.{length, take, drop, drop-of-length-le}
 use lib.Seq.{take-all, length-take-le}
-use Rattle.bitset.specs.Parts.{part}
-use Rattle.bitset.proofs.PartLaws.{length-part-min}
+use Rattle.byte_slices.specs.Parts.{part}
+use Rattle.byte_slices.proofs.PartLaws.{length-part-min}
 use Rattle.policy.specs.Encode.{NameEntry, nameEntry}
 use Rattle.symbols.specs.Section.{Section, done, broken, entry, sectionIn, entriesRead, isExact, exactEntries, between, sectionAt, exactEntriesAt, EntryIs}
 use Rattle.symbols.specs.declared.Entry.{Entry}
-use Rattle.symbols.proofs.PartLaws.{part-none, part-join, take-part}
+use Rattle.byte_slices.proofs.PartLaws.{part-none, part-join, take-part}
 use Rattle.symbols.proofs.SectionLaws.{section-none, section-entry}
 use Rattle.symbols.proofs.ReadBack.{over, exact-over, entries-over, read-on, exact-some, by-entries}
 

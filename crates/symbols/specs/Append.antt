@@ -3,7 +3,7 @@ use mathlib.Core.Path.{_≡_}
 use mathlib.Core.List.{List}
 use Prim.Native.Nat.{ℕ, _+_, _<_, _≤_}
 use lib.ListN.{length}
-use Rattle.bitset.specs.Parts.{put}
+use Rattle.byte_slices.specs.Parts.{put}
 use Rattle.policy.specs.Encode.{NameEntry, entryBytes}
 
 -- there is room at a place for an entry with a name of len bytes, and its sort and its length fit a byte each

@@ -5,12 +5,12 @@
 ghost use mathlib.Core.Path.{_≡_};
 ghost use Prim.Native.Nat.{_+_, _-_, _*_, _<_, _≤_};
 ghost use lib.ListN.{length};
-ghost use Rattle.bitset.specs.Parts.{part, put};
+ghost use Rattle.byte_slices.specs.Parts.{part};
 ghost use Rattle.policy.specs.Basics as basics;
 ghost use Rattle.policy.specs.Encode.{nameEntry};
 ghost use Rattle.policy.specs.Questions.{nameFrom};
 ghost use Rattle.symbols.specs.Section.{EntryIs, entriesAt};
-ghost use Rattle.symbols.specs.Lookup.{familyNumber, replyOf, countSort};
+ghost use Rattle.symbols.specs.Lookup.{familyNumber, replyOf};
 ghost use Rattle.symbols.specs.Append.{Room, Appended};
 
 // What is at a place of a section: an entry, with the place past it; the section's end; or bytes that are no entry.
@@ -63,7 +63,7 @@ fn entry_at(table: &[u8], at: usize, end: usize) -> Entry
 pub fn next_entry(table: &[u8], at: usize, end: usize) -> Entry
     ensures { λ r. ⌜ EntryIs (now (table .entry)) at end r ⌝ }
 {
-    let last = bitset::least(end, table.len());
+    let last = byte_slices::least(end, table.len());
     if last < at {
         return Entry::Done;
     }
@@ -91,7 +91,7 @@ pub fn same_bytes(a: &[u8], b: &[u8]) -> bool
 pub fn same(a: &[u8], i: usize, b: &[u8], j: usize, len: usize) -> bool
     ensures { λ r. ⌜ r ≡ basics.same (part (now (a .entry)) i len) (part (now (b .entry)) j len) ⌝ }
 {
-    same_bytes(bitset::part(a, i, len), bitset::part(b, j, len))
+    same_bytes(byte_slices::part(a, i, len), byte_slices::part(b, j, len))
 }
 
 // The number of the family that an entry's name belongs to.
@@ -110,18 +110,6 @@ pub fn family_of(sort: usize, number: usize) -> usize
     4 + number / policy::Permission::MAX
 }
 
-// Copies the len bytes of text from a place on to a place of the table.
-pub fn copy(table: &mut [u8], at: usize, text: &[u8], from: usize, len: usize)
-    requires { ⌜ (at + len ≤ length (now table)) × (len ≤ length (now text) - from) ⌝ }
-    ensures { λ _. ⌜ now (table .exit) ≡ put (now (table .entry)) at (part (now (text .entry)) from len) ⌝ }
-{
-    let mut i: usize = 0;
-    while i < len {
-        table[at + i] = text[from + i];
-        i += 1;
-    }
-}
-
 // Writes an entry at the end of a section, with the len bytes of text from a place on as its name; the section's new
 // end.
 pub fn append(
@@ -136,12 +124,12 @@ pub fn append(
     requires { ⌜ Room (length (now table)) end sort len ⌝ }
     ensures { λ r. ⌜ Appended (now (table .entry)) (now (table .exit)) end (nameEntry sort number (part (now (text .entry)) from len)) r ⌝ }
 {
-    let name = bitset::part(text, from, len);
+    let name = byte_slices::part(text, from, len);
     let long = name.len();
     table[end] = sort as u8;
     little_endian::put2(table, end + 1, number);
     table[end + 3] = long as u8;
-    copy(table, end + 4, name, 0, long);
+    byte_slices::copy(table, end + 4, name, 0, long);
     end + 4 + long
 }
 
@@ -149,8 +137,8 @@ pub fn append(
 pub fn name_of(table: &[u8], start: usize, end: usize, sort: usize, number: usize) -> NamePlace
     ensures { λ r. ⌜ replyOf r ≡ nameFrom sort number start (entriesAt (now (table .entry)) start end) ⌝ }
 {
-    let last = bitset::least(end, table.len());
-    let mut at = bitset::least(start, last);
+    let last = byte_slices::least(end, table.len());
+    let mut at = byte_slices::least(start, last);
     loop {
         let k = entry_at(table, at, last);
         match k {
@@ -174,29 +162,6 @@ pub fn name_of(table: &[u8], start: usize, end: usize, sort: usize, number: usiz
             }
             Entry::Done => return NamePlace::Nowhere,
             Entry::Broken => return NamePlace::Nowhere,
-        }
-    }
-}
-
-// How many entries of a section have a sort.
-pub fn count(table: &[u8], start: usize, end: usize, sort: usize) -> usize
-    ensures { λ r. ⌜ r ≡ countSort sort (entriesAt (now (table .entry)) start end) ⌝ }
-{
-    let mut count: usize = 0;
-    let last = bitset::least(end, table.len());
-    let mut at = bitset::least(start, last);
-    loop {
-        let k = entry_at(table, at, last);
-        match k {
-            Entry::Named { sort: s, past, .. } => {
-                at = past;
-                if s != sort {
-                    continue;
-                }
-                count += 1;
-            }
-            Entry::Done => return count,
-            Entry::Broken => return count,
         }
     }
 }

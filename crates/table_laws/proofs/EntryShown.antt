@@ -14,7 +14,7 @@ use borrow.Author.Tests.{ltb-true, ltb-false}
 use Rattle.bitset.specs.Relations.{joined}
 use Rattle.policy.specs.Basics.{each, le}
 use Rattle.policy.specs.Image.{Image}
-use Rattle.policy.specs.Encode.{transitionBytes, headBytes, headsFrom, rowBytes, bodies, pairs, layout, encode}
+use Rattle.policy.specs.Encode.{transitionBytes, headBytes, headsFrom, rowBytes, bodies, pairs, layout, encode, firstBody}
 use Rattle.policy.specs.Sound.{wellFormed}
 use Rattle.policy.specs.Deciding.{answered}
 use Rattle.policy.specs.Questions.{Records, recordsOf, recordFrom, entryOf}
@@ -94,37 +94,37 @@ record-shown (r ∷ rs) (g ∷ gs) h k o t rest e =
 
 -- body k is after the 68 bytes and the bodies before it
 pub layout-at : (bs : List (List ℕ)) (rest : List ℕ) (k : ℕ) → length bs ≡ 8 → k < 8
-    → drop (68 + length (joined (take k bs))) (layout bs ++ rest) ≡ getD bs k [] ++ (joined (drop (suc k) bs) ++ rest)
+    → drop (firstBody + length (joined (take k bs))) (layout bs ++ rest) ≡ getD bs k [] ++ (joined (drop (suc k) bs) ++ rest)
 unfolding joined le
 layout-at bs rest k h l =
-    ap (drop (68 + length (joined (take k bs)))) whole
-    ∙ drop-at (front ++ joined (take k bs)) (getD bs k [] ++ (joined (drop (suc k) bs) ++ rest)) (68 + length (joined (take k bs))) long
+    ap (drop (firstBody + length (joined (take k bs)))) whole
+    ∙ drop-at (front ++ joined (take k bs)) (getD bs k [] ++ (joined (drop (suc k) bs) ++ rest)) (firstBody + length (joined (take k bs))) long
   where
     front : List ℕ
-    front = le 2 1 ++ (le 2 8 ++ pairs 68 bs)
+    front = le 2 1 ++ (le 2 8 ++ pairs firstBody bs)
 
-    long : length (front ++ joined (take k bs)) ≡ 68 + length (joined (take k bs))
-    long = omega (arith, h, length-append (pairs 68 bs) (joined (take k bs)), pairs-length bs 68)
+    long : length (front ++ joined (take k bs)) ≡ firstBody + length (joined (take k bs))
+    long = omega (arith, h, length-append (pairs firstBody bs) (joined (take k bs)), pairs-length bs firstBody)
 
     cut : joined bs ≡ joined (take k bs) ++ (getD bs k [] ++ joined (drop (suc k) bs))
     cut = ap joined (sym (take-append-drop k bs)) ∙ joined-append (take k bs) (drop k bs)
         ∙ ap (λ (r : List (List ℕ)). joined (take k bs) ++ joined r) (drop-cons bs k [] (omega (arith, h)))
 
     whole : layout bs ++ rest ≡ (front ++ joined (take k bs)) ++ (getD bs k [] ++ (joined (drop (suc k) bs) ++ rest))
-    whole = ap (λ (r : List ℕ). (le 2 1 ++ (le 2 8 ++ (pairs 68 bs ++ r))) ++ rest) cut ∙ simp append-assoc
+    whole = ap (λ (r : List ℕ). (le 2 1 ++ (le 2 8 ++ (pairs firstBody bs ++ r))) ++ rest) cut ∙ simp append-assoc
 
 module _ (i : Image) (h : wellFormed i ≡ true) (rest : List ℕ) where
   -- a body that is the groups' records, one after the other
   body-shown : (b : ℕ) → b < 8 → (rs : List Records) (gs : List (List (List ℕ))) → Runs rs gs → getD (bodies i) b [] ≡ joined (each joined gs) → (k : ℕ)
-      → shown (encode i ++ rest) (recordFrom k (68 + length (joined (take b (bodies i)))) rs) ≡ orTwelve (getElem? (joined gs) k)
+      → shown (encode i ++ rest) (recordFrom k (firstBody + length (joined (take b (bodies i)))) rs) ≡ orTwelve (getElem? (joined gs) k)
   unfolding encode bodies
   body-shown b l rs gs r e k =
-      record-shown rs gs r k (68 + length (joined (take b (bodies i)))) (encode i ++ rest) (joined (drop (suc b) (bodies i)) ++ rest)
+      record-shown rs gs r k (firstBody + length (joined (take b (bodies i)))) (encode i ++ rest) (joined (drop (suc b) (bodies i)) ++ rest)
       (layout-at (bodies i) rest b refl l ∙ ap (λ (x : List ℕ). x ++ (joined (drop (suc b) (bodies i)) ++ rest)) e)
 
   -- a body of one run
   one-run : (b : ℕ) → b < 8 → (n w : ℕ) (g : List (List ℕ)) → n ≡ length g → Wide w g → getD (bodies i) b [] ≡ joined g → (k : ℕ)
-      → shown (encode i ++ rest) (recordFrom k (68 + length (joined (take b (bodies i)))) (recordsOf n w ∷ [])) ≡ orTwelve (getElem? g k)
+      → shown (encode i ++ rest) (recordFrom k (firstBody + length (joined (take b (bodies i)))) (recordsOf n w ∷ [])) ≡ orTwelve (getElem? g k)
   unfolding joined each
   one-run b l n w g m wide e k =
       body-shown b l (recordsOf n w ∷ []) (g ∷ []) (m, wide, tt) (e ∙ sym (append-nil (joined g))) k ∙ ap (λ (r : List (List ℕ)). orTwelve (getElem? r k)) (append-nil g)

@@ -13,7 +13,7 @@ use Rattle.policy.specs.Basics.{each, eachOf, le, All}
 use Rattle.policy.specs.Statements.{users, roles, types, thingOf, attributeOf, count}
 use Rattle.policy.specs.Rows.{Row}
 use Rattle.policy.specs.Image.{Image, TransitionEntry}
-use Rattle.policy.specs.Encode.{transitionBytes, ConstraintHead, headBytes, headsFrom, rowBytes, bodies, pairs, layout, encode}
+use Rattle.policy.specs.Encode.{transitionBytes, ConstraintHead, headBytes, headsFrom, rowBytes, bodies, pairs, layout, encode, firstBody}
 use Rattle.policy.specs.Sound.{exactly, transitionAt, rowAt, headAt, assignRows, imageFrom, bodiesIn, namesAt, wellFormed, imageIn}
 use Rattle.policy.proofs.Lists.{all-left, all-right}
 use Rattle.table_laws.specs.SoundTable.{Bytes, allRows}
@@ -163,8 +163,8 @@ module _ (bs : List (List ℕ)) where
   pub bodies-bytes : (rest : List ℕ) → Bytes (layout bs ++ rest) → All Bytes bs
   bodies-bytes rest b =
       let p : ℕ → Type 0 = λ n. n < 256 in
-      let after = pairs 68 bs ++ joined bs in
-      all-joined p bs (all-right p (pairs 68 bs) (joined bs) (all-right p (le 2 8) after (all-right p (le 2 1) (le 2 8 ++ after) (all-left p (layout bs) rest b))))
+      let after = pairs firstBody bs ++ joined bs in
+      all-joined p bs (all-right p (pairs firstBody bs) (joined bs) (all-right p (le 2 8) after (all-right p (le 2 1) (le 2 8 ++ after) (all-left p (layout bs) rest b))))
 
 -- what a sound table holds is well-formed
 pub image-formed : (t : List ℕ) (i : Image) → imageIn t ≡ some i → wellFormed i ≡ true

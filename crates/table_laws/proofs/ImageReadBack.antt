@@ -12,7 +12,7 @@ use Rattle.policy.specs.Basics.{each, All}
 use Rattle.policy.specs.Statements.{users, roles, types, thingOf, attributeOf, count}
 use Rattle.policy.specs.Rows.{Row}
 use Rattle.policy.specs.Image.{Image, TransitionEntry}
-use Rattle.policy.specs.Encode.{entries, transitionBytes, headBytes, headsFrom, rowBytes, bodies, encode}
+use Rattle.policy.specs.Encode.{entries, transitionBytes, headBytes, headsFrom, rowBytes, bodies, encode, firstBody}
 use Rattle.policy.specs.Sound.{exactly, transitionAt, headAt, imageFrom, wellFormed, imageIn}
 use Rattle.table_laws.specs.SoundTable.{allRows}
 use Rattle.table_laws.proofs.ListLaws.{all-each, each-back}
@@ -40,7 +40,7 @@ pub record Laid (i : Image) : Type 0 where
   pub userSets : Sets (count (attributeOf users) (i .names)) 16 (i .userSets)
   pub roleSets : Sets (count (attributeOf roles) (i .names)) 16 (i .roleSets)
   pub typeSets : Sets (count (attributeOf types) (i .names)) 64 (i .typeSets)
-  pub room : 68 + length (joined (bodies i)) < 256 ^ 4
+  pub room : firstBody + length (joined (bodies i)) < 256 ^ 4
 
 -- the widths of what is written
 pub every-wide : {A : Type 0} (w : ℕ) (f : A → List ℕ) → ((x : A) → length (f x) ≡ w) → (xs : List A) → Wide w (each f xs)

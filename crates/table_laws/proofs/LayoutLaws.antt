@@ -12,7 +12,7 @@ use borrow.Author.Tests.{eq-eqb, le-leb}
 use Rattle.bitset.specs.Relations.{joined}
 use Rattle.policy.specs.Basics.{each, le, unle}
 use Rattle.policy.specs.Image.{Image}
-use Rattle.policy.specs.Encode.{bodies, pairs, layout, encode}
+use Rattle.policy.specs.Encode.{bodies, pairs, layout, encode, firstBody}
 use Rattle.policy.specs.Sound.{bodyLengths, splitBodies, bodiesIn}
 use Rattle.table_laws.proofs.LittleEndian.{le-length, unle-le}
 
@@ -70,19 +70,19 @@ pairs-length [] o = refl
 pairs-length (b ∷ bs) o = omega (arith, pairs-length bs (o + length b))
 
 -- eight bodies laid out, whatever is after them, are read back
-pub layout-law : (bs : List (List ℕ)) (rest : List ℕ) → length bs ≡ 8 → 68 + length (joined bs) < 256 ^ 4 → bodiesIn (layout bs ++ rest) ≡ some bs
+pub layout-law : (bs : List (List ℕ)) (rest : List ℕ) → length bs ≡ 8 → firstBody + length (joined bs) < 256 ^ 4 → bodiesIn (layout bs ++ rest) ≡ some bs
 unfolding bodiesIn le unle
-layout-law bs rest n h = rw (append-assoc (pairs 68 bs) (joined bs) rest, long, lengths, drop-at (pairs 68 bs) (joined bs ++ rest) 64 sixty-four, split-law bs rest)
+layout-law bs rest n h = rw (append-assoc (pairs firstBody bs) (joined bs) rest, long, lengths, drop-at (pairs firstBody bs) (joined bs ++ rest) 64 sixty-four, split-law bs rest)
   where
-    sixty-four : length (pairs 68 bs) ≡ 64
-    sixty-four = pairs-length bs 68 ∙ ap (λ (k : ℕ). 8 * k) n
+    sixty-four : length (pairs firstBody bs) ≡ 64
+    sixty-four = pairs-length bs firstBody ∙ ap (λ (k : ℕ). 8 * k) n
 
-    long : leb 68 (suc (suc (suc (suc (length (pairs 68 bs ++ (joined bs ++ rest))))))) ≡ true
-    long = le-leb 68 (suc (suc (suc (suc (length (pairs 68 bs ++ (joined bs ++ rest))))))) (omega (arith, length-append (pairs 68 bs) (joined bs ++ rest), sixty-four))
+    long : leb firstBody (suc (suc (suc (suc (length (pairs firstBody bs ++ (joined bs ++ rest))))))) ≡ true
+    long = le-leb firstBody (suc (suc (suc (suc (length (pairs firstBody bs ++ (joined bs ++ rest))))))) (omega (arith, length-append (pairs firstBody bs) (joined bs ++ rest), sixty-four))
 
-    lengths : bodyLengths 8 68 (pairs 68 bs ++ (joined bs ++ rest)) ≡ some (each length bs)
-    lengths = subst (λ (k : ℕ). bodyLengths k 68 (pairs 68 bs ++ (joined bs ++ rest)) ≡ some (each length bs)) n (lengths-law bs 68 (joined bs ++ rest) h)
+    lengths : bodyLengths 8 firstBody (pairs firstBody bs ++ (joined bs ++ rest)) ≡ some (each length bs)
+    lengths = subst (λ (k : ℕ). bodyLengths k firstBody (pairs firstBody bs ++ (joined bs ++ rest)) ≡ some (each length bs)) n (lengths-law bs firstBody (joined bs ++ rest) h)
 
-pub bodies-law : (i : Image) (rest : List ℕ) → 68 + length (joined (bodies i)) < 256 ^ 4 → bodiesIn (encode i ++ rest) ≡ some (bodies i)
+pub bodies-law : (i : Image) (rest : List ℕ) → firstBody + length (joined (bodies i)) < 256 ^ 4 → bodiesIn (encode i ++ rest) ≡ some (bodies i)
 unfolding encode bodies
 bodies-law i rest h = layout-law (bodies i) rest refl h

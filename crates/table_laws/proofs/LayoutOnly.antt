@@ -12,7 +12,7 @@ use lib.Seq.{drop-drop, length-take-le}
 use borrow.Author.Tests.{eqb-true, leb-true}
 use Rattle.bitset.specs.Relations.{joined}
 use Rattle.policy.specs.Basics.{more, each, le, unle}
-use Rattle.policy.specs.Encode.{pairs, layout}
+use Rattle.policy.specs.Encode.{pairs, layout, firstBody}
 use Rattle.policy.specs.Sound.{bodyLengths, splitBodies, bodiesIn}
 use Rattle.policy.proofs.Lists.{both-true}
 use Rattle.policy.proofs.Options.{if-some}
@@ -80,17 +80,17 @@ lengths-only (suc k) o t bs b l h =
 pub layout-only : (t : List ℕ) (bs : List (List ℕ)) → Bytes t → bodiesIn t ≡ some bs → (length bs ≡ 8) × (rest : List ℕ) × (t ≡ layout bs ++ rest)
 unfolding bodiesIn
 layout-only t bs b h =
-    let s = bound (cond (leb 68 (length t) && eqb (unle (take 2 t)) 1 && eqb (unle (take 2 (drop 2 t))) 8) (bodyLengths 8 68 (drop 4 t)) none)
-    (λ ns. splitBodies ns (drop 68 t)) bs h in
-    let c = if-some (leb 68 (length t) && eqb (unle (take 2 t)) 1 && eqb (unle (take 2 (drop 2 t))) 8) (bodyLengths 8 68 (drop 4 t)) (s .0) (s .1) in
-    let d = both-true (leb 68 (length t) && eqb (unle (take 2 t)) 1) (eqb (unle (take 2 (drop 2 t))) 8) (c .0) in
-    let e = both-true (leb 68 (length t)) (eqb (unle (take 2 t)) 1) (d .0) in
-    let long : 68 ≤ length t = leb-true 68 (length t) (e .0) in
-    let cuts = split-only (s .0) (drop 68 t) bs (s .2) in
-    let at = lengths-only 8 68 (drop 4 t) bs (all-drop (λ b. b < 256) 4 t b) (omega (arith, length-drop 4 t)) (c .1 ∙ ap some (sym (cuts .0))) in (
+    let s = bound (cond (leb firstBody (length t) && eqb (unle (take 2 t)) 1 && eqb (unle (take 2 (drop 2 t))) 8) (bodyLengths 8 firstBody (drop 4 t)) none)
+    (λ ns. splitBodies ns (drop firstBody t)) bs h in
+    let c = if-some (leb firstBody (length t) && eqb (unle (take 2 t)) 1 && eqb (unle (take 2 (drop 2 t))) 8) (bodyLengths 8 firstBody (drop 4 t)) (s .0) (s .1) in
+    let d = both-true (leb firstBody (length t) && eqb (unle (take 2 t)) 1) (eqb (unle (take 2 (drop 2 t))) 8) (c .0) in
+    let e = both-true (leb firstBody (length t)) (eqb (unle (take 2 t)) 1) (d .0) in
+    let long : firstBody ≤ length t = leb-true firstBody (length t) (e .0) in
+    let cuts = split-only (s .0) (drop firstBody t) bs (s .2) in
+    let at = lengths-only 8 firstBody (drop 4 t) bs (all-drop (λ b. b < 256) 4 t b) (omega (arith, length-drop 4 t)) (c .1 ∙ ap some (sym (cuts .0))) in (
       at .0,
       cuts .1,
-      two-front 2 t (pairs 68 bs ++ (joined bs ++ cuts .1)) 1 8 b (omega arith) (eqb-true (unle (take 2 t)) 1 (e .1)) (eqb-true (unle (take 2 (drop 2 t))) 8 (d .1))
-          (at .1 ∙ ap (λ (r : List ℕ). pairs 68 bs ++ r) (drop-drop 64 4 t ∙ cuts .2))
+      two-front 2 t (pairs firstBody bs ++ (joined bs ++ cuts .1)) 1 8 b (omega arith) (eqb-true (unle (take 2 t)) 1 (e .1)) (eqb-true (unle (take 2 (drop 2 t))) 8 (d .1))
+          (at .1 ∙ ap (λ (r : List ℕ). pairs firstBody bs ++ r) (drop-drop 64 4 t ∙ cuts .2))
           ∙ simp append-assoc,
     )

@@ -7,7 +7,7 @@ use lib.ListN.{length, length-append}
 use Rattle.bitset.specs.Relations.{joined}
 use Rattle.policy.specs.Basics.{each, le, All}
 use Rattle.policy.specs.Image.{Image, ConstraintEntry}
-use Rattle.policy.specs.Encode.{entries, entryBytes, transitionBytes, headBytes, headsFrom, rowBytes, bodies, pairs, encode}
+use Rattle.policy.specs.Encode.{entries, entryBytes, transitionBytes, headBytes, headsFrom, rowBytes, bodies, pairs, encode, firstBody}
 use Rattle.policy.proofs.Lists.{each-length}
 use Rattle.table_laws.specs.SoundTable.{allRows, tableLength}
 use Rattle.table_laws.proofs.LayoutLaws.{pairs-length}
@@ -37,10 +37,10 @@ joined-eight : (a b c d e f g h : List ℕ)
 unfolding joined
 joined-eight a b c d e f g h = simp length-append (omega arith)
 
-pub bodies-length : (i : Image) → Widths i → 68 + length (joined (bodies i)) ≡ tableLength i
+pub bodies-length : (i : Image) → Widths i → firstBody + length (joined (bodies i)) ≡ tableLength i
 unfolding bodies tableLength
 bodies-length i w =
-    ap (λ (n : ℕ). 68 + n)
+    ap (λ (n : ℕ). firstBody + n)
     (joined-eight (joined (each entryBytes (entries (i .names)))) (joined (i .userRoles)) (joined (i .roleTypes)) (joined (i .roleRoles))
     (joined (each transitionBytes (i .transitions))) (joined (each headBytes (headsFrom 0 (i .constraints)))) (joined (each rowBytes (allRows i)))
     (joined (i .userSets) ++ (joined (i .roleSets) ++ joined (i .typeSets))))
@@ -63,9 +63,9 @@ bodies-length i w =
   where
     sum : (ur rt rr ms cs rs us ss ts : ℕ) {a b c d e f g h n : ℕ}
         → a ≡ n → b ≡ ur * 16 → c ≡ rt * 64 → d ≡ rr * 16 → e ≡ ms * 82 → f ≡ cs * 10 → g ≡ rs * 6 → h ≡ us * 16 + (ss * 16 + ts * 64)
-        → 68 + (a + b + c + d + e + f + g + h) ≡ 68 + n + 16 * ur + 64 * rt + 16 * rr + 82 * ms + 10 * cs + 6 * rs + 16 * us + 16 * ss + 64 * ts
+        → firstBody + (a + b + c + d + e + f + g + h) ≡ firstBody + n + 16 * ur + 64 * rt + 16 * rr + 82 * ms + 10 * cs + 6 * rs + 16 * us + 16 * ss + 64 * ts
     sum ur rt rr ms cs rs us ss ts p₁ p₂ p₃ p₄ p₅ p₆ p₇ p₈ = omega arith
 
-pub encode-bodies-length : (i : Image) → length (encode i) ≡ 68 + length (joined (bodies i))
+pub encode-bodies-length : (i : Image) → length (encode i) ≡ firstBody + length (joined (bodies i))
 unfolding encode le bodies
-encode-bodies-length i = omega (arith, length-append (pairs 68 (bodies i)) (joined (bodies i)), pairs-length (bodies i) 68)
+encode-bodies-length i = omega (arith, length-append (pairs firstBody (bodies i)) (joined (bodies i)), pairs-length (bodies i) firstBody)

@@ -13,7 +13,7 @@ use Rattle.bitset.specs.Relations.{joined}
 use Rattle.policy.specs.Basics.{_>>=_, each, le, All}
 use Rattle.policy.specs.Statements.{users, roles, types, thingOf, attributeOf, Declaration, namesOf, classNames, permissions}
 use Rattle.policy.specs.Image.{Image}
-use Rattle.policy.specs.Encode.{NameEntry, entryBytes, entries, bodies, encode}
+use Rattle.policy.specs.Encode.{NameEntry, entryBytes, entries, bodies, encode, firstBody}
 use Rattle.policy.specs.Sound.{goodFrom, sortOf, wellFormed}
 use Rattle.policy.specs.Deciding.{answered}
 use Rattle.policy.specs.Questions.{nameFrom, nameOf}
@@ -87,5 +87,5 @@ name-named i h (suc (suc (suc (suc (suc (suc (suc (suc s)))))))) n = beyond (suc
 pub name-shown : (i : Image) → wellFormed i ≡ true → (rest : List ℕ) (s n : ℕ) → shown (encode i ++ rest) (nameOf i s n) ≡ orTwelve (nameIn (i .names) s n)
 unfolding nameOf encode bodies joined
 name-shown i h rest s n =
-    from-shown s n (entries (i .names)) 68 (encode i ++ rest) (joined (drop 1 (bodies i)) ++ rest) (layout-at (bodies i) rest 0 refl (omega arith))
+    from-shown s n (entries (i .names)) firstBody (encode i ++ rest) (joined (drop 1 (bodies i)) ++ rest) (layout-at (bodies i) rest 0 refl (omega arith))
     ∙ ap orTwelve (name-named i h s n)

@@ -10,7 +10,7 @@ use Rattle.policy.specs.Basics.{each, le, All}
 use Rattle.policy.specs.Statements.{roles, thingOf}
 use Rattle.policy.specs.Rows.{Row}
 use Rattle.policy.specs.Image.{Image, TransitionEntry}
-use Rattle.policy.specs.Encode.{NameEntry, entries, entryBytes, transitionBytes, ConstraintHead, headBytes, headsFrom, rowBytes, bodies, pairs, encode}
+use Rattle.policy.specs.Encode.{NameEntry, entries, entryBytes, transitionBytes, ConstraintHead, headBytes, headsFrom, rowBytes, bodies, pairs, encode, firstBody}
 use Rattle.policy.specs.Sound.{wellFormed}
 use Rattle.policy.proofs.Lists.{all-append, all-left, all-right}
 use Rattle.table_laws.specs.SoundTable.{Bytes, SetsOfBytes, allRows}
@@ -107,9 +107,9 @@ module _ (i : Image) (h : wellFormed i ≡ true) (b : SetsOfBytes i) where
   pub encode-bytes : Bytes (encode i)
   unfolding encode
   encode-bytes =
-      number 2 1 (le 2 8 ++ (pairs 68 (bodies i) ++ joined (bodies i)))
-      (number 2 8 (pairs 68 (bodies i) ++ joined (bodies i))
-      (two (pairs 68 (bodies i)) (joined (bodies i)) (pairs-bytes 68 (bodies i)) (joined-all (λ b. b < 256) (bodies i) bodies-all)))
+      number 2 1 (le 2 8 ++ (pairs firstBody (bodies i) ++ joined (bodies i)))
+      (number 2 8 (pairs firstBody (bodies i) ++ joined (bodies i))
+      (two (pairs firstBody (bodies i)) (joined (bodies i)) (pairs-bytes firstBody (bodies i)) (joined-all (λ b. b < 256) (bodies i) bodies-all)))
 
 -- a transition that was written as bytes
 sets-bytes : (m : TransitionEntry) → Bytes (transitionBytes m) → SetsOf m

@@ -9,7 +9,7 @@ use Rattle.bitset.specs.Relations.{joined}
 use Rattle.policy.specs.Basics.{each, All}
 use Rattle.policy.specs.Rows.{Row}
 use Rattle.policy.specs.Image.{Image, TransitionEntry}
-use Rattle.policy.specs.Encode.{NameEntry, entries, encode}
+use Rattle.policy.specs.Encode.{NameEntry, entries, encode, firstBody}
 use Rattle.policy.specs.Sound.{wellFormed}
 
 -- every element is a byte
@@ -35,7 +35,7 @@ namesLength (e ∷ es) = 4 + length (e .name) + namesLength es
 -- how long a table is: 68 bytes, then each body by the width of its entries
 unfoldable pub tableLength : Image → ℕ
 tableLength i =
-    68 + namesLength (entries (i .names)) + 16 * length (i .userRoles) + 64 * length (i .roleTypes) + 16 * length (i .roleRoles)
+    firstBody + namesLength (entries (i .names)) + 16 * length (i .userRoles) + 64 * length (i .roleTypes) + 16 * length (i .roleRoles)
     + 82 * length (i .transitions) + 10 * length (i .constraints) + 6 * length (allRows i)
     + 16 * length (i .userSets) + 16 * length (i .roleSets) + 64 * length (i .typeSets)
 

@@ -6,10 +6,10 @@ use mathlib.Core.Bool.{Bool, true, false, _||_, false≢true}
 use mathlib.Core.List.{List}
 use lib.ListN.{length}
 use lib.Seq.{take-all}
-use Rattle.bitset.specs.Parts.{part}
-use Rattle.bitset.proofs.PartLaws.{length-part-min}
+use Rattle.byte_slices.specs.Parts.{part}
+use Rattle.byte_slices.proofs.PartLaws.{length-part-min}
 use Rattle.policy.specs.Basics.{Name, same}
-use Rattle.symbols.proofs.PartLaws.{same-length}
+use Rattle.symbols.proofs.SameLaws.{same-length}
 
 -- a part that is shorter than the word; the whole word
 pub shorter : (t : List ℕ) (o n : ℕ) (w : Name) → n < length w → same (part t o n) w ≡ false

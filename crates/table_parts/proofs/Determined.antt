@@ -14,7 +14,7 @@ use Rattle.bitset.specs.Relations.{joined}
 use Rattle.policy.specs.Basics.{Name, _>>=_, each, eachOf, le, All}
 use Rattle.policy.specs.Statements.{Family, users, roles, types, Sort, thingOf, attributeOf, Declaration, namesOf, classNames, permissions, count}
 use Rattle.policy.specs.Image.{Image}
-use Rattle.policy.specs.Encode.{NameEntry, nameEntry, sortCode, entryBytes, entries}
+use Rattle.policy.specs.Encode.{NameEntry, nameEntry, sortCode, entryBytes, entries, firstBody}
 use Rattle.policy.specs.Sound.{namesAt, transitionAt, headAt, rowAt, assignRows}
 use Rattle.policy.specs.Deciding.{Reply, answered, refused}
 use Rattle.policy.specs.Questions.{Part, nameFrom, nameOf, nameOn, asked}
@@ -208,14 +208,14 @@ module _ (t u : List ℕ) (a : Sound t) (b : Sound u) (same : SameAnswers t u) w
       ∙ sym (permission-named (j .names) (formed j (b .formed) .names) n)
   same-names (suc (suc (suc (suc (suc (suc (suc (suc s)))))))) n l = absurd (omega arith)
 
-  same-places : (s n : ℕ) → nameFrom s n 68 (entries (i .names)) ≡ nameFrom s n 68 (entries (j .names))
+  same-places : (s n : ℕ) → nameFrom s n firstBody (entries (i .names)) ≡ nameFrom s n firstBody (entries (j .names))
   unfolding nameOn nameOf
   same-places s n =
       sym (ap (asked (λ i. nameOf i s n)) (sound-read t a)) ∙ same .places s n ∙ ap (asked (λ i. nameOf i s n)) (sound-read u b)
 
   all-entries : entries (i .names) ≡ entries (j .names)
   unfolding entries
-  all-entries = same-entries (entries (i .names)) (entries (j .names)) 68
+  all-entries = same-entries (entries (i .names)) (entries (j .names)) firstBody
       (all-map GoodEntry (λ (e : NameEntry). e .sort < 8) (λ e g. g .sort) (entries (i .names)) (entries-fit [] (i .names) (formed i (a .formed) .names)))
       (distinct (i .names) (formed i (a .formed) .names)) (distinct (j .names) (formed j (b .formed) .names)) same-places same-names
 

@@ -10,7 +10,7 @@ use Rattle.policy.specs.Statements.{users, roles, types, Sort, attributeOf, cou
 use Rattle.policy.specs.declared.NameCounts.{NameCounts}
 use Rattle.policy.specs.Maxima.{maxOf}
 use Rattle.policy.specs.Image.{Image}
-use Rattle.policy.specs.Encode.{transitionBytes, headBytes, headsFrom, sortCode, bodies}
+use Rattle.policy.specs.Encode.{transitionBytes, headBytes, headsFrom, sortCode, bodies, firstBody}
 use Rattle.policy.specs.Deciding.{refused}
 use Rattle.policy.specs.Questions.{Records, recordsOf, records, recordFrom, entryOf, asked, entryOn}
 use Rattle.policy.proofs.Lists.{each-length}
@@ -40,7 +40,7 @@ module _ {t : List ℕ} (h : Held t) where
   entry-runs b k l rs e =
       let before : b ≡ suc b - 1 = omega arith in
       ap (λ (o : ℕ). recordFrom k o rs) (h .start b l)
-      ∙ ap₂ (λ (o : ℕ) (r : List Records). recordFrom k o r) (ap (λ (m : ℕ). 68 + length (joined (take m (bodies i)))) before) (sym e)
+      ∙ ap₂ (λ (o : ℕ) (r : List Records). recordFrom k o r) (ap (λ (m : ℕ). firstBody + length (joined (take m (bodies i)))) before) (sym e)
       ∙ ap (asked (λ i. entryOf i (suc b) k)) (sym (h .read))
 
   -- a body that is records of one width has as many of them as fit into its length

@@ -6,9 +6,9 @@ use mathlib.Core.Bool.{true, false, false≢true}
 use mathlib.Core.List.{List, []}
 use mathlib.Core.Option.{Option, none, some}
 use lib.ListN.{length, getD, drop}
-use Rattle.bitset.specs.Parts.{part}
+use Rattle.byte_slices.specs.Parts.{part}
 use Rattle.policy.specs.Image.{Image}
-use Rattle.policy.specs.Encode.{entries, bodies}
+use Rattle.policy.specs.Encode.{entries, bodies, firstBody}
 use Rattle.policy.specs.Sound.{wellFormed, goodFrom, imageIn}
 use Rattle.policy.specs.Deciding.{refused}
 use Rattle.policy.specs.Questions.{nameFrom, nameOn, nameOf, entryOn, entryOf, asked}
@@ -34,21 +34,21 @@ pub record Held (t : List ℕ) : Type 0 where
   pub start : (k : ℕ) → k < 8 → startIn t k ≡ bodyPlace image k
   pub long : (k : ℕ) → k < 8 → lengthIn t k ≡ length (getD (bodies image) k [])
   pub good : goodFrom [] (image .names) ≡ true
-  pub named : entriesAt t 68 (68 + lengthIn t 0) ≡ entries (image .names)
+  pub named : entriesAt t firstBody (firstBody + lengthIn t 0) ≡ entries (image .names)
 
 module _ (t : List ℕ) (bytes : Bytes t) where
-  names-here : between t 68 (68 + lengthIn t 0) ≡ part t 68 (lengthIn t 0)
-  names-here = ap (part t 68) (omega arith)
+  names-here : between t firstBody (firstBody + lengthIn t 0) ≡ part t firstBody (lengthIn t 0)
+  names-here = ap (part t firstBody) (omega arith)
 
-  names-bytes : Bytes (part t 68 (lengthIn t 0))
+  names-bytes : Bytes (part t firstBody (lengthIn t 0))
   unfolding part
-  names-bytes = all-take (λ k. k < 256) (lengthIn t 0) (drop 68 t) (all-drop (λ k. k < 256) 68 t bytes)
+  names-bytes = all-take (λ k. k < 256) (lengthIn t 0) (drop firstBody t) (all-drop (λ k. k < 256) firstBody t bytes)
 
   of-image : (i : Image) → imageIn t ≡ some i → Held t
   unfolding entries
   of-image i h =
       let o = table-only t bytes i h in
-      let names = sound-good (part t 68 (lengthIn t 0)) (i .names) (image-names t i h) in
+      let names = sound-good (part t firstBody (lengthIn t 0)) (i .names) (image-names t i h) in
       record {
         image = i;
         read = h;
@@ -56,9 +56,9 @@ module _ (t : List ℕ) (bytes : Bytes t) where
         start = λ k l. subst (λ (t : List ℕ). startIn t k ≡ bodyPlace i k) (sym (o .2)) (start-part i (o .0) (o .1) k l);
         long = λ k l. subst (λ (t : List ℕ). lengthIn t k ≡ length (getD (bodies i) k [])) (sym (o .2)) (length-part i (o .0) (o .1) k l);
         good = names .1;
-        named = entries-written t 68 (68 + lengthIn t 0) (entries (i .names))
+        named = entries-written t firstBody (firstBody + lengthIn t 0) (entries (i .names))
             (well-formed-laid i (o .0) .numbers)
-            (names-here ∙ sym (names-only (part t 68 (lengthIn t 0)) (i .names) names-bytes (names .0)));
+            (names-here ∙ sym (names-only (part t firstBody (lengthIn t 0)) (i .names) names-bytes (names .0)));
       }
 
   -- A SOUND TABLE HOLDS AN IMAGE
@@ -88,6 +88,6 @@ entry-unsound t b k h = by (imageIn t) refl
     by (some i) e = absurd (false≢true (sym h ∙ ap isSome e))
 
 -- name of, asked of the bytes of body 1
-pub name-held : (t : List ℕ) → Held t → (s n : ℕ) → nameFrom s n 68 (entriesAt t 68 (68 + lengthIn t 0)) ≡ nameOn t s n
+pub name-held : (t : List ℕ) → Held t → (s n : ℕ) → nameFrom s n firstBody (entriesAt t firstBody (firstBody + lengthIn t 0)) ≡ nameOn t s n
 unfolding nameOn nameOf
 name-held t h s n = rw (h .named, h .read)

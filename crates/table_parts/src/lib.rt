@@ -158,8 +158,8 @@ fn part_at(table: &[u8], place: Place) -> &[u8]
     ensures { λ r. ⌜ now r ≡ shownPart (placeOf place) (now (table .entry)) ⌝ }
 {
     match place {
-        Place::Part { start, length } => bitset::part(table, start, length),
-        Place::Refused { number: _ } => bitset::part(table, 0, 0),
+        Place::Part { start, length } => byte_slices::part(table, start, length),
+        Place::Refused { number: _ } => byte_slices::part(table, 0, 0),
     }
 }
 

@@ -7,7 +7,7 @@ use mathlib.Core.List.{List, [], _∷_, _++_, append-assoc}
 use lib.ListN.{length, getD, take, drop, length-append}
 use lib.Seq.{drop-drop, drop-at, take-at, drop-append-add, length-take-le}
 use Rattle.bitset.specs.Relations.{joined}
-use Rattle.bitset.specs.Parts.{part}
+use Rattle.byte_slices.specs.Parts.{part}
 use Rattle.policy.specs.Basics.{each, All}
 use Rattle.table_laws.proofs.ListLaws.{all-take}
 use Rattle.table_laws.proofs.Pieces.{Wide, wide-length}

@@ -4,7 +4,7 @@ use policy::Constraint;
 use policy::Row;
 ghost use mathlib.Core.Path.{_≡_};
 ghost use Prim.Native.Nat.{_+_, _-_, _*_};
-ghost use lib.ListN.{length, getD, take, drop};
+ghost use lib.ListN.{length, take, drop};
 ghost use Rattle.policy.specs.Basics.{unle};
 ghost use Rattle.policy.specs.Sound.{headAt};
 ghost use Rattle.table_reader.specs.Records.{rowAt, rowOf, headOf, startIn, lengthIn};
@@ -25,13 +25,6 @@ pub struct RowRecord {
     pub number: u16,
 }
 
-// The byte at a place.
-pub fn byte_at(table: &[u8], at: usize) -> u8
-    ensures { λ r. ⌜ r ≡ getD (now (table .entry)) at 0 ⌝ }
-{
-    if at < table.len() { table[at] } else { 0 }
-}
-
 // How many bytes a table has from a place on.
 fn bytes_from(table: &[u8], at: usize) -> usize
     ensures { λ r. ⌜ r ≡ length (now (table .entry)) - at ⌝ }
@@ -48,7 +41,7 @@ pub fn u16_at(table: &[u8], at: usize) -> u16
     ensures { λ r. ⌜ r ≡ unle (take 2 (drop at (now (table .entry)))) ⌝ }
 {
     if bytes_from(table, at) < 2 {
-        return byte_at(table, at) as u16;
+        return byte_slices::byte(table, at) as u16;
     }
     little_endian::get2(table, at) as u16
 }
@@ -58,7 +51,7 @@ pub fn u32_at(table: &[u8], at: usize) -> u32
     ensures { λ r. ⌜ r ≡ unle (take 4 (drop at (now (table .entry)))) ⌝ }
 {
     if bytes_from(table, at) < 4 {
-        return little_endian::number(bitset::part(table, at, 4)) as u32;
+        return little_endian::number(byte_slices::part(table, at, 4)) as u32;
     }
     little_endian::get4(table, at) as u32
 }
@@ -82,9 +75,9 @@ pub fn row_at(table: &[u8], start: u32, number: u32) -> RowRecord
 {
     let at = start as usize + Row::BYTES * (number as usize);
     RowRecord {
-        kind: byte_at(table, at),
-        component: byte_at(table, at + 1),
-        operator: byte_at(table, at + 2),
+        kind: byte_slices::byte(table, at),
+        component: byte_slices::byte(table, at + 1),
+        operator: byte_slices::byte(table, at + 2),
         number: u16_at(table, at + 4),
     }
 }

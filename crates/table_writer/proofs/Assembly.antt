@@ -5,7 +5,7 @@ use Prim.Native.Nat.{ℕ, _+_, _*_, _≤_}
 use native.Mathlib.Omega.{arith}
 use native.Mathlib.Nat.{zero-add}
 use lib.ListN.{length, take, drop, length-append, length-take}
-use Rattle.bitset.specs.Parts.{put}
+use Rattle.byte_slices.specs.Parts.{put}
 use Rattle.bitset.specs.Relations.{joined}
 use Rattle.policy.specs.Basics.{each, le}
 use Rattle.policy.specs.Statements.{Family, users, roles, types, userrole, roletype, roleallow, fromOf, toOf, Policy, transitions}
@@ -14,7 +14,7 @@ use Rattle.policy.specs.Accepted.{Accepted}
 use Rattle.policy.specs.Answers.{relationOf}
 use Rattle.policy.specs.declared.Relation.{Relation}
 use Rattle.policy.specs.Image.{imageOf, width, setsOf, transitionEntry}
-use Rattle.policy.specs.Encode.{transitionBytes, bodies, encode}
+use Rattle.policy.specs.Encode.{transitionBytes, bodies, encode, firstBody}
 use Rattle.table_laws.proofs.LayoutLaws.{pairs-length}
 use Rattle.statement_code.specs.Code.{codeOf}
 use Rattle.code_reader.specs.AttributeSets.{finalSets}
@@ -86,11 +86,11 @@ module _ (p : Policy) where
   table-is = simp (append-assoc, append-nil)
 
   -- where the parts of the table end
-  pub header-long : length (header p) ≡ 68
+  pub header-long : length (header p) ≡ firstBody
   unfolding le bodies
-  header-long = omega (arith, pairs-length (bodies (imageOf p)) 68)
+  header-long = omega (arith, pairs-length (bodies (imageOf p)) firstBody)
 
-  pub relations-end : (r : Starts) → StartsOf p r → r .transitions ≡ 68 + length (body 0 p ++ (body 1 p ++ (body 2 p ++ body 3 p)))
+  pub relations-end : (r : Starts) → StartsOf p r → r .transitions ≡ firstBody + length (body 0 p ++ (body 1 p ++ (body 2 p ++ body 3 p)))
   relations-end r at = omega (
     arith,
     at .user-roles,

@@ -12,7 +12,7 @@ use Rattle.policy.specs.Meaning.{countIn, final}
 use Rattle.policy.specs.Reading.{rowCount}
 use Rattle.policy.specs.Accepted.{Accepted}
 use Rattle.policy.specs.Image.{imageOf, setsOf, constraintEntry, transitionEntry}
-use Rattle.policy.specs.Encode.{entries, transitionBytes, headBytes, headsFrom, rowBytes, bodies, encode}
+use Rattle.policy.specs.Encode.{entries, transitionBytes, headBytes, headsFrom, rowBytes, bodies, encode, firstBody}
 use Rattle.policy.proofs.Lists.{each-length}
 use Rattle.policy.proofs.Counts.{few-of}
 use Rattle.table_laws.specs.SoundTable.{allRows, tableLength}
@@ -105,7 +105,7 @@ module _ (p : Policy) (ok : Accepted p) where
   -- sizes of a table
   module _ (s : Sizes) (sizes : SizesOf p s) where
     total : length (encode (imageOf p))
-        ≡ 68 + s .names + 16 * s .users + 64 * s .roles + 16 * s .roles + 82 * s .transitions + 10 * s .constraints + 6 * s .rows
+        ≡ firstBody + s .names + 16 * s .users + 64 * s .roles + 16 * s .roles + 82 * s .transitions + 10 * s .constraints + 6 * s .rows
         + 16 * s .«user_attributes» + 16 * s .«role_attributes» + 64 * s .«type_attributes»
     unfolding tableLength imageOf countIn bodies
     total = omega (

@@ -4,8 +4,8 @@ use mathlib.Core.List.{List, [], _∷_, _++_, append-assoc}
 use Prim.Native.Nat.{ℕ, _+_, _-_, _≤_, _<_}
 use native.Mathlib.Omega.{arith}
 use lib.ListN.{length, length-append}
-use Rattle.bitset.specs.Parts.{put}
-use Rattle.bitset.proofs.PartLaws.{put-none, length-put, put-then}
+use Rattle.byte_slices.specs.Parts.{put}
+use Rattle.byte_slices.proofs.PartLaws.{put-none, length-put, put-then}
 use Rattle.policy.specs.Basics.{le}
 use Rattle.policy.specs.Encode.{pairs}
 use Rattle.table_laws.proofs.LittleEndian.{le-length}

@@ -6,7 +6,7 @@ use lib.ListN.{length, take, drop}
 use Rattle.policy.specs.Statements.{users, roles, types, Policy}
 use Rattle.policy.specs.Accepted.{Accepted}
 use Rattle.policy.specs.Image.{imageOf}
-use Rattle.policy.specs.Encode.{encode}
+use Rattle.policy.specs.Encode.{encode, firstBody}
 use Rattle.statement_code.specs.Code.{codeOf}
 use Rattle.code_reader.specs.AttributeSets.{finalSets}
 use Rattle.table_writer.specs.declared.Sizes.{Sizes}
@@ -30,7 +30,7 @@ pub record WritesRoleRelations (r : Starts) (s : Sizes) (code roleSets typeSets 
 -- bodies 1 to 4, with "Names in text order" and "Roles of each user, 16 bytes each" before those
 pub record WritesRelations (r : Starts) (s : Sizes) (symbols code userSets roleSets typeSets before after : List ℕ) : Type 0 where
   pub says : (p : Policy) → Sources p code userSets roleSets typeSets → SizesOf p s → StartsOf p r → take (s .names) symbols ≡ body 0 p
-      → Puts (body 0 p ++ (body 1 p ++ (body 2 p ++ body 3 p))) before 68 after
+      → Puts (body 0 p ++ (body 1 p ++ (body 2 p ++ body 3 p))) before firstBody after
 
 -- bodies 5 to 7: "Transitions in text order", "Constraints in text order", "Rows of 6 bytes"
 pub record WritesRules (r : Starts) (s : Sizes) (code constraints rows roleSets typeSets before after : List ℕ) : Type 0 where

@@ -49,7 +49,7 @@ pub record Few (s : Sizes) : Type 0 where
 
 -- "the bodies follow from byte 68 in order, without gaps", each by the width of its entries
 pub record Spaced (s : Sizes) (r : Starts) : Type 0 where
-  pub user-roles : r .«user_roles» ≡ 68 + s .names
+  pub user-roles : r .«user_roles» ≡ firstBody + s .names
   pub role-types : r .«role_types» ≡ r .«user_roles» + 16 * s .users
   pub role-roles : r .«role_roles» ≡ r .«role_types» + 64 * s .roles
   pub transitions : r .transitions ≡ r .«role_roles» + 16 * s .roles
@@ -62,7 +62,7 @@ pub record Spaced (s : Sizes) (r : Starts) : Type 0 where
 
 -- the same of the bodies of p
 pub record StartsOf (p : Policy) (r : Starts) : Type 0 where
-  pub user-roles : r .«user_roles» ≡ 68 + length (body 0 p)
+  pub user-roles : r .«user_roles» ≡ firstBody + length (body 0 p)
   pub role-types : r .«role_types» ≡ r .«user_roles» + length (body 1 p)
   pub role-roles : r .«role_roles» ≡ r .«role_types» + length (body 2 p)
   pub transitions : r .transitions ≡ r .«role_roles» + length (body 3 p)

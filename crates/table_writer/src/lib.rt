@@ -231,10 +231,10 @@ fn write_rules(
         (now (table .entry)) (now (table .exit)) ⌝ }
 {
     body_writer::write_transitions(code, role_sets, type_sets, table, places.transitions);
-    let heads = past(0, sizes.constraints, Constraint::BYTES);
-    body_writer::copy(constraints, heads, table, places.constraints);
-    let tails = past(0, sizes.rows, Row::BYTES);
-    body_writer::copy(rows, tails, table, places.rows);
+    let constraint_bytes = past(0, sizes.constraints, Constraint::BYTES);
+    body_writer::copy(constraints, constraint_bytes, table, places.constraints);
+    let row_bytes = past(0, sizes.rows, Row::BYTES);
+    body_writer::copy(rows, row_bytes, table, places.rows);
 }
 
 // Body 8: the sets of the attributes of each family.

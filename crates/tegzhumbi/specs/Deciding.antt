@@ -6,7 +6,7 @@ use mathlib.Core.List.{List}
 use lib.Dec.{leb}
 use lib.ListN.{length}
 use Rattle.policy.specs.Statements.{Policy}
-use Rattle.policy.specs.Reading.{Read, policy, refused}
+use Rattle.policy.specs.Reading.{policy, refused}
 use Rattle.policy.specs.Deciding.{Question, Answer}
 use Rattle.policy.specs.Answer.{answer}
 use Rattle.policy.specs.Answers.{refusalIn, changeOf}

@@ -9,8 +9,8 @@ use lib.Dec.{ltb}
 use lib.ListN.{length, length-append, set, take}
 use lib.Seq.{sets, take-length}
 use borrow.Author.Tests.{lt-ltb, le-ltb}
-use Rattle.bitset.specs.Parts.{part, put}
-use Rattle.bitset.proofs.PartLaws.{sets-put, sets-append}
+use Rattle.byte_slices.specs.Parts.{part, put}
+use Rattle.byte_slices.proofs.PartLaws.{sets-put, sets-append}
 use Rattle.policy.specs.Roll.{digits}
 use Rattle.text_writer.specs.Writing.{Appends}
 

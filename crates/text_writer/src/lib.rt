@@ -12,7 +12,7 @@ pub fn put_bytes(out: &mut [u8], at: usize, bytes: &[u8]) -> usize
     requires { ⌜ at + length (now bytes) ≤ length (now out) ⌝ }
     ensures { λ r. ⌜ Appends (now (out .entry)) at (now (bytes .entry)) (now (out .exit)) r ⌝ }
 {
-    symbols::copy(out, at, bytes, 0, bytes.len());
+    byte_slices::copy(out, at, bytes, 0, bytes.len());
     at + bytes.len()
 }
 

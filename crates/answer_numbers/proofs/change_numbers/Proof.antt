@@ -6,29 +6,17 @@ use borrow.Author.Needs.{needs}
 use Rattle.answer_numbers.proofs.change_numbers.Statement.{statement}
 use Rattle.answer_numbers.proofs.change_numbers.Tie as tie
 
-enum-known-answer : tie.Need-enum-known-answer
-enum-known-answer c = search needs
-
 cast-t8 : tie.Need-cast-t8
 cast-t8 c = omega (arith, (change-as (c .before .answer .given .1) (c .before .before .before .pre)) .consulted)
 
-enum-known-answer-2 : tie.Need-enum-known-answer-2
-enum-known-answer-2 c = search needs
-
 cast-t9 : tie.Need-cast-t9
 cast-t9 c = omega (arith, (change-as (c .before .answer2 .given .1) (c .before .before .before .pre)) .number)
-
-enum-known-answer-3 : tie.Need-enum-known-answer-3
-enum-known-answer-3 c = search needs
 
 cast-t10 : tie.Need-cast-t10
 cast-t10 c = omega (arith, (change-as (c .before .answer3 .given .1) (c .before .before .before .pre)) .constraint)
 
 cast-t11 : tie.Need-cast-t11
 cast-t11 c = omega (arith, (change-as (c .before .answer3 .given .1) (c .before .before .before .pre)) .consulted)
-
-enum-known-answer-4 : tie.Need-enum-known-answer-4
-enum-known-answer-4 c = search needs
 
 refusal-requires : tie.Need-refusal-requires
 refusal-requires c κs = (change-as (c .before .answer4 .given .1) (c .before .before .before .pre)) .number
@@ -47,5 +35,5 @@ returns-4 c = rw (c .before .before .answer4 .given .1) (c .refusal .ensures)
 
 pub change-numbers-spec : {M : Type 1} → statement M
 change-numbers-spec =
-    tie.close (tie.spec enum-known-answer cast-t8 enum-known-answer-2 cast-t9 enum-known-answer-3 cast-t10 cast-t11 enum-known-answer-4 refusal-requires
+    tie.close (tie.spec (λ c. search needs) cast-t8 (λ c. search needs) cast-t9 (λ c. search needs) cast-t10 cast-t11 (λ c. search needs) refusal-requires
     returns returns-2 returns-3 returns-4)

@@ -6,14 +6,8 @@ use borrow.Author.Needs.{needs}
 use Rattle.answer_numbers.proofs.compiled_numbers.Statement.{statement}
 use Rattle.answer_numbers.proofs.compiled_numbers.Tie as tie
 
-enum-known-answer : tie.Need-enum-known-answer
-enum-known-answer c = search needs
-
 cast-t5 : tie.Need-cast-t5
 cast-t5 c = omega (arith, (compiled-as (c .before .answer .given .1) (c .before .before .before .pre)) .place)
-
-enum-known-answer-2 : tie.Need-enum-known-answer-2
-enum-known-answer-2 c = search needs
 
 cast-t6 : tie.Need-cast-t6
 cast-t6 c = omega (arith, (compiled-as (c .before .before .answer2 .given .1) (c .before .before .before .before .pre)) .number)
@@ -31,4 +25,4 @@ returns-2 : tie.Need-returns-2
 returns-2 c = rw (c .before .before .before .before .answer2 .given .1) refl
 
 pub compiled-numbers-spec : {M : Type 1} → statement M
-compiled-numbers-spec = tie.close (tie.spec enum-known-answer cast-t5 enum-known-answer-2 cast-t6 cast-t7 cast-t8 returns returns-2)
+compiled-numbers-spec = tie.close (tie.spec (λ c. search needs) cast-t5 (λ c. search needs) cast-t6 cast-t7 cast-t8 returns returns-2)

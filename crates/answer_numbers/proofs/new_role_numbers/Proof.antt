@@ -6,14 +6,8 @@ use borrow.Author.Needs.{needs}
 use Rattle.answer_numbers.proofs.new_role_numbers.Statement.{statement}
 use Rattle.answer_numbers.proofs.new_role_numbers.Tie as tie
 
-enum-known-answer : tie.Need-enum-known-answer
-enum-known-answer c = search needs
-
 cast-t5 : tie.Need-cast-t5
 cast-t5 c = omega (arith, (new-role-as (c .before .answer .given .1) (c .before .before .before .pre)) .number)
-
-enum-known-answer-2 : tie.Need-enum-known-answer-2
-enum-known-answer-2 c = search needs
 
 refusal-requires : tie.Need-refusal-requires
 refusal-requires c κs = (new-role-as (c .before .answer2 .given .1) (c .before .before .before .pre)) .number
@@ -25,4 +19,4 @@ returns-2 : tie.Need-returns-2
 returns-2 c = rw (c .before .before .answer2 .given .1) (c .refusal .ensures)
 
 pub new-role-numbers-spec : {M : Type 1} → statement M
-new-role-numbers-spec = tie.close (tie.spec enum-known-answer cast-t5 enum-known-answer-2 refusal-requires returns returns-2)
+new-role-numbers-spec = tie.close (tie.spec (λ c. search needs) cast-t5 (λ c. search needs) refusal-requires returns returns-2)

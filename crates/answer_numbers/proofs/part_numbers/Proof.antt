@@ -6,17 +6,11 @@ use borrow.Author.Needs.{needs}
 use Rattle.answer_numbers.proofs.part_numbers.Statement.{statement}
 use Rattle.answer_numbers.proofs.part_numbers.Tie as tie
 
-enum-known-place : tie.Need-enum-known-place
-enum-known-place c = search needs
-
 cast-t6 : tie.Need-cast-t6
 cast-t6 c = omega (arith, (part-as (c .before .place .given .1) (c .before .before .before .pre)) .start)
 
 cast-t7 : tie.Need-cast-t7
 cast-t7 c = omega (arith, (part-as (c .before .place .given .1) (c .before .before .before .pre)) .length)
-
-enum-known-place-2 : tie.Need-enum-known-place-2
-enum-known-place-2 c = search needs
 
 cast-t8 : tie.Need-cast-t8
 cast-t8 c = omega (arith, (part-as (c .before .place2 .given .1) (c .before .before .before .pre)) .number)
@@ -28,4 +22,4 @@ returns-2 : tie.Need-returns-2
 returns-2 c = rw (c .before .place2 .given .1) refl
 
 pub part-numbers-spec : {M : Type 1} → statement M
-part-numbers-spec = tie.close (tie.spec enum-known-place cast-t6 cast-t7 enum-known-place-2 cast-t8 returns returns-2)
+part-numbers-spec = tie.close (tie.spec (λ c. search needs) cast-t6 cast-t7 (λ c. search needs) cast-t8 returns returns-2)

@@ -8,12 +8,6 @@ use Rattle.answer_numbers.proofs.valid_numbers.Tie as tie
 enum-told : tie.Need-enum-told
 enum-told c = search needs
 
-enum-told-2 : tie.Need-enum-told-2
-enum-told-2 c = search needs
-
-enum-known-answer : tie.Need-enum-known-answer
-enum-known-answer c = search needs
-
 refusal-requires : tie.Need-refusal-requires
 refusal-requires c κs = (valid-as (c .before .answer .given .1) (c .before .before .before .pre)) .number
 
@@ -27,4 +21,4 @@ returns-3 : tie.Need-returns-3
 returns-3 c = rw (c .before .before .answer .given .1) (c .refusal .ensures)
 
 pub valid-numbers-spec : {M : Type 1} → statement M
-valid-numbers-spec = tie.close (tie.spec enum-told enum-told-2 enum-known-answer refusal-requires returns returns-2 returns-3)
+valid-numbers-spec = tie.close (tie.spec enum-told (λ c. search needs) (λ c. search needs) refusal-requires returns returns-2 returns-3)

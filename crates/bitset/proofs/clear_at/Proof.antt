@@ -1,6 +1,6 @@
 -- `bitset::clear_at` meets its contract: the part is lent, and what comes back is what `clear` made of it. Assumes nothing.
 use borrow.Author.Needs.{needs}
-use Rattle.bitset.proofs.PartLaws.{put-back}
+use Rattle.byte_slices.proofs.PartLaws.{put-back}
 use Rattle.bitset.proofs.SetLaws.{length-emptied}
 use Rattle.bitset.specs.Sets.{emptied}
 use Rattle.bitset.proofs.clear_at.Statement.{statement}

@@ -9,26 +9,17 @@ use Rattle.bloom_filter.specs.Filter.{isMarked, marked}
 use Rattle.bloom_filter.proofs.insert.Statement.{statement}
 use Rattle.bloom_filter.proofs.insert.Tie as tie
 
-rem-place : tie.Need-rem-place
-rem-place c = search needs
-
 mul-before : tie.Need-mul-before
 mul-before c = omega (arith, c .before .pre .1, mod-le (c .before .args .hash / 2097152) (length (c .before .args .filter .now)))
 
 slice-read-before : tie.Need-slice-read-before
 slice-read-before c = mod-lt (c .before .before .args .hash / 2097152) (c .before .before .pre .0)
 
-mask-of-requires : tie.Need-mask-of-requires
-mask-of-requires c κs = search needs
-
 mul-filter : tie.Need-mul-filter
 mul-filter c = omega (arith, c .before .before .before .pre .1, mod-le (c .before .before .before .args .hash / 2097152) (length (c .before .before .before .args .filter .now)))
 
 slice-write-filter : tie.Need-slice-write-filter
 slice-write-filter c = mod-lt (c .before .before .before .args .hash / 2097152) (c .before .before .before .pre .0)
-
-same-length : tie.Need-same-length
-same-length c = search needs
 
 returns : tie.Need-returns
 unfolding isMarked marked
@@ -38,11 +29,11 @@ pub insert-spec : {M : Type 1} → statement M
 insert-spec =
     tie.close
     (tie.spec
-    rem-place
+    (λ c. search needs)
     mul-before
     slice-read-before
-    mask-of-requires
+    (λ c κs. search needs)
     mul-filter
     slice-write-filter
-    same-length
+    (λ c. search needs)
     returns)

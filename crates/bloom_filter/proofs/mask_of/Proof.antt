@@ -4,18 +4,9 @@ use Rattle.bloom_filter.specs.Filter.{maskOf}
 use Rattle.bloom_filter.proofs.mask_of.Statement.{statement}
 use Rattle.bloom_filter.proofs.mask_of.Tie as tie
 
-bit-of-requires : tie.Need-bit-of-requires
-bit-of-requires c κs = search needs
-
-bit-of-requires-2 : tie.Need-bit-of-requires-2
-bit-of-requires-2 c κs = search needs
-
-bit-of-requires-3 : tie.Need-bit-of-requires-3
-bit-of-requires-3 c κs = search needs
-
 returns : tie.Need-returns
 unfolding maskOf
 returns c = rw (c .before .before .bit-of .ensures, c .before .bit-of2 .ensures, c .bit-of3 .ensures)
 
 pub mask-of-spec : {M : Type 1} → statement M
-mask-of-spec = tie.close (tie.spec bit-of-requires bit-of-requires-2 bit-of-requires-3 returns)
+mask-of-spec = tie.close (tie.spec (λ c κs. search needs) (λ c κs. search needs) (λ c κs. search needs) returns)

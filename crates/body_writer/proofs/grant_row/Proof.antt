@@ -7,9 +7,9 @@ use native.Mathlib.Omega.{arith}
 use borrow.Author.Needs.{needs}
 use lib.ListN.{length}
 use Rattle.bitset.specs.Sets.{unionOf}
-use Rattle.bitset.specs.Parts.{part, put}
+use Rattle.byte_slices.specs.Parts.{part, put}
 use Rattle.bitset.proofs.SetLaws.{length-setOf, union-one}
-use Rattle.bitset.proofs.PartLaws.{length-part-min, length-part-le}
+use Rattle.byte_slices.proofs.PartLaws.{length-part-min, length-part-le}
 use Rattle.set_rows.proofs.GrantLaws.{row-at, past-at}
 use Rattle.set_code.proofs.Leaves.{thing-alone}
 use Rattle.body_writer.proofs.grant_row.Statement.{statement}

@@ -7,7 +7,7 @@ use Prim.Native.Nat.{ℕ, _+_, _-_, _≤_}
 use mathlib.Core.List.{List, []}
 use borrow.Author.Needs.{needs}
 use Rattle.code_reader.proofs.SetPasses.{start}
-use Rattle.bitset.specs.Parts.{put}
+use Rattle.byte_slices.specs.Parts.{put}
 use Rattle.statement_code.specs.Code.{relationNumber}
 use Rattle.code_reader.proofs.Items.{items}
 use Rattle.policy.specs.Statements.{Relation, toOf, Policy}

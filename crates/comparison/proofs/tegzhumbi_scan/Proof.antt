@@ -8,21 +8,12 @@ use Rattle.comparison.proofs.tegzhumbi_scan.Lts as lts
 use Rattle.lexer.proofs.scan.Reads as scan-reads
 
 -- src/lib.rt:21:9
-scan-requires : tie.Need-scan-requires
-scan-requires c κs = search needs
-
 -- src/lib.rt:23:27
 enum-told : tie.Need-enum-told
 enum-told c = search needs
 
 -- src/lib.rt:26:20
-enum-told-2 : tie.Need-enum-told-2
-enum-told-2 c = search needs
-
 -- src/lib.rt:28:24
-enum-known-found : tie.Need-enum-known-found
-enum-known-found c = search needs
-
 -- src/lib.rt:16:1
 returns : tie.Need-returns
 returns c = rw (sym (c .before .before .scan .ensures), c .enum-told .given .1) (refl, refl)
@@ -38,4 +29,4 @@ returns-3 c = rw (sym (c .before .before .before .scan .ensures), c .before .fou
 pub tegzhumbi-scan-spec : {M : Type 1} → statement M
 tegzhumbi-scan-spec =
     tie.close
-    (tie.spec scan-requires enum-told enum-told-2 enum-known-found returns returns-2 returns-3)
+    (tie.spec (λ c κs. search needs) enum-told (λ c. search needs) (λ c. search needs) returns returns-2 returns-3)

@@ -13,15 +13,9 @@ returns-2 c = many-rows (c .if2 .taken)
 returns-3 : tie.Need-returns-3
 returns-3 c = deep (c .before .before .if1 .left) (c .before .if2 .left) (c .if3 .taken)
 
-sub-put-record : tie.Need-sub-put-record
-sub-put-record c = search needs
-
-put-record-requires : tie.Need-put-record-requires
-put-record-requires c κs = search needs
-
 returns-4 : tie.Need-returns-4
 returns-4 c =
     admitted (c .before .before .before .before .if1 .left) (c .before .before .before .if2 .left) (c .before .before .if3 .left) (c .put-record .ensures)
 
 pub admit-spec : {M : Type 1} → statement M
-admit-spec = tie.close (tie.spec returns returns-2 returns-3 sub-put-record put-record-requires returns-4)
+admit-spec = tie.close (tie.spec returns returns-2 returns-3 (λ c. search needs) (λ c κs. search needs) returns-4)

@@ -17,29 +17,11 @@ abbrev μ-loop : tie.MeasureT-loop
 loop-holds : tie.Need-loop-holds Inv-loop μ-loop
 loop-holds c = begun
 
-next-item-requires : tie.Need-next-item-requires Inv-loop μ-loop
-next-item-requires c κs = search needs
-
-enum-known-item : tie.Need-enum-known-item Inv-loop μ-loop
-enum-known-item c = search needs
-
 add-end : tie.Need-add-end Inv-loop μ-loop
 add-end c = omega (arith, sees (c .before .before .before .next-item .ensures) (c .before .item .given .1) .ahead .3)
 
-sub-name : tie.Need-sub-name Inv-loop μ-loop
-sub-name c = search needs
-
-part-name-start : tie.Need-part-name-start Inv-loop μ-loop
-part-name-start c = search needs
-
 part-name-end : tie.Need-part-name-end Inv-loop μ-loop
 part-name-end c = omega (arith, sees (c .before .before .before .next-item .ensures) (c .before .item .given .1) .ahead .3)
-
-lookup-permission-requires : tie.Need-lookup-permission-requires Inv-loop μ-loop
-lookup-permission-requires c κs = search needs
-
-enum-known-found : tie.Need-enum-known-found Inv-loop μ-loop
-enum-known-found c = search needs
 
 enum-told : tie.Need-enum-told Inv-loop μ-loop
 enum-told c = search needs
@@ -50,9 +32,6 @@ returns c =
     let looked = item .before .before in
     let l = sees (looked .next-item .ensures) (item .item .given .1) in
     not-of-class (looked .before .loop .inv) l (c .before .before .lookup-permission .ensures) (c .enum-told .given .1)
-
-with-permission-requires : tie.Need-with-permission-requires Inv-loop μ-loop
-with-permission-requires c κs = search needs
 
 loop-less : tie.Need-loop-less Inv-loop μ-loop
 loop-less c =
@@ -68,9 +47,6 @@ loop-again c =
     let l = sees (looked .next-item .ensures) (item .item .given .1) in
     one-more (looked .before .loop .inv) l (found .lookup-permission .ensures) (c .before .before .found .given .1) (c .with-permission .ensures)
 
-enum-known-item-2 : tie.Need-enum-known-item-2 Inv-loop μ-loop
-enum-known-item-2 c = search needs
-
 returns-2 : tie.Need-returns-2 Inv-loop μ-loop
 returns-2 c = finished (c .before .before .before .before .loop .inv) (sees (c .before .before .before .next-item .ensures) (c .before .item2 .given .1))
 
@@ -84,19 +60,19 @@ permission-mask-spec =
     Inv-loop
     μ-loop
     loop-holds
-    next-item-requires
-    enum-known-item
+    (λ c κs. search needs)
+    (λ c. search needs)
     add-end
-    sub-name
-    part-name-start
+    (λ c. search needs)
+    (λ c. search needs)
     part-name-end
-    lookup-permission-requires
-    enum-known-found
+    (λ c κs. search needs)
+    (λ c. search needs)
     enum-told
     returns
-    with-permission-requires
+    (λ c κs. search needs)
     loop-less
     loop-again
-    enum-known-item-2
+    (λ c. search needs)
     returns-2
     returns-3)

@@ -4,14 +4,8 @@ use borrow.Author.Needs.{needs}
 use Rattle.constrain_statement.proofs.with_permission.Statement.{statement}
 use Rattle.constrain_statement.proofs.with_permission.Tie as tie
 
-cast-result : tie.Need-cast-result
-cast-result c = search needs
-
-shl-result : tie.Need-shl-result
-shl-result c = search needs
-
 returns : tie.Need-returns
 returns c = with-bit _ _ (search needs) (search needs)
 
 pub with-permission-spec : {M : Type 1} → statement M
-with-permission-spec = tie.close (tie.spec cast-result shl-result returns)
+with-permission-spec = tie.close (tie.spec (λ c. search needs) (λ c. search needs) returns)

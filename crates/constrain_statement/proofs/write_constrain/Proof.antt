@@ -11,20 +11,8 @@ use Rattle.constrain_statement.proofs.write_constrain.Tie as tie
 returns : tie.Need-returns
 returns c = past-rows (c .if1 .taken)
 
-next-item-requires : tie.Need-next-item-requires
-next-item-requires c κs = search needs
-
-enum-known-first : tie.Need-enum-known-first
-enum-known-first c = search needs
-
 returns-2 : tie.Need-returns-2
 returns-2 c = scope-missing (c .before .next-item .ensures) (c .match .keys2)
-
-class-and-permissions-requires : tie.Need-class-and-permissions-requires
-class-and-permissions-requires c κs = search needs
-
-enum-known-scope : tie.Need-enum-known-scope
-enum-known-scope c = search needs
 
 enum-told : tie.Need-enum-told
 enum-told c = search needs
@@ -35,12 +23,6 @@ returns-3 c =
     let at-next-item = at-first .before .before in
     scope-undeclared (sees (at-next-item .next-item .ensures) (at-first .first .given .1)) (c .before .before .class-and-permissions .ensures) (c .enum-told .given .1)
 
-next-item-requires-2 : tie.Need-next-item-requires-2
-next-item-requires-2 c κs = search needs
-
-enum-known-second : tie.Need-enum-known-second
-enum-known-second c = search needs
-
 returns-4 : tie.Need-returns-4
 returns-4 c =
     let at-class-and-permissions = c .before .before .before .before .before in
@@ -48,15 +30,6 @@ returns-4 c =
     let at-next-item = at-first .before .before in
     expression-missing (sees (at-next-item .next-item .ensures) (at-first .first .given .1)) (at-class-and-permissions .class-and-permissions .ensures)
     (c .before .before .before .scope .given .1) (c .before .next-item2 .ensures) (c .match3 .keys2)
-
-write-constraint-requires : tie.Need-write-constraint-requires
-write-constraint-requires c κs = search needs
-
-enum-known-written : tie.Need-enum-known-written
-enum-known-written c = search needs
-
-enum-told-2 : tie.Need-enum-told-2
-enum-told-2 c = search needs
 
 returns-5 : tie.Need-returns-5
 returns-5 c =
@@ -91,19 +64,19 @@ write-constrain-spec =
     tie.close
     (tie.spec
     returns
-    next-item-requires
-    enum-known-first
+    (λ c κs. search needs)
+    (λ c. search needs)
     returns-2
-    class-and-permissions-requires
-    enum-known-scope
+    (λ c κs. search needs)
+    (λ c. search needs)
     enum-told
     returns-3
-    next-item-requires-2
-    enum-known-second
+    (λ c κs. search needs)
+    (λ c. search needs)
     returns-4
-    write-constraint-requires
-    enum-known-written
-    enum-told-2
+    (λ c κs. search needs)
+    (λ c. search needs)
+    (λ c. search needs)
     returns-5
     admit-requires
     returns-6)

@@ -11,15 +11,6 @@ use Rattle.constraint_grammar.proofs.both_sides.Tie as tie
 use Rattle.constraint_grammar.proofs.both_sides.Reads as reads
 use Rattle.constraint_grammar.proofs.both_sides.Lts as lts
 
-next-item-requires : tie.Need-next-item-requires
-next-item-requires c κs = search needs
-
-enum-known-item : tie.Need-enum-known-item
-enum-known-item c = search needs
-
-second-side-requires : tie.Need-second-side-requires
-second-side-requires c κs = search needs
-
 returns : tie.Need-returns
 returns c =
     let l = sees (c .before .before .before .before .next-item .ensures) (c .before .before .item .given .1) in
@@ -31,4 +22,4 @@ returns-2 c = refuse (alike-here (bothSides _) (λ f. false) _ _ _ (1 ∷ 2 ∷ 
 pub both-sides-spec : {M : Type 1} → statement M
 both-sides-spec =
     tie.close
-    (tie.spec next-item-requires enum-known-item second-side-requires returns returns-2)
+    (tie.spec (λ c κs. search needs) (λ c. search needs) (λ c κs. search needs) returns returns-2)

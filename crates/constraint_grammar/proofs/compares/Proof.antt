@@ -5,12 +5,6 @@ use Rattle.constraint_grammar.proofs.Comparing.{compares-name, compares
 use Rattle.constraint_grammar.proofs.compares.Statement.{statement}
 use Rattle.constraint_grammar.proofs.compares.Tie as tie
 
-is-component-requires : tie.Need-is-component-requires
-is-component-requires c κs = search needs
-
-is-plain-requires : tie.Need-is-plain-requires
-is-plain-requires c κs = search needs
-
 returns : tie.Need-returns
 returns c w k n =
     let is-name = sym (c .before .before .before .if1 .taken) ∙ n in
@@ -21,20 +15,11 @@ returns-2 c w k n =
     let is-name = sym (c .before .before .if1 .taken) ∙ n in
     sym (compares-nothing _ _ w is-name (sym (c .before .is-component .ensures) ∙ c .if2 .left))
 
-are-sides-requires : tie.Need-are-sides-requires
-are-sides-requires c κs = search needs
-
-is-operator-requires : tie.Need-is-operator-requires
-is-operator-requires c κs = search needs
-
 returns-3 : tie.Need-returns-3
 returns-3 c w k n =
     let no-name = sym (c .before .before .before .before .if1 .left) ∙ n in
     let sides = sym (c .before .before .before .are-sides .ensures) ∙ c .before .before .if3 .taken in
     c .is-operator .ensures ∙ sym (compares-roles _ _ _ w k no-name sides (c .before .if4 .taken))
-
-is-plain-requires-2 : tie.Need-is-plain-requires-2
-is-plain-requires-2 c κs = search needs
 
 returns-4 : tie.Need-returns-4
 returns-4 c w k n =
@@ -49,13 +34,13 @@ pub compares-spec : {M : Type 1} → statement M
 compares-spec =
     tie.close
     (tie.spec
-    is-component-requires
-    is-plain-requires
+    (λ c κs. search needs)
+    (λ c κs. search needs)
     returns
     returns-2
-    are-sides-requires
-    is-operator-requires
+    (λ c κs. search needs)
+    (λ c κs. search needs)
     returns-3
-    is-plain-requires-2
+    (λ c κs. search needs)
     returns-4
     returns-5)

@@ -10,15 +10,6 @@ use Rattle.constraint_grammar.proofs.head_of.Tie as tie
 use Rattle.constraint_grammar.proofs.head_of.Reads as reads
 use Rattle.constraint_grammar.proofs.head_of.Lts as lts
 
-next-item-requires : tie.Need-next-item-requires
-next-item-requires c κs = search needs
-
-enum-known-item : tie.Need-enum-known-item
-enum-known-item c = search needs
-
-joins-requires : tie.Need-joins-requires
-joins-requires c κs = search needs
-
 returns : tie.Need-returns
 returns c = rw (← c .before .before .before .before .next-item .ensures, c .before .before .item .given .1, c .joins .ensures)
 
@@ -29,4 +20,4 @@ returns-2 c =
     (among (1 ∷ 2 ∷ 3 ∷ []) (λ (r : Item). headBy 0 0 at ≡ headOf at r) (tt, λ p q. refl, λ q. refl, refl) (c .before .next-item .result) (c .match .keys2))
 
 pub head-of-spec : {M : Type 1} → statement M
-head-of-spec = tie.close (tie.spec next-item-requires enum-known-item joins-requires returns returns-2)
+head-of-spec = tie.close (tie.spec (λ c κs. search needs) (λ c. search needs) (λ c κs. search needs) returns returns-2)

@@ -9,20 +9,8 @@ use Rattle.items.proofs.Rows.{refuse, after-word}
 use Rattle.constraint_grammar.proofs.second_side.Statement.{statement}
 use Rattle.constraint_grammar.proofs.second_side.Tie as tie
 
-next-item-requires : tie.Need-next-item-requires
-next-item-requires c κs = search needs
-
-enum-known-item : tie.Need-enum-known-item
-enum-known-item c = search needs
-
 is-name-requires : tie.Need-is-name-requires
 is-name-requires c κs = sees (c .before .before .before .next-item .ensures) (c .before .item .given .1) .ahead .3
-
-compares-requires : tie.Need-compares-requires
-compares-requires c κs = search needs
-
-close-form-requires : tie.Need-close-form-requires
-close-form-requires c κs = search needs
 
 returns : tie.Need-returns
 returns c =
@@ -47,11 +35,11 @@ pub second-side-spec : {M : Type 1} → statement M
 second-side-spec =
     tie.close
     (tie.spec
-    next-item-requires
-    enum-known-item
+    (λ c κs. search needs)
+    (λ c. search needs)
     is-name-requires
-    compares-requires
-    close-form-requires
+    (λ c κs. search needs)
+    (λ c κs. search needs)
     returns
     returns-2
     returns-3)

@@ -9,36 +9,15 @@ use Rattle.constraint_writer.proofs.Comparisons.{first-missing, second-
 use Rattle.constraint_writer.proofs.comparison.Statement.{statement}
 use Rattle.constraint_writer.proofs.comparison.Tie as tie
 
-next-item-requires : tie.Need-next-item-requires
-next-item-requires c κs = search needs
-
-enum-known-first : tie.Need-enum-known-first
-enum-known-first c = search needs
-
 returns : tie.Need-returns
 returns c =
     no-form (all-kept _ _) (first-missing _ _ _ (c .before .next-item .ensures) (c .match .keys2))
-
-component-of-requires : tie.Need-component-of-requires
-component-of-requires c κs = search needs
-
-next-item-requires-2 : tie.Need-next-item-requires-2
-next-item-requires-2 c κs = search needs
-
-enum-known-second : tie.Need-enum-known-second
-enum-known-second c = search needs
 
 returns-2 : tie.Need-returns-2
 returns-2 c =
     let at-first = c .before .before .before .before in
     let at-next-item = at-first .before .before in
     no-form (all-kept _ _) (second-missing _ (sees (at-next-item .next-item .ensures) (at-first .first .given .1)) (c .before .next-item2 .ensures) (c .match2 .keys2))
-
-next-item-requires-3 : tie.Need-next-item-requires-3
-next-item-requires-3 c κs = search needs
-
-enum-known-last : tie.Need-enum-known-last
-enum-known-last c = search needs
 
 returns-3 : tie.Need-returns-3
 returns-3 c =
@@ -54,22 +33,10 @@ add-end c =
     let second = c .before .before .before .before .before in
     omega (arith, sees (second .before .before .next-item2 .ensures) (second .second .given .1) .ahead .3)
 
-sub-name : tie.Need-sub-name
-sub-name c = search needs
-
-part-name-start : tie.Need-part-name-start
-part-name-start c = search needs
-
 part-name-end : tie.Need-part-name-end
 part-name-end c =
     let second = c .before .before .before .before .before in
     omega (arith, sees (second .before .before .next-item2 .ensures) (second .second .given .1) .ahead .3)
-
-operand-of-requires : tie.Need-operand-of-requires
-operand-of-requires c κs = search needs
-
-enum-known-operand : tie.Need-enum-known-operand
-enum-known-operand c = search needs
 
 enum-told : tie.Need-enum-told
 enum-told c = search needs
@@ -85,12 +52,6 @@ returns-4 c =
     not-declared l l2 l3 _ (second .before .before .before .component-of .ensures)
     (compares-told l2 (c .before .before .operand-of .ensures) (c .enum-told .given .1))
 
-operator-of-requires : tie.Need-operator-of-requires
-operator-of-requires c κs = search needs
-
-put-row-requires : tie.Need-put-row-requires
-put-row-requires c κs = search needs
-
 add-row : tie.Need-add-row
 add-row c =
     let last = c .before .before .before .before .before .before .before .before .before .before .before in
@@ -100,9 +61,6 @@ add-row c =
     let l2 = sees (second .before .before .next-item2 .ensures) (second .second .given .1) in
     let l3 = sees (last .before .before .next-item3 .ensures) (last .last .given .1) in
     omega (arith, l .ahead .0, l2 .ahead .0, l3 .ahead .0, l3 .ahead .1, first .before .before .before .before .before .before .pre)
-
-same-length : tie.Need-same-length
-same-length c = search needs
 
 returns-5 : tie.Need-returns-5
 returns-5 c =
@@ -121,26 +79,26 @@ pub comparison-spec : {M : Type 1} → statement M
 comparison-spec =
     tie.close
     (tie.spec
-    next-item-requires
-    enum-known-first
+    (λ c κs. search needs)
+    (λ c. search needs)
     returns
-    component-of-requires
-    next-item-requires-2
-    enum-known-second
+    (λ c κs. search needs)
+    (λ c κs. search needs)
+    (λ c. search needs)
     returns-2
-    next-item-requires-3
-    enum-known-last
+    (λ c κs. search needs)
+    (λ c. search needs)
     returns-3
     add-end
-    sub-name
-    part-name-start
+    (λ c. search needs)
+    (λ c. search needs)
     part-name-end
-    operand-of-requires
-    enum-known-operand
+    (λ c κs. search needs)
+    (λ c. search needs)
     enum-told
     returns-4
-    operator-of-requires
-    put-row-requires
+    (λ c κs. search needs)
+    (λ c κs. search needs)
     add-row
-    same-length
+    (λ c. search needs)
     returns-5)

@@ -4,20 +4,8 @@ use borrow.Author.Needs.{needs}
 use Rattle.constraint_writer.proofs.operand_of.Statement.{statement}
 use Rattle.constraint_writer.proofs.operand_of.Tie as tie
 
-component-of-requires : tie.Need-component-of-requires
-component-of-requires c κs = search needs
-
 returns : tie.Need-returns
 returns c = a-side _ _ _ _ _ (c .before .component-of .ensures) (c .if1 .taken)
-
-cast-family : tie.Need-cast-family
-cast-family c = search needs
-
-lookup-requires : tie.Need-lookup-requires
-lookup-requires c κs = search needs
-
-enum-known-found : tie.Need-enum-known-found
-enum-known-found c = search needs
 
 returns-2 : tie.Need-returns-2
 returns-2 c =
@@ -46,11 +34,11 @@ pub operand-of-spec : {M : Type 1} → statement M
 operand-of-spec =
     tie.close
     (tie.spec
-    component-of-requires
+    (λ c κs. search needs)
     returns
-    cast-family
-    lookup-requires
-    enum-known-found
+    (λ c. search needs)
+    (λ c κs. search needs)
+    (λ c. search needs)
     returns-2
     enum-told
     returns-3

@@ -4,9 +4,6 @@ use borrow.Author.Needs.{needs}
 use Rattle.constraints.proofs.compare.Statement.{statement}
 use Rattle.constraints.proofs.compare.Tie as tie
 
-is-same-requires : tie.Need-is-same-requires
-is-same-requires c κs = search needs
-
 returns : tie.Need-returns
 returns c = rw (eq-eqb _ _ (c .if1 .taken), c .before .is-same .ensures)
 
@@ -17,4 +14,4 @@ returns-3 : tie.Need-returns-3
 returns-3 c = rw (ne-eqb _ _ (c .before .if1 .left), ne-eqb _ _ (c .if2 .left), c .before .before .is-same .ensures)
 
 pub compare-spec : {M : Type 1} → statement M
-compare-spec = tie.close (tie.spec is-same-requires returns returns-2 returns-3)
+compare-spec = tie.close (tie.spec (λ c κs. search needs) returns returns-2 returns-3)

@@ -29,26 +29,8 @@ Inv-loop table bodies first count sides rows values₀ number₀ left₀ values 
 abbrev μ-loop : tie.MeasureT-loop
 μ-loop table bodies first count sides rows values₀ number₀ left₀ values number left = left
 
-empty-requires : tie.Need-empty-requires Inv-loop μ-loop
-empty-requires c κs = search needs
-
 loop-holds : tie.Need-loop-holds Inv-loop μ-loop
 loop-holds c = (refl, le-refl _, ([], c .empty .ensures, refl))
-
-row-at-requires : tie.Need-row-at-requires Inv-loop μ-loop
-row-at-requires c κs = search needs
-
-row-step-requires : tie.Need-row-step-requires Inv-loop μ-loop
-row-step-requires c κs = search needs
-
-add-number : tie.Need-add-number Inv-loop μ-loop
-add-number c = search needs
-
-sub-left : tie.Need-sub-left Inv-loop μ-loop
-sub-left c = search needs
-
-loop-less : tie.Need-loop-less Inv-loop μ-loop
-loop-less c = search needs
 
 loop-again : tie.Need-loop-again Inv-loop μ-loop
 unfolding boundedRun
@@ -66,9 +48,6 @@ loop-again c =
       ),
     )
 
-result-requires : tie.Need-result-requires Inv-loop μ-loop
-result-requires c κs = search needs
-
 returns : tie.Need-returns Inv-loop μ-loop
 unfolding boundedRun
 returns c =
@@ -83,13 +62,13 @@ evaluate-spec =
     (tie.spec
     Inv-loop
     μ-loop
-    empty-requires
+    (λ c κs. search needs)
     loop-holds
-    row-at-requires
-    row-step-requires
-    add-number
-    sub-left
-    loop-less
+    (λ c κs. search needs)
+    (λ c κs. search needs)
+    (λ c. search needs)
+    (λ c. search needs)
+    (λ c. search needs)
     loop-again
-    result-requires
+    (λ c κs. search needs)
     returns)

@@ -4,11 +4,8 @@ use borrow.Author.Needs.{needs}
 use Rattle.constraints.proofs.first_failing.Statement.{statement}
 use Rattle.constraints.proofs.first_failing.Tie as tie
 
-scan-requires : tie.Need-scan-requires
-scan-requires c κs = search needs
-
 returns : tie.Need-returns
 returns c = decides _ _ _ _ _ _ (c .scan .ensures)
 
 pub first-failing-spec : {M : Type 1} → statement M
-first-failing-spec = tie.close (tie.spec scan-requires returns)
+first-failing-spec = tie.close (tie.spec (λ c κs. search needs) returns)

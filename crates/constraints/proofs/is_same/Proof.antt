@@ -4,35 +4,11 @@ use borrow.Author.Needs.{needs}
 use Rattle.constraints.proofs.is_same.Statement.{statement}
 use Rattle.constraints.proofs.is_same.Tie as tie
 
-cast-component : tie.Need-cast-component
-cast-component c = search needs
-
-side-requires : tie.Need-side-requires
-side-requires c κs = search needs
-
-add-side : tie.Need-add-side
-add-side c = search needs
-
-side-requires-2 : tie.Need-side-requires-2
-side-requires-2 c κs = search needs
-
 returns : tie.Need-returns
 returns c = rw (eq-eqb _ _ (c .before .if1 .taken), c .side2 .ensures, c .before .before .side .ensures)
 
-cast-result : tie.Need-cast-result
-cast-result c = search needs
-
 returns-2 : tie.Need-returns-2
 returns-2 c = rw (ne-eqb _ _ (c .before .if1 .left), eq-eqb _ _ (c .if2 .taken), c .before .before .side .ensures)
-
-set-start-requires : tie.Need-set-start-requires
-set-start-requires c κs = search needs
-
-set-width-requires : tie.Need-set-width-requires
-set-width-requires c κs = search needs
-
-contains-at-requires : tie.Need-contains-at-requires
-contains-at-requires c κs = search needs
 
 returns-3 : tie.Need-returns-3
 returns-3 c =
@@ -51,14 +27,14 @@ pub is-same-spec : {M : Type 1} → statement M
 is-same-spec =
     tie.close
     (tie.spec
-    cast-component
-    side-requires
-    add-side
-    side-requires-2
+    (λ c. search needs)
+    (λ c κs. search needs)
+    (λ c. search needs)
+    (λ c κs. search needs)
     returns
-    cast-result
+    (λ c. search needs)
     returns-2
-    set-start-requires
-    set-width-requires
-    contains-at-requires
+    (λ c κs. search needs)
+    (λ c κs. search needs)
+    (λ c κs. search needs)
     returns-3)

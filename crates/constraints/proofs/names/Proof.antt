@@ -7,9 +7,6 @@ use native.Mathlib.Omega.{arith}
 use Rattle.constraints.proofs.names.Statement.{statement}
 use Rattle.constraints.proofs.names.Tie as tie
 
-cast-if1 : tie.Need-cast-if1
-cast-if1 c = search needs
-
 returns : tie.Need-returns
 returns c = rw (ne-eqb _ _ (c .if1 .taken))
 
@@ -17,15 +14,9 @@ returns-2 : tie.Need-returns-2
 returns-2 c =
     rw (eq-eqb _ _ (c .before .if1 .left), bit-past (c .before .before .before .args .constraint .mask) (c .before .before .before .args .permission) (omega arith) (c .if2 .taken))
 
-cast-result : tie.Need-cast-result
-cast-result c = search needs
-
-shr-result : tie.Need-shr-result
-shr-result c = search needs
-
 returns-3 : tie.Need-returns-3
 unfolding bit
 returns-3 c = rw (eq-eqb _ _ (c .before .before .if1 .left))
 
 pub names-spec : {M : Type 1} → statement M
-names-spec = tie.close (tie.spec cast-if1 returns returns-2 cast-result shr-result returns-3)
+names-spec = tie.close (tie.spec (λ c. search needs) returns returns-2 (λ c. search needs) (λ c. search needs) returns-3)

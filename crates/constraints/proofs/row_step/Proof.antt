@@ -4,29 +4,14 @@ use borrow.Author.Needs.{needs}
 use Rattle.constraints.proofs.row_step.Statement.{statement}
 use Rattle.constraints.proofs.row_step.Tie as tie
 
-negate-requires : tie.Need-negate-requires
-negate-requires c κs = search needs
-
 returns : tie.Need-returns
 returns c = λ s e. rw (eq-eqb _ _ (c .before .if1 .taken)) (c .negate .ensures s e)
-
-conjoin-requires : tie.Need-conjoin-requires
-conjoin-requires c κs = search needs
 
 returns-2 : tie.Need-returns-2
 returns-2 c = λ s e. rw (ne-eqb _ _ (c .before .before .if1 .left), eq-eqb _ _ (c .before .if2 .taken)) (c .conjoin .ensures s e)
 
-disjoin-requires : tie.Need-disjoin-requires
-disjoin-requires c κs = search needs
-
 returns-3 : tie.Need-returns-3
 returns-3 c = λ s e. rw (ne-eqb _ _ (c .before .before .before .if1 .left), ne-eqb _ _ (c .before .before .if2 .left), eq-eqb _ _ (c .before .if3 .taken)) (c .disjoin .ensures s e)
-
-compare-requires : tie.Need-compare-requires
-compare-requires c κs = search needs
-
-push-requires : tie.Need-push-requires
-push-requires c κs = search needs
 
 returns-4 : tie.Need-returns-4
 returns-4 c =
@@ -43,12 +28,12 @@ pub row-step-spec : {M : Type 1} → statement M
 row-step-spec =
     tie.close
     (tie.spec
-    negate-requires
+    (λ c κs. search needs)
     returns
-    conjoin-requires
+    (λ c κs. search needs)
     returns-2
-    disjoin-requires
+    (λ c κs. search needs)
     returns-3
-    compare-requires
-    push-requires
+    (λ c κs. search needs)
+    (λ c κs. search needs)
     returns-4)

@@ -52,14 +52,8 @@ ahead c =
 loop-holds : tie.Need-loop-holds Inv-loop μ-loop
 loop-holds c = (omega arith, omega arith, rw (sub-zero, add-zero) (left-all _ _ _))
 
-constraint-at-requires : tie.Need-constraint-at-requires Inv-loop μ-loop
-constraint-at-requires c κs = search needs
-
 add-next : tie.Need-add-next Inv-loop μ-loop
 add-next c = omega arith
-
-names-requires : tie.Need-names-requires Inv-loop μ-loop
-names-requires c κs = search needs
 
 loop-less : tie.Need-loop-less Inv-loop μ-loop
 loop-less c = omega arith
@@ -70,9 +64,6 @@ loop-again c =
 
 add-consulted : tie.Need-add-consulted Inv-loop μ-loop
 add-consulted c = omega arith
-
-holds-requires : tie.Need-holds-requires Inv-loop μ-loop
-holds-requires c κs = search needs
 
 cast-t14 : tie.Need-cast-t14 Inv-loop μ-loop
 cast-t14 c = omega arith
@@ -107,13 +98,13 @@ scan-spec =
     Inv-loop
     μ-loop
     loop-holds
-    constraint-at-requires
+    (λ c κs. search needs)
     add-next
-    names-requires
+    (λ c κs. search needs)
     loop-less
     loop-again
     add-consulted
-    holds-requires
+    (λ c κs. search needs)
     cast-t14
     returns
     loop-less-2

@@ -20,9 +20,9 @@ returns c = λ s counts.
     let us = ap (λ n. n .«user_attributes») counts in
     let rs = ap (λ n. n .«role_attributes») counts in
     let placed = c .before .before .locate .ensures .image (s .image) (s .rest) (s .formed) (s .laid)
-    (c .before .before .before .before .few .ensures (subst (λ (n : ℕ). n ≤ 64) (sym us) (few-attributes t s users)) ∙ us ∙ things-of t s (attributeOf users) ∙
+    (c .before .before .before .before .attribute-count .ensures (subst (λ (n : ℕ). n ≤ 64) (sym us) (few-attributes t s users)) ∙ us ∙ things-of t s (attributeOf users) ∙
     sym (laid .userSets .many))
-    (c .before .before .before .few2 .ensures (subst (λ (n : ℕ). n ≤ 64) (sym rs) (few-attributes t s roles)) ∙ rs ∙ things-of t s (attributeOf roles) ∙ sym
+    (c .before .before .before .attribute-count2 .ensures (subst (λ (n : ℕ). n ≤ 64) (sym rs) (few-attributes t s roles)) ∙ rs ∙ things-of t s (attributeOf roles) ∙ sym
     (laid .roleSets .many)) in
     c .first-failing .ensures .image (s .image) (s .rest) (contextsOf (question (a .source) (a .target) (a .class) (a .permission))) (s .formed) (s .laid) placed refl
 

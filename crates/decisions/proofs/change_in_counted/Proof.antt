@@ -10,9 +10,6 @@ use borrow.Author.Needs.{needs}
 use Rattle.decisions.proofs.change_in_counted.Statement.{statement}
 use Rattle.decisions.proofs.change_in_counted.Tie as tie
 
-declares-question-requires : tie.Need-declares-question-requires
-declares-question-requires c κs = search needs
-
 returns : tie.Need-returns
 unfolding decide
 returns c =
@@ -20,9 +17,6 @@ returns c =
     let t = start .args .table .now in
     let s = sound-table t (all-places (λ k. k < 256) t 0 (λ i l. c .before .before .shared-slice-known .given i .fits)) (start .pre .0) in
     sym (change-of t s _ ∙ rw (← start .pre .1, sym (c .before .declares-question .ensures t (start .args .permission) (start .pre .2)) ∙ not-true _ (c .if1 .taken)))
-
-is-valid-requires : tie.Need-is-valid-requires
-is-valid-requires c κs = search needs
 
 returns-2 : tie.Need-returns-2
 unfolding decide
@@ -37,9 +31,6 @@ returns-2 c =
           (c .before .before .if1 .left),
       sym (c .before .is-valid .ensures) ∙ not-true _ (c .if2 .taken),
     ))
-
-is-valid-requires-2 : tie.Need-is-valid-requires-2
-is-valid-requires-2 c κs = search needs
 
 returns-3 : tie.Need-returns-3
 unfolding decide
@@ -57,9 +48,6 @@ returns-3 c =
           (c .before .before .before .is-valid .ensures) ∙ not-false _ (c .before .before .if2 .left),
       sym (c .before .is-valid2 .ensures) ∙ not-true _ (c .if3 .taken),
     ))
-
-role-may-requires : tie.Need-role-may-requires
-role-may-requires c κs = search needs
 
 returns-4 : tie.Need-returns-4
 unfolding decide
@@ -81,9 +69,6 @@ returns-4 c =
           (c .before .before .if3 .left),
       sym (c .before .role-may .ensures) ∙ not-true _ (c .if4 .taken),
     ))
-
-ask-constraints-requires : tie.Need-ask-constraints-requires
-ask-constraints-requires c κs = search needs
 
 returns-5 : tie.Need-returns-5
 unfolding decide
@@ -111,13 +96,13 @@ pub change-in-counted-spec : {M : Type 1} → statement M
 change-in-counted-spec =
     tie.close
     (tie.spec
-    declares-question-requires
+    (λ c κs. search needs)
     returns
-    is-valid-requires
+    (λ c κs. search needs)
     returns-2
-    is-valid-requires-2
+    (λ c κs. search needs)
     returns-3
-    role-may-requires
+    (λ c κs. search needs)
     returns-4
-    ask-constraints-requires
+    (λ c κs. search needs)
     returns-5)

@@ -3,12 +3,6 @@ use borrow.Author.Needs.{needs}
 use Rattle.decisions.proofs.change_in_sound.Statement.{statement}
 use Rattle.decisions.proofs.change_in_sound.Tie as tie
 
-count-names-requires : tie.Need-count-names-requires
-count-names-requires c κs = search needs
-
-declares-permission-requires : tie.Need-declares-permission-requires
-declares-permission-requires c κs = search needs
-
 change-in-counted-requires : tie.Need-change-in-counted-requires
 change-in-counted-requires c κs = (c .before .before .before .pre, c .before .count-names .ensures, λ l. c .declares-permission .ensures)
 
@@ -19,7 +13,7 @@ pub change-in-sound-spec : {M : Type 1} → statement M
 change-in-sound-spec =
     tie.close
     (tie.spec
-    count-names-requires
-    declares-permission-requires
+    (λ c κs. search needs)
+    (λ c κs. search needs)
     change-in-counted-requires
     returns)

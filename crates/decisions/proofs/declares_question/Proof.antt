@@ -6,15 +6,9 @@ use borrow.Author.Needs.{needs}
 use Rattle.decisions.proofs.declares_question.Statement.{statement}
 use Rattle.decisions.proofs.declares_question.Tie as tie
 
-declares-context-requires : tie.Need-declares-context-requires
-declares-context-requires c κs = search needs
-
 returns : tie.Need-returns
 unfolding declaresQuestion
 returns c = λ t permission h. rw (sym (c .before .declares-context .ensures) ∙ not-true _ (c .if1 .taken))
-
-declares-context-requires-2 : tie.Need-declares-context-requires-2
-declares-context-requires-2 c κs = search needs
 
 returns-2 : tie.Need-returns-2
 unfolding declaresQuestion
@@ -53,9 +47,9 @@ pub declares-question-spec : {M : Type 1} → statement M
 declares-question-spec =
     tie.close
     (tie.spec
-    declares-context-requires
+    (λ c κs. search needs)
     returns
-    declares-context-requires-2
+    (λ c κs. search needs)
     returns-2
     returns-3
     returns-4)

@@ -40,7 +40,7 @@ returns c =
     let a = at-bytes .before .before .args in
     let start = at-bytes .body-start .result in
     let count = at-length .body-length .result / 82 in
-    c .byte-at .ensures
+    c .byte .ensures
     ∙ transition-found (a .role) (a .kind) (a .class) (a .table .now) (start + 82 * (count - l .left)) (l .left) (omega arith)
     (sym (c .before .before .matches-at .ensures) ∙ c .before .if1 .taken)
     ∙ l .inv .1

@@ -32,7 +32,7 @@ returns-3 c =
       sym (at-contains-at .contains-at .ensures) ∙ not-false _ (c .before .before .before .if1 .left),
       sym (c .before .before .contains-at2 .ensures) ∙
           not-false _ (c .before .if2 .left),
-      ← c .byte-at .ensures,
+      ← c .byte .ensures,
     ))
 
 pub matches-at-spec : {M : Type 1} → statement M

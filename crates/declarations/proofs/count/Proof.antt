@@ -11,11 +11,8 @@ returns c = no-index (c .if1 .taken)
 returns-2 : tie.Need-returns-2
 returns-2 c = no-sort (c .if2 .taken)
 
-entered-requires : tie.Need-entered-requires
-entered-requires c κs = search needs
-
 returns-3 : tie.Need-returns-3
 returns-3 c = counts (c .entered .ensures) (omega (arith, c .before .if2 .left))
 
 pub count-spec : {M : Type 1} → statement M
-count-spec = tie.close (tie.spec returns returns-2 entered-requires returns-3)
+count-spec = tie.close (tie.spec returns returns-2 (λ c κs. search needs) returns-3)

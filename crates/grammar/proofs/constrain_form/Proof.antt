@@ -11,26 +11,8 @@ use Rattle.grammar.proofs.constrain_form.Tie as tie
 use Rattle.grammar.proofs.constrain_form.Reads as reads
 use Rattle.grammar.proofs.constrain_form.Lts as lts
 
-next-item-requires : tie.Need-next-item-requires
-next-item-requires c κs = search needs
-
-enum-known-item : tie.Need-enum-known-item
-enum-known-item c = search needs
-
 returns : tie.Need-returns
 returns c = refuse (too-deep classAndConstraint _ (sees (c .before .before .before .before .next-item .ensures) (c .before .before .item .given .1)) (c .if1 .taken))
-
-sub-name-and-part : tie.Need-sub-name-and-part
-sub-name-and-part c = search needs
-
-name-and-part-requires : tie.Need-name-and-part-requires
-name-and-part-requires c κs = search needs
-
-enum-known-class : tie.Need-enum-known-class
-enum-known-class c = search needs
-
-only-part-requires : tie.Need-only-part-requires
-only-part-requires c κs = search needs
 
 enum-told : tie.Need-enum-told
 enum-told c = search needs
@@ -54,13 +36,13 @@ pub constrain-form-spec : {M : Type 1} → statement M
 constrain-form-spec =
     tie.close
     (tie.spec
-    next-item-requires
-    enum-known-item
+    (λ c κs. search needs)
+    (λ c. search needs)
     returns
-    sub-name-and-part
-    name-and-part-requires
-    enum-known-class
-    only-part-requires
+    (λ c. search needs)
+    (λ c κs. search needs)
+    (λ c. search needs)
+    (λ c κs. search needs)
     enum-told
     returns-2
     returns-3

@@ -7,21 +7,6 @@ use Rattle.grammar.proofs.content_form.Tie as tie
 enum-told : tie.Need-enum-told
 enum-told c = search needs
 
-names-form-requires : tie.Need-names-form-requires
-names-form-requires c κs = search needs
-
-enum-told-2 : tie.Need-enum-told-2
-enum-told-2 c = search needs
-
-set-form-requires : tie.Need-set-form-requires
-set-form-requires c κs = search needs
-
-enum-told-3 : tie.Need-enum-told-3
-enum-told-3 c = search needs
-
-constraint-form-requires : tie.Need-constraint-form-requires
-constraint-form-requires c κs = search needs
-
 returns : tie.Need-returns
 returns c = rw (c .before .enum-told .given .1, trim-names) (c .names-form .ensures)
 
@@ -36,11 +21,11 @@ content-form-spec =
     tie.close
     (tie.spec
     enum-told
-    names-form-requires
-    enum-told-2
-    set-form-requires
-    enum-told-3
-    constraint-form-requires
+    (λ c κs. search needs)
+    (λ c. search needs)
+    (λ c κs. search needs)
+    (λ c. search needs)
+    (λ c κs. search needs)
     returns
     returns-2
     returns-3)

@@ -9,17 +9,8 @@ use Rattle.items.proofs.Rows.{refuse, after-word}
 use Rattle.grammar.proofs.name_and_part.Statement.{statement}
 use Rattle.grammar.proofs.name_and_part.Tie as tie
 
-next-item-requires : tie.Need-next-item-requires
-next-item-requires c κs = search needs
-
-enum-known-item : tie.Need-enum-known-item
-enum-known-item c = search needs
-
 is-name-requires : tie.Need-is-name-requires
 is-name-requires c κs = sees (c .before .before .before .next-item .ensures) (c .before .item .given .1) .ahead .3
-
-only-part-requires : tie.Need-only-part-requires
-only-part-requires c κs = search needs
 
 returns : tie.Need-returns
 returns c =
@@ -46,10 +37,10 @@ pub name-and-part-spec : {M : Type 1} → statement M
 name-and-part-spec =
     tie.close
     (tie.spec
-    next-item-requires
-    enum-known-item
+    (λ c κs. search needs)
+    (λ c. search needs)
     is-name-requires
-    only-part-requires
+    (λ c κs. search needs)
     returns
     returns-2
     returns-3)

@@ -12,26 +12,8 @@ use Rattle.grammar.proofs.only_part.Tie as tie
 use Rattle.grammar.proofs.only_part.Reads as reads
 use Rattle.grammar.proofs.only_part.Lts as lts
 
-next-item-requires : tie.Need-next-item-requires
-next-item-requires c κs = search needs
-
-enum-known-item : tie.Need-enum-known-item
-enum-known-item c = search needs
-
 returns : tie.Need-returns
 returns c = refuse (too-deep (onlyPart _) _ (sees (c .before .before .before .before .next-item .ensures) (c .before .before .item .given .1)) (c .if1 .taken))
-
-sub-content-form : tie.Need-sub-content-form
-sub-content-form c = search needs
-
-content-form-requires : tie.Need-content-form-requires
-content-form-requires c κs = search needs
-
-enum-known-inner : tie.Need-enum-known-inner
-enum-known-inner c = search needs
-
-close-form-requires : tie.Need-close-form-requires
-close-form-requires c κs = search needs
 
 enum-told : tie.Need-enum-told
 enum-told c = search needs
@@ -55,13 +37,13 @@ pub only-part-spec : {M : Type 1} → statement M
 only-part-spec =
     tie.close
     (tie.spec
-    next-item-requires
-    enum-known-item
+    (λ c κs. search needs)
+    (λ c. search needs)
     returns
-    sub-content-form
-    content-form-requires
-    enum-known-inner
-    close-form-requires
+    (λ c. search needs)
+    (λ c κs. search needs)
+    (λ c. search needs)
+    (λ c κs. search needs)
     enum-told
     returns-2
     returns-3

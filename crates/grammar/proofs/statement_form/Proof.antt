@@ -18,21 +18,6 @@ use Rattle.grammar.proofs.statement_form.Lts as lts
 abbrev isWritten : Forms → Bool
 isWritten f = isSome (written f)
 
-enum-known-first : tie.Need-enum-known-first
-enum-known-first c = search needs
-
-keyword-of-requires : tie.Need-keyword-of-requires
-keyword-of-requires c κs = search needs
-
-shape-of-requires : tie.Need-shape-of-requires
-shape-of-requires c κs = search needs
-
-sub-shape-form : tie.Need-sub-shape-form
-sub-shape-form c = search needs
-
-shape-form-requires : tie.Need-shape-form-requires
-shape-form-requires c κs = search needs
-
 returns : tie.Need-returns
 returns c = λ at e.
     let l = sees e (c .before .before .before .before .first .given .1) in
@@ -44,4 +29,4 @@ returns-2 c = λ at e. refuse (alike isWritten (λ f. false) _ _ _ (1 ∷ 2 ∷ 
 pub statement-form-spec : {M : Type 1} → statement M
 statement-form-spec =
     tie.close
-    (tie.spec enum-known-first keyword-of-requires shape-of-requires sub-shape-form shape-form-requires returns returns-2)
+    (tie.spec (λ c. search needs) (λ c κs. search needs) (λ c κs. search needs) (λ c. search needs) (λ c κs. search needs) returns returns-2)

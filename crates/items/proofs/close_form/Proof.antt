@@ -11,12 +11,6 @@ use Rattle.items.proofs.close_form.Tie as tie
 use Rattle.items.proofs.close_form.Reads as reads
 use Rattle.items.proofs.close_form.Lts as lts
 
-next-item-requires : tie.Need-next-item-requires
-next-item-requires c κs = search needs
-
-enum-known-item : tie.Need-enum-known-item
-enum-known-item c = search needs
-
 returns : tie.Need-returns
 returns c =
     let l = sees (c .before .before .before .next-item .ensures) (c .before .item .given .1) in
@@ -26,4 +20,4 @@ returns-2 : tie.Need-returns-2
 returns-2 c = refuse (alike-here isClosed (λ f. false) _ _ _ (0 ∷ 1 ∷ 3 ∷ []) (λ s b f. refl, λ x f g. refl, tt, refl) (c .before .next-item .ensures) (c .match .keys2))
 
 pub close-form-spec : {M : Type 1} → statement M
-close-form-spec = tie.close (tie.spec next-item-requires enum-known-item returns returns-2)
+close-form-spec = tie.close (tie.spec (λ c κs. search needs) (λ c. search needs) returns returns-2)

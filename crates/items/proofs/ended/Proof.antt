@@ -4,9 +4,6 @@ use borrow.Author.Needs.{needs}
 use Rattle.items.proofs.ended.Statement.{statement}
 use Rattle.items.proofs.ended.Tie as tie
 
-enough-requires : tie.Need-enough-requires
-enough-requires c κs = search needs
-
 returns : tie.Need-returns
 returns c = rw (sym (c .before .enough .ensures) ∙ c .if1 .taken)
 
@@ -14,4 +11,4 @@ returns-2 : tie.Need-returns-2
 returns-2 c = rw (sym (c .before .enough .ensures) ∙ c .if1 .left)
 
 pub ended-spec : {M : Type 1} → statement M
-ended-spec = tie.close (tie.spec enough-requires returns returns-2)
+ended-spec = tie.close (tie.spec (λ c κs. search needs) returns returns-2)

@@ -6,9 +6,6 @@ use Rattle.items.proofs.enough.Tie as tie
 enum-told : tie.Need-enum-told
 enum-told c = search needs
 
-enum-known-wanted : tie.Need-enum-known-wanted
-enum-known-wanted c = search needs
-
 returns : tie.Need-returns
 returns c = rw (c .enum-told .given .1)
 
@@ -16,4 +13,4 @@ returns-2 : tie.Need-returns-2
 returns-2 c = rw (c .before .wanted .given .1)
 
 pub enough-spec : {M : Type 1} → statement M
-enough-spec = tie.close (tie.spec enum-told enum-known-wanted returns returns-2)
+enough-spec = tie.close (tie.spec enum-told (λ c. search needs) returns returns-2)

@@ -48,12 +48,6 @@ abbrev μ-loop : tie.MeasureT-loop
 loop-holds : tie.Need-loop-holds Inv-loop μ-loop
 loop-holds c = (omega arith, refl, refl)
 
-next-requires : tie.Need-next-requires Inv-loop μ-loop
-next-requires c κs = search needs
-
-enum-known-token : tie.Need-enum-known-token Inv-loop μ-loop
-enum-known-token c = search needs
-
 is-name-requires : tie.Need-is-name-requires Inv-loop μ-loop
 is-name-requires c κs = reads (c .before .before .before .next .ensures) (c .before .token .given .1) .ahead .3
 
@@ -96,16 +90,10 @@ loop-again c =
       sym (ap (left kind _ _) (l .here) ∙ word-name kind _ _ _ _ _ true named) ∙ at-loop .loop .inv .2,
     )
 
-enum-known-token-2 : tie.Need-enum-known-token-2 Inv-loop μ-loop
-enum-known-token-2 c = search needs
-
 add-ended : tie.Need-add-ended Inv-loop μ-loop
 add-ended c =
     let l = reads (c .before .before .before .next .ensures) (c .before .token2 .given .1) in
     omega (arith, l .ahead .1)
-
-ended-requires : tie.Need-ended-requires Inv-loop μ-loop
-ended-requires c κs = search needs
 
 returns-2 : tie.Need-returns-2 Inv-loop μ-loop
 returns-2 c =
@@ -132,16 +120,16 @@ names-form-spec =
     Inv-loop
     μ-loop
     loop-holds
-    next-requires
-    enum-known-token
+    (λ c κs. search needs)
+    (λ c. search needs)
     is-name-requires
     returns
     add-i
     add-count
     loop-less
     loop-again
-    enum-known-token-2
+    (λ c. search needs)
     add-ended
-    ended-requires
+    (λ c κs. search needs)
     returns-2
     returns-3)

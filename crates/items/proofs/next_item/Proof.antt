@@ -10,23 +10,11 @@ use Rattle.items.proofs.next_item.Tie as tie
 use Rattle.items.proofs.next_item.Reads as reads
 use Rattle.items.proofs.next_item.Lts as lts
 
-next-requires : tie.Need-next-requires
-next-requires c κs = search needs
-
-enum-known-token : tie.Need-enum-known-token
-enum-known-token c = search needs
-
 add-t9 : tie.Need-add-t9
 add-t9 c = omega (arith, seen _ _ _ (Token.Open (c .before .token .given .0 .0)) (c .before .before .before .next .ensures) (c .before .token .given .1) .ahead)
 
-enum-known-token-2 : tie.Need-enum-known-token-2
-enum-known-token-2 c = search needs
-
 add-t10 : tie.Need-add-t10
 add-t10 c = omega (arith, seen _ _ _ (Token.Close (c .before .token2 .given .0 .0)) (c .before .before .before .next .ensures) (c .before .token2 .given .1) .ahead)
-
-enum-known-token-3 : tie.Need-enum-known-token-3
-enum-known-token-3 c = search needs
 
 number-at-requires : tie.Need-number-at-requires
 number-at-requires c κs =
@@ -68,12 +56,12 @@ pub next-item-spec : {M : Type 1} → statement M
 next-item-spec =
     tie.close
     (tie.spec
-    next-requires
-    enum-known-token
+    (λ c κs. search needs)
+    (λ c. search needs)
     add-t9
-    enum-known-token-2
+    (λ c. search needs)
     add-t10
-    enum-known-token-3
+    (λ c. search needs)
     number-at-requires
     add-t12
     enum-told

@@ -4,9 +4,6 @@ use Rattle.lexer.proofs.Marks.{marked, unmarked}
 use Rattle.lexer.proofs.class_in.Statement.{statement}
 use Rattle.lexer.proofs.class_in.Tie as tie
 
-mark-in-requires : tie.Need-mark-in-requires
-mark-in-requires c κs = search needs
-
 returns : tie.Need-returns
 returns c = marked _ _ _ (c .before .mark-in .ensures) (c .match .keys1)
 
@@ -40,4 +37,4 @@ returns-9 c =
 pub class-in-spec : {M : Type 1} → statement M
 class-in-spec =
     tie.close
-    (tie.spec mark-in-requires returns returns-2 returns-3 returns-4 returns-5 returns-6 returns-7 returns-8 returns-9)
+    (tie.spec (λ c κs. search needs) returns returns-2 returns-3 returns-4 returns-5 returns-6 returns-7 returns-8 returns-9)

@@ -19,27 +19,12 @@ abbrev μ-loop : tie.MeasureT-loop
 loop-holds : tie.Need-loop-holds Inv-loop μ-loop
 loop-holds c = refl
 
-shared-slice-read-class-in : tie.Need-shared-slice-read-class-in Inv-loop μ-loop
-shared-slice-read-class-in c = search needs
-
-class-in-requires : tie.Need-class-in-requires Inv-loop μ-loop
-class-in-requires c κs = search needs
-
-ends-comment-requires : tie.Need-ends-comment-requires Inv-loop μ-loop
-ends-comment-requires c κs = search needs
-
 returns : tie.Need-returns Inv-loop μ-loop
 returns c =
     let at-before = c .before .before .before .before in
     let l = at-before .before in
     sym (found _ endsComment _ (told endsComment (c .before .before .class-in .ensures) (c .before .ends-comment .ensures) (c .if1 .taken))
     (at-before .loop-test .taken)) ∙ l .loop .inv
-
-add-i : tie.Need-add-i Inv-loop μ-loop
-add-i c = search needs
-
-loop-less : tie.Need-loop-less Inv-loop μ-loop
-loop-less c = search needs
 
 loop-again : tie.Need-loop-again Inv-loop μ-loop
 loop-again c =
@@ -58,11 +43,11 @@ comment-end-spec =
     Inv-loop
     μ-loop
     loop-holds
-    shared-slice-read-class-in
-    class-in-requires
-    ends-comment-requires
+    (λ c. search needs)
+    (λ c κs. search needs)
+    (λ c κs. search needs)
     returns
-    add-i
-    loop-less
+    (λ c. search needs)
+    (λ c. search needs)
     loop-again
     returns-2)

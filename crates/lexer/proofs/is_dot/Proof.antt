@@ -5,11 +5,8 @@ use Rattle.lexer.proofs.Marks.{dot-mark}
 use Rattle.lexer.proofs.is_dot.Statement.{statement}
 use Rattle.lexer.proofs.is_dot.Tie as tie
 
-mark-in-requires : tie.Need-mark-in-requires
-mark-in-requires c κs = search needs
-
 returns : tie.Need-returns
 returns c = dot-mark (classOf (c .before .args .b)) _ (c .mark-in .ensures)
 
 pub is-dot-spec : {M : Type 1} → statement M
-is-dot-spec = tie.close (tie.spec mark-in-requires returns)
+is-dot-spec = tie.close (tie.spec (λ c κs. search needs) returns)

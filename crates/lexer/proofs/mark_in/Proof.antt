@@ -3,11 +3,8 @@ use borrow.Author.Needs.{needs}
 use Rattle.lexer.proofs.mark_in.Statement.{statement}
 use Rattle.lexer.proofs.mark_in.Tie as tie
 
-element-copy-out-result : tie.Need-element-copy-out-result
-element-copy-out-result c = search needs
-
 returns : tie.Need-returns
 returns c = c .before .pre .mark (c .before .args .b) (search needs)
 
 pub mark-in-spec : {M : Type 1} → statement M
-mark-in-spec = tie.close (tie.spec element-copy-out-result returns)
+mark-in-spec = tie.close (tie.spec (λ c. search needs) returns)

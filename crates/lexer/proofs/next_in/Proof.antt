@@ -24,18 +24,6 @@ loop-holds : tie.Need-loop-holds Inv-loop μ-loop
 unfolding tokenAt tokensAt
 loop-holds c = refl
 
-shared-slice-read-class-in : tie.Need-shared-slice-read-class-in Inv-loop μ-loop
-shared-slice-read-class-in c = search needs
-
-class-in-requires : tie.Need-class-in-requires Inv-loop μ-loop
-class-in-requires c κs = search needs
-
-add-i : tie.Need-add-i Inv-loop μ-loop
-add-i c = search needs
-
-loop-less : tie.Need-loop-less Inv-loop μ-loop
-loop-less c = search needs
-
 loop-again : tie.Need-loop-again Inv-loop μ-loop
 loop-again c =
     let k = c .before in
@@ -45,12 +33,6 @@ loop-again c =
 
 enum-told : tie.Need-enum-told Inv-loop μ-loop
 enum-told c = search needs
-
-add-comment-end : tie.Need-add-comment-end Inv-loop μ-loop
-add-comment-end c = search needs
-
-comment-end-requires : tie.Need-comment-end-requires Inv-loop μ-loop
-comment-end-requires c κs = search needs
 
 loop-less-2 : tie.Need-loop-less-2 Inv-loop μ-loop
 loop-less-2 c =
@@ -68,29 +50,17 @@ loop-again-2 c =
     ∙ skip (l .before .before .args .text .now) (l .loop .i + 1)))
     ∙ l .loop .inv)
 
-enum-told-2 : tie.Need-enum-told-2 Inv-loop μ-loop
-enum-told-2 c = search needs
-
 returns : tie.Need-returns Inv-loop μ-loop
 returns c =
     let k = c .before .before in
     let l = k .before .before .before in
     sym (stop _ (l .loop .i) _ _ (k .before .before .loop-test .taken) (k .class-in .ensures) (rw (c .enum-told2 .given .1))) ∙ l .loop .inv
 
-enum-told-3 : tie.Need-enum-told-3 Inv-loop μ-loop
-enum-told-3 c = search needs
-
 returns-2 : tie.Need-returns-2 Inv-loop μ-loop
 returns-2 c =
     let k = c .before .before in
     let l = k .before .before .before in
     sym (stop _ (l .loop .i) _ _ (k .before .before .loop-test .taken) (k .class-in .ensures) (rw (c .enum-told3 .given .1))) ∙ l .loop .inv
-
-add-word-end : tie.Need-add-word-end Inv-loop μ-loop
-add-word-end c = search needs
-
-word-end-requires : tie.Need-word-end-requires Inv-loop μ-loop
-word-end-requires c κs = search needs
 
 sub-t12 : tie.Need-sub-t12 Inv-loop μ-loop
 sub-t12 c =
@@ -117,22 +87,22 @@ next-in-spec =
     Inv-loop
     μ-loop
     loop-holds
-    shared-slice-read-class-in
-    class-in-requires
-    add-i
-    loop-less
+    (λ c. search needs)
+    (λ c κs. search needs)
+    (λ c. search needs)
+    (λ c. search needs)
     loop-again
     enum-told
-    add-comment-end
-    comment-end-requires
+    (λ c. search needs)
+    (λ c κs. search needs)
     loop-less-2
     loop-again-2
-    enum-told-2
+    (λ c. search needs)
     returns
-    enum-told-3
+    (λ c. search needs)
     returns-2
-    add-word-end
-    word-end-requires
+    (λ c. search needs)
+    (λ c κs. search needs)
     sub-t12
     returns-3
     returns-4)

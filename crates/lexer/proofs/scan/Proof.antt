@@ -9,9 +9,6 @@ use Rattle.lexer.proofs.scan.Tie as tie
 returns : tie.Need-returns
 returns c = sym (too-long _ (omega arith))
 
-class-table-requires : tie.Need-class-table-requires
-class-table-requires c κs = search needs
-
 scan-in-requires : tie.Need-scan-in-requires
 scan-in-requires c κs = (c .before .class-table .ensures, omega arith)
 
@@ -19,4 +16,4 @@ returns-2 : tie.Need-returns-2
 returns-2 c = c .scan-in .ensures
 
 pub scan-spec : {M : Type 1} → statement M
-scan-spec = tie.close (tie.spec returns class-table-requires scan-in-requires returns-2)
+scan-spec = tie.close (tie.spec returns (λ c κs. search needs) scan-in-requires returns-2)

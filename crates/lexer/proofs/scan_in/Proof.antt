@@ -46,43 +46,16 @@ stepped s x e =
 text-holds : tie.Need-text-holds Inv-loop μ-loop Inv-text μ-text
 text-holds c = (search needs, sym (not-long _ (c .before .pre .1)))
 
-closed-at-requires : tie.Need-closed-at-requires Inv-loop μ-loop Inv-text μ-text
-closed-at-requires c κs = search needs
-
 returns : tie.Need-returns Inv-loop μ-loop Inv-text μ-text
 returns c =
     let a = c .before .before in
     c .closed-at .ensures ∙ sym (last (a .before .before .args .text .now) (a .text .at) (a .text .level) (c .before .if1 .taken)) ∙ a .text .inv .1
-
-shared-slice-read-class-in : tie.Need-shared-slice-read-class-in Inv-loop μ-loop Inv-text μ-text
-shared-slice-read-class-in c = search needs
-
-class-in-requires : tie.Need-class-in-requires Inv-loop μ-loop Inv-text μ-text
-class-in-requires c κs = search needs
-
-step-between-requires : tie.Need-step-between-requires Inv-loop μ-loop Inv-text μ-text
-step-between-requires c κs = search needs
-
-enum-known-step : tie.Need-enum-known-step Inv-loop μ-loop Inv-text μ-text
-enum-known-step c = search needs
-
-add-at : tie.Need-add-at Inv-loop μ-loop Inv-text μ-text
-add-at c = search needs
-
-text-less : tie.Need-text-less Inv-loop μ-loop Inv-text μ-text
-text-less c = search needs
 
 text-again : tie.Need-text-again Inv-loop μ-loop Inv-text μ-text
 text-again c = (search needs, stepped (c .before .before .before) _ (c .before .step .given .1))
 
 enum-told : tie.Need-enum-told Inv-loop μ-loop Inv-text μ-text
 enum-told c = search needs
-
-add-comment-end : tie.Need-add-comment-end Inv-loop μ-loop Inv-text μ-text
-add-comment-end c = search needs
-
-comment-end-requires : tie.Need-comment-end-requires Inv-loop μ-loop Inv-text μ-text
-comment-end-requires c κs = search needs
 
 text-less-2 : tie.Need-text-less-2 Inv-loop μ-loop Inv-text μ-text
 text-less-2 c =
@@ -98,23 +71,11 @@ text-again-2 c =
       rw (c .comment-end .ensures) (sym (skip _ (a .text .at + 1) (a .text .level)) ∙ stepped s Step.Comment (c .before .enum-told .given .1)),
     )
 
-enum-told-2 : tie.Need-enum-told-2 Inv-loop μ-loop Inv-text μ-text
-enum-told-2 c = search needs
-
-counted-from-requires : tie.Need-counted-from-requires Inv-loop μ-loop Inv-text μ-text
-counted-from-requires c κs = search needs
-
 add-limit : tie.Need-add-limit Inv-loop μ-loop Inv-text μ-text
 add-limit c =
     let s = c .before .before .before in
     let a = s .before .before .before .before in
     omega (arith, c .counted-from .ensures, counted-most (drop (a .text .at) (textHere s)) (a .text .at), s .before .before .before .if1 .left)
-
-bare-dot-requires : tie.Need-bare-dot-requires Inv-loop μ-loop Inv-text μ-text
-bare-dot-requires c κs = search needs
-
-add-at-2 : tie.Need-add-at-2 Inv-loop μ-loop Inv-text μ-text
-add-at-2 c = search needs
 
 loop-holds : tie.Need-loop-holds Inv-loop μ-loop Inv-text μ-text
 loop-holds c =
@@ -129,9 +90,6 @@ loop-holds c =
           (ap (stateOf (a .text .level) (a .text .at)) (sym (f .before .enum-told2 .given .1)) ∙ s .step-between .ensures (a .text .at))
           (from ∙ f .counted-from .ensures) (sym (c .before .bare-dot .ensures) ∙ c .if2 .left),
     )
-
-name-goes-on-requires : tie.Need-name-goes-on-requires Inv-loop μ-loop Inv-text μ-text
-name-goes-on-requires c κs = search needs
 
 -- a turn of the name loop: the name goes on, so that there is a byte
 there : (c : tie.Then3 Inv-loop μ-loop Inv-text μ-text) → c .before .before .loop .at < length (textThere c)
@@ -151,9 +109,6 @@ loop-again c =
       goes _ _ _ _ _ (l .1) (sym (n .name-goes-on .ensures) ∙ c .before .if3 .taken) (omega (arith, l .0, l .1 .counted)),
     )
 
-bare-dot-requires-2 : tie.Need-bare-dot-requires-2 Inv-loop μ-loop Inv-text μ-text
-bare-dot-requires-2 c κs = search needs
-
 text-less-3 : tie.Need-text-less-3 Inv-loop μ-loop Inv-text μ-text
 text-less-3 c = let l = c .before .before .before .before in omega (arith, l .loop .inv .1 .begun, l .loop .inv .1 .inside)
 
@@ -164,9 +119,6 @@ text-again-3 c =
       l .loop .inv .1 .inside,
       leaves _ _ _ _ _ (l .loop .inv .1) (sym (n .name-goes-on .ensures) ∙ c .before .before .if3 .left) (sym (c .before .bare-dot2 .ensures) ∙ c .if5 .left),
     )
-
-enum-told-3 : tie.Need-enum-told-3 Inv-loop μ-loop Inv-text μ-text
-enum-told-3 c = search needs
 
 returns-2 : tie.Need-returns-2 Inv-loop μ-loop Inv-text μ-text
 returns-2 c =
@@ -200,34 +152,34 @@ scan-in-spec =
     Inv-text
     μ-text
     text-holds
-    closed-at-requires
+    (λ c κs. search needs)
     returns
-    shared-slice-read-class-in
-    class-in-requires
-    step-between-requires
-    enum-known-step
-    add-at
-    text-less
+    (λ c. search needs)
+    (λ c κs. search needs)
+    (λ c κs. search needs)
+    (λ c. search needs)
+    (λ c. search needs)
+    (λ c. search needs)
     text-again
     enum-told
-    add-comment-end
-    comment-end-requires
+    (λ c. search needs)
+    (λ c κs. search needs)
     text-less-2
     text-again-2
-    enum-told-2
-    counted-from-requires
+    (λ c. search needs)
+    (λ c κs. search needs)
     add-limit
-    bare-dot-requires
-    add-at-2
+    (λ c κs. search needs)
+    (λ c. search needs)
     loop-holds
-    name-goes-on-requires
+    (λ c κs. search needs)
     add-at-3
     loop-less
     loop-again
-    bare-dot-requires-2
+    (λ c κs. search needs)
     text-less-3
     text-again-3
-    enum-told-3
+    (λ c. search needs)
     returns-2
     returns-3
     returns-4

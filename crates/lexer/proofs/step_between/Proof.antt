@@ -9,47 +9,17 @@ use Rattle.lexer.proofs.step_between.Tie as tie
 enum-told : tie.Need-enum-told
 enum-told c = search needs
 
-enum-told-2 : tie.Need-enum-told-2
-enum-told-2 c = search needs
-
-enum-told-3 : tie.Need-enum-told-3
-enum-told-3 c = search needs
-
-enum-told-4 : tie.Need-enum-told-4
-enum-told-4 c = search needs
-
-add-t5 : tie.Need-add-t5
-add-t5 c = search needs
-
 returns : tie.Need-returns
 returns c = λ at. rw (c .before .enum-told4 .given .1, lt-ltb (c .before .before .before .args .level) maxLevel (omega arith))
-
-enum-told-5 : tie.Need-enum-told-5
-enum-told-5 c = search needs
 
 returns-2 : tie.Need-returns-2
 returns-2 c = λ at. rw (c .before .enum-told5 .given .1, eq-eqb _ _ (c .if2 .taken))
 
-sub-t7 : tie.Need-sub-t7
-sub-t7 c = search needs
-
-enum-told-6 : tie.Need-enum-told-6
-enum-told-6 c = search needs
-
 returns-3 : tie.Need-returns-3
 returns-3 c = λ at. rw (c .before .enum-told6 .given .1, eq-eqb _ _ (c .if3 .taken))
 
-enum-told-7 : tie.Need-enum-told-7
-enum-told-7 c = search needs
-
 returns-4 : tie.Need-returns-4
 returns-4 c = λ at. rw (c .before .enum-told7 .given .1, eq-eqb _ _ (c .if4 .taken))
-
-enum-told-8 : tie.Need-enum-told-8
-enum-told-8 c = search needs
-
-enum-told-9 : tie.Need-enum-told-9
-enum-told-9 c = search needs
 
 returns-5 : tie.Need-returns-5
 returns-5 c = λ at. rw (c .enum-told .given .1)
@@ -83,20 +53,20 @@ step-between-spec =
     tie.close
     (tie.spec
     enum-told
-    enum-told-2
-    enum-told-3
-    enum-told-4
-    add-t5
+    (λ c. search needs)
+    (λ c. search needs)
+    (λ c. search needs)
+    (λ c. search needs)
     returns
-    enum-told-5
+    (λ c. search needs)
     returns-2
-    sub-t7
-    enum-told-6
+    (λ c. search needs)
+    (λ c. search needs)
     returns-3
-    enum-told-7
+    (λ c. search needs)
     returns-4
-    enum-told-8
-    enum-told-9
+    (λ c. search needs)
+    (λ c. search needs)
     returns-5
     returns-6
     returns-7

@@ -21,9 +21,6 @@ abbrev μ-loop : tie.MeasureT-loop
 loop-holds : tie.Need-loop-holds Inv-loop μ-loop
 loop-holds c = refl
 
-word-goes-on-requires : tie.Need-word-goes-on-requires Inv-loop μ-loop
-word-goes-on-requires c κs = search needs
-
 -- a turn of the loop: the word goes on, so that there is a byte
 more : (c : tie.Then1 Inv-loop μ-loop) → wordGoesOn (drop (c .before .before .loop .i) (c .before .before .before .before .args .text .now)) ≡ true
 more c = sym (c .before .word-goes-on .ensures) ∙ c .if1 .taken
@@ -48,4 +45,4 @@ returns c = sym (word-ends _ _ (sym (c .before .word-goes-on .ensures) ∙ c .if
 pub word-end-spec : {M : Type 1} → statement M
 word-end-spec =
     tie.close
-    (tie.spec Inv-loop μ-loop loop-holds word-goes-on-requires add-i loop-less loop-again returns)
+    (tie.spec Inv-loop μ-loop loop-holds (λ c κs. search needs) add-i loop-less loop-again returns)

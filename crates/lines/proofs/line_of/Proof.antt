@@ -12,7 +12,7 @@ use borrow.Author.Tests.{le-leb, lt-leb}
 use borrow.Author.Needs.{needs}
 use Rattle.policy.specs.Outcome.{lineFeeds}
 use Rattle.policy.proofs.LineFeeds.{feed-here, no-feed-here}
-use Rattle.bitset.proofs.PartLaws.{take-cut}
+use Rattle.byte_slices.proofs.PartLaws.{take-cut}
 use Rattle.lines.proofs.line_of.Statement.{statement}
 use Rattle.lines.proofs.line_of.Tie as tie
 

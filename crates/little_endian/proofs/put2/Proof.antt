@@ -5,7 +5,7 @@ use native.Mathlib.Omega.{arith}
 use borrow.Author.Needs.{needs}
 use lib.ListN.{length-set}
 use Rattle.policy.specs.Basics.{le}
-use Rattle.bitset.proofs.PartLaws.{sets-put}
+use Rattle.byte_slices.proofs.PartLaws.{sets-put}
 use Rattle.little_endian.proofs.put2.Statement.{statement}
 use Rattle.little_endian.proofs.put2.Tie as tie
 

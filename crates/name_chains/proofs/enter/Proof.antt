@@ -5,8 +5,8 @@ use mathlib.Core.List.{List}
 use lib.ListN.{take}
 use native.Mathlib.Omega.{arith}
 use borrow.Author.Needs.{needs}
-use Rattle.bitset.specs.Parts.{part}
-use Rattle.bitset.proofs.PartLaws.{length-part-le}
+use Rattle.byte_slices.specs.Parts.{part}
+use Rattle.byte_slices.proofs.PartLaws.{length-part-le}
 use Rattle.policy.specs.Basics.{unle}
 use Rattle.policy.specs.Encode.{nameEntry}
 use Rattle.symbols.proofs.AppendLaws.{entry-length}

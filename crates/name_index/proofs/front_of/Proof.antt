@@ -4,8 +4,8 @@ use mathlib.Core.Path.{_∙_}
 use native.Mathlib.Omega.{arith}
 use borrow.Author.Needs.{needs}
 use lib.ListN.{length, take, drop}
-use Rattle.bitset.specs.Parts.{part}
-use Rattle.bitset.proofs.PartLaws.{length-part-le}
+use Rattle.byte_slices.specs.Parts.{part}
+use Rattle.byte_slices.proofs.PartLaws.{length-part-le}
 use Rattle.little_endian.proofs.NumberLaws.{fits-more}
 use Rattle.name_index.proofs.Words.{front-short, front-is, front-joins}
 use Rattle.name_index.proofs.front_of.Statement.{statement}

@@ -2,7 +2,7 @@
 use Prim.Native.Nat.{_+_, _*_}
 use native.Mathlib.Omega.{arith}
 use borrow.Author.Needs.{needs}
-use Rattle.bitset.specs.Parts.{part}
+use Rattle.byte_slices.specs.Parts.{part}
 use Rattle.little_endian.proofs.WidthLaws.{unle-split}
 use Rattle.name_index.specs.Index.{wordIn}
 use Rattle.name_index.proofs.word.Statement.{statement}

@@ -6,20 +6,8 @@ use Rattle.name_rows.proofs.Rows.{a-part, word-no-part, close-no-part, 
 use Rattle.name_rows.proofs.inside.Statement.{statement}
 use Rattle.name_rows.proofs.inside.Tie as tie
 
-next-requires : tie.Need-next-requires
-next-requires c κs = search needs
-
-enum-known-token : tie.Need-enum-known-token
-enum-known-token c = search needs
-
 add-result : tie.Need-add-result
 add-result c = omega (arith, seen _ _ _ _ (c .before .before .before .next .ensures) (c .before .token .given .1) .ahead)
-
-enum-known-token-2 : tie.Need-enum-known-token-2
-enum-known-token-2 c = search needs
-
-enum-known-token-3 : tie.Need-enum-known-token-3
-enum-known-token-3 c = search needs
 
 enum-told : tie.Need-enum-told
 enum-told c = search needs
@@ -40,11 +28,11 @@ pub inside-spec : {M : Type 1} → statement M
 inside-spec =
     tie.close
     (tie.spec
-    next-requires
-    enum-known-token
+    (λ c κs. search needs)
+    (λ c. search needs)
     add-result
-    enum-known-token-2
-    enum-known-token-3
+    (λ c. search needs)
+    (λ c. search needs)
     enum-told
     returns
     returns-2

@@ -3,7 +3,7 @@
 use native.Mathlib.Omega.{arith}
 use mathlib.Core.Path.{_≡_, refl, sym, _∙_}
 use borrow.Author.Needs.{needs}
-use Rattle.bitset.specs.Parts.{part}
+use Rattle.byte_slices.specs.Parts.{part}
 use Rattle.name_rows.specs.WordRows.{isAmongFirst}
 use Rattle.name_rows.proofs.Rows.{told, is-this, is-later, not-among-none, not-among-first-none}
 use Rattle.name_rows.proofs.is_among_first.Statement.{statement}
@@ -17,12 +17,6 @@ abbrev μ-loop : tie.MeasureT-loop
 
 loop-holds : tie.Need-loop-holds Inv-loop μ-loop
 loop-holds c = refl
-
-word-at-requires : tie.Need-word-at-requires Inv-loop μ-loop
-word-at-requires c κs = search needs
-
-enum-known-other : tie.Need-enum-known-other Inv-loop μ-loop
-enum-known-other c = search needs
 
 enum-told : tie.Need-enum-told Inv-loop μ-loop
 enum-told c = search needs
@@ -48,12 +42,6 @@ add-i c =
     let w = told (c .before .before .before .before .before .word-at .ensures) (c .before .before .before .other .given .1) in
     omega (arith, w .is .within)
 
-sub-left : tie.Need-sub-left Inv-loop μ-loop
-sub-left c = search needs
-
-loop-less : tie.Need-loop-less Inv-loop μ-loop
-loop-less c = search needs
-
 loop-again : tie.Need-loop-again Inv-loop μ-loop
 loop-again c =
     let w = told (c .before .before .before .before .before .word-at .ensures) (c .before .before .before .other .given .1) in
@@ -70,14 +58,14 @@ is-among-first-spec =
     Inv-loop
     μ-loop
     loop-holds
-    word-at-requires
-    enum-known-other
+    (λ c κs. search needs)
+    (λ c. search needs)
     enum-told
     returns
     same-name-requires
     returns-2
     add-i
-    sub-left
-    loop-less
+    (λ c. search needs)
+    (λ c. search needs)
     loop-again
     returns-3)

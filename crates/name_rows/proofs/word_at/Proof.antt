@@ -4,18 +4,6 @@ use Rattle.name_rows.proofs.Rows.{a-word, open-no-word, close-no-word, 
 use Rattle.name_rows.proofs.word_at.Statement.{statement}
 use Rattle.name_rows.proofs.word_at.Tie as tie
 
-next-requires : tie.Need-next-requires
-next-requires c κs = search needs
-
-enum-known-token : tie.Need-enum-known-token
-enum-known-token c = search needs
-
-enum-known-token-2 : tie.Need-enum-known-token-2
-enum-known-token-2 c = search needs
-
-enum-known-token-3 : tie.Need-enum-known-token-3
-enum-known-token-3 c = search needs
-
 enum-told : tie.Need-enum-told
 enum-told c = search needs
 
@@ -35,10 +23,10 @@ pub word-at-spec : {M : Type 1} → statement M
 word-at-spec =
     tie.close
     (tie.spec
-    next-requires
-    enum-known-token
-    enum-known-token-2
-    enum-known-token-3
+    (λ c κs. search needs)
+    (λ c. search needs)
+    (λ c. search needs)
+    (λ c. search needs)
     enum-told
     returns
     returns-2

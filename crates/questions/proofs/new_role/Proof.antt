@@ -6,17 +6,11 @@ use Rattle.questions.proofs.Unsound.{new-role-unsound}
 use Rattle.questions.proofs.new_role.Statement.{statement}
 use Rattle.questions.proofs.new_role.Tie as tie
 
-sound-requires : tie.Need-sound-requires
-sound-requires c κs = search needs
-
 returns : tie.Need-returns
 returns c = new-role-unsound _ (sym (c .before .sound .ensures) ∙ not-true _ (c .if1 .taken)) _ _ _
 
 new-role-in-sound-requires : tie.Need-new-role-in-sound-requires
 new-role-in-sound-requires c κs = sym (c .before .sound .ensures) ∙ not-false _ (c .if1 .left)
 
-returns-2 : tie.Need-returns-2
-returns-2 c = search needs
-
 pub new-role-spec : {M : Type 1} → statement M
-new-role-spec = tie.close (tie.spec sound-requires returns new-role-in-sound-requires returns-2)
+new-role-spec = tie.close (tie.spec (λ c κs. search needs) returns new-role-in-sound-requires (λ c. search needs))

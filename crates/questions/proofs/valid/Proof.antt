@@ -6,17 +6,11 @@ use Rattle.questions.proofs.Unsound.{valid-unsound}
 use Rattle.questions.proofs.valid.Statement.{statement}
 use Rattle.questions.proofs.valid.Tie as tie
 
-sound-requires : tie.Need-sound-requires
-sound-requires c κs = search needs
-
 returns : tie.Need-returns
 returns c = valid-unsound _ (sym (c .before .sound .ensures) ∙ not-true _ (c .if1 .taken)) _
 
 valid-in-sound-requires : tie.Need-valid-in-sound-requires
 valid-in-sound-requires c κs = sym (c .before .sound .ensures) ∙ not-false _ (c .if1 .left)
 
-returns-2 : tie.Need-returns-2
-returns-2 c = search needs
-
 pub valid-spec : {M : Type 1} → statement M
-valid-spec = tie.close (tie.spec sound-requires returns valid-in-sound-requires returns-2)
+valid-spec = tie.close (tie.spec (λ c κs. search needs) returns valid-in-sound-requires (λ c. search needs))

@@ -5,7 +5,7 @@ use mathlib.Core.Path.{ap, _∙_}
 use mathlib.Core.List.{List}
 use Prim.Native.Nat.{ℕ, _+_}
 use lib.ListN.{length, set, length-set}
-use Rattle.bitset.specs.Parts.{part, put}
+use Rattle.byte_slices.specs.Parts.{part, put}
 use Rattle.scopes.proofs.Composed.{alone-too-long, alone, inner-too-long, length-front, inner}
 use Rattle.scopes.proofs.compose.Statement.{statement}
 use Rattle.scopes.proofs.compose.Tie as tie

@@ -2,7 +2,7 @@
 use native.Mathlib.Omega.{arith}
 use borrow.Author.Needs.{needs}
 use mathlib.Core.Path.{refl}
-use Rattle.bitset.specs.Parts.{part}
+use Rattle.byte_slices.specs.Parts.{part}
 use Rattle.scopes.proofs.Moving.{not-entered, short, lent-all, entered}
 use Rattle.scopes.proofs.enter_block.Statement.{statement}
 use Rattle.scopes.proofs.enter_block.Tie as tie
@@ -31,12 +31,6 @@ cast-symbols c =
     let w = part (s .args .text .now) (s .args .from) (s .args .len) in
     omega (arith, short (s .args .symbols .now) w (s .pre) (named .full-name .ensures) (told .0 .0) (told .1) refl)
 
-slice-write-symbols : tie.Need-slice-write-symbols
-slice-write-symbols c = search needs
-
-same-length-2 : tie.Need-same-length-2
-same-length-2 c = search needs
-
 returns-2 : tie.Need-returns-2
 returns-2 c =
     let told = c .before .before .before .before .before .before .named .given in
@@ -59,6 +53,6 @@ enter-block-spec =
     (λ c. search needs)
     copy-requires
     cast-symbols
-    slice-write-symbols
-    same-length-2
+    (λ c. search needs)
+    (λ c. search needs)
     returns-2)

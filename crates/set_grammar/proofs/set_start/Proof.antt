@@ -11,20 +11,8 @@ use Rattle.set_grammar.proofs.set_start.Tie as tie
 use Rattle.set_grammar.proofs.set_start.Reads as reads
 use Rattle.set_grammar.proofs.set_start.Lts as lts
 
-next-item-requires : tie.Need-next-item-requires
-next-item-requires c κs = search needs
-
-enum-known-item : tie.Need-enum-known-item
-enum-known-item c = search needs
-
-operands-of-requires : tie.Need-operands-of-requires
-operands-of-requires c κs = search needs
-
 enum-told : tie.Need-enum-told
 enum-told c = search needs
-
-enum-told-2 : tie.Need-enum-told-2
-enum-told-2 c = search needs
 
 returns : tie.Need-returns
 returns c =
@@ -48,11 +36,11 @@ pub set-start-spec : {M : Type 1} → statement M
 set-start-spec =
     tie.close
     (tie.spec
-    next-item-requires
-    enum-known-item
-    operands-of-requires
+    (λ c κs. search needs)
+    (λ c. search needs)
+    (λ c κs. search needs)
     enum-told
-    enum-told-2
+    (λ c. search needs)
     returns
     returns-2
     returns-3)

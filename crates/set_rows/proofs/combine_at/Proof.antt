@@ -1,7 +1,7 @@
 -- `set_rows::combine_at` meets its contract: the part is lent, and what comes back is what `combine` made of it. Assumes nothing.
 use borrow.Author.Needs.{needs}
 use Rattle.set_operators.proofs.OperatorLaws.{length-combined}
-use Rattle.bitset.proofs.PartLaws.{put-back}
+use Rattle.byte_slices.proofs.PartLaws.{put-back}
 use Rattle.set_operators.specs.Operators.{combined}
 use Rattle.set_rows.proofs.combine_at.Statement.{statement}
 use Rattle.set_rows.proofs.combine_at.Tie as tie

@@ -1,7 +1,7 @@
 -- `set_rows::count_at` meets its contract, which is `count`'s on the part. Assumes nothing.
 use borrow.Author.Needs.{needs}
 use native.Mathlib.Omega.{arith}
-use Rattle.bitset.proofs.PartLaws.{length-part-le}
+use Rattle.byte_slices.proofs.PartLaws.{length-part-le}
 use Rattle.set_rows.proofs.count_at.Statement.{statement}
 use Rattle.set_rows.proofs.count_at.Tie as tie
 

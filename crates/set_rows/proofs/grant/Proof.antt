@@ -7,7 +7,7 @@ use mathlib.Core.Path.{_≡_, refl, ap, _∙_}
 use native.Mathlib.Nat.{mul-zero, mul-le-mul-left}
 use native.Mathlib.Omega.{arith}
 use Rattle.set_rows.proofs.GrantLaws.{soFar, soFar-none, soFar-skips, soFar-row, soFar-all, length-soFar, granted-none}
-use Rattle.bitset.specs.Parts.{part, put}
+use Rattle.byte_slices.specs.Parts.{part, put}
 use Rattle.bitset.specs.Sets.{unionOf}
 use Rattle.set_rows.proofs.grant.Statement.{statement}
 use Rattle.set_rows.proofs.grant.Tie as tie

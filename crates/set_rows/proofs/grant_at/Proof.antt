@@ -1,7 +1,7 @@
 -- `set_rows::grant_at` meets its contract: the part is lent, and what comes back is what `grant` made of it. Assumes nothing.
 use borrow.Author.Needs.{needs}
 use Rattle.set_rows.proofs.GrantLaws.{length-granted}
-use Rattle.bitset.proofs.PartLaws.{put-back}
+use Rattle.byte_slices.proofs.PartLaws.{put-back}
 use Rattle.bitset.specs.Relations.{granted}
 use Rattle.set_rows.proofs.grant_at.Statement.{statement}
 use Rattle.set_rows.proofs.grant_at.Tie as tie

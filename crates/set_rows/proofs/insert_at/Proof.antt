@@ -1,6 +1,6 @@
 -- `set_rows::insert_at` meets its contract: the part is lent, and what comes back is what `insert` made of it. Assumes nothing.
 use borrow.Author.Needs.{needs}
-use Rattle.bitset.proofs.PartLaws.{put-back}
+use Rattle.byte_slices.proofs.PartLaws.{put-back}
 use Rattle.bitset.proofs.SetLaws.{length-inserted}
 use Rattle.bitset.specs.Sets.{inserted}
 use Rattle.set_rows.proofs.insert_at.Statement.{statement}

@@ -1,6 +1,6 @@
 -- `set_rows::remove_at` meets its contract: the part is lent, and what comes back is what `remove` made of it. Assumes nothing.
 use borrow.Author.Needs.{needs}
-use Rattle.bitset.proofs.PartLaws.{put-back}
+use Rattle.byte_slices.proofs.PartLaws.{put-back}
 use Rattle.bitset.proofs.SetLaws.{length-removed}
 use Rattle.bitset.specs.Sets.{removed}
 use Rattle.set_rows.proofs.remove_at.Statement.{statement}

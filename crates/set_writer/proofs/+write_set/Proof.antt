@@ -14,7 +14,7 @@ use Rattle.set_writer.proofs.SetOperands.{Going, going, past-word, stop
 use Rattle.set_writer.proofs.write_set.Reads as write-set
 use Rattle.set_writer.proofs.write_set.Kinds as write-set-kinds
 use Rattle.set_writer.proofs.+write_set.Lts-write_set as lts
-use Rattle.set_writer.proofs.put_unit.Reads as put-unit-reads
+use Rattle.statement_code.proofs.put_unit.Reads as put-unit-reads
 use Rattle.set_writer.proofs.reference.Reads as reference-reads
 use Rattle.set_writer.proofs.set_start.Reads as set-start-reads
 use Rattle.set_writer.proofs.+write_set.{statement}

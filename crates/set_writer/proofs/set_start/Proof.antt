@@ -10,15 +10,6 @@ use Rattle.set_writer.proofs.Starting.{starts-operator, starts-name, un
 use Rattle.set_writer.proofs.set_start.Statement.{statement}
 use Rattle.set_writer.proofs.set_start.Tie as tie
 
-next-item-requires : tie.Need-next-item-requires
-next-item-requires c κs = search needs
-
-enum-known-item : tie.Need-enum-known-item
-enum-known-item c = search needs
-
-operator-of-requires : tie.Need-operator-of-requires
-operator-of-requires c κs = search needs
-
 returns : tie.Need-returns
 returns c =
     let l = sees (c .before .before .before .before .before .next-item .ensures) (c .before .before .before .item .given .1) in
@@ -36,4 +27,4 @@ returns-3 c = starts-other λ n. alike setIn unworded _ _ _ (1 ∷ 2 ∷ 3 ∷ [
 pub set-start-spec : {M : Type 1} → statement M
 set-start-spec =
     tie.close
-    (tie.spec next-item-requires enum-known-item operator-of-requires returns returns-2 returns-3)
+    (tie.spec (λ c κs. search needs) (λ c. search needs) (λ c κs. search needs) returns returns-2 returns-3)

@@ -9,10 +9,11 @@ use borrow.Author.Needs.{needs}
 use native.Mathlib.Omega.{arith}
 use Rattle.sound_bodies.proofs.bodies_follow.Statement.{statement}
 use Rattle.sound_bodies.proofs.bodies_follow.Tie as tie
+use Rattle.policy.specs.Encode.{firstBody}
 
 abbrev Inv-loop : tie.InvT-loop
 Inv-loop table end₀ body₀ end body =
-    (body ≤ 8) × (end ≤ 68 + 4294967295 * body) × (follow (8 - body) end (length table) (drop (4 + 8 * body) table) ≡ follow 8 68 (length table) (drop 4 table))
+    (body ≤ 8) × (end ≤ firstBody + 4294967295 * body) × (follow (8 - body) end (length table) (drop (4 + 8 * body) table) ≡ follow 8 firstBody (length table) (drop 4 table))
 
 abbrev μ-loop : tie.MeasureT-loop
 μ-loop table end₀ body₀ end body = 8 - body

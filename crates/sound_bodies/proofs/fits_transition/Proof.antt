@@ -36,7 +36,7 @@ returns-3 c =
     ∙ rw (
       sym (at-if1 .before .is-within-at .ensures) ∙ not-false _ (at-if1 .if1 .left),
       sym (at-if2 .before .is-within-at2 .ensures) ∙ not-false _ (at-if2 .if2 .left),
-      ← c .before .before .byte-at .ensures,
+      ← c .before .before .byte .ensures,
       le-ltb _ _ (c .if3 .taken),
     ))
 
@@ -51,9 +51,9 @@ returns-4 c =
     ∙ rw (
       sym (at-if1 .before .is-within-at .ensures) ∙ not-false _ (at-if1 .if1 .left),
       sym (at-if2 .before .is-within-at2 .ensures) ∙ not-false _ (at-if2 .if2 .left),
-      ← at-if3 .before .before .byte-at .ensures,
+      ← at-if3 .before .before .byte .ensures,
       lt-ltb _ _ (at-if3 .if3 .left),
-      ← c .before .byte-at2 .ensures,
+      ← c .before .byte2 .ensures,
     ))
 
 pub fits-transition-spec : {M : Type 1} → statement M

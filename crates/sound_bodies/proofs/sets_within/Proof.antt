@@ -4,7 +4,7 @@ use Prim.Native.Nat.{_+_, _-_, _*_, _≤_}
 use mathlib.Core.Path.{_≡_, refl, sym, _∙_}
 use borrow.Author.Tests.{not-true, not-false}
 use lib.ListN.{drop}
-use Rattle.bitset.specs.Parts.{part}
+use Rattle.byte_slices.specs.Parts.{part}
 use Rattle.bitset.specs.Sets.{within}
 use Rattle.sound_bodies.specs.SoundBodies.{setsWithin}
 use Rattle.sound_constraints.proofs.PieceLaws.{every-fails, every-goes-on, every-ends}

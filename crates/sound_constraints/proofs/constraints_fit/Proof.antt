@@ -18,17 +18,17 @@ use Rattle.sound_constraints.proofs.constraints_fit.Statement.{statemen
 use Rattle.sound_constraints.proofs.constraints_fit.Tie as tie
 
 abbrev Inv-loop : tie.InvT-loop
-Inv-loop table heads count start rows counts permissions next₀ taken₀ next taken =
+Inv-loop table constraints count start rows counts permissions next₀ taken₀ next taken =
     (next ≤ count)
     × (taken ≤ rows)
     × (
-    takeUp (fitsHead (totalsIn counts permissions)) (good (totalsIn counts permissions)) taken (each headAt (pieces (count - next) 10 (drop (heads + 10 * next) table)))
+    takeUp (fitsHead (totalsIn counts permissions)) (good (totalsIn counts permissions)) taken (each headAt (pieces (count - next) 10 (drop (constraints + 10 * next) table)))
     (pieces (rows - taken) 6 (drop (start + 6 * taken) table))
-    ≡ constraintsFit (totalsIn counts permissions) (each headAt (pieces count 10 (drop heads table))) (pieces rows 6 (drop start table))
+    ≡ constraintsFit (totalsIn counts permissions) (each headAt (pieces count 10 (drop constraints table))) (pieces rows 6 (drop start table))
     )
 
 abbrev μ-loop : tie.MeasureT-loop
-μ-loop table heads count start rows counts permissions next₀ taken₀ next taken = count - next
+μ-loop table constraints count start rows counts permissions next₀ taken₀ next taken = count - next
 
 loop-holds : tie.Need-loop-holds Inv-loop μ-loop
 loop-holds c = (
@@ -48,15 +48,15 @@ ahead : (c : tie.After-constraint-at Inv-loop μ-loop) →
     let l = c .before .before .loop in
     let n = totalsIn (a .counts) (now (a .permissions)) in
     HeadTurn (fitsHead n) (good n) (now (a .table))
-    (constraintsFit n (each headAt (pieces (a .count) 10 (drop (a .heads) (now (a .table))))) (pieces (a .rows) 6 (drop (a .start) (now (a .table)))))
-    (l .taken) (a .start + 6 * l .taken) (a .rows - l .taken) (each headAt (pieces (a .count - (l .next + 1)) 10 (drop (a .heads + 10 * (l .next + 1)) (now (a .table)))))
+    (constraintsFit n (each headAt (pieces (a .count) 10 (drop (a .constraints) (now (a .table))))) (pieces (a .rows) 6 (drop (a .start) (now (a .table)))))
+    (l .taken) (a .start + 6 * l .taken) (a .rows - l .taken) (each headAt (pieces (a .count - (l .next + 1)) 10 (drop (a .constraints + 10 * (l .next + 1)) (now (a .table)))))
     (headOf (c .constraint-at .result))
 ahead c =
     let a = c .before .before .before .before .before .args in
     let l = c .before .before .loop in
     let n = totalsIn (a .counts) (now (a .permissions)) in
-    head-turn (fitsHead n) (good n) (now (a .table)) (l .taken) (a .heads + 10 * l .next) (a .count - l .next) (a .start + 6 * l .taken) (a .rows - l .taken) (l .inv .2)
-    (a .heads + 10 * (l .next + 1)) (a .count - (l .next + 1)) (omega arith) (omega arith) (headOf (c .constraint-at .result)) (c .constraint-at .ensures)
+    head-turn (fitsHead n) (good n) (now (a .table)) (l .taken) (a .constraints + 10 * l .next) (a .count - l .next) (a .start + 6 * l .taken) (a .rows - l .taken) (l .inv .2)
+    (a .constraints + 10 * (l .next + 1)) (a .count - (l .next + 1)) (omega arith) (omega arith) (headOf (c .constraint-at .result)) (c .constraint-at .ensures)
 
 returns : tie.Need-returns Inv-loop μ-loop
 returns c = take-first (ahead (c .before .before)) (c .if1 .taken)
@@ -98,7 +98,7 @@ returns-5 c =
     let l = c .before .loop in
     let a = c .before .before .before .before .args in
     let n = totalsIn (a .counts) (a .permissions .now) in
-    take-end (fitsHead n) (good n) (a .table .now) (l .taken) (a .heads + 10 * l .next) (a .count - l .next) (a .start + 6 * l .taken) (a .rows - l .taken) (l .inv .2)
+    take-end (fitsHead n) (good n) (a .table .now) (l .taken) (a .constraints + 10 * l .next) (a .count - l .next) (a .start + 6 * l .taken) (a .rows - l .taken) (l .inv .2)
     (a .rows) (omega arith) (omega arith) (omega arith)
 
 pub constraints-fit-spec : {M : Type 1} → statement M

@@ -44,17 +44,17 @@ ahead c =
     (a .start + 6 * (l .number + 1)) (l .left - 1) (omega arith) (omega arith) (rowOf (c .row-at .result)) (c .row-at .ensures)
 
 returns : tie.Need-returns Inv-loop μ-loop
-returns c = rows-fourth (ahead (c .before .before)) (λ e. c .if1 .taken (c .before .byte-at .ensures ∙ e))
+returns c = rows-fourth (ahead (c .before .before)) (λ e. c .if1 .taken (c .before .byte .ensures ∙ e))
 
 returns-2 : tie.Need-returns-2 Inv-loop μ-loop
 returns-2 c =
-    rows-bad (ahead (c .before .before .before .before)) (sym (c .before .before .before .byte-at .ensures) ∙ c .before .before .if1 .left)
+    rows-bad (ahead (c .before .before .before .before)) (sym (c .before .before .before .byte .ensures) ∙ c .before .before .if1 .left)
     (sym (c .before .fits-row .ensures) ∙ not-true _ (c .if2 .taken))
 
 returns-3 : tie.Need-returns-3 Inv-loop μ-loop
 returns-3 c =
     rows-deep (ahead (c .before .before .before .before .before .before))
-    (sym (c .before .before .before .before .before .byte-at .ensures) ∙ c .before .before .before .before .if1 .left)
+    (sym (c .before .before .before .before .before .byte .ensures) ∙ c .before .before .before .before .if1 .left)
     (sym (c .before .before .before .fits-row .ensures) ∙ not-false _ (c .before .before .if2 .left)) (sym (c .before .depth-after .ensures) ∙ c .if3 .taken)
 
 loop-again : tie.Need-loop-again Inv-loop μ-loop
@@ -62,7 +62,7 @@ loop-again c = (
   omega arith,
   omega arith,
   rows-next (ahead (c .before .before .before .before .before .before))
-      (sym (c .before .before .before .before .before .byte-at .ensures) ∙ c .before .before .before .before .if1 .left)
+      (sym (c .before .before .before .before .before .byte .ensures) ∙ c .before .before .before .before .if1 .left)
       (sym (c .before .before .before .fits-row .ensures) ∙ not-false _ (c .before .before .if2 .left)) (c .before .depth-after .result)
       (c .before .depth-after .ensures) (c .if3 .left),
 )

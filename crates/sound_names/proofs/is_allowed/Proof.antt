@@ -5,25 +5,13 @@ use Rattle.sound_names.specs.Tally.{allows}
 use Rattle.sound_names.proofs.is_allowed.Statement.{statement}
 use Rattle.sound_names.proofs.is_allowed.Tie as tie
 
-shared-slice-read-if2 : tie.Need-shared-slice-read-if2
-shared-slice-read-if2 c = search needs
-
 returns : tie.Need-returns
 unfolding allows
 returns c = rw (lt-ltb _ _ (c .before .before .if1 .taken), eq-eqb _ _ (c .if2 .taken))
 
-mul-if3 : tie.Need-mul-if3
-mul-if3 c = search needs
-
-shared-slice-read-if3 : tie.Need-shared-slice-read-if3
-shared-slice-read-if3 c = search needs
-
 returns-2 : tie.Need-returns-2
 unfolding allows
 returns-2 c = rw (lt-ltb _ _ (c .before .before .before .before .if1 .taken), ne-eqb _ _ (c .before .before .if2 .left), ne-eqb _ _ (c .if3 .taken))
-
-most-requires : tie.Need-most-requires
-most-requires c κs = search needs
 
 returns-3 : tie.Need-returns-3
 unfolding allows
@@ -34,21 +22,9 @@ returns-4 : tie.Need-returns-4
 unfolding allows
 returns-4 c = rw (le-ltb _ _ (c .before .if1 .left), ne-eqb _ _ (c .if4 .taken))
 
-add-if5 : tie.Need-add-if5
-add-if5 c = search needs
-
-shared-slice-read-if5 : tie.Need-shared-slice-read-if5
-shared-slice-read-if5 c = search needs
-
 returns-5 : tie.Need-returns-5
 unfolding allows
 returns-5 c = rw (le-ltb _ _ (c .before .before .before .if1 .left), eq-eqb _ _ (c .before .before .if4 .left), ne-eqb _ _ (c .if5 .taken))
-
-add-result : tie.Need-add-result
-add-result c = search needs
-
-shared-slice-read-result : tie.Need-shared-slice-read-result
-shared-slice-read-result c = search needs
 
 returns-6 : tie.Need-returns-6
 unfolding allows
@@ -58,17 +34,17 @@ pub is-allowed-spec : {M : Type 1} → statement M
 is-allowed-spec =
     tie.close
     (tie.spec
-    shared-slice-read-if2
+    (λ c. search needs)
     returns
-    mul-if3
-    shared-slice-read-if3
+    (λ c. search needs)
+    (λ c. search needs)
     returns-2
-    most-requires
+    (λ c κs. search needs)
     returns-3
     returns-4
-    add-if5
-    shared-slice-read-if5
+    (λ c. search needs)
+    (λ c. search needs)
     returns-5
-    add-result
-    shared-slice-read-result
+    (λ c. search needs)
+    (λ c. search needs)
     returns-6)

@@ -16,14 +16,8 @@ from-role Relation.UserRole h = absurd (miss (1 ∷ 2 ∷ []) 0 tt h)
 from-role Relation.RoleType h = refl
 from-role Relation.RoleAllow h = refl
 
-enum-told : tie.Need-enum-told
-enum-told c = search needs
-
-returns : tie.Need-returns
-returns c = search needs
-
 returns-2 : tie.Need-returns-2
 returns-2 c = from-role (c .before .args .relation) (c .match .keys2)
 
 pub first-family-spec : {M : Type 1} → statement M
-first-family-spec = tie.close (tie.spec enum-told returns returns-2)
+first-family-spec = tie.close (tie.spec (λ c. search needs) (λ c. search needs) returns-2)

@@ -4,15 +4,6 @@ use Rattle.statement_writer.proofs.Numbering.{numbers, other-sort, too-
 use Rattle.statement_writer.proofs.number_of.Statement.{statement}
 use Rattle.statement_writer.proofs.number_of.Tie as tie
 
-family-of-requires : tie.Need-family-of-requires
-family-of-requires c κs = search needs
-
-lookup-requires : tie.Need-lookup-requires
-lookup-requires c κs = search needs
-
-enum-known-found : tie.Need-enum-known-found
-enum-known-found c = search needs
-
 returns : tie.Need-returns
 returns c =
     let at-lookup = c .before .before .before .before in
@@ -20,18 +11,12 @@ returns c =
     numbers (at-family-of .family-of .ensures) (at-lookup .lookup .ensures)
     (rw (c .before .before .found .given .1) (other-sort _ _ (c .before .before .found .given .0 .1 .0) (c .if1 .taken)))
 
-cast-if2 : tie.Need-cast-if2
-cast-if2 c = search needs
-
 returns-2 : tie.Need-returns-2
 returns-2 c =
     let at-lookup = c .before .before .before .before .before in
     let at-family-of = at-lookup .before in
     numbers (at-family-of .family-of .ensures) (at-lookup .lookup .ensures)
     (rw (c .before .before .before .found .given .1) (too-large _ _ _ (c .before .if1 .left) (c .if2 .taken)))
-
-cast-t11 : tie.Need-cast-t11
-cast-t11 c = search needs
 
 enum-told : tie.Need-enum-told
 enum-told c = search needs
@@ -50,13 +35,13 @@ pub number-of-spec : {M : Type 1} → statement M
 number-of-spec =
     tie.close
     (tie.spec
-    family-of-requires
-    lookup-requires
-    enum-known-found
+    (λ c κs. search needs)
+    (λ c κs. search needs)
+    (λ c. search needs)
     returns
-    cast-if2
+    (λ c. search needs)
     returns-2
-    cast-t11
+    (λ c. search needs)
     enum-told
     returns-3
     returns-4)

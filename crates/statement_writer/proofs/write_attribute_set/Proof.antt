@@ -11,21 +11,6 @@ use Rattle.statement_writer.proofs.SetStatements.{no-attribute, no-part
 use Rattle.statement_writer.proofs.write_attribute_set.Statement.{statement}
 use Rattle.statement_writer.proofs.write_attribute_set.Tie as tie
 
-family-number-requires : tie.Need-family-number-requires
-family-number-requires c κs = search needs
-
-add-write-head : tie.Need-add-write-head
-add-write-head c = search needs
-
-write-head-requires : tie.Need-write-head-requires
-write-head-requires c κs = search needs
-
-write-name-requires : tie.Need-write-name-requires
-write-name-requires c κs = search needs
-
-enum-known-name : tie.Need-enum-known-name
-enum-known-name c = search needs
-
 enum-told : tie.Need-enum-told
 enum-told c = search needs
 
@@ -39,12 +24,6 @@ returns c =
     let at-write-head = at-write-name .before .before .before .before in
     let at-family-number = at-write-head .before .before in
     no-attribute (at-family-number .family-number .ensures .0) (at-write-head .write-head .ensures) (at-write-name .write-name .ensures) (c .enum-told .given .1)
-
-next-item-requires : tie.Need-next-item-requires
-next-item-requires c κs = search needs
-
-enum-known-item : tie.Need-enum-known-item
-enum-known-item c = search needs
 
 same-length-2 : tie.Need-same-length-2
 same-length-2 c =
@@ -60,21 +39,6 @@ returns-2 c =
     no-part (at-family-number .family-number .ensures .0) (at-write-head .write-head .ensures) (at-write-name .write-name .ensures)
     (c .before .before .before .name .given .1)
     (alike startsPart (λ f. false) _ _ _ (0 ∷ 2 ∷ 3 ∷ []) _ (λ s w f. refl, tt, refl, refl) (c .before .next-item .ensures) (c .match2 .keys2))
-
-sub-write-set : tie.Need-sub-write-set
-sub-write-set c = search needs
-
-cast-write-set : tie.Need-cast-write-set
-cast-write-set c = search needs
-
-write-set-requires : tie.Need-write-set-requires
-write-set-requires c κs = search needs
-
-enum-known-set : tie.Need-enum-known-set
-enum-known-set c = search needs
-
-enum-told-2 : tie.Need-enum-told-2
-enum-told-2 c = search needs
 
 same-length-3 : tie.Need-same-length-3
 same-length-3 c =
@@ -118,23 +82,23 @@ pub write-attribute-set-spec : {M : Type 1} → statement M
 write-attribute-set-spec =
     tie.close
     (tie.spec
-    family-number-requires
-    add-write-head
-    write-head-requires
-    write-name-requires
-    enum-known-name
+    (λ c κs. search needs)
+    (λ c. search needs)
+    (λ c κs. search needs)
+    (λ c κs. search needs)
+    (λ c. search needs)
     enum-told
     same-length
     returns
-    next-item-requires
-    enum-known-item
+    (λ c κs. search needs)
+    (λ c. search needs)
     same-length-2
     returns-2
-    sub-write-set
-    cast-write-set
-    write-set-requires
-    enum-known-set
-    enum-told-2
+    (λ c. search needs)
+    (λ c. search needs)
+    (λ c κs. search needs)
+    (λ c. search needs)
+    (λ c. search needs)
     same-length-3
     returns-3
     same-length-4

@@ -11,12 +11,6 @@ use Rattle.statement_writer.proofs.RowNames.{no-word, no-name, one-name
 use Rattle.statement_writer.proofs.write_name.Statement.{statement}
 use Rattle.statement_writer.proofs.write_name.Tie as tie
 
-next-item-requires : tie.Need-next-item-requires
-next-item-requires c κs = search needs
-
-enum-known-item : tie.Need-enum-known-item
-enum-known-item c = search needs
-
 returns : tie.Need-returns
 returns c =
     no-word λ env levels. alike (firstUnit env _) (λ f. none) _ _ _ (1 ∷ 2 ∷ 3 ∷ []) levels (tt, λ x f g. refl, refl, refl) (c .before .next-item .ensures) (c .match .keys2)
@@ -24,20 +18,8 @@ returns c =
 add-end : tie.Need-add-end
 add-end c = omega (arith, sees (c .before .before .before .next-item .ensures) (c .before .item .given .1) .ahead .3)
 
-sub-name : tie.Need-sub-name
-sub-name c = search needs
-
-part-name-start : tie.Need-part-name-start
-part-name-start c = search needs
-
 part-name-end : tie.Need-part-name-end
 part-name-end c = omega (arith, sees (c .before .before .before .next-item .ensures) (c .before .item .given .1) .ahead .3)
-
-name-unit-requires : tie.Need-name-unit-requires
-name-unit-requires c κs = search needs
-
-enum-known-referred : tie.Need-enum-known-referred
-enum-known-referred c = search needs
 
 enum-told : tie.Need-enum-told
 enum-told c = search needs
@@ -46,12 +28,6 @@ returns-2 : tie.Need-returns-2
 returns-2 c =
     let item = c .before .before .before .before .before in
     no-name (sees (item .before .before .next-item .ensures) (item .item .given .1)) (c .before .before .name-unit .ensures) (c .enum-told .given .1)
-
-put-unit-requires : tie.Need-put-unit-requires
-put-unit-requires c κs = search needs
-
-same-length : tie.Need-same-length
-same-length c = search needs
 
 returns-3 : tie.Need-returns-3
 returns-3 c =
@@ -64,17 +40,17 @@ pub write-name-spec : {M : Type 1} → statement M
 write-name-spec =
     tie.close
     (tie.spec
-    next-item-requires
-    enum-known-item
+    (λ c κs. search needs)
+    (λ c. search needs)
     returns
     add-end
-    sub-name
-    part-name-start
+    (λ c. search needs)
+    (λ c. search needs)
     part-name-end
-    name-unit-requires
-    enum-known-referred
+    (λ c κs. search needs)
+    (λ c. search needs)
     enum-told
     returns-2
-    put-unit-requires
-    same-length
+    (λ c κs. search needs)
+    (λ c. search needs)
     returns-3)

@@ -6,12 +6,6 @@ use Rattle.statement_writer.proofs.RowNames.{names-stop, names-then}
 use Rattle.statement_writer.proofs.write_pair.Statement.{statement}
 use Rattle.statement_writer.proofs.write_pair.Tie as tie
 
-write-name-requires : tie.Need-write-name-requires
-write-name-requires c κs = search needs
-
-enum-known-name : tie.Need-enum-known-name
-enum-known-name c = search needs
-
 enum-told : tie.Need-enum-told
 enum-told c = search needs
 
@@ -20,9 +14,6 @@ same-length c = c .before .before .before .before .write-name .ensures .keeps .l
 
 returns : tie.Need-returns
 returns c = names-stop (_ ∷ []) (_ ∷ []) (c .before .before .before .before .write-name .ensures) (c .enum-told .given .1)
-
-write-name-requires-2 : tie.Need-write-name-requires-2
-write-name-requires-2 c κs = search needs
 
 same-length-2 : tie.Need-same-length-2
 same-length-2 c = c .before .before .write-name2 .ensures .keeps .long ∙ c .before .before .before .before .before .before .before .before .before .write-name .ensures .keeps .long
@@ -37,11 +28,11 @@ pub write-pair-spec : {M : Type 1} → statement M
 write-pair-spec =
     tie.close
     (tie.spec
-    write-name-requires
-    enum-known-name
+    (λ c κs. search needs)
+    (λ c. search needs)
     enum-told
     same-length
     returns
-    write-name-requires-2
+    (λ c κs. search needs)
     same-length-2
     returns-2)

@@ -6,27 +6,6 @@ use Rattle.statement_writer.proofs.Finishing.{relation-coded}
 use Rattle.statement_writer.proofs.write_relation.Statement.{statement}
 use Rattle.statement_writer.proofs.write_relation.Tie as tie
 
-relation-number-requires : tie.Need-relation-number-requires
-relation-number-requires c κs = search needs
-
-add-tag : tie.Need-add-tag
-add-tag c = search needs
-
-write-head-requires : tie.Need-write-head-requires
-write-head-requires c κs = search needs
-
-first-family-requires : tie.Need-first-family-requires
-first-family-requires c κs = search needs
-
-second-family-requires : tie.Need-second-family-requires
-second-family-requires c κs = search needs
-
-write-pair-requires : tie.Need-write-pair-requires
-write-pair-requires c κs = search needs
-
-enum-known-names : tie.Need-enum-known-names
-enum-known-names c = search needs
-
 enum-told : tie.Need-enum-told
 enum-told c = search needs
 
@@ -66,13 +45,13 @@ pub write-relation-spec : {M : Type 1} → statement M
 write-relation-spec =
     tie.close
     (tie.spec
-    relation-number-requires
-    add-tag
-    write-head-requires
-    first-family-requires
-    second-family-requires
-    write-pair-requires
-    enum-known-names
+    (λ c κs. search needs)
+    (λ c. search needs)
+    (λ c κs. search needs)
+    (λ c κs. search needs)
+    (λ c κs. search needs)
+    (λ c κs. search needs)
+    (λ c. search needs)
     enum-told
     same-length
     returns

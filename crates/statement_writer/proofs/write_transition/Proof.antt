@@ -10,15 +10,6 @@ use Rattle.statement_writer.proofs.Finishing.{transition-coded}
 use Rattle.statement_writer.proofs.write_transition.Statement.{statement}
 use Rattle.statement_writer.proofs.write_transition.Tie as tie
 
-write-head-requires : tie.Need-write-head-requires
-write-head-requires c κs = search needs
-
-write-pair-requires : tie.Need-write-pair-requires
-write-pair-requires c κs = search needs
-
-enum-known-names : tie.Need-enum-known-names
-enum-known-names c = search needs
-
 enum-told : tie.Need-enum-told
 enum-told c = search needs
 
@@ -32,15 +23,6 @@ returns c =
     let at-write-head = at-write-pair .before .before .before .before in
     transition-coded NamesWritten.Undeclared refl (at-write-head .write-head .ensures)
     (names-stop (Kind.Reference Family.Roles ∷ Kind.Reference Family.Types ∷ []) (Kind.Class ∷ Kind.Role ∷ []) (at-write-pair .write-pair .ensures) (c .enum-told .given .1))
-
-write-pair-requires-2 : tie.Need-write-pair-requires-2
-write-pair-requires-2 c κs = search needs
-
-enum-known-others : tie.Need-enum-known-others
-enum-known-others c = search needs
-
-enum-told-2 : tie.Need-enum-told-2
-enum-told-2 c = search needs
 
 same-length-2 : tie.Need-same-length-2
 same-length-2 c =
@@ -80,15 +62,15 @@ pub write-transition-spec : {M : Type 1} → statement M
 write-transition-spec =
     tie.close
     (tie.spec
-    write-head-requires
-    write-pair-requires
-    enum-known-names
+    (λ c κs. search needs)
+    (λ c κs. search needs)
+    (λ c. search needs)
     enum-told
     same-length
     returns
-    write-pair-requires-2
-    enum-known-others
-    enum-told-2
+    (λ c κs. search needs)
+    (λ c. search needs)
+    (λ c. search needs)
     same-length-2
     returns-2
     same-length-3

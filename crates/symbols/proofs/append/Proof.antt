@@ -5,8 +5,8 @@ use Prim.Native.Nat.{ℕ, _+_, _≤_}
 use native.Mathlib.Omega.{arith}
 use borrow.Author.Needs.{needs}
 use lib.ListN.{length, length-set}
-use Rattle.bitset.specs.Parts.{part}
-use Rattle.bitset.proofs.PartLaws.{length-part-le}
+use Rattle.byte_slices.specs.Parts.{part}
+use Rattle.byte_slices.proofs.PartLaws.{length-part-le}
 use Rattle.symbols.proofs.AppendLaws.{long-begun, long-headed, long-appended, appended}
 use Rattle.symbols.proofs.append.Statement.{statement}
 use Rattle.symbols.proofs.append.Tie as tie

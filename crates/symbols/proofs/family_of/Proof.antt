@@ -13,11 +13,8 @@ returns-2 c = rw (le-ltb _ _ (c .before .if1 .left), lt-ltb _ _ (c .if2 .taken))
 returns-3 : tie.Need-returns-3
 returns-3 c = rw (le-ltb _ _ (c .before .before .if1 .left), le-ltb _ _ (c .before .if2 .left), eq-eqb _ _ (c .if3 .taken))
 
-add-result : tie.Need-add-result
-add-result c = search needs
-
 returns-4 : tie.Need-returns-4
 returns-4 c = rw (le-ltb _ _ (c .before .before .if1 .left), le-ltb _ _ (c .before .if2 .left), ne-eqb _ _ (c .if3 .left))
 
 pub family-of-spec : {M : Type 1} → statement M
-family-of-spec = tie.close (tie.spec returns returns-2 returns-3 add-result returns-4)
+family-of-spec = tie.close (tie.spec returns returns-2 returns-3 (λ c. search needs) returns-4)

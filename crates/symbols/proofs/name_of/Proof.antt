@@ -18,12 +18,6 @@ Inv-loop table start end sort number last at₀ at =
 abbrev μ-loop : tie.MeasureT-loop
 μ-loop table start end sort number last at₀ at = last - at
 
-least-requires : tie.Need-least-requires Inv-loop μ-loop
-least-requires c κs = search needs
-
-least-requires-2 : tie.Need-least-requires-2 Inv-loop μ-loop
-least-requires-2 c κs = search needs
-
 loop-holds : tie.Need-loop-holds Inv-loop μ-loop
 loop-holds c =
     let s = c .before .before .before in (
@@ -33,9 +27,6 @@ loop-holds c =
 
 entry-at-requires : tie.Need-entry-at-requires Inv-loop μ-loop
 entry-at-requires c κs = (c .loop .inv .0, omega (arith, c .before .before .least .ensures))
-
-enum-known-k : tie.Need-enum-known-k Inv-loop μ-loop
-enum-known-k c = search needs
 
 loop-less : tie.Need-loop-less Inv-loop μ-loop
 loop-less c =
@@ -84,9 +75,6 @@ enum-told c = search needs
 returns-2 : tie.Need-returns-2 Inv-loop μ-loop
 returns-2 c = none-numbered _ _ _ _ (none-done (met (c .before .before .entry-at .ensures) (c .enum-told .given .1))) ∙ c .before .before .before .loop .inv .1
 
-enum-told-2 : tie.Need-enum-told-2 Inv-loop μ-loop
-enum-told-2 c = search needs
-
 returns-3 : tie.Need-returns-3 Inv-loop μ-loop
 returns-3 c = none-numbered _ _ _ _ (none-broken (met (c .before .before .entry-at .ensures) (c .enum-told2 .given .1))) ∙ c .before .before .before .loop .inv .1
 
@@ -96,11 +84,11 @@ name-of-spec =
     (tie.spec
     Inv-loop
     μ-loop
-    least-requires
-    least-requires-2
+    (λ c κs. search needs)
+    (λ c κs. search needs)
     loop-holds
     entry-at-requires
-    enum-known-k
+    (λ c. search needs)
     loop-less
     loop-again
     loop-less-2
@@ -111,5 +99,5 @@ name-of-spec =
     returns
     enum-told
     returns-2
-    enum-told-2
+    (λ c. search needs)
     returns-3)

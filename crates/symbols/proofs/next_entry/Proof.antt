@@ -5,9 +5,6 @@ use Rattle.symbols.proofs.LookLaws.{stands, none-past}
 use Rattle.symbols.proofs.next_entry.Statement.{statement}
 use Rattle.symbols.proofs.next_entry.Tie as tie
 
-least-requires : tie.Need-least-requires
-least-requires c κs = search needs
-
 returns : tie.Need-returns
 returns c = none-past _ _ _ (c .before .least .ensures) _ (c .if1 .taken)
 
@@ -18,4 +15,4 @@ returns-2 : tie.Need-returns-2
 returns-2 c = stands _ _ _ (c .before .before .least .ensures) _ _ (c .entry-at .ensures)
 
 pub next-entry-spec : {M : Type 1} → statement M
-next-entry-spec = tie.close (tie.spec least-requires returns entry-at-requires returns-2)
+next-entry-spec = tie.close (tie.spec (λ c κs. search needs) returns entry-at-requires returns-2)

@@ -5,17 +5,8 @@ use borrow.Author.Needs.{needs}
 use Rattle.symbols.proofs.same.Statement.{statement}
 use Rattle.symbols.proofs.same.Tie as tie
 
-part-requires : tie.Need-part-requires
-part-requires c κs = search needs
-
-part-requires-2 : tie.Need-part-requires-2
-part-requires-2 c κs = search needs
-
-same-bytes-requires : tie.Need-same-bytes-requires
-same-bytes-requires c κs = search needs
-
 returns : tie.Need-returns
 returns c = c .same-bytes .ensures ∙ ap₂ same (c .before .before .part .ensures) (c .before .part2 .ensures)
 
 pub same-spec : {M : Type 1} → statement M
-same-spec = tie.close (tie.spec part-requires part-requires-2 same-bytes-requires returns)
+same-spec = tie.close (tie.spec (λ c κs. search needs) (λ c κs. search needs) (λ c κs. search needs) returns)

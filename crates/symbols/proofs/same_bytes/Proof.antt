@@ -1,7 +1,7 @@
 -- `symbols::same_bytes` meets its contract. The loop's invariant: what is left of the two is the same exactly where the two are. Assumes nothing.
 use Prim.Native.Nat.{_-_, _≤_}
 use Rattle.policy.specs.Basics.{same}
-use Rattle.symbols.proofs.PartLaws.{same-length, byte-same, byte-other, none-left}
+use Rattle.symbols.proofs.SameLaws.{same-length, byte-same, byte-other, none-left}
 use borrow.Author.Needs.{needs}
 use native.Mathlib.Omega.{arith}
 use lib.ListN.{length, drop}

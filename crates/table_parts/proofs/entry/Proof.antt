@@ -7,14 +7,8 @@ use borrow.Author.Needs.{needs}
 use Rattle.table_parts.proofs.entry.Statement.{statement}
 use Rattle.table_parts.proofs.entry.Tie as tie
 
-entry-place-requires : tie.Need-entry-place-requires
-entry-place-requires c κs = search needs
-
-part-at-requires : tie.Need-part-at-requires
-part-at-requires c κs = search needs
-
 returns : tie.Need-returns
 returns c = c .part-at .ensures ∙ ap (λ (r : Reply Part). shownPart r (c .before .before .before .args .table .now)) (c .before .entry-place .ensures)
 
 pub entry-spec : {M : Type 1} → statement M
-entry-spec = tie.close (tie.spec entry-place-requires part-at-requires returns)
+entry-spec = tie.close (tie.spec (λ c κs. search needs) (λ c κs. search needs) returns)

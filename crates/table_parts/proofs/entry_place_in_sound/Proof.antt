@@ -9,27 +9,6 @@ use borrow.Author.Needs.{needs}
 use Rattle.table_parts.proofs.entry_place_in_sound.Statement.{statement}
 use Rattle.table_parts.proofs.entry_place_in_sound.Tie as tie
 
-run-place-requires : tie.Need-run-place-requires
-run-place-requires c κs = search needs
-
-run-place-requires-2 : tie.Need-run-place-requires-2
-run-place-requires-2 c κs = search needs
-
-run-place-requires-3 : tie.Need-run-place-requires-3
-run-place-requires-3 c κs = search needs
-
-run-place-requires-4 : tie.Need-run-place-requires-4
-run-place-requires-4 c κs = search needs
-
-run-place-requires-5 : tie.Need-run-place-requires-5
-run-place-requires-5 c κs = search needs
-
-run-place-requires-6 : tie.Need-run-place-requires-6
-run-place-requires-6 c κs = search needs
-
-attribute-place-requires : tie.Need-attribute-place-requires
-attribute-place-requires c κs = search needs
-
 returns : tie.Need-returns
 returns c =
     let a = c .before .before .before .args in
@@ -88,13 +67,13 @@ pub entry-place-in-sound-spec : {M : Type 1} → statement M
 entry-place-in-sound-spec =
     tie.close
     (tie.spec
-    run-place-requires
-    run-place-requires-2
-    run-place-requires-3
-    run-place-requires-4
-    run-place-requires-5
-    run-place-requires-6
-    attribute-place-requires
+    (λ c κs. search needs)
+    (λ c κs. search needs)
+    (λ c κs. search needs)
+    (λ c κs. search needs)
+    (λ c κs. search needs)
+    (λ c κs. search needs)
+    (λ c κs. search needs)
     returns
     returns-2
     returns-3

@@ -7,14 +7,8 @@ use borrow.Author.Needs.{needs}
 use Rattle.table_parts.proofs.name.Statement.{statement}
 use Rattle.table_parts.proofs.name.Tie as tie
 
-name-place-requires : tie.Need-name-place-requires
-name-place-requires c κs = search needs
-
-part-at-requires : tie.Need-part-at-requires
-part-at-requires c κs = search needs
-
 returns : tie.Need-returns
 returns c = c .part-at .ensures ∙ ap (λ (r : Reply Part). shownPart r (c .before .before .before .args .table .now)) (c .before .name-place .ensures)
 
 pub name-spec : {M : Type 1} → statement M
-name-spec = tie.close (tie.spec name-place-requires part-at-requires returns)
+name-spec = tie.close (tie.spec (λ c κs. search needs) (λ c κs. search needs) returns)

@@ -5,17 +5,8 @@ use borrow.Author.Needs.{needs}
 use Rattle.table_parts.proofs.part_at.Statement.{statement}
 use Rattle.table_parts.proofs.part_at.Tie as tie
 
-enum-known-place : tie.Need-enum-known-place
-enum-known-place c = search needs
-
-part-requires : tie.Need-part-requires
-part-requires c κs = search needs
-
 enum-told : tie.Need-enum-told
 enum-told c = search needs
-
-part-requires-2 : tie.Need-part-requires-2
-part-requires-2 c κs = search needs
 
 returns : tie.Need-returns
 returns c = rw (c .before .before .place .given .1) (c .part .ensures)
@@ -25,4 +16,4 @@ returns-2 c = rw (c .before .enum-told .given .1) (c .part2 .ensures ∙ no-byte
 
 pub part-at-spec : {M : Type 1} → statement M
 part-at-spec =
-    tie.close (tie.spec enum-known-place part-requires enum-told part-requires-2 returns returns-2)
+    tie.close (tie.spec (λ c. search needs) (λ c κs. search needs) enum-told (λ c κs. search needs) returns returns-2)

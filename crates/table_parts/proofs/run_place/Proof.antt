@@ -6,21 +6,6 @@ use borrow.Author.Needs.{needs}
 use Rattle.table_parts.proofs.run_place.Statement.{statement}
 use Rattle.table_parts.proofs.run_place.Tie as tie
 
-body-start-requires : tie.Need-body-start-requires
-body-start-requires c κs = search needs
-
-cast-start : tie.Need-cast-start
-cast-start c = search needs
-
-body-length-requires : tie.Need-body-length-requires
-body-length-requires c κs = search needs
-
-cast-bytes : tie.Need-cast-bytes
-cast-bytes c = search needs
-
-div-record-place : tie.Need-div-record-place
-div-record-place c = search needs
-
 record-place-requires : tie.Need-record-place-requires
 record-place-requires c κs = (
   omega (arith, c .before .body-start .ok),
@@ -35,10 +20,10 @@ pub run-place-spec : {M : Type 1} → statement M
 run-place-spec =
     tie.close
     (tie.spec
-    body-start-requires
-    cast-start
-    body-length-requires
-    cast-bytes
-    div-record-place
+    (λ c κs. search needs)
+    (λ c. search needs)
+    (λ c κs. search needs)
+    (λ c. search needs)
+    (λ c. search needs)
     record-place-requires
     returns)

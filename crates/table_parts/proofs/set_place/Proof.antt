@@ -5,32 +5,11 @@ use borrow.Author.Needs.{needs}
 use Rattle.table_parts.proofs.set_place.Statement.{statement}
 use Rattle.table_parts.proofs.set_place.Tie as tie
 
-record-place-requires : tie.Need-record-place-requires
-record-place-requires c κs = search needs
-
 returns : tie.Need-returns
 returns c = c .record-place .ensures ∙ first-run _ _ _ _ _ (c .before .if1 .taken)
 
-mul-second : tie.Need-mul-second
-mul-second c = search needs
-
-add-second : tie.Need-add-second
-add-second c = search needs
-
-record-place-requires-2 : tie.Need-record-place-requires-2
-record-place-requires-2 c κs = search needs
-
 returns-2 : tie.Need-returns-2
 returns-2 c = c .record-place2 .ensures ∙ first-run _ _ _ _ _ (c .before .if2 .taken) ∙ sym (run-past _ _ _ _ _ (c .before .before .if1 .left))
-
-mul-record-place : tie.Need-mul-record-place
-mul-record-place c = search needs
-
-add-record-place : tie.Need-add-record-place
-add-record-place c = search needs
-
-record-place-requires-3 : tie.Need-record-place-requires-3
-record-place-requires-3 c κs = search needs
 
 returns-3 : tie.Need-returns-3
 returns-3 c = c .record-place3 .ensures ∙ sym (run-past _ _ _ _ _ (c .before .before .if1 .left) ∙ run-past _ _ _ _ _ (c .before .if2 .left))
@@ -39,13 +18,13 @@ pub set-place-spec : {M : Type 1} → statement M
 set-place-spec =
     tie.close
     (tie.spec
-    record-place-requires
+    (λ c κs. search needs)
     returns
-    mul-second
-    add-second
-    record-place-requires-2
+    (λ c. search needs)
+    (λ c. search needs)
+    (λ c κs. search needs)
     returns-2
-    mul-record-place
-    add-record-place
-    record-place-requires-3
+    (λ c. search needs)
+    (λ c. search needs)
+    (λ c κs. search needs)
     returns-3)

@@ -5,8 +5,8 @@ use mathlib.Core.List.{List}
 use native.Mathlib.Omega.{arith}
 use borrow.Author.Needs.{needs}
 use lib.ListN.{length}
-use Rattle.bitset.specs.Parts.{part}
-use Rattle.bitset.proofs.PartLaws.{length-part-le}
+use Rattle.byte_slices.specs.Parts.{part}
+use Rattle.byte_slices.proofs.PartLaws.{length-part-le}
 use Rattle.policy.specs.Basics.{unle}
 use Rattle.little_endian.proofs.NumberLaws.{fits-more}
 use Rattle.table_reader.proofs.u32_at.Statement.{statement}

@@ -2,7 +2,7 @@
 use native.Mathlib.Omega.{arith}
 use borrow.Author.Needs.{needs}
 use mathlib.Core.List.{[], _∷_}
-use Rattle.policy.specs.Encode.{bodies}
+use Rattle.policy.specs.Encode.{bodies, firstBody}
 use Rattle.table_writer.specs.Sizing.{body}
 use Rattle.table_writer.proofs.Laying.{puts-pair, no-pair}
 use Rattle.table_writer.proofs.write_pairs.Statement.{statement}
@@ -29,7 +29,7 @@ returns c =
           let e6 = at-args .args .places .rows in
           let e7 = at-args .args .places .«user_sets» in
           let e8 = at-args .args .places .end in
-          puts-pair 4 68 e1 (body 0 p) (body 1 p ∷ body 2 p ∷ body 3 p ∷ body 4 p ∷ body 5 p ∷ body 6 p ∷ body 7 p ∷ []) (at .user-roles)
+          puts-pair 4 firstBody e1 (body 0 p) (body 1 p ∷ body 2 p ∷ body 3 p ∷ body 4 p ∷ body 5 p ∷ body 6 p ∷ body 7 p ∷ []) (at .user-roles)
           (at-put-pair .put-pair .ensures (omega (arith, at .user-roles)))
           (puts-pair 12 e1 e2 (body 1 p) (body 2 p ∷ body 3 p ∷ body 4 p ∷ body 5 p ∷ body 6 p ∷ body 7 p ∷ []) (at .role-types)
           (at-put-pair2 .put-pair2 .ensures (omega (arith, at .role-types)))

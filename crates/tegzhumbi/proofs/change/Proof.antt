@@ -5,17 +5,8 @@ use borrow.Author.Needs.{needs}
 use Rattle.tegzhumbi.proofs.change.Statement.{statement}
 use Rattle.tegzhumbi.proofs.change.Tie as tie
 
-asked-requires : tie.Need-asked-requires
-asked-requires c κs = search needs
-
-asked-requires-2 : tie.Need-asked-requires-2
-asked-requires-2 c κs = search needs
-
-change-requires : tie.Need-change-requires
-change-requires c κs = search needs
-
 returns : tie.Need-returns
 returns c = c .change .ensures ∙ same-change _ _ _ (c .before .before .asked .ensures) (c .before .asked2 .ensures)
 
 pub change-spec : {M : Type 1} → statement M
-change-spec = tie.close (tie.spec asked-requires asked-requires-2 change-requires returns)
+change-spec = tie.close (tie.spec (λ c κs. search needs) (λ c κs. search needs) (λ c κs. search needs) returns)

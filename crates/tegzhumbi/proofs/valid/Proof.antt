@@ -5,14 +5,8 @@ use borrow.Author.Needs.{needs}
 use Rattle.tegzhumbi.proofs.valid.Statement.{statement}
 use Rattle.tegzhumbi.proofs.valid.Tie as tie
 
-asked-requires : tie.Need-asked-requires
-asked-requires c κs = search needs
-
-valid-requires : tie.Need-valid-requires
-valid-requires c κs = search needs
-
 returns : tie.Need-returns
 returns c = c .valid .ensures ∙ ap (validOn (c .before .before .before .args .table .now)) (c .before .asked .ensures)
 
 pub valid-spec : {M : Type 1} → statement M
-valid-spec = tie.close (tie.spec asked-requires valid-requires returns)
+valid-spec = tie.close (tie.spec (λ c κs. search needs) (λ c κs. search needs) returns)

@@ -6,9 +6,6 @@ use borrow.Author.Needs.{needs}
 use Rattle.tegzhumbi_c.proofs.tegzhumbi_change.Statement.{statement}
 use Rattle.tegzhumbi_c.proofs.tegzhumbi_change.Tie as tie
 
-change-requires : tie.Need-change-requires
-change-requires c κs = search needs
-
 change-numbers-requires : tie.Need-change-numbers-requires
 change-numbers-requires c κs = rw (c .change .ensures) (change-fits _ _)
 
@@ -16,4 +13,4 @@ returns : tie.Need-returns
 returns c = c .change-numbers .ensures ∙ ap changeNumbers (c .before .change .ensures)
 
 pub tegzhumbi-change-spec : {M : Type 1} → statement M
-tegzhumbi-change-spec = tie.close (tie.spec change-requires change-numbers-requires returns)
+tegzhumbi-change-spec = tie.close (tie.spec (λ c κs. search needs) change-numbers-requires returns)

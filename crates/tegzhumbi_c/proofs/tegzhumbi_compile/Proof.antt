@@ -7,14 +7,8 @@ use borrow.Author.Needs.{needs}
 use Rattle.tegzhumbi_c.proofs.tegzhumbi_compile.Statement.{statement}
 use Rattle.tegzhumbi_c.proofs.tegzhumbi_compile.Tie as tie
 
-compile-requires : tie.Need-compile-requires
-compile-requires c κs = search needs
-
 compiled-numbers-requires : tie.Need-compiled-numbers-requires
 compiled-numbers-requires c κs = rw (c .before .before .compile .ensures .answer) (outcome-fits _ _)
-
-same-length : tie.Need-same-length
-same-length c = search needs
 
 returns : tie.Need-returns
 returns c = record {
@@ -25,4 +19,4 @@ returns c = record {
 }
 
 pub tegzhumbi-compile-spec : {M : Type 1} → statement M
-tegzhumbi-compile-spec = tie.close (tie.spec compile-requires compiled-numbers-requires same-length returns)
+tegzhumbi-compile-spec = tie.close (tie.spec (λ c κs. search needs) compiled-numbers-requires (λ c. search needs) returns)

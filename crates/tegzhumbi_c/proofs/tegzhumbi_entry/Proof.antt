@@ -6,9 +6,6 @@ use borrow.Author.Needs.{needs}
 use Rattle.tegzhumbi_c.proofs.tegzhumbi_entry.Statement.{statement}
 use Rattle.tegzhumbi_c.proofs.tegzhumbi_entry.Tie as tie
 
-entry-place-requires : tie.Need-entry-place-requires
-entry-place-requires c κs = search needs
-
 part-numbers-requires : tie.Need-part-numbers-requires
 part-numbers-requires c κs = rw (c .entry-place .ensures) (entry-fits _ _ _)
 
@@ -16,4 +13,4 @@ returns : tie.Need-returns
 returns c = c .part-numbers .ensures ∙ ap partNumbers (c .before .entry-place .ensures)
 
 pub tegzhumbi-entry-spec : {M : Type 1} → statement M
-tegzhumbi-entry-spec = tie.close (tie.spec entry-place-requires part-numbers-requires returns)
+tegzhumbi-entry-spec = tie.close (tie.spec (λ c κs. search needs) part-numbers-requires returns)

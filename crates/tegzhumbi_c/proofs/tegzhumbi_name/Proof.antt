@@ -6,9 +6,6 @@ use borrow.Author.Needs.{needs}
 use Rattle.tegzhumbi_c.proofs.tegzhumbi_name.Statement.{statement}
 use Rattle.tegzhumbi_c.proofs.tegzhumbi_name.Tie as tie
 
-name-place-requires : tie.Need-name-place-requires
-name-place-requires c κs = search needs
-
 part-numbers-requires : tie.Need-part-numbers-requires
 part-numbers-requires c κs = rw (c .name-place .ensures) (name-fits _ _ _)
 
@@ -16,4 +13,4 @@ returns : tie.Need-returns
 returns c = c .part-numbers .ensures ∙ ap partNumbers (c .before .name-place .ensures)
 
 pub tegzhumbi-name-spec : {M : Type 1} → statement M
-tegzhumbi-name-spec = tie.close (tie.spec name-place-requires part-numbers-requires returns)
+tegzhumbi-name-spec = tie.close (tie.spec (λ c κs. search needs) part-numbers-requires returns)

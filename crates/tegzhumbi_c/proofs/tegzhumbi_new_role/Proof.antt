@@ -6,9 +6,6 @@ use borrow.Author.Needs.{needs}
 use Rattle.tegzhumbi_c.proofs.tegzhumbi_new_role.Statement.{statement}
 use Rattle.tegzhumbi_c.proofs.tegzhumbi_new_role.Tie as tie
 
-new-role-requires : tie.Need-new-role-requires
-new-role-requires c κs = search needs
-
 new-role-numbers-requires : tie.Need-new-role-numbers-requires
 new-role-numbers-requires c κs = rw (c .new-role .ensures) (new-role-fits _ _ _ _)
 
@@ -16,4 +13,4 @@ returns : tie.Need-returns
 returns c = c .new-role-numbers .ensures ∙ ap newRoleNumbers (c .before .new-role .ensures)
 
 pub tegzhumbi-new-role-spec : {M : Type 1} → statement M
-tegzhumbi-new-role-spec = tie.close (tie.spec new-role-requires new-role-numbers-requires returns)
+tegzhumbi-new-role-spec = tie.close (tie.spec (λ c κs. search needs) new-role-numbers-requires returns)

@@ -6,9 +6,6 @@ use borrow.Author.Needs.{needs}
 use Rattle.tegzhumbi_c.proofs.tegzhumbi_valid.Statement.{statement}
 use Rattle.tegzhumbi_c.proofs.tegzhumbi_valid.Tie as tie
 
-valid-requires : tie.Need-valid-requires
-valid-requires c κs = search needs
-
 valid-numbers-requires : tie.Need-valid-numbers-requires
 valid-numbers-requires c κs = rw (c .valid .ensures) (valid-fits _ _)
 
@@ -16,4 +13,4 @@ returns : tie.Need-returns
 returns c = c .valid-numbers .ensures ∙ ap validNumbers (c .before .valid .ensures)
 
 pub tegzhumbi-valid-spec : {M : Type 1} → statement M
-tegzhumbi-valid-spec = tie.close (tie.spec valid-requires valid-numbers-requires returns)
+tegzhumbi-valid-spec = tie.close (tie.spec (λ c κs. search needs) valid-numbers-requires returns)

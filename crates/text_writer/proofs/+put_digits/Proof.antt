@@ -4,7 +4,7 @@ use native.Mathlib.Omega.{arith}
 use lib.ListN.{length}
 use mathlib.Core.Path.{ap, _∙_}
 use Prim.Native.Nat.{_-_, _/_, ℕ, _<_}
-use Rattle.bitset.proofs.PartLaws.{length-put}
+use Rattle.byte_slices.proofs.PartLaws.{length-put}
 use Rattle.text_writer.proofs.Digits.{few-digits, no-digit, one-digit, last-digit}
 use borrow.Fn.Kinds.{In}
 use borrow.Fn.PlainCycle.{Measures, is, falls, and}

@@ -21,9 +21,6 @@ loop-holds : tie.Need-loop-holds Inv-loop μ-loop
 unfolding isReserved
 loop-holds c = (omega arith, refl)
 
-part-end-requires : tie.Need-part-end-requires Inv-loop μ-loop
-part-end-requires c κs = search needs
-
 sub-is-reserved-word : tie.Need-sub-is-reserved-word Inv-loop μ-loop
 sub-is-reserved-word c = omega (arith, c .part-end .ensures, end-after (c .before .before .before .args .w .now) (c .before .loop .at))
 
@@ -32,9 +29,6 @@ part-is-reserved-word-start c = omega (arith, c .part-end .ensures, end-after (c
 
 part-is-reserved-word-end : tie.Need-part-is-reserved-word-end Inv-loop μ-loop
 part-is-reserved-word-end c = omega (arith, c .part-end .ensures, within (c .before .before .before .args .w .now) isDot (c .before .loop .at) (c .before .loop .inv .0))
-
-is-reserved-word-requires : tie.Need-is-reserved-word-requires Inv-loop μ-loop
-is-reserved-word-requires c κs = search needs
 
 returns : tie.Need-returns Inv-loop μ-loop
 returns c =
@@ -48,9 +42,6 @@ returns-2 c =
     let at-end = looked .before .before in
     let not-this = sym (looked .is-reserved-word .ensures) ∙ c .before .if1 .left in
     sym (none-reserved _ _ _ (at-end .part-end .ensures) not-this (c .if2 .taken)) ∙ at-end .before .loop .inv .1
-
-add-at : tie.Need-add-at Inv-loop μ-loop
-add-at c = search needs
 
 loop-less : tie.Need-loop-less Inv-loop μ-loop
 loop-less c =
@@ -73,13 +64,13 @@ has-reserved-part-spec =
     Inv-loop
     μ-loop
     loop-holds
-    part-end-requires
+    (λ c κs. search needs)
     sub-is-reserved-word
     part-is-reserved-word-start
     part-is-reserved-word-end
-    is-reserved-word-requires
+    (λ c κs. search needs)
     returns
     returns-2
-    add-at
+    (λ c. search needs)
     loop-less
     loop-again)

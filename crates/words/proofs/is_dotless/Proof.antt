@@ -4,11 +4,8 @@ use Rattle.words.proofs.Dots.{dotless-by}
 use Rattle.words.proofs.is_dotless.Statement.{statement}
 use Rattle.words.proofs.is_dotless.Tie as tie
 
-part-end-requires : tie.Need-part-end-requires
-part-end-requires c κs = search needs
-
 returns : tie.Need-returns
 returns c = rw (c .part-end .ensures) (dotless-by _)
 
 pub is-dotless-spec : {M : Type 1} → statement M
-is-dotless-spec = tie.close (tie.spec part-end-requires returns)
+is-dotless-spec = tie.close (tie.spec (λ c κs. search needs) returns)

@@ -33,24 +33,6 @@ lent k t start len =
     let e : (start + len) - start ≡ len = omega arith in
     ap (λ (n : ℕ). mayBe k (take n (drop start t))) e
 
-add-end : tie.Need-add-end
-add-end c = search needs
-
-sub-w : tie.Need-sub-w
-sub-w c = search needs
-
-part-w-start : tie.Need-part-w-start
-part-w-start c = search needs
-
-part-w-end : tie.Need-part-w-end
-part-w-end c = search needs
-
-is-dotless-requires : tie.Need-is-dotless-requires
-is-dotless-requires c κs = search needs
-
-is-reserved-word-requires : tie.Need-is-reserved-word-requires
-is-reserved-word-requires c κs = search needs
-
 returns : tie.Need-returns
 returns c =
     let dots = c .before .before in
@@ -59,12 +41,6 @@ returns c =
 
 enum-told : tie.Need-enum-told
 enum-told c = search needs
-
-has-reserved-part-requires : tie.Need-has-reserved-part-requires
-has-reserved-part-requires c κs = search needs
-
-enum-told-2 : tie.Need-enum-told-2
-enum-told-2 c = search needs
 
 returns-2 : tie.Need-returns-2
 returns-2 c =
@@ -82,15 +58,15 @@ pub is-name-spec : {M : Type 1} → statement M
 is-name-spec =
     tie.close
     (tie.spec
-    add-end
-    sub-w
-    part-w-start
-    part-w-end
-    is-dotless-requires
-    is-reserved-word-requires
+    (λ c. search needs)
+    (λ c. search needs)
+    (λ c. search needs)
+    (λ c. search needs)
+    (λ c κs. search needs)
+    (λ c κs. search needs)
     returns
     enum-told
-    has-reserved-part-requires
-    enum-told-2
+    (λ c κs. search needs)
+    (λ c. search needs)
     returns-2
     returns-3)

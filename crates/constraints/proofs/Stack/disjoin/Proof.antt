@@ -7,15 +7,6 @@ use Rattle.constraints.proofs.Stack.disjoin.Tie as tie
 returns : tie.Need-returns
 returns c = λ s e. or-law s _ e .0 (c .if1 .taken)
 
-mul-t7 : tie.Need-mul-t7
-mul-t7 c = search needs
-
-mul-t9 : tie.Need-mul-t9
-mul-t9 c = search needs
-
-add-t10 : tie.Need-add-t10
-add-t10 c = search needs
-
 returns-2 : tie.Need-returns-2
 returns-2 c = λ s e. or-law s _ e .1 (c .before .if1 .left) (c .if2 .taken)
 
@@ -23,4 +14,4 @@ returns-3 : tie.Need-returns-3
 returns-3 c = λ s e. or-law s _ e .2 (c .before .if1 .left) (c .if2 .left)
 
 pub disjoin-spec : {M : Type 1} → statement M
-disjoin-spec = tie.close (tie.spec returns mul-t7 mul-t9 add-t10 returns-2 returns-3)
+disjoin-spec = tie.close (tie.spec returns (λ c. search needs) (λ c. search needs) (λ c. search needs) returns-2 returns-3)

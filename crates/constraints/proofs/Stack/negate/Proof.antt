@@ -7,12 +7,6 @@ use Rattle.constraints.proofs.Stack.negate.Tie as tie
 returns : tie.Need-returns
 returns c = λ s e. not-law s _ e .0 (c .if1 .taken)
 
-add-t6 : tie.Need-add-t6
-add-t6 c = search needs
-
-sub-t7 : tie.Need-sub-t7
-sub-t7 c = search needs
-
 returns-2 : tie.Need-returns-2
 returns-2 c = λ s e. not-law s _ e .1 (c .before .if1 .left) (c .if2 .taken)
 
@@ -20,4 +14,4 @@ returns-3 : tie.Need-returns-3
 returns-3 c = λ s e. not-law s _ e .2 (c .before .if1 .left) (c .if2 .left)
 
 pub negate-spec : {M : Type 1} → statement M
-negate-spec = tie.close (tie.spec returns add-t6 sub-t7 returns-2 returns-3)
+negate-spec = tie.close (tie.spec returns (λ c. search needs) (λ c. search needs) returns-2 returns-3)

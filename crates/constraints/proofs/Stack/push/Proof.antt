@@ -10,15 +10,6 @@ use Rattle.constraints.proofs.Stack.push.Tie as tie
 returns : tie.Need-returns
 returns c = λ s e. push-full _ s _ e (c .if1 .taken)
 
-mul-t6 : tie.Need-mul-t6
-mul-t6 c = search needs
-
-add-t7 : tie.Need-add-t7
-add-t7 c = search needs
-
-mul-t8 : tie.Need-mul-t8
-mul-t8 c = search needs
-
 returns-2 : tie.Need-returns-2
 returns-2 c = λ s e. omega (arith, push-room (c .before .before .args .b) s (c .before .before .args .self .bits) e (c .before .if1 .left), ap one (c .if2 .taken))
 
@@ -26,4 +17,4 @@ returns-3 : tie.Need-returns-3
 returns-3 c = λ s e. omega (arith, push-room (c .before .before .args .b) s (c .before .before .args .self .bits) e (c .before .if1 .left), ap one (c .if2 .left))
 
 pub push-spec : {M : Type 1} → statement M
-push-spec = tie.close (tie.spec returns mul-t6 add-t7 mul-t8 returns-2 returns-3)
+push-spec = tie.close (tie.spec returns (λ c. search needs) (λ c. search needs) (λ c. search needs) returns-2 returns-3)

@@ -1,9 +1,9 @@
--- `bitset::byte` meets its contract: past the end the byte is 0. Assumes nothing.
+-- `byte_slices::byte` meets its contract: past the end the byte is 0. Assumes nothing.
 use borrow.Author.Needs.{needs}
 use lib.ListN.{List·getD-eq-default}
 use mathlib.Core.Path.{sym}
-use Rattle.bitset.proofs.byte.Statement.{statement}
-use Rattle.bitset.proofs.byte.Tie as tie
+use Rattle.byte_slices.proofs.byte.Statement.{statement}
+use Rattle.byte_slices.proofs.byte.Tie as tie
 
 returns-2 : tie.Need-returns-2
 returns-2 c = sym (List·getD-eq-default (c .before .args .set .now) 0 (c .if1 .left))

@@ -1,19 +1,16 @@
--- The bytes of a table at an offset: what is lent is the part, what comes back is put, and a part that lies apart is as it was.
+-- The bytes of a slice at an offset: what is lent is the part, what comes back is put, and a part that lies apart is as it was.
 -- Assumes nothing.
-use mathlib.Core.Path.{_≡_, sym, ap, ap₂, _∙_, subst}
+use mathlib.Core.Path.{_≡_, sym, ap, ap₂, _∙_}
 use mathlib.Core.List.{List, [], _++_, append-assoc, _∷_}
-use mathlib.Core.Bool.{Bool}
-use Prim.Native.Nat.{ℕ, _+_, _-_, _*_, _/_, _%_, _≤_, _<_, min, suc}
-use native.Mathlib.Nat.{add-zero, add-suc, suc-add}
+use Prim.Native.Nat.{ℕ, _+_, _-_, _≤_, _<_, min, suc, zero}
+use native.Mathlib.Nat.{add-zero, add-suc, suc-add, sub-zero}
 use native.Mathlib.Decide.{decLt}
 use native.Mathlib.Omega.{arith}
 use lib.ListN.{length, getD, take, drop, length-append, length-take, length-drop, take-append-drop, List·getD-append, List·getD-eq-default, set}
-use lib.Seq.{ext-getD, length-take-le, getD-take, getD-drop, getD-append-add, take-take, take-add, drop-drop, drop-append-le, take-at, drop-append-add, sets, sets-eq}
+use lib.Seq.{ext-getD, length-take-le, getD-take, getD-drop, getD-append-add, take-take, take-add, drop-drop, drop-append-le, take-at, drop-append-add, sets, sets-eq, drop-cons, take-nil, take-all}
 use borrow.Rule.Slice.PartMut.{putMid, post-is}
-use Rattle.bitset.specs.Sets.{member, bit, setOf}
-use Rattle.bitset.specs.Parts.{part, put}
-use Rattle.bitset.proofs.BitLaws.{fromBits-ext}
-use Rattle.bitset.proofs.SetLaws.{length-setOf, byte-setOf}
+use Rattle.byte_slices.specs.Parts.{part, put}
+use native.Mathlib.Numerals.{add-one}
 
 -- ---- a part
 
@@ -218,50 +215,51 @@ put-back t o w start end F s p q keeps e =
 
 -- ---- a part of a set is a set, with its numbers counted from the part's start
 
-pub member-part : (t : List ℕ) (o w n : ℕ) → n < 8 * w → member (part t o w) n ≡ member t (8 * o + n)
-unfolding member
-member-part t o w n h =
-    let q : (8 * o + n) / 8 ≡ o + n / 8 = omega arith in
-    let r : (8 * o + n) % 8 ≡ n % 8 = omega arith in
-    rw (q, r) (ap (λ (b : ℕ). bit b (n % 8)) (getD-part t o w (n / 8) (omega arith)))
+-- ---- parts of parts, and their first bytes
 
-pub part-setOf : (W o w : ℕ) (f : ℕ → Bool) → o + w ≤ W → part (setOf W f) o w ≡ setOf w (λ n. f (8 * o + n))
-part-setOf W o w f h =
-    let long : length (part (setOf W f) o w) ≡ w = length-part (setOf W f) o w (omega (arith, length-setOf W f)) in
-    ext-getD 0 (part (setOf W f) o w) (setOf w (λ n. f (8 * o + n))) (long ∙ sym (length-setOf w (λ n. f (8 * o + n))))
-    (λ i l. getD-part (setOf W f) o w i (omega arith) ∙ byte-setOf W f (o + i) (omega arith)
-    ∙ fromBits-ext 8 (λ k. f (8 * (o + i) + k)) (λ k. f (8 * o + (8 * i + k))) (λ k q. ap f (regroup i k))
-    ∙ sym (byte-setOf w (λ n. f (8 * o + n)) i (omega arith)))
-  where
-    regroup : (i k : ℕ) → 8 * (o + i) + k ≡ 8 * o + (8 * i + k)
-    regroup i k = omega arith
+pub part-none : (t : List ℕ) (o w : ℕ) → w ≡ 0 → part t o w ≡ []
+unfolding part
+part-none t o w h = rw h
 
--- a set put into a set: h agrees with g in the part, and with f outside it
-pub put-setOf : (W o w : ℕ) (f g h : ℕ → Bool) → o + w ≤ W
-    → ((n : ℕ) → n < 8 * o → h n ≡ f n) → ((n : ℕ) → n < 8 * w → h (8 * o + n) ≡ g n) → ((n : ℕ) → 8 * (o + w) ≤ n → h n ≡ f n)
-    → put (setOf W f) o (setOf w g) ≡ setOf W h
-put-setOf W o w f g h l before within after =
-    let lf = length-setOf W f in
-    let lg = length-setOf w g in
-    let fits : o + length (setOf w g) ≤ length (setOf W f) = omega arith in
-    let long = length-put (setOf W f) o (setOf w g) fits in
-    ext-getD 0 (put (setOf W f) o (setOf w g)) (setOf W h) (long ∙ lf ∙ sym (length-setOf W h))
-    (λ j m. at fits j (omega arith) (decLt j o) (decLt j (o + w)))
-  where
-    regroup : (i k : ℕ) → 8 * o + (8 * i + k) ≡ 8 * (o + i) + k
-    regroup i k = omega arith
+pub part-whole : (t : List ℕ) → part t 0 (length t) ≡ t
+unfolding part
+part-whole t = take-all (length t) t (omega arith)
 
-    at : o + length (setOf w g) ≤ length (setOf W f) → (j : ℕ) → j < W → Dec (j < o) → Dec (j < o + w)
-        → getD (put (setOf W f) o (setOf w g)) j 0 ≡ getD (setOf W h) j 0
-    at fits j m (yes a) d =
-        getD-put-before (setOf W f) o (setOf w g) fits j a ∙ byte-setOf W f j m
-        ∙ fromBits-ext 8 (λ k. f (8 * j + k)) (λ k. h (8 * j + k)) (λ k q. sym (before (8 * j + k) (omega arith))) ∙ sym (byte-setOf W h j m)
-    at fits j m (no a) (yes b) =
-        let e : o + (j - o) ≡ j = omega arith in
-        subst (λ (x : ℕ). getD (put (setOf W f) o (setOf w g)) x 0 ≡ getD (setOf W h) x 0) e
-        (getD-put-in (setOf W f) o (setOf w g) fits (j - o) (omega (arith, length-setOf w g)) ∙ byte-setOf w g (j - o) (omega arith)
-        ∙ fromBits-ext 8 (λ k. g (8 * (j - o) + k)) (λ k. h (8 * (o + (j - o)) + k)) (λ k q. sym (within (8 * (j - o) + k) (omega arith)) ∙ ap h (regroup (j - o) k))
-        ∙ sym (byte-setOf W h (o + (j - o)) (omega arith)))
-    at fits j m (no a) (no b) =
-        getD-put-after (setOf W f) o (setOf w g) fits j (omega (arith, length-setOf w g)) ∙ byte-setOf W f j m
-        ∙ fromBits-ext 8 (λ k. f (8 * j + k)) (λ k. h (8 * j + k)) (λ k q. sym (after (8 * j + k) (omega arith))) ∙ sym (byte-setOf W h j m)
+pub part-present : (t : List ℕ) (o w : ℕ) → part t o (min w (length t - o)) ≡ part t o w
+unfolding part
+part-present t o w = rw (← length-drop o t) (take-cut w (drop o t))
+
+pub part-cons : (t : List ℕ) (o w : ℕ) → 0 < w → o < length t → part t o w ≡ getD t o 0 ∷ part t (o + 1) (w - 1)
+unfolding part
+part-cons t o w h l =
+    let z : w ≡ suc (w - 1) = omega arith in
+    ap (λ (n : ℕ). take n (drop o t)) z ∙ rw (drop-cons t o 0 l, add-one o)
+
+pub part-head : (t : List ℕ) (o w : ℕ) → 4 ≤ w → o + 4 ≤ length t
+    → part t o w ≡ getD t o 0 ∷ getD t (o + 1) 0 ∷ getD t (o + 2) 0 ∷ getD t (o + 3) 0 ∷ part t (o + 4) (w - 4)
+part-head t o w h l =
+    part-cons t o w (omega arith) (omega arith)
+    ∙ ap (λ (r : List ℕ). getD t o 0 ∷ r) (part-cons t (o + 1) (w - 1) (omega arith) (omega arith)
+    ∙ ap (λ (r : List ℕ). getD t (o + 1) 0 ∷ r) (ap₂ (part t) (omega arith) (omega arith) ∙ part-cons t (o + 2) (w - 2) (omega arith) (omega arith)
+    ∙ ap (λ (r : List ℕ). getD t (o + 2) 0 ∷ r) (ap₂ (part t) (omega arith) (omega arith) ∙ part-cons t (o + 3) (w - 3) (omega arith) (omega arith)
+    ∙ ap (λ (r : List ℕ). getD t (o + 3) 0 ∷ r) (ap₂ (part t) (omega arith) (omega arith)))))
+
+pub drop-take : (n m : ℕ) (l : List ℕ) → drop n (take m l) ≡ take (m - n) (drop n l)
+drop-take zero m l = rw sub-zero
+drop-take (suc n) zero l = let e : 0 - suc n ≡ 0 = omega arith in rw e
+drop-take (suc n) (suc m) [] = rw take-nil
+drop-take (suc n) (suc m) (a ∷ l) = let e : suc m - suc n ≡ m - n = omega arith in rw e (drop-take n m l)
+
+pub take-part : (t : List ℕ) (o w n : ℕ) → n ≤ w → take n (part t o w) ≡ part t o n
+unfolding part
+take-part t o w n h = take-take n w (drop o t) h
+
+pub drop-part : (t : List ℕ) (o w n : ℕ) → drop n (part t o w) ≡ part t (o + n) (w - n)
+unfolding part
+drop-part t o w n = drop-take n w (drop o t) ∙ rw (drop-drop n o t)
+
+pub part-join : (t : List ℕ) (o v w : ℕ) → part t o (v + w) ≡ part t o v ++ part t (o + v) w
+unfolding part
+part-join t o v w = take-add v w (drop o t) ∙ rw (drop-drop v o t)
+
+-- ---- comparing

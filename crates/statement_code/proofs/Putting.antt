@@ -6,9 +6,9 @@ use native.Mathlib.Numerals.{add-one}
 use native.Mathlib.Omega.{arith}
 use lib.ListN.{length, take, drop, set, length-append, length-set}
 use lib.Seq.{take-take, take-set-le, set-split}
-use Rattle.bitset.specs.Parts.{put}
-use Rattle.bitset.proofs.PartLaws.{put-put}
-use Rattle.set_writer.specs.Writing.{Wrote, Keeps, Stored}
+use Rattle.byte_slices.specs.Parts.{put}
+use Rattle.byte_slices.proofs.PartLaws.{put-put}
+use Rattle.statement_code.specs.Writing.{Wrote, Keeps, Stored}
 
 pub wrote-then : {a b c : List ℕ} {i j k : ℕ} {us vs : List ℕ} → length b ≡ length a → Wrote a i us b j → Wrote b j vs c k → Wrote a i (us ++ vs) c k
 wrote-then {a} {b} {c} {i} {j} {k} {us} {vs} e h g = record {

@@ -1,15 +1,15 @@
--- `symbols::copy` meets its contract. The loop's invariant: the first i bytes of the part are stored, one after the other. Assumes nothing.
+-- `byte_slices::copy` meets its contract. The loop's invariant: the first i bytes of the part are stored, one after the other. Assumes nothing.
 use Prim.Native.Nat.{_-_, _≤_}
 use lib.Seq.{sets}
 use lib.ListN.{length-set}
-use Rattle.bitset.specs.Parts.{part}
-use Rattle.symbols.proofs.AppendLaws.{copy-turn, copy-none, copied}
+use Rattle.byte_slices.specs.Parts.{part}
+use Rattle.byte_slices.proofs.CopyLaws.{copy-turn, copy-none, copied}
 use borrow.Author.Needs.{needs}
 use native.Mathlib.Omega.{arith}
 use lib.ListN.{length}
 use mathlib.Core.Path.{_≡_, refl, _∙_}
-use Rattle.symbols.proofs.copy.Statement.{statement}
-use Rattle.symbols.proofs.copy.Tie as tie
+use Rattle.byte_slices.proofs.copy.Statement.{statement}
+use Rattle.byte_slices.proofs.copy.Tie as tie
 
 abbrev Inv-loop : tie.InvT-loop
 Inv-loop table₀ at text from len i₀ table i = (i ≤ len) × (length table ≡ length table₀) × (table ≡ sets table₀ at (part text from i))
@@ -20,32 +20,11 @@ abbrev μ-loop : tie.MeasureT-loop
 loop-holds : tie.Need-loop-holds Inv-loop μ-loop
 loop-holds c = (omega arith, refl, copy-none _ _ _ _)
 
-add-table : tie.Need-add-table Inv-loop μ-loop
-add-table c = search needs
-
-shared-slice-read-table : tie.Need-shared-slice-read-table Inv-loop μ-loop
-shared-slice-read-table c = search needs
-
-add-table-2 : tie.Need-add-table-2 Inv-loop μ-loop
-add-table-2 c = search needs
-
-slice-write-table : tie.Need-slice-write-table Inv-loop μ-loop
-slice-write-table c = search needs
-
-add-i : tie.Need-add-i Inv-loop μ-loop
-add-i c = search needs
-
-loop-less : tie.Need-loop-less Inv-loop μ-loop
-loop-less c = search needs
-
 loop-again : tie.Need-loop-again Inv-loop μ-loop
 loop-again c =
     let s = c .before .before .before in
     let l = c .before .before .loop in
     (omega arith, simp length-set (l .inv .1), rw (l .inv .2) (copy-turn (s .args .table .now) (s .args .text .now) (s .args .at) (s .args .from) (l .i) (omega arith)))
-
-same-length : tie.Need-same-length Inv-loop μ-loop
-same-length c = search needs
 
 returns : tie.Need-returns Inv-loop μ-loop
 returns c =
@@ -60,12 +39,12 @@ copy-spec =
     Inv-loop
     μ-loop
     loop-holds
-    add-table
-    shared-slice-read-table
-    add-table-2
-    slice-write-table
-    add-i
-    loop-less
+    (λ c. search needs)
+    (λ c. search needs)
+    (λ c. search needs)
+    (λ c. search needs)
+    (λ c. search needs)
+    (λ c. search needs)
     loop-again
-    same-length
+    (λ c. search needs)
     returns)
