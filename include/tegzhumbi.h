@@ -44,7 +44,7 @@ typedef struct {
  * longer than 179,652 bytes. */
 tegzhumbi_compiled tegzhumbi_compile(const uint8_t *text, size_t text_len, uint8_t *table, size_t table_len);
 
-/* 1: the bytes are a sound table, with anything behind it; 0: they are not */
+/* 1: the bytes are a sound table, with anything after it; 0: they are not */
 uint32_t tegzhumbi_sound(const uint8_t *table, size_t table_len);
 
 /* Is the context valid? The role is among the user's and the type among the role's, or the role is named object_r. */

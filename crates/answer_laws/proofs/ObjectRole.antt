@@ -26,7 +26,7 @@ nameless : same [] objectR ≡ false
 unfolding same
 nameless = refl
 
--- what is at a place, and the given value where nothing does
+-- what is at a place, and the given value where nothing is
 found-there : {A : Type 0} (xs : List A) (k : ℕ) (d x : A) → getElem? xs k ≡ some x → getD xs k d ≡ x
 found-there [] k d x h = let z : _≡_ {A = ℕ} 0 1 = cc in absurd (omega arith)
 found-there (y ∷ ys) zero d x h = Option·some-injective y x h

@@ -47,7 +47,7 @@ const DENIED: u32 = 1;
 const REFUSED: u32 = 2;
 
 // The denial by a constraint.
-const CONSTRAINT_FAILS: u32 = 4;
+const CONSTRAINT_FAILS: u32 = policy::Denial::CONSTRAINT_FAILS as u32;
 
 pub fn compiled_numbers(answer: Compiling) -> Compiled
     requires { ⌜ CompiledFits (compiledNumbers (compilingOf answer)) ⌝ }

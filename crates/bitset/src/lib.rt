@@ -3,8 +3,7 @@
 // A set is a slice of any length, and every function answers for every slice and every number. A number past the last
 // byte is in no set, and to insert it changes nothing. Of what other crates call, only to count asks for something:
 // that eight times the bytes are a usize. Two sets are combined and compared by `set_operators`; sets that are in a
-// larger slice are the matter of `set_rows`, but for `part` and `clear_at`, which are here because `complement` needs
-// them.
+// larger slice are the matter of `set_rows`, but for `clear_at`, which is here because `complement` needs it.
 ghost use mathlib.Core.Path.{_≡_};
 ghost use Prim.Native.Nat.{_+_, _*_, _≤_, _<_};
 ghost use lib.Count.{ones};

@@ -17,7 +17,7 @@ pub const BLOCKS: usize = blocks::Blocks::MAX;
 // compared, as without a filter.
 pub const FILTER: usize = 1_024;
 
-// Where the reader stands: how many blocks were opened so far, the number of the innermost one that is open, or 0,
+// Where the reader is: how many blocks were opened so far, the number of the innermost one that is open, or 0,
 // and how many are open.
 pub struct OpenBlocks {
     pub count: usize,

@@ -10,7 +10,7 @@ use Rattle.policy.specs.Names.{full}
 use Rattle.scopes.specs.Path.{isOnePart}
 use Rattle.blocks.specs.Opened.{Block, isOpened}
 
--- the path of the block of a number, itself first; 0 is the whole text. The blocks are with the last first, so the number of the first is their count
+-- the path of the block of a number, itself first; 0 is the whole text. The blocks are listed last first, so the number of the first is their count
 unfoldable pub pathOf : List Block → ℕ → List Name
 pathOf [] k = []
 pathOf (b ∷ bs) k = cond (eqb k (suc (length bs))) (b .name ∷ pathOf bs (b .parent)) (pathOf bs k)

@@ -1,6 +1,6 @@
-// A filter of names: three marks for each name that was put into it, all in one word of it, by the name's hash. A
-// name without its marks was not put in; one with its marks may share them with others, so that it still has to be
-// compared.
+// A Bloom filter of names: three bits, its marks, for each name that was put into it, all in one word, by the name's
+// hash. A name without its marks was not put in; one with its marks may share them with others, so that it still has
+// to be compared.
 ghost use mathlib.Core.Path.{_≡_};
 ghost use Prim.Native.Nat.{_<_};
 ghost use lib.ListN.{length};

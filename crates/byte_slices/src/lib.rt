@@ -1,5 +1,5 @@
-// Slices of bytes: a byte, a part and a copy. Every function but `copy` answers for every place and every length; what is past
-// the end is 0, or is left out.
+// Slices of bytes: a byte, a part and a copy. Every function but `copy` answers for every place and every length;
+// what is past the end is 0, or is left out.
 ghost use mathlib.Core.Path.{_≡_};
 ghost use Prim.Native.Nat.{_+_, _-_, _≤_, min};
 ghost use lib.ListN.{length, getD};

@@ -149,7 +149,7 @@ fn first_clash(
     Found::Nowhere
 }
 
-// Where the first transition stands, or the end of the code.
+// Where the first transition is, or the end of the code.
 fn first_transition(code: &[u16]) -> usize
     ensures { λ r. ⌜ (r ≤ length (now (code .entry)))
         × ((p : Policy) → Accepted p → now (code .entry) ≡ codeOf p → AllTransitions p (drop r (now (code .entry)))) ⌝ }

@@ -61,7 +61,7 @@ fn is_relation(tag: u16) -> bool
     tag < Unit::TRANSITION
 }
 
-// Where the statement after the one at a place stands. A relation has two operands and a transition four, so that
+// Where the statement after the one at a place is. A relation has two operands and a transition four, so that
 // nothing is looked for after them.
 pub fn next_statement(code: &[u16], at: usize) -> usize
     requires { ⌜ at < length (now code) ⌝ }

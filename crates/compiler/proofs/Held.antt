@@ -17,6 +17,7 @@ use Rattle.statement_reader.specs.declared.Progress.{Progress}
 use Rattle.statement_reader.specs.Memory.{Memory, symbolsOf, constraintsOf, rowsOf, Starts, Holds}
 use Rattle.table_writer.specs.declared.Sizes.{Sizes}
 use Rattle.table_writer.specs.Sizing.{body, attributesIn, SizesOf}
+use Rattle.symbols.specs.Section.{nameBytes}
 
 -- the content in front
 starts-take : {lent content now : List ℕ} {end : ℕ} → Starts lent content now end → take end now ≡ content
@@ -34,7 +35,7 @@ module _ (p : Policy) {table : List ℕ} {end sort r : ℕ} (f : Family) (s : de
 module _ {p : Policy} {lent now : Memory} {s : Progress} (h : Holds p [] lent now s) where
   -- the symbols end before their chains
   symbols-front : take (s .symbols) (now .symbols) ≡ symbolsOf p
-  symbols-front = sym (take-take (s .symbols) 137088 (now .symbols) (h .chained .below)) ∙ starts-take (h .symbols)
+  symbols-front = sym (take-take (s .symbols) nameBytes (now .symbols) (h .chained .below)) ∙ starts-take (h .symbols)
 
   pub symbols-held : declaring.Holds (now .symbols) (s .symbols) (declarations p)
   unfolding symbolsOf

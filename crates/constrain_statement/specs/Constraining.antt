@@ -35,7 +35,7 @@ headOf c ps e row = headWith c (maskOf ps) row (size e)
 abbrev pub fitsBefore : ℕ → ℕ → Bool
 fitsBefore count next = ltb count maxConstraints && leb next maxRows
 
--- its record and its rows are in the memory as they will in the table
+-- its record and its rows are in the memory as they will be in the table
 pub record Adds (c : ℕ) (ps : List ℕ) (e : Constraint Reference) (before after : List ℕ) (count : ℕ) (rowsBefore rowsAfter : List ℕ) (row next : ℕ) : Type 0 where
   pub fits : fitsBefore count (row + size e) ≡ true
   pub shallow : leb (need e) maxStack ≡ true

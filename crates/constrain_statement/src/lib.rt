@@ -1,4 +1,4 @@
-// `(constrain (C (P ...)) E)` with its names resolved: the record of body 6 and the rows of body 7 as they will are
+// `(constrain (C (P ...)) E)` with its names resolved: the record of body 6 and the rows of body 7 as they will be
 // in the table; faults 5, 6 and 7. Its form is known to be good where this is called.
 ghost use mathlib.Core.Path.{_≡_};
 ghost use mathlib.Core.Bool.{_||_};
@@ -18,6 +18,7 @@ use policy::Constraint;
 use policy::Permission;
 use policy::Row;
 use symbols::Found;
+use symbols::NameFamily;
 
 // The bytes of all records that body 6 may have, and of all rows of body 7.
 pub const CONSTRAINTS_BYTES: usize = Constraint::MAX * Constraint::BYTES;
@@ -50,9 +51,6 @@ enum ClassAndPermissions {
     },
     Undeclared,
 }
-
-// The family of the permissions of class 0.
-const PERMISSIONS: usize = 4;
 
 // The levels that may lie inside a constraint expression: it is itself in a part of its statement.
 const LEVELS: usize = Level::MAX - 2;
@@ -121,7 +119,7 @@ fn class_and_permissions(text: &[u8], at: usize, symbols: &[u8]) -> ClassAndPerm
     let Item::Open { next, .. } = second else {
         return ClassAndPermissions::Undeclared;
     };
-    let masked = permission_mask(text, next, symbols, PERMISSIONS + number);
+    let masked = permission_mask(text, next, symbols, NameFamily::FIRST_PERMISSIONS + number);
     let PermissionMask::Mask { mask, next } = masked else {
         return ClassAndPermissions::Undeclared;
     };
@@ -148,11 +146,11 @@ fn put_record(
     requires { ⌜ 10 * count + 10 ≤ length (now constraints) ⌝ }
     ensures { λ _. ⌜ now (constraints .exit) ≡ put (now (constraints .entry)) (10 * count) (headBytes (headWith class mask first rows)) ⌝ }
 {
-    let at = 10 * count;
+    let at = Constraint::BYTES * count;
     little_endian::put2(constraints, at, class);
-    little_endian::put4(constraints, at + 2, mask as usize);
-    little_endian::put2(constraints, at + 6, first);
-    little_endian::put2(constraints, at + 8, rows);
+    little_endian::put4(constraints, at + Constraint::MASK_AT, mask as usize);
+    little_endian::put2(constraints, at + Constraint::FIRST_ROW_AT, first);
+    little_endian::put2(constraints, at + Constraint::ROW_COUNT_AT, rows);
 }
 
 // The record of a constraint whose names are declared and whose rows go from a row to before the next, if the maxima

@@ -44,10 +44,10 @@ fn put_row(rows: &mut [u8], row: usize, kind: u8, component: u8, operator: u8, n
     }
     let at = Row::BYTES * row;
     rows[at] = kind;
-    rows[at + 1] = component;
-    rows[at + 2] = operator;
-    rows[at + 3] = 0;
-    little_endian::put2(rows, at + 4, number);
+    rows[at + Row::COMPONENT_AT] = component;
+    rows[at + Row::OPERATOR_AT] = operator;
+    rows[at + Row::UNUSED_AT] = 0;
+    little_endian::put2(rows, at + Row::NUMBER_AT, number);
 }
 
 // The kind of an operator's row, by the number of its word; that of two sides for a word that is no operator.

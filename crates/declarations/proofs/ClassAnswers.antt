@@ -1,4 +1,4 @@
--- What declaring a class comes to: a permission that is twice and its full name among the classes are fault 4, the length of that name and the count of the
+-- What declaring a class comes to: a permission that occurs twice and its full name among the classes are fault 4, the length of that name and the count of the
 -- classes and of its permissions fault 6, and otherwise its entries have room and are written. Assumes nothing.
 use mathlib.Core.Path.{_≡_, refl, sym, ap, subst, _∙_}
 use mathlib.Core.Bool.{true, false, not, and-false, false≢true}
@@ -27,6 +27,7 @@ use Rattle.symbols.specs.Resolving.{isFound}
 use Rattle.symbols.specs.declared.Found.{Found}
 use Rattle.symbols.proofs.ClassesFound.{class-found}
 use Rattle.symbols.proofs.Declaring.{entries-more}
+use Rattle.symbols.specs.Section.{nameBytes}
 use Rattle.name_chains.specs.Chains.{Chained}
 use Rattle.scopes.specs.Scope.{InScope}
 use Rattle.name_rows.specs.WordRows.{wordsIn, WordHere, WordIs, Inside}
@@ -109,7 +110,7 @@ module _ (v : Name) (ps : List Name) (before : List ℕ) (end : ℕ) where
           (lt-ltb (length (classNames ds)) 32 (omega (arith, count-is y))) (le-leb (length ps) 32 few)
 
       all-fit : (ds : List Declaration) → Holds before end ds → differ ps ≡ true → goodNames (class v ps) ≡ true
-          → end + (length (joined (each entryBytes one)) + length (joined (each entryBytes others))) ≤ 137088
+          → end + (length (joined (each entryBytes one)) + length (joined (each entryBytes others))) ≤ nameBytes
       all-fit ds y once good =
           let fits = room-for y (class v ps) good (is-new y once) (has-room y) in
           let n : length (joined (each entryBytes (entriesOf ds (class v ps))))

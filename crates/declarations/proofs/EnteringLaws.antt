@@ -17,9 +17,11 @@ use Rattle.name_chains.specs.Chains.{Chained}
 use Rattle.symbols.proofs.AppendLaws.{entry-length}
 use Rattle.byte_slices.proofs.PartLaws.{part-whole}
 use Rattle.symbols.proofs.Declaring.{permission-more}
+use Rattle.symbols.specs.Section.{nameBytes}
 use Rattle.scopes.proofs.Keeping.{scope-kept}
 use Rattle.declarations.specs.Entering.{Indexable, Entered, Fitting, Enters}
 use Rattle.declarations.specs.declared.Added.{Added}
+use Rattle.name_index.specs.Index.{indexBytes}
 
 -- the bytes of entries
 abbrev bytesOf : List NameEntry → List ℕ
@@ -47,14 +49,14 @@ indexable-then xs (e ∷ es) fs h =
 
 pub entered-then : {a b c : List ℕ} {end past next : ℕ} {es fs : List NameEntry} → Entered a b end es past → Entered b c past fs next → Entered a c end (es ++ fs) next
 entered-then {a} {b} {c} {end} {past} {next} {es} {fs} h g =
-    let short : length (take 137088 a) ≡ 137088 = length-take-le 137088 a (omega (arith, h .room)) in
+    let short : length (take nameBytes a) ≡ nameBytes = length-take-le nameBytes a (omega (arith, h .room)) in
     let all : length (bytesOf (es ++ fs)) ≡ length (bytesOf es) + length (bytesOf fs) = ap length (bytes-append es fs) ∙ length-append (bytesOf es) (bytesOf fs) in
     record {
       room = h .room;
       written =
           g .written ∙ ap₂ (λ (t : List ℕ) (o : ℕ). put t o (bytesOf fs)) (h .written) (h .moved)
-          ∙ put-put (take 137088 a) end (bytesOf es) (bytesOf fs) (omega (arith, h .moved, g .moved, g .fits, short))
-          ∙ ap (put (take 137088 a) end) (sym (bytes-append es fs));
+          ∙ put-put (take nameBytes a) end (bytesOf es) (bytesOf fs) (omega (arith, h .moved, g .moved, g .fits, short))
+          ∙ ap (put (take nameBytes a) end) (sym (bytes-append es fs));
       long = g .long ∙ h .long;
       moved = omega (arith, h .moved, g .moved, all);
       fits = g .fits;
@@ -64,11 +66,11 @@ entered-then {a} {b} {c} {end} {past} {next} {es} {fs} h g =
       scope = λ path sc. g .scope path (h .scope path sc);
     }
 
-pub entered-none : (a : List ℕ) (end : ℕ) → end ≤ 137088 → 188648 ≤ length a → Entered a a end [] end
+pub entered-none : (a : List ℕ) (end : ℕ) → end ≤ nameBytes → indexBytes ≤ length a → Entered a a end [] end
 unfolding each joined
 entered-none a end h room = record {
   room = room;
-  written = sym (put-none (take 137088 a) end);
+  written = sym (put-none (take nameBytes a) end);
   long = refl;
   moved = omega arith;
   fits = h;
@@ -85,13 +87,13 @@ module _ (t : List ℕ) (end s n : ℕ) (w : Name) where
   pub too-long : 64 < length w → Enters t t end one Added.NoRoom
   too-long h = record { is = λ f. omega (arith, f .short .0) }
 
-  pub past-end : 137088 < end → Enters t t end one Added.NoRoom
+  pub past-end : nameBytes < end → Enters t t end one Added.NoRoom
   past-end h = record { is = λ f. omega (arith, f .room) }
 
-  pub no-room : end ≤ 137088 → 137088 - end < 4 + length w → Enters t t end one Added.NoRoom
+  pub no-room : end ≤ nameBytes → nameBytes - end < 4 + length w → Enters t t end one Added.NoRoom
   no-room g h = record { is = λ f. omega (arith, f .room, long-one (nameEntry s n w)) }
 
-  pub appended : (u : List ℕ) (r : ℕ) → 188648 ≤ length t → s < 8 → length w ≤ 64 → symbol.Entered t u end (nameEntry s n (part w 0 (length w))) r
+  pub appended : (u : List ℕ) (r : ℕ) → indexBytes ≤ length t → s < 8 → length w ≤ 64 → symbol.Entered t u end (nameEntry s n (part w 0 (length w))) r
       → Enters t u end one (Added.Past r)
   unfolding Indexable
   appended u r room known short whole =
@@ -100,7 +102,7 @@ module _ (t : List ℕ) (end s n : ℕ) (w : Name) where
       record {
         is = record {
           room = room;
-          written = a .written ∙ ap (put (take 137088 t) end) (sym e);
+          written = a .written ∙ ap (put (take nameBytes t) end) (sym e);
           long = a .long;
           moved = a .past ∙ ap (λ (l : List ℕ). end + length l) (sym e);
           fits = a .inside;
@@ -133,7 +135,7 @@ pub record SoFar (before now : List ℕ) (end first : ℕ) (ws left : List Name)
   pub many : length done ≡ place
   pub entered : Entered before now end (permissionEntries first done) past
 
-pub so-far-none : (a : List ℕ) (end first : ℕ) (ws : List Name) → end ≤ 137088 → 188648 ≤ length a → SoFar a a end first ws ws end 0
+pub so-far-none : (a : List ℕ) (end first : ℕ) (ws : List Name) → end ≤ nameBytes → indexBytes ≤ length a → SoFar a a end first ws ws end 0
 unfolding permissionEntries
 so-far-none a end first ws h room = record { done = []; whole = refl; many = refl; entered = entered-none a end h room }
 

@@ -21,6 +21,7 @@ use Rattle.scopes.proofs.Trying.{too-long-tries}
 use Rattle.symbols.specs.Lookup.{firstNamed}
 use Rattle.symbols.specs.declared.Found.{Found}
 use Rattle.symbols.proofs.Declaring.{entries-more}
+use Rattle.symbols.specs.Section.{nameBytes}
 use Rattle.table_laws.proofs.NamesRoom.{names-length, names-room}
 use Rattle.declarations.specs.Declaring.{sectionOf, Holds}
 use Rattle.declarations.proofs.EnteringLaws.{bytes-append}
@@ -41,7 +42,7 @@ unfolding sectionOf
 section-more ds d = ap (λ (es : List NameEntry). joined (each entryBytes es)) (entries-more ds d) ∙ bytes-append (entries ds) (entriesOf ds d)
 
 -- "2,016 entries of at most 68 bytes"
-section-short : (ds : List Declaration) → goodFrom [] ds ≡ true → length (sectionOf ds) ≤ 137088
+section-short : (ds : List Declaration) → goodFrom [] ds ≡ true → length (sectionOf ds) ≤ nameBytes
 unfolding sectionOf
 section-short ds h = omega (arith, names-length (entries ds), names-room ds h)
 
@@ -51,7 +52,7 @@ module _ {table : List ℕ} {end : ℕ} {ds : List Declaration} (h : Holds table
 
   -- there is room for a declaration that is new and passes no maximum
   pub room-for : (d : Declaration) → goodNames d ≡ true → isNew ds d ≡ true → hasRoom ds d ≡ true
-      → end + length (joined (each entryBytes (entriesOf ds d))) ≤ 137088
+      → end + length (joined (each entryBytes (entriesOf ds d))) ≤ nameBytes
   room-for d g n r =
       let more = length-append (sectionOf ds) (joined (each entryBytes (entriesOf ds d))) in
       let whole : length (sectionOf (ds ++ (d ∷ []))) ≡ length (sectionOf ds ++ joined (each entryBytes (entriesOf ds d))) = ap length (section-more ds d) in

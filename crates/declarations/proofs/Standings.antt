@@ -10,7 +10,7 @@ use Rattle.policy.specs.Statements as statements
 use Rattle.policy.specs.Encode.{entries}
 use Rattle.policy.proofs.Sorts.{code-below}
 use Rattle.symbols.specs.Lookup.{familyNumber, firstNamed, countSort}
-use Rattle.name_index.specs.Index.{wordIn}
+use Rattle.name_index.specs.Index.{wordIn, indexBytes}
 use Rattle.name_chains.specs.Chains.{Tries}
 use Rattle.name_chains.specs.declared.Tried.{Tried}
 use Rattle.symbols.specs.declared.Found.{Found}
@@ -32,7 +32,7 @@ module _ {t : List ℕ} {sort r : ℕ} where
   }
 
   -- symbols have an index; no sort has such a number
-  pub no-index : length t < 188648 → Counts t sort r
+  pub no-index : length t < indexBytes → Counts t sort r
   no-index h = record { things = λ end ds s y e. absurd (omega (arith, y .chained .room)); classes = λ end ds y e. absurd (omega (arith, y .chained .room)) }
 
   pub no-sort : 7 < sort → Counts t sort r

@@ -19,6 +19,7 @@ use Rattle.policy.specs.Accepted.{GoodPath}
 use Rattle.name_chains.specs.Chains.{Chained}
 use Rattle.scopes.specs.Scope.{InScope}
 use Rattle.declarations.specs.declared.Declared.{Declared}
+use Rattle.symbols.specs.Section.{nameBytes}
 
 -- body 1 of the declarations: "Names in text order, permissions directly after their class"
 unfoldable pub sectionOf : List Declaration → List ℕ
@@ -35,10 +36,10 @@ pub record Holds (table : List ℕ) (end : ℕ) (ds : List Declaration) : Type 0
 pub record Adds (before after : List ℕ) (end past : ℕ) (ds : List Declaration) (d : Declaration) : Type 0 where
   pub new : isNew ds d ≡ true
   pub room : hasRoom ds d && isShort d ≡ true
-  pub written : take 137088 after ≡ put (take 137088 before) end (joined (each entryBytes (entriesOf ds d)))
+  pub written : take nameBytes after ≡ put (take nameBytes before) end (joined (each entryBytes (entriesOf ds d)))
   pub long : length after ≡ length before
   pub moved : past ≡ end + length (joined (each entryBytes (entriesOf ds d)))
-  pub fits : past ≤ 137088
+  pub fits : past ≤ nameBytes
   pub chained : Chained after past (entries (ds ++ (d ∷ [])))
   pub scope : (path : List Name) → InScope before path → InScope after path
 
@@ -62,6 +63,6 @@ pub record DeclaresName (t : List ℕ) (at sort : ℕ) (before after : List ℕ)
 pub record DeclaresPlain (sort : ℕ) (w : Name) (before after : List ℕ) (end : ℕ) (r : Declared) : Type 0 where
   pub says : (ds : List Declaration) (s : Sort) → sort ≡ sortCode s → Holds before end ds → isGood w ≡ true → Declares before after end ds (plain s w) r
 
--- a class of the full name w and the permissions ps, where none of them is twice and the names are good
+-- a class of the full name w and the permissions ps, where none of them occurs twice and the names are good
 pub record DeclaresClass (w : Name) (ps : List Name) (before after : List ℕ) (end : ℕ) (r : Declared) : Type 0 where
   pub says : (ds : List Declaration) → Holds before end ds → differ ps ≡ true → goodNames (class w ps) ≡ true → Declares before after end ds (class w ps) r

@@ -1,6 +1,7 @@
 // Declarations of names and classes, put into the symbol table under their full names: faults 4 and 6. The form of a
 // statement is known to be good where it is declared here, so that a row that should be of names is one.
 use name_rows::NextWord;
+use policy::NameEntry;
 use policy::Sort;
 use scopes::ComposedName;
 use symbols::Found;
@@ -15,6 +16,8 @@ ghost use Rattle.declarations.specs.Counting.{Counts, MostIs, Stands};
 ghost use Rattle.name_rows.specs.WordRows.{wordsIn};
 ghost use Rattle.declarations.specs.Entering.{Enters, answerOf};
 ghost use Rattle.declarations.specs.Declaring.{DeclaresAt, DeclaresName, DeclaresPlain, DeclaresClass};
+ghost use Rattle.name_index.specs.Index.{indexBytes};
+ghost use Rattle.symbols.specs.Section.{nameBytes};
 
 // The memory of the symbols: their entries, after the room for them their chains, and after these the scope. With no
 // names the chains are empty (`name_chains::clear`), and with no block open so is the scope (`scopes::start`).
@@ -83,7 +86,7 @@ fn status_of(symbols: &[u8], sort: usize, name: &[u8]) -> NameStatus
 
 // Writes an entry at the end of the symbols, if there is room for it.
 fn add(symbols: &mut [u8], end: usize, sort: usize, number: usize, name: &[u8]) -> Added
-    requires { ⌜ (sort < 8) × (188648 ≤ length (now symbols)) ⌝ }
+    requires { ⌜ (sort < 8) × (indexBytes ≤ length (now symbols)) ⌝ }
     ensures { λ r. ⌜ Enters (now (symbols .entry)) (now (symbols .exit)) end (nameEntry sort number (now (name .entry)) ∷ []) r ⌝ }
 {
     let len = name.len();
@@ -93,7 +96,7 @@ fn add(symbols: &mut [u8], end: usize, sort: usize, number: usize, name: &[u8]) 
     if symbols::NAME_BYTES < end {
         return Added::NoRoom;
     }
-    if symbols::NAME_BYTES - end < 4 + len {
+    if symbols::NAME_BYTES - end < NameEntry::HEAD_BYTES + len {
         return Added::NoRoom;
     }
     Added::Past(name_chains::enter(symbols, end, sort, number, name, 0, len))
@@ -111,7 +114,7 @@ fn answer(added: Added) -> Declared
 
 // A thing or an attribute by its full name.
 fn add_name(symbols: &mut [u8], end: usize, sort: usize, name: &[u8]) -> Declared
-    requires { ⌜ (sort < 6) × (188648 ≤ length (now symbols)) ⌝ }
+    requires { ⌜ (sort < 6) × (indexBytes ≤ length (now symbols)) ⌝ }
     ensures { λ r. ⌜ DeclaresPlain sort (now (name .entry)) (now (symbols .entry)) (now (symbols .exit)) end r ⌝ }
 {
     let known = status_of(symbols, sort, name);
@@ -156,7 +159,7 @@ pub fn declare(
 // Writes the entries of a class's permissions, the names in the row at a place, numbered from a first number on. The
 // caller counts them before: a class with too many is refused with nothing written. Permissions take no block's name.
 fn add_permissions(symbols: &mut [u8], end: usize, first: usize, text: &[u8], at: usize) -> Added
-    requires { ⌜ (first ≤ 1024) × (end ≤ 137088) × (188648 ≤ length (now symbols)) × (length (wordsIn (framesAt (now text) at .here)) ≤ 32) ⌝ }
+    requires { ⌜ (first ≤ 1024) × (end ≤ nameBytes) × (indexBytes ≤ length (now symbols)) × (length (wordsIn (framesAt (now text) at .here)) ≤ 32) ⌝ }
     ensures { λ r. ⌜ Enters (now (symbols .entry)) (now (symbols .exit)) end (permissionEntries first (wordsIn (framesAt (now (text .entry)) at .here))) r ⌝ }
 {
     let mut i = at;
@@ -178,11 +181,11 @@ fn add_permissions(symbols: &mut [u8], end: usize, first: usize, text: &[u8], at
     }
 }
 
-// A class by its full name and the row of its permissions, none of which is twice. What may refuse it is tested
+// A class by its full name and the row of its permissions, none of which occurs twice. What may refuse it is tested
 // before the first entry is written, so that a refused class leaves the symbols as they were; a class that passes has
 // room for all of its entries.
 fn add_class(symbols: &mut [u8], end: usize, name: &[u8], text: &[u8], row: usize) -> Declared
-    requires { ⌜ 188648 ≤ length (now symbols) ⌝ }
+    requires { ⌜ indexBytes ≤ length (now symbols) ⌝ }
     ensures { λ r. ⌜ DeclaresClass (now (name .entry)) (wordsIn (framesAt (now (text .entry)) row .here)) (now (symbols .entry)) (now (symbols .exit)) end r ⌝ }
 {
     let known = status_of(symbols, Sort::CLASS, name);
@@ -202,7 +205,8 @@ fn add_class(symbols: &mut [u8], end: usize, name: &[u8], text: &[u8], row: usiz
     answer(add_permissions(symbols, past, number * policy::Permission::MAX, text, row))
 }
 
-// `(class C (P ...))`, after the keyword. A permission that is twice is fault 4 also where the full name is too long.
+// `(class C (P ...))`, after the keyword. A permission that occurs twice is fault 4 also where the full name is too
+// long.
 pub fn declare_class(
     text: &[u8],
     at: usize,

@@ -121,7 +121,7 @@ constrain-added text more p p′ c read read′ =
           ∙ ap (λ (x : Statement). each (λ (l : Line). l .says) p ++ (x ∷ [])) (s .says);
     }
 
--- the first n bytes of a list that n bytes are in front of
+-- the first n bytes of a list that n bytes precede
 front : (xs ys : List ℕ) → take (length xs) (xs ++ ys) ≡ xs
 front [] ys = refl
 front (x ∷ xs) ys = ap {B = List ℕ} (λ r. x ∷ r) (front xs ys)

@@ -1,4 +1,4 @@
--- What an item that `look` answered says of the frames at its place: the row at hand and the rows around it. For readers that carry the rows
+-- What an item that `next_item` answered says of the frames at its place: the row at hand and the rows around it. For readers that carry the rows
 -- around along a loop; what it says of the row at hand is the law of Items. Assumes nothing.
 use mathlib.Core.Path.{_≡_, refl, sym, ap, subst, _∙_}
 use mathlib.Core.List.{List, [], _∷_}
@@ -33,7 +33,7 @@ frames-of t at (Token.Close p) s = s .frames
 frames-of t at (Token.Word p n) s = s .frames
 frames-of t at Token.End s = s .frames
 
--- what a caller of `look` knows of the item k that it answered
+-- what a caller of `next_item` knows of the item k that it answered
 pub sees : {t : List ℕ} {i : ℕ} {r k : Item} → r ≡ itemAt t i → r ≡ k → FramesSeen t i k
 unfolding itemAt
 sees {t} {i} e f =

@@ -1,4 +1,4 @@
--- What an item that `look` answered says: where it lies, where the row at hand ends, and what any test of that row says by it. The row is cut
+-- What an item that `next_item` answered says: where it lies, where the row at hand ends, and what any test of that row says by it. The row is cut
 -- where no level is left. Assumes nothing.
 use mathlib.Core.Path.{_≡_, refl, sym, ap, subst, _∙_}
 use mathlib.Core.Bool.{Bool, true, false}
@@ -74,7 +74,7 @@ by-token t at Token.End s = record {
 pub reads : {t : List ℕ} {i : ℕ} {r k : Token} → r ≡ tokenAt t i → r ≡ k → Looked t i (itemOf t k)
 reads {t} {i} {r} {k} e f = by-token t i k (token.seen t i r k e f)
 
--- what a caller of `look` knows of the item k that it answered
+-- what a caller of `next_item` knows of the item k that it answered
 pub sees : {t : List ℕ} {i : ℕ} {r k : Item} → r ≡ itemAt t i → r ≡ k → Looked t i k
 unfolding itemAt
 sees {t} {i} e f =

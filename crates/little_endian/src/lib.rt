@@ -6,7 +6,7 @@ ghost use lib.ListN.{length, take, drop};
 ghost use Rattle.byte_slices.specs.Parts.{put};
 ghost use Rattle.policy.specs.Basics.{le, unle};
 
-// What a number is multiplied by if its bytes are after one other, after two and after four.
+// What a number is multiplied by if its bytes come after one other byte, after two, after four.
 const ONE_ON: usize = 256;
 
 const TWO_ON: usize = 65_536;

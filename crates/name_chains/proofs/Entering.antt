@@ -16,6 +16,7 @@ use Rattle.symbols.specs.Append.{Appended}
 use Rattle.symbols.specs.Lookup.{familyNumber, countSort}
 use Rattle.symbols.proofs.AppendLaws.{entry-length}
 use Rattle.symbols.proofs.CountLaws.{count-append}
+use Rattle.symbols.specs.Section.{nameBytes}
 use Rattle.name_chains.specs.Compared.{isCandidate}
 use Rattle.name_chains.specs.Chains.{howMany, firstCandidate, lastCandidate}
 use Rattle.name_index.specs.Index.{frontOf, wordIn, chainAt, chainIn, chainWord, linkIn, linkWord, putNode, linkedTo, begun, longer, putLast, putMore, newAt, newLink, putEntry}
@@ -65,7 +66,7 @@ module _ (y z : ℕ) (rest : z / 4096 ≡ y / 4096) where
 
 module _ {t u : List ℕ} {end r : ℕ} {e : NameEntry} {es : List NameEntry} (h : Chained t end es) (few : length es < 2048)
     (w : Changed t u end e (2 * length es) (chainAt (familyNumber (e .sort) (e .number)) (length (e .name))))
-    (past : r ≡ end + 4 + length (e .name)) (inside : r ≤ 137088) (sort : e .sort < 8) (number : e .number < 65536)
+    (past : r ≡ end + 4 + length (e .name)) (inside : r ≤ nameBytes) (sort : e .sort < 8) (number : e .number < 65536)
     (family : familyNumber (e .sort) (e .number) < 36) (short : length (e .name) ≤ 64) (fits : frontOf (e .name) < 256 ^ 8) where
   abbrev f : ℕ
   f = familyNumber (e .sort) (e .number)

@@ -19,7 +19,7 @@ use Rattle.symbols.specs.declared.Found.{Found}
 use Rattle.byte_slices.proofs.PartLaws.{part-whole}
 use Rattle.name_chains.specs.Compared.{isCandidate, comparedIn, TriedIn}
 use Rattle.name_chains.specs.Chains.{howMany, Nth, Chained, ChainIs, HasChain, Tries, Compares}
-use Rattle.name_index.specs.Index.{frontOf, wordIn, chainIn, linkIn}
+use Rattle.name_index.specs.Index.{frontOf, wordIn, chainIn, linkIn, indexBytes}
 use Rattle.name_chains.specs.declared.Tried.{Tried}
 use Rattle.name_index.specs.declared.Chain.{Chain}
 use Rattle.name_index.specs.declared.Link.{Link}
@@ -84,7 +84,7 @@ module _ {t : List ℕ} {f n : ℕ} {c : Chain} where
             record { count = count ∙ sym none; first = λ l. absurd (omega (arith, none)); last = λ l. absurd (omega (arith, none)) };
       }
 
-  pub no-index : length t < 188648 → c ≡ chainIn 0 → HasChain t f n c
+  pub no-index : length t < indexBytes → c ≡ chainIn 0 → HasChain t f n c
   no-index l q = none-there q (λ end es y. absurd (omega (arith, y .room)))
 
   pub no-family : 36 ≤ f → c ≡ chainIn 0 → HasChain t f n c
@@ -93,7 +93,7 @@ module _ {t : List ℕ} {f n : ℕ} {c : Chain} where
   pub no-length : 65 ≤ n → c ≡ chainIn 0 → HasChain t f n c
   no-length l q = none-there q (λ end es y. none-of f n es (λ k e i. not-like f n e (λ a b. omega (arith, y .nodes k e i .long))))
 
-  pub chain-there : {h : ℕ} → 188648 ≤ length t → f < 36 → n < 65 → h ≡ wordIn t (4096 + 65 * f + n) → c ≡ chainIn h → HasChain t f n c
+  pub chain-there : {h : ℕ} → indexBytes ≤ length t → f < 36 → n < 65 → h ≡ wordIn t (4096 + 65 * f + n) → c ≡ chainIn h → HasChain t f n c
   chain-there {h} room a b e q =
       let first : c .first ≡ chainIn h .first = ap (λ (a : Chain). a .first) q in
       record {

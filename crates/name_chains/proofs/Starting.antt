@@ -11,8 +11,9 @@ use Rattle.bitset.proofs.SetLaws.{length-setOf, byte-setOf}
 use Rattle.byte_slices.proofs.PartLaws.{length-put, length-part, length-part-le, getD-part, getD-put-in, part-put-before}
 use Rattle.policy.specs.Basics.{unle}
 use Rattle.symbols.specs.Lookup.{countSort}
+use Rattle.symbols.specs.Section.{nameBytes}
 use Rattle.name_chains.specs.Chains.{Chained}
-use Rattle.name_index.specs.Index.{wordIn, chainAt, chainIn}
+use Rattle.name_index.specs.Index.{wordIn, chainAt, chainIn, indexBytes}
 use Rattle.name_chains.specs.Entered.{Cleared}
 use Rattle.name_index.specs.declared.Chain.{Chain}
 use Rattle.name_chains.proofs.CandidateLaws.{none-many, nth-below}
@@ -22,17 +23,17 @@ unfolding unle
 unle-zero [] h = refl
 unle-zero (b ∷ l) h = omega (arith, h 0 (omega arith), unle-zero l (λ i q. h (suc i) (omega arith)))
 
-module _ (t : List ℕ) (zero : (i : ℕ) → 169856 ≤ i → i < 188648 → getD t i 0 ≡ 0) where
+module _ (t : List ℕ) (zero : (i : ℕ) → 169856 ≤ i → i < indexBytes → getD t i 0 ≡ 0) where
   word-zero : (k : ℕ) → 4096 ≤ k → k < 6445 → wordIn t k ≡ 0
   unfolding wordIn
   word-zero k a b =
-      unle-zero (part t (137088 + 8 * k) 8)
+      unle-zero (part t (nameBytes + 8 * k) 8)
       (λ i q.
-      let r : i < 8 = omega (arith, length-part-le t (137088 + 8 * k) 8) in
-      getD-part t (137088 + 8 * k) 8 i r ∙ zero (137088 + 8 * k + i) (omega arith) (omega arith))
+      let r : i < 8 = omega (arith, length-part-le t (nameBytes + 8 * k) 8) in
+      getD-part t (nameBytes + 8 * k) 8 i r ∙ zero (nameBytes + 8 * k + i) (omega arith) (omega arith))
 
   -- the words of entries may hold anything
-  none-chained : 188648 ≤ length t → Chained t 0 []
+  none-chained : indexBytes ≤ length t → Chained t 0 []
   unfolding countSort
   none-chained room = record {
     room = room;
@@ -59,7 +60,7 @@ no-bits : (w i : ℕ) → i < w → getD (setOf w (λ n. false)) i 0 ≡ 0
 unfolding fromBits
 no-bits w i l = byte-setOf w (λ n. false) i l
 
-module _ (t : List ℕ) (room : 188648 ≤ length t) where
+module _ (t : List ℕ) (room : indexBytes ≤ length t) where
   abbrev chains : List ℕ
   chains = part t 169856 18792
 
@@ -76,11 +77,11 @@ module _ (t : List ℕ) (room : 188648 ≤ length t) where
   clear-long : length after ≡ length t
   clear-long = length-put t 169856 (emptied chains) fits
 
-  clear-front : take 137088 after ≡ take 137088 t
+  clear-front : take nameBytes after ≡ take nameBytes t
   unfolding part
-  clear-front = part-put-before t 169856 (emptied chains) fits 0 137088 (omega arith)
+  clear-front = part-put-before t 169856 (emptied chains) fits 0 nameBytes (omega arith)
 
-  clear-zero : (i : ℕ) → 169856 ≤ i → i < 188648 → getD after i 0 ≡ 0
+  clear-zero : (i : ℕ) → 169856 ≤ i → i < indexBytes → getD after i 0 ≡ 0
   unfolding emptied
   clear-zero i l m =
       let e : 169856 + (i - 169856) ≡ i = omega arith in
@@ -91,6 +92,6 @@ pub cleared : (t u : List ℕ) → u ≡ put t 169856 (emptied (part t 169856 18
 cleared t u e long = record {
   is = e;
   long = long;
-  front = λ room. ap (take 137088) e ∙ clear-front t room;
+  front = λ room. ap (take nameBytes) e ∙ clear-front t room;
   chained = λ room. subst (λ (l : List ℕ). Chained l 0 []) (sym e) (none-chained _ (clear-zero t room) (omega (arith, clear-long t room)));
 }

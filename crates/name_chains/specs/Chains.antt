@@ -10,7 +10,8 @@ use Rattle.byte_slices.specs.Parts.{part}
 use Rattle.policy.specs.Basics.{Name, same}
 use Rattle.policy.specs.Encode.{NameEntry}
 use Rattle.symbols.specs.Lookup.{familyNumber, countSort}
-use Rattle.name_index.specs.Index.{frontOf, wordIn, chainAt, chainIn, linkIn}
+use Rattle.symbols.specs.Section.{nameBytes}
+use Rattle.name_index.specs.Index.{frontOf, wordIn, chainAt, chainIn, linkIn, indexBytes}
 use Rattle.name_chains.specs.Compared.{isCandidate, TriedIn}
 use Rattle.name_chains.specs.declared.Tried.{Tried}
 use Rattle.name_index.specs.declared.Chain.{Chain}
@@ -57,8 +58,8 @@ Nth es k e = drop k es ≡ e ∷ drop (suc k) es
 
 -- the memory t has the chains of the entries es, which end at a place. The link of an entry names the next of its chain, where there is one
 pub record Chained (t : List ℕ) (end : ℕ) (es : List NameEntry) : Type 0 where
-  pub room : 188648 ≤ length t
-  pub below : end ≤ 137088
+  pub room : indexBytes ≤ length t
+  pub below : end ≤ nameBytes
   pub few : length es ≤ 2048
   pub all : wordIn t 6444 ≡ length es
   pub counts : (s : ℕ) → s < 8 → wordIn t (6436 + s) ≡ countSort s es
@@ -71,7 +72,7 @@ pub record Chained (t : List ℕ) (end : ℕ) (es : List NameEntry) : Type 0 whe
 
 -- c is the chain of the family f and the length n, of whatever entries the memory t has. Where it has entries, there is room for an index
 pub record HasChain (t : List ℕ) (f n : ℕ) (c : Chain) : Type 0 where
-  pub room : 0 < c .count → 188648 ≤ length t
+  pub room : 0 < c .count → indexBytes ≤ length t
   pub small : c .first < 4096
   pub is : (end : ℕ) (es : List NameEntry) → Chained t end es → ChainIs c f n es
 

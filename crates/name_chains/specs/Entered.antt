@@ -7,13 +7,14 @@ use Rattle.byte_slices.specs.Parts.{part, put}
 use Rattle.bitset.specs.Sets.{emptied}
 use Rattle.policy.specs.Encode.{NameEntry, entryBytes}
 use Rattle.symbols.specs.Lookup.{familyNumber}
-use Rattle.name_index.specs.Index.{putEntry}
+use Rattle.symbols.specs.Section.{nameBytes}
+use Rattle.name_index.specs.Index.{putEntry, indexBytes}
 use Rattle.name_chains.specs.Chains.{Chained}
 
 -- there is room for an entry with a name of len bytes
 pub record EntryRoom (total end sort len : ℕ) : Type 0 where
-  pub index : 188648 ≤ total
-  pub room : end + 4 + len ≤ 137088
+  pub index : indexBytes ≤ total
+  pub room : end + 4 + len ≤ nameBytes
   pub sort-known : sort < 8
   pub length-known : len ≤ 64
 
@@ -21,9 +22,9 @@ pub record EntryRoom (total end sort len : ℕ) : Type 0 where
 pub record Entered (before after : List ℕ) (end : ℕ) (e : NameEntry) (r : ℕ) : Type 0 where
   pub is : after ≡ putEntry before end e
   pub long : length after ≡ length before
-  pub written : take 137088 after ≡ put (take 137088 before) end (entryBytes e)
+  pub written : take nameBytes after ≡ put (take nameBytes before) end (entryBytes e)
   pub past : r ≡ end + length (entryBytes e)
-  pub inside : r ≤ 137088
+  pub inside : r ≤ nameBytes
   pub chained : (es : List NameEntry) → Chained before end es → length es < 2048 → e .number < 65536 → familyNumber (e .sort) (e .number) < 36
       → Chained after r (es ++ (e ∷ []))
 
@@ -31,5 +32,5 @@ pub record Entered (before after : List ℕ) (end : ℕ) (e : NameEntry) (r : �
 pub record Cleared (before after : List ℕ) : Type 0 where
   pub is : after ≡ put before 169856 (emptied (part before 169856 18792))
   pub long : length after ≡ length before
-  pub front : 188648 ≤ length before → take 137088 after ≡ take 137088 before
-  pub chained : 188648 ≤ length before → Chained after 0 []
+  pub front : indexBytes ≤ length before → take nameBytes after ≡ take nameBytes before
+  pub chained : indexBytes ≤ length before → Chained after 0 []

@@ -8,13 +8,14 @@ use name_index::CHAINS;
 use name_index::COUNTS;
 use name_index::Chain;
 use name_index::ENTRIES;
-use name_index::FAMILIES;
 use name_index::FRONT;
 use name_index::LENGTHS;
 use name_index::Link;
 use name_index::SYMBOL_BYTES;
+use policy::NameEntry;
 use symbols::Entry;
 use symbols::Found;
+use symbols::NameFamily;
 ghost use mathlib.Core.Path.{_≡_};
 ghost use Prim.Native.Nat.{_+_, _<_, _≤_};
 ghost use lib.ListN.{length};
@@ -23,7 +24,7 @@ ghost use Rattle.policy.specs.Encode.{nameEntry};
 ghost use Rattle.symbols.specs.Section.{entriesAt};
 ghost use Rattle.name_chains.specs.Compared.{TriedIn};
 ghost use Rattle.name_chains.specs.Chains.{HasChain, Tries, Compares};
-ghost use Rattle.name_index.specs.Index.{frontOf, wordIn};
+ghost use Rattle.name_index.specs.Index.{frontOf, wordIn, indexBytes};
 ghost use Rattle.name_chains.specs.Entered.{EntryRoom, Entered, Cleared};
 
 // What a try found, and how many entries it compared byte by byte.
@@ -42,7 +43,7 @@ fn chain_of(symbols: &[u8], family: usize, long: usize) -> Chain
     if symbols.len() < SYMBOL_BYTES {
         return name_index::chain_in(0);
     }
-    if FAMILIES <= family {
+    if NameFamily::COUNT <= family {
         return name_index::chain_in(0);
     }
     if LENGTHS <= long {
@@ -54,7 +55,7 @@ fn chain_of(symbols: &[u8], family: usize, long: usize) -> Chain
 // Whether the name of an entry, of the same length, is this one: by its first eight bytes, and where there are more,
 // by all. The entry is told by its first word.
 fn is_same(symbols: &[u8], at: usize, front: usize, name: &[u8]) -> bool
-    requires { ⌜ (at < 4096) × (188648 ≤ length (now symbols)) × (front ≡ frontOf (now name)) ⌝ }
+    requires { ⌜ (at < 4096) × (indexBytes ≤ length (now symbols)) × (front ≡ frontOf (now name)) ⌝ }
     ensures { λ r. ⌜ Compares (now (symbols .entry)) at (now (name .entry)) r ⌝ }
 {
     if name_index::word(symbols, at) != front {
@@ -110,7 +111,7 @@ pub fn find_in_section(table: &[u8], start: usize, end: usize, family: usize, na
         let k = symbols::next_entry(table, at, end);
         match k {
             Entry::Named { sort, number, past } => {
-                let first = at + 4;
+                let first = at + NameEntry::HEAD_BYTES;
                 at = past;
                 if past - first != long {
                     continue;
@@ -143,7 +144,7 @@ pub fn find_in_section(table: &[u8], start: usize, end: usize, family: usize, na
 
 // How many entries of a sort were entered.
 pub fn entered(symbols: &[u8], sort: usize) -> usize
-    requires { ⌜ (sort < 8) × (188648 ≤ length (now symbols)) ⌝ }
+    requires { ⌜ (sort < 8) × (indexBytes ≤ length (now symbols)) ⌝ }
     ensures { λ r. ⌜ r ≡ wordIn (now (symbols .entry)) (6436 + sort) ⌝ }
 {
     name_index::word(symbols, COUNTS + sort)
@@ -166,14 +167,14 @@ pub fn enter(
 {
     let past = symbols::append(symbols, end, sort, number, text, from, len);
     let at = 2 * (name_index::word(symbols, ALL) % ENTRIES);
-    let long = past - end - 4;
-    let family = symbols::family_of(sort, number) % FAMILIES;
+    let long = past - end - NameEntry::HEAD_BYTES;
+    let family = symbols::family_of(sort, number) % NameFamily::COUNT;
     let front = name_index::front_of(byte_slices::part(text, from, len));
     let link = name_index::link_word(Link {
         next: 0,
         sort,
         number: number % Link::NUMBERS,
-        place: end + 4,
+        place: end + NameEntry::HEAD_BYTES,
     });
     name_index::set_node(symbols, at, front, link);
     name_index::set_last(symbols, CHAINS + LENGTHS * family + long, at);

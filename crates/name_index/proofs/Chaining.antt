@@ -15,7 +15,8 @@ use Rattle.policy.specs.Basics.{le, unle}
 use Rattle.policy.specs.Encode.{NameEntry, entryBytes}
 use Rattle.symbols.specs.Lookup.{familyNumber}
 use Rattle.symbols.proofs.AppendLaws.{entry-length, take-put}
-use Rattle.name_index.specs.Index.{frontOf, wordIn, chainAt, chainIn, chainWord, linkIn, linkWord, ChainFits, LinkFits, putWord, putNode, linkedTo}
+use Rattle.symbols.specs.Section.{nameBytes}
+use Rattle.name_index.specs.Index.{frontOf, wordIn, chainAt, chainIn, chainWord, linkIn, linkWord, ChainFits, LinkFits, putWord, putNode, linkedTo, indexBytes}
 use Rattle.name_index.specs.Index.{putNext, begun, longer, putLast, putMore, newAt, newLink, putEntry}
 use Rattle.name_index.specs.declared.Chain.{Chain}
 use Rattle.name_index.specs.declared.Link.{Link}
@@ -44,10 +45,10 @@ module _ (t : List ℕ) (k at : ℕ) where
   unfolding putLast
   longer-is d = rw (ne-eqb (chainIn (wordIn t k) .count) 0 d)
 
-module _ (t : List ℕ) (room : 188648 ≤ length t) where
+module _ (t : List ℕ) (room : indexBytes ≤ length t) where
   -- the words of an entry
   module _ (k x y : ℕ) (below : k < 4096) where
-    mid : 188648 ≤ length (putWord t k x)
+    mid : indexBytes ≤ length (putWord t k x)
     mid = omega (arith, word-kept t k x (omega arith) room .long)
 
     node-kept : Kept t (putNode t k x y)
@@ -95,7 +96,7 @@ module _ (t : List ℕ) (room : 188648 ≤ length t) where
     unfolding putNext
     linked-kept = word-kept t (chain .last + 1) relinked (omega arith) room
 
-    linked-room : 188648 ≤ length linked
+    linked-room : indexBytes ≤ length linked
     linked-room = omega (arith, linked-kept .long)
 
     linked-other : (j : ℕ) → (j ≡ chain .last + 1 → ⊥) → wordIn linked j ≡ wordIn t j
@@ -165,7 +166,7 @@ longer-last t k at h c e i d =
 
 -- ---- the bytes of the entry
 
-module _ (t : List ℕ) (end : ℕ) (e : NameEntry) (room : 188648 ≤ length t) (inside : end + 4 + length (e .name) ≤ 137088) where
+module _ (t : List ℕ) (end : ℕ) (e : NameEntry) (room : indexBytes ≤ length t) (inside : end + 4 + length (e .name) ≤ nameBytes) where
   entry-fits : end + length (entryBytes e) ≤ length t
   entry-fits = omega (arith, entry-length e)
 
@@ -174,7 +175,7 @@ module _ (t : List ℕ) (end : ℕ) (e : NameEntry) (room : 188648 ≤ length t)
 
   pub bytes-word : (j : ℕ) → wordIn (put t end (entryBytes e)) j ≡ wordIn t j
   unfolding wordIn
-  bytes-word j = ap unle (part-put-after t end (entryBytes e) entry-fits (137088 + 8 * j) 8 (omega (arith, entry-length e)))
+  bytes-word j = ap unle (part-put-after t end (entryBytes e) entry-fits (nameBytes + 8 * j) 8 (omega (arith, entry-length e)))
 
   bytes-before : (p w : ℕ) → p + w ≤ end → part (put t end (entryBytes e)) p w ≡ part t p w
   bytes-before p w h = part-put-before t end (entryBytes e) entry-fits p w h
@@ -194,7 +195,7 @@ module _ (t : List ℕ) (end : ℕ) (e : NameEntry) (room : 188648 ≤ length t)
 -- where what the chain says of its last is true
 pub record Changed (t u : List ℕ) (end : ℕ) (e : NameEntry) (m C : ℕ) : Type 0 where
   pub long : length u ≡ length t
-  pub names : take 137088 u ≡ put (take 137088 t) end (entryBytes e)
+  pub names : take nameBytes u ≡ put (take nameBytes t) end (entryBytes e)
   pub before : (p w : ℕ) → p + w ≤ end → part u p w ≡ part t p w
   pub name : part u (end + 4) (length (e .name)) ≡ e .name
   pub others : (j : ℕ) → j < 6436 → (j ≡ m → ⊥) → (j ≡ m + 1 → ⊥) → (j ≡ C → ⊥)
@@ -211,7 +212,7 @@ pub record Changed (t u : List ℕ) (end : ℕ) (e : NameEntry) (m C : ℕ) : Ty
   pub counts : (s : ℕ) → s < 8 → (s ≡ e .sort → ⊥) → wordIn u (6436 + s) ≡ wordIn t (6436 + s)
   pub all : wordIn u 6444 ≡ wordIn t 6444 % 65536 + 1
 
-module _ (t : List ℕ) (end : ℕ) (e : NameEntry) (room : 188648 ≤ length t) (inside : end + 4 + length (e .name) ≤ 137088) (sort : e .sort < 8)
+module _ (t : List ℕ) (end : ℕ) (e : NameEntry) (room : indexBytes ≤ length t) (inside : end + 4 + length (e .name) ≤ nameBytes) (sort : e .sort < 8)
     (short : length (e .name) ≤ 64) where
   abbrev m : ℕ
   m = newAt t
@@ -243,13 +244,13 @@ module _ (t : List ℕ) (end : ℕ) (e : NameEntry) (room : 188648 ≤ length t)
   entry-word : m < 4096
   entry-word = omega (arith, small)
 
-  room1 : 188648 ≤ length t1
+  room1 : indexBytes ≤ length t1
   room1 = omega (arith, bytes-long t end e room inside)
 
   kept3 : Kept t1 t3
   kept3 = node-kept t1 room1 m x y entry-word
 
-  room3 : 188648 ≤ length t3
+  room3 : indexBytes ≤ length t3
   room3 = omega (arith, room1, kept3 .long)
 
   low : 4096 ≤ C
@@ -264,7 +265,7 @@ module _ (t : List ℕ) (end : ℕ) (e : NameEntry) (room : 188648 ≤ length t)
   kept4 : Kept t3 t4
   kept4 = last-stage t3 room3 C m in-index entry-word
 
-  room4 : 188648 ≤ length t4
+  room4 : indexBytes ≤ length t4
   room4 = omega (arith, room3, kept4 .long)
 
   count-word : 6436 + e .sort < 6445
@@ -273,7 +274,7 @@ module _ (t : List ℕ) (end : ℕ) (e : NameEntry) (room : 188648 ≤ length t)
   kept5 : Kept t4 t5
   kept5 = more-kept t4 room4 (6436 + e .sort) count-word
 
-  room5 : 188648 ≤ length t5
+  room5 : indexBytes ≤ length t5
   room5 = omega (arith, room4, kept5 .long)
 
   kept : Kept t1 (putMore t5 6444)
@@ -326,7 +327,7 @@ module _ (t : List ℕ) (end : ℕ) (e : NameEntry) (room : 188648 ≤ length t)
   unfolding putEntry
   changed = record {
     long = kept .long ∙ bytes-long t end e room inside;
-    names = kept-take kept ∙ take-put 137088 t end (entryBytes e) (omega (arith, entry-length e, inside)) (omega (arith, room));
+    names = kept-take kept ∙ take-put nameBytes t end (entryBytes e) (omega (arith, entry-length e, inside)) (omega (arith, room));
     before = λ p w h. kept .front p w (omega (arith, inside)) ∙ bytes-before t end e room inside p w h;
     name = kept .front (end + 4) (length (e .name)) inside ∙ bytes-name t end e room inside;
     others = λ j l a b c d. up j l ∙ others4 j c d ∙ link3 j a b;

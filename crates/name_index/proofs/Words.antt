@@ -11,7 +11,8 @@ use Rattle.byte_slices.proofs.PartLaws.{length-part-le, length-put, part-put-sa
 use Rattle.policy.specs.Basics.{le, unle}
 use Rattle.table_laws.proofs.LittleEndian.{le-length, unle-le}
 use Rattle.little_endian.proofs.WidthLaws.{unle-split}
-use Rattle.name_index.specs.Index.{wordIn, putWord}
+use Rattle.name_index.specs.Index.{wordIn, putWord, indexBytes}
+use Rattle.symbols.specs.Section.{nameBytes}
 
 -- ---- the front of a name v, whose first eight bytes are w: the number of w, or of its first four and of the at most four after them
 
@@ -31,37 +32,37 @@ module _ (v w : List ℕ) (i : w ≡ part v 0 8) where
 -- memory that is the same before the index, and of the same length
 pub record Kept (t u : List ℕ) : Type 0 where
   pub long : length u ≡ length t
-  pub front : (p w : ℕ) → p + w ≤ 137088 → part u p w ≡ part t p w
+  pub front : (p w : ℕ) → p + w ≤ nameBytes → part u p w ≡ part t p w
 
 pub kept-on : {t u v : List ℕ} → Kept t u → Kept u v → Kept t v
 kept-on h g = record { long = g .long ∙ h .long; front = λ p w l. g .front p w l ∙ h .front p w l }
 
-module _ (t : List ℕ) (k n : ℕ) (below : k < 6445) (room : 188648 ≤ length t) where
-  fits : 137088 + 8 * k + length (le 8 n) ≤ length t
+module _ (t : List ℕ) (k n : ℕ) (below : k < 6445) (room : indexBytes ≤ length t) where
+  fits : nameBytes + 8 * k + length (le 8 n) ≤ length t
   fits = omega (arith, le-length 8 n)
 
   pub word-kept : Kept t (putWord t k n)
   unfolding putWord
   word-kept = record {
-    long = length-put t (137088 + 8 * k) (le 8 n) fits;
-    front = λ p w l. part-put-before t (137088 + 8 * k) (le 8 n) fits p w (omega arith);
+    long = length-put t (nameBytes + 8 * k) (le 8 n) fits;
+    front = λ p w l. part-put-before t (nameBytes + 8 * k) (le 8 n) fits p w (omega arith);
   }
 
   pub word-here : n < 256 ^ 8 → wordIn (putWord t k n) k ≡ n
   unfolding putWord wordIn
   word-here h =
-      ap unle (ap (part (put t (137088 + 8 * k) (le 8 n)) (137088 + 8 * k)) (sym (le-length 8 n)) ∙ part-put-same t (137088 + 8 * k) (le 8 n) fits)
+      ap unle (ap (part (put t (nameBytes + 8 * k) (le 8 n)) (nameBytes + 8 * k)) (sym (le-length 8 n)) ∙ part-put-same t (nameBytes + 8 * k) (le 8 n) fits)
       ∙ unle-le 8 n h
 
   pub word-other : (j : ℕ) → (j ≡ k → ⊥) → wordIn (putWord t k n) j ≡ wordIn t j
   unfolding putWord wordIn
   word-other j d = by (decLt j k)
     where
-      by : Dec (j < k) → unle (part (put t (137088 + 8 * k) (le 8 n)) (137088 + 8 * j) 8) ≡ unle (part t (137088 + 8 * j) 8)
-      by (yes h) = ap unle (part-put-before t (137088 + 8 * k) (le 8 n) fits (137088 + 8 * j) 8 (omega arith))
-      by (no h) = ap unle (part-put-after t (137088 + 8 * k) (le 8 n) fits (137088 + 8 * j) 8 (omega (arith, le-length 8 n)))
+      by : Dec (j < k) → unle (part (put t (nameBytes + 8 * k) (le 8 n)) (nameBytes + 8 * j) 8) ≡ unle (part t (nameBytes + 8 * j) 8)
+      by (yes h) = ap unle (part-put-before t (nameBytes + 8 * k) (le 8 n) fits (nameBytes + 8 * j) 8 (omega arith))
+      by (no h) = ap unle (part-put-after t (nameBytes + 8 * k) (le 8 n) fits (nameBytes + 8 * j) 8 (omega (arith, le-length 8 n)))
 
 -- the bytes before the index
-pub kept-take : {t u : List ℕ} → Kept t u → take 137088 u ≡ take 137088 t
+pub kept-take : {t u : List ℕ} → Kept t u → take nameBytes u ≡ take nameBytes t
 unfolding part
-kept-take h = h .front 0 137088 (omega arith)
+kept-take h = h .front 0 nameBytes (omega arith)

@@ -12,8 +12,13 @@ use Rattle.byte_slices.specs.Parts.{part, put}
 use Rattle.policy.specs.Basics.{Name, le, unle}
 use Rattle.policy.specs.Encode.{NameEntry, entryBytes}
 use Rattle.symbols.specs.Lookup.{familyNumber}
+use Rattle.symbols.specs.Section.{nameBytes}
 use Rattle.name_index.specs.declared.Chain.{Chain}
 use Rattle.name_index.specs.declared.Link.{Link}
+
+-- the memory of the symbols with their index
+abbrev pub indexBytes : ℕ
+indexBytes = 188648
 
 -- ---- words that are read
 
@@ -22,7 +27,7 @@ abbrev pub frontOf : Name → ℕ
 frontOf w = unle (take 8 w)
 
 unfoldable pub wordIn : List ℕ → ℕ → ℕ
-wordIn t k = unle (part t (137088 + 8 * k) 8)
+wordIn t k = unle (part t (nameBytes + 8 * k) 8)
 
 -- where the chain of a family and a length stands: 36 families, and names of 0 to 64 bytes
 abbrev pub chainAt : ℕ → ℕ → ℕ
@@ -60,7 +65,7 @@ pub record LinkFits (l : Link) : Type 0 where
 
 -- a number is put into a word
 unfoldable pub putWord : List ℕ → ℕ → ℕ → List ℕ
-putWord t k n = put t (137088 + 8 * k) (le 8 n)
+putWord t k n = put t (nameBytes + 8 * k) (le 8 n)
 
 -- the words of an entry are put, whose first is `at`
 unfoldable pub putNode : List ℕ → ℕ → ℕ → ℕ → List ℕ

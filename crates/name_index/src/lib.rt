@@ -6,12 +6,9 @@
 ghost use mathlib.Core.Path.{_≡_};
 ghost use Prim.Native.Nat.{_+_, _<_, _≤_};
 ghost use lib.ListN.{length};
-ghost use Rattle.name_index.specs.Index.{frontOf, wordIn, chainIn, chainWord, linkIn, linkWord, ChainFits, LinkFits, putWord, putNode, putNext, putLast, putMore};
+ghost use Rattle.name_index.specs.Index.{frontOf, wordIn, chainIn, chainWord, linkIn, linkWord, ChainFits, LinkFits, putWord, putNode, putNext, putLast, putMore, indexBytes};
 
 // ---- the words of the index
-
-// How many families of names there are: users, roles, types, classes, and the permissions of each class.
-pub const FAMILIES: usize = 4 + policy::Class::MAX;
 
 // How many lengths a name can have: 0 to 64 bytes.
 pub const LENGTHS: usize = lexer::Name::MAX + 1;
@@ -19,16 +16,13 @@ pub const LENGTHS: usize = lexer::Name::MAX + 1;
 // How many entries the index has room for: more than the 2,016 that the maxima allow.
 pub const ENTRIES: usize = 2048;
 
-// How many sorts of entries there are: users, roles, types, the attributes of each, classes and permissions.
-const SORTS: usize = 8;
-
 // After the words of the entries stand those of the chains, a chain for each family and length.
 pub const CHAINS: usize = 2 * ENTRIES;
 
 // After these the entries of each sort are counted, and in the last word all entries.
-pub const COUNTS: usize = CHAINS + FAMILIES * LENGTHS;
+pub const COUNTS: usize = CHAINS + symbols::NameFamily::COUNT * LENGTHS;
 
-pub const ALL: usize = COUNTS + SORTS;
+pub const ALL: usize = COUNTS + policy::Sort::COUNT;
 
 const WORD_BYTES: usize = 8;
 
@@ -40,7 +34,7 @@ pub const SYMBOL_BYTES: usize = symbols::NAME_BYTES + WORD_BYTES * (ALL + 1);
 
 // The number in a word of the index. It is read in two halves: whoever needs only the low one then reads no other.
 pub fn word(symbols: &[u8], k: usize) -> usize
-    requires { ⌜ (k < 6445) × (188648 ≤ length (now symbols)) ⌝ }
+    requires { ⌜ (k < 6445) × (indexBytes ≤ length (now symbols)) ⌝ }
     ensures { λ r. ⌜ r ≡ wordIn (now (symbols .entry)) k ⌝ }
 {
     let at = symbols::NAME_BYTES + WORD_BYTES * k;
@@ -49,7 +43,7 @@ pub fn word(symbols: &[u8], k: usize) -> usize
 
 // Puts a number into a word of the index.
 fn set_word(symbols: &mut [u8], k: usize, n: usize)
-    requires { ⌜ (k < 6445) × (188648 ≤ length (now symbols)) ⌝ }
+    requires { ⌜ (k < 6445) × (indexBytes ≤ length (now symbols)) ⌝ }
     ensures { λ _. ⌜ now (symbols .exit) ≡ putWord (now (symbols .entry)) k n ⌝ }
 {
     let at = symbols::NAME_BYTES + WORD_BYTES * k;
@@ -110,7 +104,7 @@ impl Link {
     // The next is lowest in the word of a link. These are the weights of the other parts.
     const SORT: usize = CHAINS;
 
-    const NUMBER: usize = Link::SORT * SORTS;
+    const NUMBER: usize = Link::SORT * policy::Sort::COUNT;
 
     const PLACE: usize = Link::NUMBER * Link::NUMBERS;
 }
@@ -121,7 +115,7 @@ fn link_in(word: usize) -> Link
 {
     Link {
         next: word % CHAINS,
-        sort: word / Link::SORT % SORTS,
+        sort: word / Link::SORT % policy::Sort::COUNT,
         number: word / Link::NUMBER % Link::NUMBERS,
         place: word / Link::PLACE,
     }
@@ -137,7 +131,7 @@ pub fn link_word(link: Link) -> usize
 
 // The link of the entry whose first word is at.
 pub fn link_at(symbols: &[u8], at: usize) -> Link
-    requires { ⌜ (at < 4096) × (188648 ≤ length (now symbols)) ⌝ }
+    requires { ⌜ (at < 4096) × (indexBytes ≤ length (now symbols)) ⌝ }
     ensures { λ r. ⌜ (r ≡ linkIn (wordIn (now (symbols .entry)) (at + 1))) × LinkFits r ⌝ }
 {
     link_in(word(symbols, at + 1))
@@ -163,7 +157,7 @@ pub fn front_of(name: &[u8]) -> usize
 
 // Puts the two words of an entry, from its first word on.
 pub fn set_node(symbols: &mut [u8], at: usize, front: usize, link: usize)
-    requires { ⌜ (at < 4096) × (188648 ≤ length (now symbols)) ⌝ }
+    requires { ⌜ (at < 4096) × (indexBytes ≤ length (now symbols)) ⌝ }
     ensures { λ _. ⌜ now (symbols .exit) ≡ putNode (now (symbols .entry)) at front link ⌝ }
 {
     set_word(symbols, at, front);
@@ -172,7 +166,7 @@ pub fn set_node(symbols: &mut [u8], at: usize, front: usize, link: usize)
 
 // Puts the entry whose first word is next after the entry whose first word is at.
 fn set_next(symbols: &mut [u8], at: usize, next: usize)
-    requires { ⌜ (at < 4096) × (next < 4096) × (188648 ≤ length (now symbols)) ⌝ }
+    requires { ⌜ (at < 4096) × (next < 4096) × (indexBytes ≤ length (now symbols)) ⌝ }
     ensures { λ _. ⌜ now (symbols .exit) ≡ putNext (now (symbols .entry)) at next ⌝ }
 {
     let link = link_at(symbols, at);
@@ -187,7 +181,7 @@ fn set_next(symbols: &mut [u8], at: usize, next: usize)
 
 // Puts the entry whose first word is at to the end of the chain that is in a word.
 pub fn set_last(symbols: &mut [u8], k: usize, at: usize)
-    requires { ⌜ (k < 6445) × (at < 4096) × (188648 ≤ length (now symbols)) ⌝ }
+    requires { ⌜ (k < 6445) × (at < 4096) × (indexBytes ≤ length (now symbols)) ⌝ }
     ensures { λ _. ⌜ now (symbols .exit) ≡ putLast (now (symbols .entry)) k at ⌝ }
 {
     let chain = chain_in(word(symbols, k));
@@ -211,7 +205,7 @@ pub fn set_last(symbols: &mut [u8], k: usize, at: usize)
 
 // Counts one more in a word. The count is cut as that of a chain is.
 pub fn count_one(symbols: &mut [u8], k: usize)
-    requires { ⌜ (k < 6445) × (188648 ≤ length (now symbols)) ⌝ }
+    requires { ⌜ (k < 6445) × (indexBytes ≤ length (now symbols)) ⌝ }
     ensures { λ _. ⌜ now (symbols .exit) ≡ putMore (now (symbols .entry)) k ⌝ }
 {
     let count = word(symbols, k) % Chain::COUNT_LIMIT;

@@ -1,4 +1,4 @@
-// The names in a row of the text: the next one, how many there are, and whether one is twice, as a class's
+// The names in a row of the text: the next one, how many there are, and whether one occurs twice, as a class's
 // permissions must not.
 use lexer::Token;
 ghost use mathlib.Core.Path.{_≡_};
@@ -11,7 +11,7 @@ ghost use Rattle.policy.specs.Basics as basics;
 ghost use Rattle.policy.specs.Basics.{differ};
 ghost use Rattle.name_rows.specs.WordRows.{wordsIn, isAmongFirst, mayBeAmong, WordIs, Inside};
 
-// The word that is next in a row, or that none does.
+// The word that is next in a row, or that there is none.
 pub enum NextWord {
     At { start: usize, len: usize },
     Missing,
@@ -41,7 +41,7 @@ pub fn word_at(text: &[u8], at: usize) -> NextWord
     }
 }
 
-// The place after the open parenthesis that is next, or the same place where none does.
+// The place after the open parenthesis that is next, or the same place where none is.
 pub fn inside(text: &[u8], at: usize) -> usize
     ensures { λ r. ⌜ Inside (now (text .entry)) at r ⌝ }
 {
@@ -122,8 +122,8 @@ fn is_repeated(
     is_among_first(text, at, count, start, len)
 }
 
-// Whether a name is twice in the row at a place: each is looked for among those before it. The first eight bytes are
-// kept of as many names as a class may have.
+// Whether a name occurs twice in the row at a place: each is looked for among those before it. The first eight bytes
+// are kept of as many names as a class may have.
 pub fn repeats(text: &[u8], at: usize) -> bool
     ensures { λ r. ⌜ r ≡ not (differ (wordsIn (framesAt (now (text .entry)) at .here))) ⌝ }
 {

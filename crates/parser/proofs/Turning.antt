@@ -56,7 +56,7 @@ use Rattle.name_chains.specs.Chains.{Chained}
 use Rattle.name_chains.specs.Entered.{Cleared}
 use Rattle.declarations.specs.Declaring.{sectionOf}
 use Rattle.scopes.specs.Scope as scope
-use Rattle.scopes.specs.Scope.{InScope, SymbolsKept}
+use Rattle.scopes.specs.Scope.{InScope, SymbolsKept, symbolBytes}
 use Rattle.scopes.proofs.Keeping.{chained-kept, symbols-front}
 use Rattle.block_reader.specs.Within.{Within, ClosesBlock, noneOpen}
 use Rattle.block_reader.proofs.Standing as standing
@@ -71,6 +71,7 @@ use Rattle.parser.specs.Parts.{StatedBy, StatedAhead, States, Inside, En
 use Rattle.parser.specs.declared.Parsed.{Parsed}
 use Rattle.parser.specs.declared.Stated.{Stated}
 use Rattle.parser.specs.declared.Entered.{Entered}
+use Rattle.symbols.specs.Section.{nameBytes}
 
 -- ---- before the first part
 
@@ -221,7 +222,7 @@ scoped-holds : {p : Policy} {path path' : List Name} {lent : Memory} {sy sy' co 
 scoped-holds {p} {lent = lent} {s = s} h k good scope = record {
   accepted = h .accepted;
   blocks = good;
-  symbols = subst (λ (l : List ℕ). Starts (take 137088 (lent .symbols)) (symbolsOf p) l (s .symbols)) (sym (symbols-front k 137088 (omega arith))) (h .symbols);
+  symbols = subst (λ (l : List ℕ). Starts (take nameBytes (lent .symbols)) (symbolsOf p) l (s .symbols)) (sym (symbols-front k nameBytes (omega arith))) (h .symbols);
   chained = chained-kept k (h .chained);
   scope = scope;
   code = h .code;
@@ -505,12 +506,12 @@ pub roomy : {a b c : ℕ} → a ≡ 65536 → b ≡ 1280 → c ≡ 12288 → (le
 roomy e f g = rw (e, f, g)
 
 -- the symbols lent may be others after the room for the entries
-module _ (lent other c k r : List ℕ) (same : take 137088 other ≡ take 137088 lent) where
+module _ (lent other c k r : List ℕ) (same : take nameBytes other ≡ take nameBytes lent) where
   pub lent-alike : (x : Read) (now : Memory) (y : Parsed) → Reads x (memory other c k r) now y → Reads x (memory lent c k r) now y
   lent-alike (policy p) now (Parsed.Accepted s) h = record {
     accepted = h .accepted;
     blocks = h .blocks;
-    symbols = subst (λ (l : List ℕ). Starts l (symbolsOf p) (take 137088 (now .symbols)) (s .symbols)) same (h .symbols);
+    symbols = subst (λ (l : List ℕ). Starts l (symbolsOf p) (take nameBytes (now .symbols)) (s .symbols)) same (h .symbols);
     chained = h .chained;
     scope = h .scope;
     code = h .code;
@@ -525,11 +526,11 @@ module _ (lent other c k r : List ℕ) (same : take 137088 other ≡ take 137088
   lent-alike (refused n at) now (Parsed.Refused m q) h = h
 
 -- with the chains cleared first and no block open, the text is read whatever the memory held
-pub parses : {t lent cleared started c k r : List ℕ} {now : Memory} {y : Parsed} → Cleared lent cleared → scope.Starts cleared started → 188713 ≤ length lent
+pub parses : {t lent cleared started c k r : List ℕ} {now : Memory} {y : Parsed} → Cleared lent cleared → scope.Starts cleared started → symbolBytes ≤ length lent
     → ParsesCleared t (memory started c k r) now y → Parses t (memory lent c k r) now y
 parses {t} {lent} {cleared} {started} {c} {k} {r} {now} {y} a b room h = record {
   reads = λ clean.
-      lent-alike lent started c k r (symbols-front (b .kept) 137088 (omega arith) ∙ a .front (omega arith)) (whole t) now y
+      lent-alike lent started c k r (symbols-front (b .kept) nameBytes (omega arith) ∙ a .front (omega arith)) (whole t) now y
       (h .reads clean (chained-kept (b .kept) (a .chained (omega arith))) (b .starts));
 }
 

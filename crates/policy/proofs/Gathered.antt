@@ -20,7 +20,7 @@ module _ {A : Type 0} where
   all-map P Q f [] h = tt
   all-map P Q f (x ∷ xs) h = (f x (h .0), all-map P Q f xs (h .1))
 
-  -- the element at a place, or the one that is where there is none
+  -- the element at a place, or the given one where there is none
   pub all-getD : (P : A → Type 0) (xs : List A) (i : ℕ) (d : A) → All P xs → P d → P (getD xs i d)
   all-getD P [] i d h k = k
   all-getD P (x ∷ xs) zero d h k = h .0

@@ -97,7 +97,7 @@ module _ {A B : Type 0} where
   gather-append f [] ys = refl
   gather-append f (x ∷ xs) ys = ap (λ r. keep (f x) r) (gather-append f xs ys) ∙ kept (f x) (gather f xs) (gather f ys)
 
-  -- what f passes over may are at the end; what it takes is taken last
+  -- what f passes over may be at the end; what it takes is taken last
   pub gather-over : (f : A → Option B) (xs : List A) (x : A) → f x ≡ none → gather f (xs ++ (x ∷ [])) ≡ gather f xs
   unfolding gather
   gather-over f [] x h = ap (λ o. keep o []) h

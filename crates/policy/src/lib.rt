@@ -81,6 +81,13 @@ impl Constraint {
 
     // The bytes of a constraint in a table: its class, its permission mask, its first row and how many rows it has.
     pub const BYTES: usize = 10;
+
+    // Where they are in it; the class comes first.
+    pub const MASK_AT: usize = 2;
+
+    pub const FIRST_ROW_AT: usize = 6;
+
+    pub const ROW_COUNT_AT: usize = 8;
 }
 
 // The number of a constraint row, over all constraints.
@@ -89,8 +96,17 @@ pub struct Row(pub u64);
 impl Row {
     pub const MAX: usize = 2_048;
 
-    // The bytes of a row in a table.
+    // The bytes of a row in a table: its kind, a component, an operator, one that is not used, and a number.
     pub const BYTES: usize = 6;
+
+    // Where they are in it; the kind comes first.
+    pub const COMPONENT_AT: usize = 1;
+
+    pub const OPERATOR_AT: usize = 2;
+
+    pub const UNUSED_AT: usize = 3;
+
+    pub const NUMBER_AT: usize = 4;
 
     // The kinds: three operators on the stack, and three comparisons.
     pub const NOT: u8 = 0;
@@ -207,13 +223,27 @@ impl Table {
 
     pub const SECTIONS: u8 = 8;
 
-    // Where the pairs of offset and length start, and the bytes of each.
+    // Where the pairs of offset and length start, where the first length is, and the bytes of each pair.
     pub const FIRST_PAIR: usize = 4;
+
+    pub const FIRST_LENGTH: usize = Table::FIRST_PAIR + 4;
 
     pub const PAIR_BYTES: usize = 8;
 
     pub const HEADER_BYTES: usize = Table::FIRST_PAIR
         + Table::PAIR_BYTES * (Table::SECTIONS as usize);
+}
+
+// An entry of the names: the sort, the number, the length of the name, and the name.
+pub struct NameEntry;
+
+impl NameEntry {
+    pub const NUMBER_AT: usize = 1;
+
+    pub const LENGTH_AT: usize = 3;
+
+    // The bytes before the name.
+    pub const HEAD_BYTES: usize = 4;
 }
 
 // The sections of a table, counted from 0.

@@ -103,10 +103,10 @@ fn put_lines(
 
 // ---- the roll
 
-// The bodies of the sets of users and roles, by the numbers that entry takes.
-const USER_ROLES: usize = 2;
+// The bodies of the sets of users and roles, by the numbers that entry takes, which count from 1.
+const USER_ROLES: usize = policy::Section::USER_ROLES as usize + 1;
 
-const ROLE_TYPES: usize = 3;
+const ROLE_TYPES: usize = policy::Section::ROLE_TYPES as usize + 1;
 
 // Writes the roll of a sound table that has so many bytes: users first, then roles.
 pub fn put_roll(table: &[u8], bytes: usize, out: &mut [u8]) -> usize

@@ -9,7 +9,7 @@ use Rattle.byte_slices.proofs.PartLaws.{length-put, part-put-same, part-put-bef
 use Rattle.policy.specs.Basics.{Name}
 use Rattle.byte_slices.proofs.PartLaws.{part-whole, part-join}
 use Rattle.scopes.specs.Path.{scopeOf}
-use Rattle.scopes.specs.Scope.{scopeLength, scopeIn, within, ComposedBy, Composes, ShortBy, Names}
+use Rattle.scopes.specs.Scope.{scopeLength, scopeIn, within, ComposedBy, Composes, ShortBy, Names, symbolBytes}
 use Rattle.scopes.specs.declared.ComposedName.{ComposedName}
 use Rattle.scopes.proofs.PathLaws.{within-some, within-full}
 use Rattle.scopes.proofs.Memory.{scope-long, scope-none}
@@ -30,7 +30,7 @@ dotted u n w room =
     ∙ ap₂ _++_ (part-put-before u n (46 ∷ w) (omega arith) 0 n (omega arith))
     (ap (λ (k : ℕ). part (put u n (46 ∷ w)) k (suc (length w))) here ∙ part-put-same u n (46 ∷ w) (omega arith))
 
-module _ (t : List ℕ) (n : ℕ) (w : Name) (z : List ℕ) (short : n ≤ 64) (room : 188713 ≤ length t) (lent : 64 ≤ length z) where
+module _ (t : List ℕ) (n : ℕ) (w : Name) (z : List ℕ) (short : n ≤ 64) (room : symbolBytes ≤ length t) (lent : 64 ≤ length z) where
   -- ---- at the whole-text level
 
   alone-is : n ≡ 0 → within (scopeIn t n) w ≡ w

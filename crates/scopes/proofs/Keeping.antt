@@ -11,8 +11,9 @@ use Rattle.byte_slices.proofs.PartLaws.{getD-part, length-put, part-put-after}
 use Rattle.policy.specs.Basics.{Name, le, unle}
 use Rattle.policy.specs.Encode.{NameEntry, entryBytes}
 use Rattle.symbols.specs.Lookup.{familyNumber}
+use Rattle.symbols.specs.Section.{nameBytes}
 use Rattle.table_laws.proofs.LittleEndian.{le-length}
-use Rattle.name_index.specs.Index.{frontOf, wordIn, chainAt, chainIn, chainWord, linkIn, linkWord, linkedTo, begun, longer, newAt, newLink, putWord, putNode}
+use Rattle.name_index.specs.Index.{frontOf, wordIn, chainAt, chainIn, chainWord, linkIn, linkWord, linkedTo, begun, longer, newAt, newLink, putWord, putNode, indexBytes}
 use Rattle.name_index.specs.Index.{putNext, putLast, putMore, putEntry}
 use Rattle.name_index.specs.declared.Link.{Link}
 use Rattle.name_chains.specs.Chains.{NodeIs, Chained}
@@ -23,16 +24,16 @@ use Rattle.scopes.specs.Scope.{scopeLength, scopeIn, InScope, SymbolsKep
 -- ---- a block opened or closed keeps the symbols and their chains
 
 -- the bytes before the scope
-pub symbols-front : {t u : List ℕ} → SymbolsKept t u → (n : ℕ) → n ≤ 188648 → take n u ≡ take n t
+pub symbols-front : {t u : List ℕ} → SymbolsKept t u → (n : ℕ) → n ≤ indexBytes → take n u ≡ take n t
 unfolding part
 symbols-front k n h = k .front 0 n (omega arith)
 
 module _ {t u : List ℕ} (k : SymbolsKept t u) where
   word-kept : (j : ℕ) → j < 6445 → wordIn u j ≡ wordIn t j
   unfolding wordIn
-  word-kept j h = ap unle (k .front (137088 + 8 * j) 8 (omega arith))
+  word-kept j h = ap unle (k .front (nameBytes + 8 * j) 8 (omega arith))
 
-  node-kept : {end x : ℕ} {l : Link} {e : NameEntry} → end ≤ 137088 → NodeIs t end x l e → NodeIs u end x l e
+  node-kept : {end x : ℕ} {l : Link} {e : NameEntry} → end ≤ nameBytes → NodeIs t end x l e → NodeIs u end x l e
   node-kept {end} {x} {l} {e} b n = record {
     front = n .front;
     sort = n .sort;
@@ -64,36 +65,36 @@ module _ {t u : List ℕ} (k : SymbolsKept t u) where
 -- memory that is the same from the scope on, and of the same length
 record Behind (t u : List ℕ) : Type 0 where
   long : length u ≡ length t
-  behind : (p w : ℕ) → 188648 ≤ p → part u p w ≡ part t p w
+  behind : (p w : ℕ) → indexBytes ≤ p → part u p w ≡ part t p w
 
 behind-on : {t u v : List ℕ} → Behind t u → Behind u v → Behind t v
 behind-on h g = record { long = g .long ∙ h .long; behind = λ p w l. g .behind p w l ∙ h .behind p w l }
 
-put-behind : (t : List ℕ) (o : ℕ) (s : List ℕ) → o + length s ≤ 188648 → 188648 ≤ length t → Behind t (put t o s)
+put-behind : (t : List ℕ) (o : ℕ) (s : List ℕ) → o + length s ≤ indexBytes → indexBytes ≤ length t → Behind t (put t o s)
 put-behind t o s h room = record {
   long = length-put t o s (omega arith);
   behind = λ p w l. part-put-after t o s (omega arith) p w (omega arith);
 }
 
-word-behind : (t : List ℕ) (k n : ℕ) → k < 6445 → 188648 ≤ length t → Behind t (putWord t k n)
+word-behind : (t : List ℕ) (k n : ℕ) → k < 6445 → indexBytes ≤ length t → Behind t (putWord t k n)
 unfolding putWord
-word-behind t k n h room = put-behind t (137088 + 8 * k) (le 8 n) (omega (arith, le-length 8 n)) room
+word-behind t k n h room = put-behind t (nameBytes + 8 * k) (le 8 n) (omega (arith, le-length 8 n)) room
 
-more-behind : (t : List ℕ) (k : ℕ) → k < 6445 → 188648 ≤ length t → Behind t (putMore t k)
+more-behind : (t : List ℕ) (k : ℕ) → k < 6445 → indexBytes ≤ length t → Behind t (putMore t k)
 unfolding putMore
 more-behind t k h room = word-behind t k (wordIn t k % 65536 + 1) h room
 
-node-behind : (t : List ℕ) (at x y : ℕ) → at < 4096 → 188648 ≤ length t → Behind t (putNode t at x y)
+node-behind : (t : List ℕ) (at x y : ℕ) → at < 4096 → indexBytes ≤ length t → Behind t (putNode t at x y)
 unfolding putNode
 node-behind t at x y h room =
     let first = word-behind t at x (omega arith) room in
     behind-on first (word-behind (putWord t at x) (at + 1) y (omega arith) (omega (arith, first .long)))
 
-next-behind : (t : List ℕ) (at next : ℕ) → at < 4096 → 188648 ≤ length t → Behind t (putNext t at next)
+next-behind : (t : List ℕ) (at next : ℕ) → at < 4096 → indexBytes ≤ length t → Behind t (putNext t at next)
 unfolding putNext
 next-behind t at next h room = word-behind t (at + 1) (linkWord (linkedTo next (linkIn (wordIn t (at + 1))))) (omega arith) room
 
-last-behind : (t : List ℕ) (k at : ℕ) → k < 6445 → 188648 ≤ length t → Behind t (putLast t k at)
+last-behind : (t : List ℕ) (k at : ℕ) → k < 6445 → indexBytes ≤ length t → Behind t (putLast t k at)
 unfolding putLast
 last-behind t k at h room = by (eqb (chainIn (wordIn t k) .count) 0)
   where
@@ -105,7 +106,7 @@ last-behind t k at h room = by (eqb (chainIn (wordIn t k) .count) 0)
         let first = next-behind t last at (omega arith) room in
         behind-on first (word-behind (putNext t last at) k (chainWord (longer at (chainIn (wordIn t k)))) h (omega (arith, first .long)))
 
-entry-behind : (t : List ℕ) (end : ℕ) (e : NameEntry) → e .sort < 8 → length (e .name) ≤ 64 → end + length (entryBytes e) ≤ 137088 → 188648 ≤ length t
+entry-behind : (t : List ℕ) (end : ℕ) (e : NameEntry) → e .sort < 8 → length (e .name) ≤ 64 → end + length (entryBytes e) ≤ nameBytes → indexBytes ≤ length t
     → Behind t (putEntry t end e)
 unfolding putEntry
 entry-behind t end e s l inside room =
@@ -124,8 +125,8 @@ entry-behind t end e s l inside room =
 behind-scope : {t u : List ℕ} {path : List Name} → Behind t u → InScope t path → InScope u path
 unfolding scopeLength scopeIn
 behind-scope {t} {u} {path} b h =
-    let one : scopeLength u ≡ scopeLength t = sym (getD-part u 188648 1 0 (omega arith)) ∙ ap (λ (l : List ℕ). getD l 0 0) (b .behind 188648 1 (omega arith)) ∙
-    getD-part t 188648 1 0 (omega arith) in
+    let one : scopeLength u ≡ scopeLength t = sym (getD-part u indexBytes 1 0 (omega arith)) ∙ ap (λ (l : List ℕ). getD l 0 0) (b .behind indexBytes 1 (omega arith)) ∙
+    getD-part t indexBytes 1 0 (omega arith) in
     record {
       room = omega (arith, b .long, h .room);
       fits = omega (arith, one, h .fits);

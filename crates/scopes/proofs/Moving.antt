@@ -11,44 +11,45 @@ use Rattle.byte_slices.proofs.PartLaws.{length-part, length-part-le, length-put
 use Rattle.policy.specs.Basics.{Name, every}
 use Rattle.policy.specs.Names.{full}
 use Rattle.scopes.specs.Path.{scopeOf}
-use Rattle.scopes.specs.Scope.{scopeLength, scopeIn, InScope, lastDot, ComposedBy, ShortBy, Names, Starts, EntersBlock, LeavesBlock}
+use Rattle.scopes.specs.Scope.{scopeLength, scopeIn, InScope, lastDot, ComposedBy, ShortBy, Names, Starts, EntersBlock, LeavesBlock, symbolBytes}
 use Rattle.scopes.specs.declared.ComposedName.{ComposedName}
 use Rattle.scopes.proofs.PathLaws.{cut-full, front-full, first-part, other-parts, part-more}
 use Rattle.scopes.proofs.Memory.{kept-none, kept-on, kept-set, kept-put, long-set, scope-set, scope-take, scope-none}
+use Rattle.name_index.specs.Index.{indexBytes}
 
 -- at the whole-text level
-pub started : (t : List ℕ) → 188713 ≤ length t → Starts t (set t 188648 0)
+pub started : (t : List ℕ) → symbolBytes ≤ length t → Starts t (set t indexBytes 0)
 unfolding every
 started t room = record {
-  kept = kept-set t 188648 0 (omega arith) (omega arith);
+  kept = kept-set t indexBytes 0 (omega arith) (omega arith);
   starts = record {
-    room = omega (arith, length-set t 188648 0);
+    room = omega (arith, length-set t indexBytes 0);
     fits = omega (arith, long-set t 0 room);
-    stands = ap (scopeIn (set t 188648 0)) (long-set t 0 room) ∙ scope-none (set t 188648 0);
+    stands = ap (scopeIn (set t indexBytes 0)) (long-set t 0 room) ∙ scope-none (set t indexBytes 0);
     parts = refl;
   };
 }
 
 -- a block closed
-module _ (t : List ℕ) (n m : ℕ) (room : 188713 ≤ length t) (short : n ≤ 64) (is : scopeLength t ≤ 64 → n ≡ scopeLength t)
+module _ (t : List ℕ) (n m : ℕ) (room : symbolBytes ≤ length t) (short : n ≤ 64) (is : scopeLength t ≤ 64 → n ≡ scopeLength t)
     (cut : m ≡ lastDot (scopeIn t n)) (within : m ≤ n) where
-  pub left : LeavesBlock t (set t 188648 m)
+  pub left : LeavesBlock t (set t indexBytes m)
   left = record {
-    kept = kept-set t 188648 m (omega arith) (omega arith);
+    kept = kept-set t indexBytes m (omega arith) (omega arith);
     leaves = λ b path sc.
         let st : scopeIn t n ≡ full path b = ap (scopeIn t) (is (sc .fits)) ∙ sc .stands in
         let length-is : m ≡ length (scopeOf path) = cut ∙ ap lastDot st ∙ cut-full path b (first-part b path (sc .parts) .1) in
         record {
-          room = omega (arith, length-set t 188648 m);
+          room = omega (arith, length-set t indexBytes m);
           fits = omega (arith, long-set t m room);
-          stands = ap (scopeIn (set t 188648 m)) (long-set t m room) ∙ scope-set t m m room ∙ sym (scope-take t n m within) ∙ ap (take m) st
+          stands = ap (scopeIn (set t indexBytes m)) (long-set t m room) ∙ scope-set t m m room ∙ sym (scope-take t n m within) ∙ ap (take m) st
               ∙ ap (λ (k : ℕ). take k (full path b)) length-is ∙ front-full path b;
           parts = other-parts b path (sc .parts);
         };
   }
 
 -- a block opened: its full name was put together in memory of its own
-module _ (t : List ℕ) (b : Name) (room : 188713 ≤ length t) {z whole : List ℕ} where
+module _ (t : List ℕ) (b : Name) (room : symbolBytes ≤ length t) {z whole : List ℕ} where
   pub not-entered : {r : ComposedName} → Names t b z whole r → r ≡ ComposedName.TooLong → EntersBlock t t b false
   not-entered h e = record {
     kept = kept-none t;
@@ -71,7 +72,7 @@ module _ (t : List ℕ) (b : Name) (room : 188713 ≤ length t) {z whole : List 
     abbrev mid : List ℕ
     mid = put t 188649 (part whole 0 m)
 
-    room-mid : 188713 ≤ length mid
+    room-mid : symbolBytes ≤ length mid
     room-mid = omega (arith, length-put t 188649 (part whole 0 m) fits-in)
 
     scope-mid : scopeIn mid m ≡ part whole 0 m
@@ -82,14 +83,14 @@ module _ (t : List ℕ) (b : Name) (room : 188713 ≤ length t) {z whole : List 
     composed : (path : List Name) → InScope t path → ComposedBy (full path b) whole (ComposedName.Length m)
     composed path sc = subst (ComposedBy (full path b) whole) e (h .is path sc)
 
-    pub entered : {u : List ℕ} → u ≡ mid → EntersBlock t (set u 188648 m) b true
-    entered {u} q = subst (λ (l : List ℕ). EntersBlock t (set l 188648 m) b true) (sym q) (record {
-      kept = kept-on (kept-put t 188649 (part whole 0 m) (omega arith) fits-in) (kept-set mid 188648 m (omega arith) (omega (arith, room-mid)));
+    pub entered : {u : List ℕ} → u ≡ mid → EntersBlock t (set u indexBytes m) b true
+    entered {u} q = subst (λ (l : List ℕ). EntersBlock t (set l indexBytes m) b true) (sym q) (record {
+      kept = kept-on (kept-put t 188649 (part whole 0 m) (omega arith) fits-in) (kept-set mid indexBytes m (omega arith) (omega (arith, room-mid)));
       answers = λ path sc. sym (le-leb (length (full path b)) 64 (omega (arith, composed path sc .1, short)));
       enters = λ path sc p r. record {
-        room = omega (arith, room-mid, length-set mid 188648 m);
+        room = omega (arith, room-mid, length-set mid indexBytes m);
         fits = omega (arith, long-set mid m room-mid, short);
-        stands = ap (scopeIn (set mid 188648 m)) (long-set mid m room-mid) ∙ scope-set mid m m room-mid ∙ scope-mid ∙ composed path sc .0;
+        stands = ap (scopeIn (set mid indexBytes m)) (long-set mid m room-mid) ∙ scope-set mid m m room-mid ∙ scope-mid ∙ composed path sc .0;
         parts = part-more b path p (sc .parts);
       };
       stays = λ e. absurd (false≢true (sym e));

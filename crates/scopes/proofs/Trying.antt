@@ -16,7 +16,7 @@ use Rattle.name_chains.specs.declared.Tried.{Tried}
 use Rattle.policy.specs.Names.{full, outward, hasDotInFront, tries}
 use Rattle.policy.proofs.Environments.{tried-once}
 use Rattle.scopes.specs.Path.{scopeOf, orElse, foundFirst, ifFound, deciding, Decides, isOnePart}
-use Rattle.scopes.specs.Scope.{scopeLength, scopeIn, InScope, within, lastDot, isMissing, isPlain, TriedOnce, Resolves}
+use Rattle.scopes.specs.Scope.{scopeLength, scopeIn, InScope, within, lastDot, isMissing, isPlain, TriedOnce, Resolves, symbolBytes}
 use Rattle.scopes.proofs.PathLaws.{cut-full, front-full, first-part, other-parts, no-block, within-full}
 use Rattle.byte_slices.specs.Parts.{part}
 use Rattle.byte_slices.proofs.PartLaws.{drop-part, part-whole}
@@ -90,7 +90,7 @@ module _ (t : List ℕ) (f : ℕ) (w : Name) where
   unfolding tries
   tries-outward path h = rw h
 
-  module _ (n : ℕ) (r : Tried) (short : n ≤ 64) (room : 188713 ≤ length t) (some : 0 < n) (h : Tries t f (within (scopeIn t n) w) r) where
+  module _ (n : ℕ) (r : Tried) (short : n ≤ 64) (room : symbolBytes ≤ length t) (some : 0 < n) (h : Tries t f (within (scopeIn t n) w) r) where
     not-whole : scopeIn t n ≡ [] → ⊥
     not-whole e = omega (arith, scope-long t n short room, ap length e)
 

@@ -17,16 +17,21 @@ use Rattle.name_chains.specs.Chains.{Chained}
 use Rattle.name_chains.specs.declared.Tried.{Tried}
 use Rattle.scopes.specs.Path.{scopeOf, Decides, isOnePart}
 use Rattle.scopes.specs.declared.ComposedName.{ComposedName}
+use Rattle.name_index.specs.Index.{indexBytes}
+
+-- the memory of the symbols with their index and the scope
+abbrev pub symbolBytes : ℕ
+symbolBytes = 188713
 
 unfoldable pub scopeLength : List ℕ → ℕ
-scopeLength t = getD t 188648 0
+scopeLength t = getD t indexBytes 0
 
 unfoldable pub scopeIn : List ℕ → ℕ → Name
 scopeIn t n = part t 188649 n
 
 -- the memory t has the full name of the innermost block of a path
 pub record InScope (t : List ℕ) (path : List Name) : Type 0 where
-  pub room : 188713 ≤ length t
+  pub room : symbolBytes ≤ length t
   pub fits : scopeLength t ≤ 64
   pub stands : scopeIn t (scopeLength t) ≡ scopeOf path
   pub parts : every isOnePart path ≡ true
@@ -94,7 +99,7 @@ pub record Resolves (t : List ℕ) (f : ℕ) (w : Name) (r : Tried) : Type 0 whe
 -- the memory before the scope, the symbols and their index, is as it was
 pub record SymbolsKept (before after : List ℕ) : Type 0 where
   pub long : length after ≡ length before
-  pub front : (p w : ℕ) → p + w ≤ 188648 → part after p w ≡ part before p w
+  pub front : (p w : ℕ) → p + w ≤ indexBytes → part after p w ≡ part before p w
 
 -- at the whole-text level
 pub record Starts (before after : List ℕ) : Type 0 where

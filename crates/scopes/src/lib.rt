@@ -4,6 +4,7 @@
 // decides.
 use name_chains::Tried;
 use symbols::Found;
+use symbols::NameFamily;
 ghost use mathlib.Core.Path.{_≡_};
 ghost use mathlib.Core.Bool.{true};
 ghost use Prim.Native.Nat.{_+_, _<_, _≤_};
@@ -11,17 +12,14 @@ ghost use lib.ListN.{length};
 ghost use Rattle.byte_slices.specs.Parts.{part};
 ghost use Rattle.policy.specs.Names.{hasDotInFront};
 ghost use Rattle.name_chains.specs.Chains.{Tries};
-ghost use Rattle.scopes.specs.Scope.{scopeLength, scopeIn, lastDot, isMissing, within, InBlock, Composes, Names, TriedOnce, Resolves, Starts, EntersBlock, LeavesBlock};
+ghost use Rattle.scopes.specs.Scope.{scopeLength, scopeIn, lastDot, isMissing, within, InBlock, Composes, Names, TriedOnce, Resolves, Starts, EntersBlock, LeavesBlock, symbolBytes};
 ghost use Rattle.scopes.specs.Symbols.{Looks, LooksClass, LooksPermission};
 
 // The memory of the symbols with their index and the scope: a byte for its length, and its bytes.
 pub const SYMBOL_BYTES: usize = name_index::SYMBOL_BYTES + 1 + lexer::Name::MAX;
 
-// Where the length of the scope stands; its bytes follow.
+// Where the length of the scope is; its bytes follow.
 const SCOPE: usize = name_index::SYMBOL_BYTES;
-
-// The family of the classes.
-const CLASSES: usize = 3;
 
 // A full name that was put together: its length, or that it is longer than a name may be.
 pub enum ComposedName {
@@ -33,7 +31,7 @@ pub enum ComposedName {
 
 // The length of the scope.
 fn scope_length(symbols: &[u8]) -> usize
-    requires { ⌜ 188713 ≤ length (now symbols) ⌝ }
+    requires { ⌜ symbolBytes ≤ length (now symbols) ⌝ }
     ensures { λ r. ⌜ (r ≤ 64) × (scopeLength (now (symbols .entry)) ≤ 64 → r ≡ scopeLength (now (symbols .entry))) ⌝ }
 {
     let long = symbols[SCOPE] as usize;
@@ -43,9 +41,9 @@ fn scope_length(symbols: &[u8]) -> usize
     long
 }
 
-// Where the last dot of the first n bytes of the scope stands, or 0: block names have no dot.
+// Where the last dot of the first n bytes of the scope is, or 0: block names have no dot.
 fn last_dot(symbols: &[u8], n: usize) -> usize
-    requires { ⌜ (n ≤ 64) × (188713 ≤ length (now symbols)) ⌝ }
+    requires { ⌜ (n ≤ 64) × (symbolBytes ≤ length (now symbols)) ⌝ }
     ensures { λ r. ⌜ (r ≡ lastDot (scopeIn (now (symbols .entry)) n)) × (0 < n → r < n) × (r ≤ n) ⌝ }
 {
     let mut i = n;
@@ -71,7 +69,7 @@ pub fn in_block(symbols: &[u8]) -> bool
 
 // No block is open.
 pub fn start(symbols: &mut [u8])
-    requires { ⌜ 188713 ≤ length (now symbols) ⌝ }
+    requires { ⌜ symbolBytes ≤ length (now symbols) ⌝ }
     ensures { λ _. ⌜ Starts (now (symbols .entry)) (now (symbols .exit)) ⌝ }
 {
     symbols[SCOPE] = 0;
@@ -80,7 +78,7 @@ pub fn start(symbols: &mut [u8])
 // A name inside the block whose full name is the first n bytes of the scope, put together in lent memory: those
 // bytes, a dot, and the name. With n = 0 it is the name alone.
 fn compose(symbols: &[u8], n: usize, name: &[u8], into: &mut [u8]) -> ComposedName
-    requires { ⌜ (n ≤ 64) × (188713 ≤ length (now symbols)) × (64 ≤ length (now into)) ⌝ }
+    requires { ⌜ (n ≤ 64) × (symbolBytes ≤ length (now symbols)) × (64 ≤ length (now into)) ⌝ }
     ensures { λ r. ⌜ Composes (within (scopeIn (now (symbols .entry)) n) (now (name .entry))) (now (into .entry)) (now (into .exit)) r ⌝ }
 {
     let long = name.len();
@@ -108,7 +106,7 @@ pub fn full_name(
     len: usize,
     into: &mut [u8],
 ) -> ComposedName
-    requires { ⌜ (188713 ≤ length (now symbols)) × (64 ≤ length (now into)) ⌝ }
+    requires { ⌜ (symbolBytes ≤ length (now symbols)) × (64 ≤ length (now into)) ⌝ }
     ensures { λ r. ⌜ Names (now (symbols .entry)) (part (now (text .entry)) from len) (now (into .entry)) (now (into .exit)) r ⌝ }
 {
     compose(
@@ -122,7 +120,7 @@ pub fn full_name(
 // Opens a block whose name is the len bytes of the text from a place on. Where its full name would be too long,
 // nothing changes, and the answer is no.
 pub fn enter_block(symbols: &mut [u8], text: &[u8], from: usize, len: usize) -> bool
-    requires { ⌜ 188713 ≤ length (now symbols) ⌝ }
+    requires { ⌜ symbolBytes ≤ length (now symbols) ⌝ }
     ensures { λ r. ⌜ EntersBlock (now (symbols .entry)) (now (symbols .exit)) (part (now (text .entry)) from len) r ⌝ }
 {
     let mut whole = [0u8; lexer::Name::MAX];
@@ -137,7 +135,7 @@ pub fn enter_block(symbols: &mut [u8], text: &[u8], from: usize, len: usize) -> 
 
 // Closes the innermost block.
 pub fn leave_block(symbols: &mut [u8])
-    requires { ⌜ 188713 ≤ length (now symbols) ⌝ }
+    requires { ⌜ symbolBytes ≤ length (now symbols) ⌝ }
     ensures { λ _. ⌜ LeavesBlock (now (symbols .entry)) (now (symbols .exit)) ⌝ }
 {
     let n = scope_length(symbols);
@@ -150,7 +148,7 @@ pub fn leave_block(symbols: &mut [u8])
 // One try: a use inside the block whose full name is the first n bytes of the scope. A longer name than there can be
 // is not looked for.
 fn try_in(symbols: &[u8], n: usize, family: usize, name: &[u8]) -> Tried
-    requires { ⌜ (n ≤ 64) × (188713 ≤ length (now symbols)) ⌝ }
+    requires { ⌜ (n ≤ 64) × (symbolBytes ≤ length (now symbols)) ⌝ }
     ensures { λ r. ⌜ Tries (now (symbols .entry)) family (within (scopeIn (now (symbols .entry)) n) (now (name .entry))) r ⌝ }
 {
     let mut whole = [0u8; lexer::Name::MAX];
@@ -190,7 +188,7 @@ fn is_missing(found: Found) -> bool
 
 // What a use stands for in a family, and how many entries the try that decides compared.
 pub fn find(symbols: &[u8], family: usize, name: &[u8]) -> Tried
-    requires { ⌜ 188713 ≤ length (now symbols) ⌝ }
+    requires { ⌜ symbolBytes ≤ length (now symbols) ⌝ }
     ensures { λ r. ⌜ Resolves (now (symbols .entry)) family (now (name .entry)) r ⌝ }
 {
     if has_dot_in_front(name) {
@@ -245,7 +243,7 @@ pub fn lookup(symbols: &[u8], family: usize, name: &[u8]) -> Found
 pub fn lookup_class(symbols: &[u8], name: &[u8]) -> Found
     ensures { λ r. ⌜ LooksClass (now (symbols .entry)) (now (name .entry)) r ⌝ }
 {
-    resolve(symbols, CLASSES, name)
+    resolve(symbols, NameFamily::CLASSES, name)
 }
 
 // The same for a permission of a class, by the family of its class: permissions take no block's name.

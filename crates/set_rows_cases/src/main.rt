@@ -1,5 +1,5 @@
-// Runs every function of `set_rows`, and `bitset::part` and `clear_at`, at several places of a table, and writes what
-// each answers, a line for an answer.
+// Runs every function of `set_rows`, and `byte_slices::part` and `clear_at`, at several places of a table, and writes
+// what each answers, a line for an answer.
 
 // Offsets in a table of 24 bytes, widths there, and widths of its rows.
 const PLACES: [usize; 6] = [0, 1, 3, 20, 24, 18446744073709551615];

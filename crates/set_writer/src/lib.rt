@@ -7,6 +7,7 @@ ghost use Rattle.words.specs.Numbers.{wordOf};
 ghost use Rattle.set_writer.specs.Naming.{Refers};
 ghost use Rattle.set_writer.specs.Sets.{operatorUnit, Begins, WritesSet};
 use items::Item;
+use policy::Sort;
 use statement_code::Unit;
 use symbols::Found;
 use words::Word;
@@ -40,7 +41,7 @@ pub fn reference(symbols: &[u8], family: usize, name: &[u8]) -> NameUnit
             if Unit::ATTRIBUTE as usize <= number {
                 return NameUnit::Missing;
             }
-            if sort < 3 {
+            if sort < Sort::FIRST_ATTRIBUTE {
                 return NameUnit::Unit(number as u16);
             }
             NameUnit::Unit(Unit::ATTRIBUTE + number as u16)

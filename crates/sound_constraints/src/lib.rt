@@ -152,7 +152,7 @@ fn rows_fit(table: &[u8], start: u32, first: u16, count: u16, counts: NameCounts
     while 0 < left {
         let row = table_reader::row_at(table, start, number);
         let place = start as usize + Row::BYTES * (number as usize);
-        if byte_slices::byte(table, place + 3) != 0 {
+        if byte_slices::byte(table, place + Row::UNUSED_AT) != 0 {
             return false;
         }
         if !fits_row(row, counts) {
@@ -201,7 +201,8 @@ fn fits_mask(constraint: ConstraintRecord, counts: NameCounts, permissions: &[us
 }
 
 // Whether so many constraints take up so many rows in order, with none left, and are good. The constraints of 10
-// bytes start at `constraints`, the rows of 6 bytes at `start`; `permissions` holds how many permissions each class has.
+// bytes start at `constraints`, the rows of 6 bytes at `start`; `permissions` holds how many permissions each class
+// has.
 pub fn constraints_fit(
     table: &[u8],
     constraints: u32,

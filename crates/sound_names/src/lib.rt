@@ -4,6 +4,7 @@
 use name_spelling::NO_NAME;
 use policy::FullName;
 use policy::NameCounts;
+use policy::NameEntry;
 use policy::Sort;
 use symbols::Entry;
 use symbols::Found;
@@ -24,7 +25,7 @@ pub enum Counted {
 }
 
 // After the counts of the sorts: 0, or right after a class and its permissions 1 more than these are.
-const OPEN: usize = 7;
+const OPEN: usize = Sort::PERMISSION;
 
 // ---- one entry
 
@@ -33,7 +34,11 @@ fn is_first(table: &[u8], start: usize, at: usize, past: usize, family: usize) -
     requires { ⌜ at + 4 ≤ past ⌝ }
     ensures { λ r. ⌜ r ≡ not (isFound (firstNamed family (between (now (table .entry)) (at + 4) past) (entriesAt (now (table .entry)) start at))) ⌝ }
 {
-    let name = byte_slices::part(table, at + 4, past - (at + 4));
+    let name = byte_slices::part(
+        table,
+        at + NameEntry::HEAD_BYTES,
+        past - (at + NameEntry::HEAD_BYTES),
+    );
     let tried = name_chains::find_in_section(table, start, at, family, name);
     let found = tried.found;
     match found {
@@ -60,13 +65,13 @@ fn is_new(table: &[u8], start: usize, at: usize, past: usize, family: usize, sha
 fn most(sort: usize) -> usize
     ensures { λ r. ⌜ r ≡ mostOf sort ⌝ }
 {
-    if sort == 0 {
+    if sort == Sort::USER {
         return policy::User::MAX;
     }
-    if sort == 1 {
+    if sort == Sort::ROLE {
         return policy::Role::MAX;
     }
-    if sort == 2 {
+    if sort == Sort::TYPE {
         return policy::Type::MAX;
     }
     if sort < Sort::CLASS {
@@ -149,7 +154,13 @@ fn walk(
         let k = symbols::next_entry(table, at, end);
         match k {
             Entry::Named { sort, number, past } => {
-                let name = name_spelling::spell(&classes, table, at + 4, past, most_parts(sort));
+                let name = name_spelling::spell(
+                    &classes,
+                    table,
+                    at + NameEntry::HEAD_BYTES,
+                    past,
+                    most_parts(sort),
+                );
                 if name == NO_NAME {
                     return false;
                 }
@@ -184,7 +195,7 @@ pub fn check_names(
     ensures { λ r. ⌜ (r ≡ countedOf (soundNames (between (now (table .entry)) start end)))
         × (now (permissions .exit) ≡ permissionsAfter (soundNames (between (now (table .entry)) start end)) (now (permissions .entry))) ⌝ }
 {
-    let mut counts = [0usize; 8];
+    let mut counts = [0usize; Sort::COUNT];
     let mut found = [0usize; policy::Class::MAX];
     if !walk(table, start, end, &mut counts, &mut found) {
         return Counted::Unsound;

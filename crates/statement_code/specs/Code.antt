@@ -1,4 +1,4 @@
--- The statements that need final sets, as a flat code of 16-bit units: what the parser leaves for the resolver. Operators are before their
+-- The statements that need final sets, as a flat code of 16-bit units: what the parser leaves for the resolver. Operators come before their
 -- operands, and an end mark after the last, so that both sides go through it from left to right. Assumes nothing.
 use Prim.Native.Nat.{ℕ, _+_}
 use mathlib.Core.List.{List, [], _∷_, _++_}

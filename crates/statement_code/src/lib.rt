@@ -1,5 +1,5 @@
-// The units of the statement code that the parser writes and the resolver reads, and how one is written; what they stand for is
-// in specs/.
+// The units of the statement code that the parser writes and the resolver reads, and how one is written; what they
+// stand for is in specs/.
 use policy::Family;
 use policy::Relation;
 ghost use mathlib.Core.Path.{_≡_};

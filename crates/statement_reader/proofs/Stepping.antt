@@ -53,20 +53,21 @@ use Rattle.statement_reader.proofs.Filling.{now-long, front, put-behind
 use Rattle.statement_reader.proofs.Sections.{declared-more, declared-same, symbols-more, symbols-same, transitions-more, transitions-same}
 use Rattle.statement_reader.proofs.Sections.{constrains-more, constrains-same, constraints-more, constraints-same, rows-more, rows-same}
 use Rattle.statement_reader.proofs.KeywordKinds.{IsOf, formed-of, resolved-of}
+use Rattle.symbols.specs.Section.{nameBytes}
 
 module _ {p : Policy} {path : List Name} {lent : Memory} {sy co cs rs : List ℕ} {s : Progress} (h : Holds p path lent (memory sy co cs rs) s) where
   -- the memory of the symbols holds what the statements declare
   table-holds : declaring.Holds sy (s .symbols) (declarations p)
   unfolding symbolsOf
   table-holds = record {
-    front = sym (take-take (s .symbols) 137088 sy (h .chained .below)) ∙ front (h .symbols);
+    front = sym (take-take (s .symbols) nameBytes sy (h .chained .below)) ∙ front (h .symbols);
     inside = omega (arith, h .chained .below, h .chained .room);
     good = h .accepted .names;
     chained = h .chained;
   }
 
-  names-long : length (take 137088 sy) ≡ 137088
-  names-long = length-take-le 137088 sy (omega (arith, h .chained .room))
+  names-long : length (take nameBytes sy) ≡ nameBytes
+  names-long = length-take-le nameBytes sy (omega (arith, h .chained .room))
 
   module _ (place : ℕ) where
     filled-declared : {sy' co' : List ℕ} {past to : ℕ} (d : Declaration) → declaring.Adds sy sy' (s .symbols) past (declarations p) d

@@ -16,6 +16,7 @@ use Rattle.name_chains.specs.Chains.{Chained}
 use Rattle.scopes.specs.Scope.{InScope}
 use Rattle.declarations.specs.Declaring.{sectionOf}
 use Rattle.statement_reader.specs.declared.Progress.{Progress}
+use Rattle.symbols.specs.Section.{nameBytes}
 
 -- the four lent memories
 pub record Memory : Type 0 where
@@ -50,7 +51,7 @@ pub record Starts (lent content now : List ℕ) (end : ℕ) : Type 0 where
 pub record Holds (p : Policy) (path : List Name) (lent now : Memory) (s : Progress) : Type 0 where
   pub accepted : Accepted p
   pub blocks : GoodPath path
-  pub symbols : Starts (take 137088 (lent .symbols)) (symbolsOf p) (take 137088 (now .symbols)) (s .symbols)
+  pub symbols : Starts (take nameBytes (lent .symbols)) (symbolsOf p) (take nameBytes (now .symbols)) (s .symbols)
   pub chained : Chained (now .symbols) (s .symbols) (entries (declarations p))
   pub scope : InScope (now .symbols) path
   pub code : Starts (lent .code) (codeOf p) (now .code) (s .code)

@@ -27,6 +27,7 @@ use Rattle.statement_reader.specs.Memory.{Memory, symbolsOf, constraints
 use Rattle.statement_reader.specs.declared.Progress.{Progress}
 use Rattle.statement_reader.specs.declared.Step.{Step}
 use Rattle.statement_reader.specs.declared.CodedStatement.{CodedStatement}
+use Rattle.symbols.specs.Section.{nameBytes}
 
 -- the keyword that an enum of src/ stands for
 abbrev pub codedKeyword : CodedStatement → words.Keyword
@@ -36,7 +37,7 @@ codedKeyword CodedStatement.Transition = transitionK
 
 -- the lent memory holds what the statements of p leave there
 pub record Filled (p : Policy) (path : List Name) (lent now : Memory) (s : Progress) : Type 0 where
-  pub symbols : Starts (take 137088 (lent .symbols)) (symbolsOf p) (take 137088 (now .symbols)) (s .symbols)
+  pub symbols : Starts (take nameBytes (lent .symbols)) (symbolsOf p) (take nameBytes (now .symbols)) (s .symbols)
   pub chained : Chained (now .symbols) (s .symbols) (entries (declarations p))
   pub scope : InScope (now .symbols) path
   pub code : Starts (lent .code) (codeOf p) (now .code) (s .code)

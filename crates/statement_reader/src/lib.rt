@@ -12,6 +12,7 @@ use policy::Constraint;
 use policy::Family;
 use policy::Refusal;
 use policy::Relation;
+use policy::Sort;
 use policy::Transition;
 use statement_writer::CodeWritten;
 ghost use mathlib.Core.Path.{_≡_};
@@ -56,9 +57,9 @@ fn thing_sort(family: Family) -> usize
     ensures { λ r. ⌜ r ≡ sortCode (thingOf (familyOf family)) ⌝ }
 {
     match family {
-        Family::Users => 0,
-        Family::Roles => 1,
-        Family::Types => 2,
+        Family::Users => Sort::USER,
+        Family::Roles => Sort::ROLE,
+        Family::Types => Sort::TYPE,
     }
 }
 
@@ -67,9 +68,9 @@ fn attribute_sort(family: Family) -> usize
     ensures { λ r. ⌜ r ≡ sortCode (attributeOf (familyOf family)) ⌝ }
 {
     match family {
-        Family::Users => 3,
-        Family::Roles => 4,
-        Family::Types => 5,
+        Family::Users => Sort::USER_ATTRIBUTE,
+        Family::Roles => Sort::ROLE_ATTRIBUTE,
+        Family::Types => Sort::TYPE_ATTRIBUTE,
     }
 }
 

@@ -1,4 +1,4 @@
--- How the search for a sort and number goes on by what `look` found. Assumes nothing.
+-- How the search for a sort and number goes on by what `next_entry` found. Assumes nothing.
 use mathlib.Core.Path.{_≡_, refl, sym, ap, _∙_}
 use mathlib.Core.Bool.{Bool, true, false, _&&_}
 use mathlib.Core.List.{List, [], _∷_}

@@ -1,4 +1,4 @@
--- What `look` says of the place that it looks at. Assumes nothing.
+-- What `next_entry` says of the place that it looks at. Assumes nothing.
 use mathlib.Core.Path.{_≡_, refl, sym, ap, subst, _∙_}
 use mathlib.Core.Bool.{Bool, true, false}
 use mathlib.Core.List.{List}
@@ -16,7 +16,7 @@ use Rattle.symbols.specs.declared.Entry.{Entry}
 use Rattle.byte_slices.proofs.PartLaws.{part-present}
 use Rattle.symbols.proofs.SectionLaws.{at-entry, at-cut, at-end, at-short}
 
--- what a caller of `look` knows of the answer k
+-- what a caller of `next_entry` knows of the answer k
 pub met : {t : List ℕ} {at end : ℕ} {r k : Entry} → EntryIs t at end r → r ≡ k → EntryIs t at end k
 met {t} {at} {end} h e = subst (EntryIs t at end) e h
 

@@ -1,4 +1,4 @@
--- A walk by `look` from the start of a section: the entries passed are those of the part walked over, and at the end they are all. So a
+-- A walk by `next_entry` from the start of a section: the entries passed are those of the part walked over, and at the end they are all. So a
 -- walk can ask about the entries before the one it is at, as uniqueness does. Assumes nothing.
 use mathlib.Core.Path.{_≡_, sym, ap, _∙_}
 use mathlib.Core.List.{List, [], _∷_, _++_, append-nil}

@@ -1,4 +1,4 @@
--- A table that holds the bytes of some entries: `look`, `find` and `name_of` read those entries, and the place of a name is where its
+-- A table that holds the bytes of some entries: `next_entry`, `find` and `name_of` read those entries, and the place of a name is where its
 -- bytes stand. Assumes nothing.
 use mathlib.Core.Path.{_≡_, ap, _∙_}
 use mathlib.Core.List.{List, _++_, append-assoc}

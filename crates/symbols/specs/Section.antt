@@ -12,6 +12,10 @@ use Rattle.policy.specs.Basics.{given}
 use Rattle.policy.specs.Encode.{NameEntry, nameEntry}
 use Rattle.symbols.specs.declared.Entry.{Entry}
 
+-- room for all names that the maxima allow: 2,016 entries, each of at most 4 bytes and a name of 64
+abbrev pub nameBytes : ℕ
+nameBytes = 137088
+
 -- bytes as entries: they end after an entry, or in something that is no entry
 pub data Section : Type 0 where
   done broken : Section

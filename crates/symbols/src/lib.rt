@@ -2,6 +2,8 @@
 // its name's length in 1, and the name's bytes. The memory is the caller's; the same functions serve the compiler and
 // finished tables. Parts that reach past the end of a slice are cut there, so that the searches ask nothing of their
 // caller; what writes asks for room.
+use policy::NameEntry;
+use policy::Sort;
 ghost use mathlib.Core.Path.{_≡_};
 ghost use Prim.Native.Nat.{_+_, _-_, _*_, _<_, _≤_};
 ghost use lib.ListN.{length};
@@ -41,20 +43,20 @@ fn entry_at(table: &[u8], at: usize, end: usize) -> Entry
     requires { ⌜ (at ≤ end) × (end ≤ length (now table)) ⌝ }
     ensures { λ r. ⌜ EntryIs (now (table .entry)) at end r ⌝ }
 {
-    let name = at + 4;
+    let name = at + NameEntry::HEAD_BYTES;
     if end < name {
         if at == end {
             return Entry::Done;
         }
         return Entry::Broken;
     }
-    let past = name + little_endian::wide(table[at + 3]);
+    let past = name + little_endian::wide(table[at + NameEntry::LENGTH_AT]);
     if end < past {
         return Entry::Broken;
     }
     Entry::Named {
         sort: little_endian::wide(table[at]),
-        number: little_endian::get2(table, at + 1),
+        number: little_endian::get2(table, at + NameEntry::NUMBER_AT),
         past,
     }
 }
@@ -94,20 +96,33 @@ pub fn same(a: &[u8], i: usize, b: &[u8], j: usize, len: usize) -> bool
     same_bytes(byte_slices::part(a, i, len), byte_slices::part(b, j, len))
 }
 
+// The families of names by number: users, roles and types as their sorts, then the classes, and after them the
+// permissions of each class.
+pub struct NameFamily;
+
+impl NameFamily {
+    pub const CLASSES: usize = 3;
+
+    // The permissions of class 0; those of the other classes follow.
+    pub const FIRST_PERMISSIONS: usize = 4;
+
+    pub const COUNT: usize = NameFamily::FIRST_PERMISSIONS + policy::Class::MAX;
+}
+
 // The number of the family that an entry's name belongs to.
 pub fn family_of(sort: usize, number: usize) -> usize
     ensures { λ r. ⌜ r ≡ familyNumber sort number ⌝ }
 {
-    if sort < 3 {
+    if sort < Sort::FIRST_ATTRIBUTE {
         return sort;
     }
-    if sort < 6 {
-        return sort - 3;
+    if sort < Sort::CLASS {
+        return sort - Sort::FIRST_ATTRIBUTE;
     }
-    if sort == 6 {
-        return 3;
+    if sort == Sort::CLASS {
+        return NameFamily::CLASSES;
     }
-    4 + number / policy::Permission::MAX
+    NameFamily::FIRST_PERMISSIONS + number / policy::Permission::MAX
 }
 
 // Writes an entry at the end of a section, with the len bytes of text from a place on as its name; the section's new
@@ -127,13 +142,13 @@ pub fn append(
     let name = byte_slices::part(text, from, len);
     let long = name.len();
     table[end] = sort as u8;
-    little_endian::put2(table, end + 1, number);
-    table[end + 3] = long as u8;
-    byte_slices::copy(table, end + 4, name, 0, long);
-    end + 4 + long
+    little_endian::put2(table, end + NameEntry::NUMBER_AT, number);
+    table[end + NameEntry::LENGTH_AT] = long as u8;
+    byte_slices::copy(table, end + NameEntry::HEAD_BYTES, name, 0, long);
+    end + NameEntry::HEAD_BYTES + long
 }
 
-// Where the name of a sort and number stands.
+// Where the name of a sort and number is.
 pub fn name_of(table: &[u8], start: usize, end: usize, sort: usize, number: usize) -> NamePlace
     ensures { λ r. ⌜ replyOf r ≡ nameFrom sort number start (entriesAt (now (table .entry)) start end) ⌝ }
 {
@@ -156,8 +171,8 @@ pub fn name_of(table: &[u8], start: usize, end: usize, sort: usize, number: usiz
                     continue;
                 }
                 return NamePlace::At {
-                    start: at + 4,
-                    length: past - at - 4,
+                    start: at + NameEntry::HEAD_BYTES,
+                    length: past - at - NameEntry::HEAD_BYTES,
                 };
             }
             Entry::Done => return NamePlace::Nowhere,
@@ -173,7 +188,7 @@ const NAMES: usize = policy::User::MAX
     + 3 * policy::Attribute::MAX
     + policy::Class::MAX * (1 + policy::Permission::MAX);
 
-const ENTRY_BYTES: usize = 4 + lexer::Name::MAX;
+const ENTRY_BYTES: usize = NameEntry::HEAD_BYTES + lexer::Name::MAX;
 
 // Room for all names.
 pub const NAME_BYTES: usize = NAMES * ENTRY_BYTES;

@@ -1,4 +1,4 @@
--- The names of each sort counted in one walk by `look`. Assumes nothing.
+-- The names of each sort counted in one walk by `next_entry`. Assumes nothing.
 use Prim.Native.Nat.{ℕ, zero, suc, _+_, _<_, _≤_}
 use native.Mathlib.Omega.{arith}
 use native.Mathlib.Nat.{add-zero, zero-add}

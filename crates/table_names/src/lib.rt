@@ -67,7 +67,7 @@ pub fn count_names(table: &[u8]) -> NameCounts
 
 // ---- names
 
-// Where the name of a sort and number stands.
+// Where the name of a sort and number is.
 pub fn name_place(table: &[u8], sort: usize, number: usize) -> NamePlace
     ensures { λ r. ⌜ replyOf r ≡ nameAt (now (table .entry)) sort number ⌝ }
 {
@@ -100,7 +100,7 @@ pub fn is_named(table: &[u8], sort: usize, number: usize, word: &[u8]) -> bool
 
 // ---- permissions
 
-// Where the name of a permission stands, by its place in its class.
+// Where the name of a permission is, by its place in its class.
 fn permission_name(table: &[u8], class: usize, permission: usize) -> NamePlace
     ensures { λ r. ⌜ replyOf r ≡ permissionIn (now (table .entry)) class permission ⌝ }
 {

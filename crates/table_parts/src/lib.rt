@@ -128,7 +128,7 @@ pub fn entry_place_in_sound(table: &[u8], body: usize, place: usize) -> Place
 
 // ---- every table
 
-// Where the name of a sort and number stands.
+// Where the name of a sort and number is.
 pub fn name_place(table: &[u8], sort: usize, number: usize) -> Place
     ensures { λ r. ⌜ placeOf r ≡ nameOn (now (table .entry)) sort number ⌝ }
 {
@@ -140,7 +140,7 @@ pub fn name_place(table: &[u8], sort: usize, number: usize) -> Place
     name_place_in_sound(table, sort, number)
 }
 
-// Where the entry of a body 2 to 8 and its place there stands.
+// Where the entry of a body 2 to 8 and its place there is.
 pub fn entry_place(table: &[u8], body: usize, place: usize) -> Place
     ensures { λ r. ⌜ placeOf r ≡ entryOn (now (table .entry)) body place ⌝ }
 {

@@ -2,6 +2,7 @@
 // past the end all bytes read 0.
 use policy::Constraint;
 use policy::Row;
+use policy::Table;
 ghost use mathlib.Core.Path.{_≡_};
 ghost use Prim.Native.Nat.{_+_, _-_, _*_};
 ghost use lib.ListN.{length, take, drop};
@@ -63,9 +64,9 @@ pub fn constraint_at(table: &[u8], start: u32, number: u32) -> ConstraintRecord
     let at = start as usize + Constraint::BYTES * (number as usize);
     ConstraintRecord {
         class: u16_at(table, at),
-        mask: u32_at(table, at + 2),
-        first: u16_at(table, at + 6),
-        rows: u16_at(table, at + 8),
+        mask: u32_at(table, at + Constraint::MASK_AT),
+        first: u16_at(table, at + Constraint::FIRST_ROW_AT),
+        rows: u16_at(table, at + Constraint::ROW_COUNT_AT),
     }
 }
 
@@ -76,9 +77,9 @@ pub fn row_at(table: &[u8], start: u32, number: u32) -> RowRecord
     let at = start as usize + Row::BYTES * (number as usize);
     RowRecord {
         kind: byte_slices::byte(table, at),
-        component: byte_slices::byte(table, at + 1),
-        operator: byte_slices::byte(table, at + 2),
-        number: u16_at(table, at + 4),
+        component: byte_slices::byte(table, at + Row::COMPONENT_AT),
+        operator: byte_slices::byte(table, at + Row::OPERATOR_AT),
+        number: u16_at(table, at + Row::NUMBER_AT),
     }
 }
 
@@ -86,12 +87,18 @@ pub fn row_at(table: &[u8], start: u32, number: u32) -> RowRecord
 pub fn body_start(table: &[u8], body: u8) -> u32
     ensures { λ r. ⌜ r ≡ startIn (now (table .entry)) body ⌝ }
 {
-    u32_at(table, 4 + 8 * (body as usize))
+    u32_at(
+        table,
+        Table::FIRST_PAIR + Table::PAIR_BYTES * (body as usize),
+    )
 }
 
 // How many bytes a body has, as the header says.
 pub fn body_length(table: &[u8], body: u8) -> u32
     ensures { λ r. ⌜ r ≡ lengthIn (now (table .entry)) body ⌝ }
 {
-    u32_at(table, 8 + 8 * (body as usize))
+    u32_at(
+        table,
+        Table::FIRST_LENGTH + Table::PAIR_BYTES * (body as usize),
+    )
 }

@@ -2,14 +2,16 @@
 use Prim.Native.Nat.{_-_, _≤_}
 use borrow.Author.Needs.{needs}
 use Rattle.symbols.proofs.LookLaws.{met}
+use Rattle.symbols.specs.Section.{nameBytes}
 use native.Mathlib.Omega.{arith}
 use lib.ListN.{length}
 use mathlib.Core.Path.{_≡_}
 use Rattle.name_chains_cases.proofs.enter_all.Statement.{statement}
 use Rattle.name_chains_cases.proofs.enter_all.Tie as tie
+use Rattle.name_index.specs.Index.{indexBytes}
 
 abbrev Inv-loop : tie.InvT-loop
-Inv-loop section symbols₀ at₀ end₀ symbols at end = (188648 ≡ length symbols) × (end ≤ 137088)
+Inv-loop section symbols₀ at₀ end₀ symbols at end = (indexBytes ≡ length symbols) × (end ≤ nameBytes)
 
 abbrev μ-loop : tie.MeasureT-loop
 μ-loop section symbols₀ at₀ end₀ symbols at end = length section - at

@@ -4,9 +4,11 @@ use lib.ListN.{length}
 use mathlib.Core.Path.{_≡_}
 use Rattle.name_chains_cases.proofs.main.Statement.{statement}
 use Rattle.name_chains_cases.proofs.main.Tie as tie
+use Rattle.symbols.specs.Section.{nameBytes}
+use Rattle.name_index.specs.Index.{indexBytes}
 
 abbrev Inv-loop : tie.InvT-loop
-Inv-loop sections₀ symbols₀ left₀ sections symbols left = (137088 ≡ length sections) × (188648 ≡ length symbols)
+Inv-loop sections₀ symbols₀ left₀ sections symbols left = (nameBytes ≡ length sections) × (indexBytes ≡ length symbols)
 
 abbrev μ-loop : tie.MeasureT-loop
 μ-loop sections₀ symbols₀ left₀ sections symbols left = left

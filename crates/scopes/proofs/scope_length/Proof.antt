@@ -4,9 +4,10 @@ use borrow.Author.Needs.{needs}
 use Rattle.scopes.specs.Scope.{scopeLength}
 use Rattle.scopes.proofs.scope_length.Statement.{statement}
 use Rattle.scopes.proofs.scope_length.Tie as tie
+use Rattle.name_index.specs.Index.{indexBytes}
 
 cast-long : tie.Need-cast-long
-cast-long c = omega (arith, c .shared-slice-known .given 188648)
+cast-long c = omega (arith, c .shared-slice-known .given indexBytes)
 
 returns : tie.Need-returns
 unfolding scopeLength
