@@ -1,8 +1,8 @@
 /* ours.c: runs the library so many times on a policy, for callgrind and the clock.
  *
- * usage: ours compile|sound|change FILE TIMES
+ * usage: ours compile|sound|change|relabel FILE TIMES
  * change asks a granted change of the first user's first context, on class 1 (the first after process), permission 0: all its constraints
- * are consulted. Prints the answer and, as its last word, the best time of one run in nanoseconds. */
+ * are consulted. relabel asks a granted relabelling of a file of that class, with that context for all three. Prints the answer and, as its last word, the best time of one run in nanoseconds. */
 #include <stdio.h>
 #include <stdlib.h>
 #include <string.h>
@@ -10,7 +10,7 @@
 
 #include "tegzhumbi.h"
 
-static uint8_t text[65536], table[179652];
+static uint8_t text[65536], table[186068];
 
 static double now(void) {
     struct timespec t;
@@ -24,7 +24,7 @@ int main(int argc, char **argv) {
     if (!file) return 2;
     size_t length = fread(text, 1, sizeof text, file);
     int times = atoi(argv[3]);
-    int compiling = !strcmp(argv[1], "compile"), sounding = !strcmp(argv[1], "sound");
+    int compiling = !strcmp(argv[1], "compile"), sounding = !strcmp(argv[1], "sound"), relabelling = !strcmp(argv[1], "relabel");
     tegzhumbi_compiled compiled = {0, 0, 0};
     if (!compiling) compiled = tegzhumbi_compile(text, length, table, sizeof table);
     size_t used = compiled.place;
@@ -38,7 +38,8 @@ int main(int argc, char **argv) {
         } else if (sounding) {
             a = tegzhumbi_sound(table, used);
         } else {
-            tegzhumbi_answer answer = tegzhumbi_change(table, used, 0, 0, 0, 0, 0, 0, 1, 0);
+            tegzhumbi_answer answer = relabelling ? tegzhumbi_relabel(table, used, 1, 0, 0, 0, 0, 0, 0, 0, 0, 0)
+                                                  : tegzhumbi_change(table, used, 0, 0, 0, 0, 0, 0, 1, 0);
             a = answer.outcome, b = answer.consulted;
         }
         double took = now() - start;

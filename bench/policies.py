@@ -120,6 +120,12 @@ def constraints(many, spread):
     return lines
 
 
+def relabels():
+    """As many validatetrans statements as there may be, all on one class."""
+    lines = declare(10, 10, 10, 8, 16) + relate(10, 10, 10)
+    return lines + [f"(validatetrans c0 (or (eq u1 u2) (or (eq r3 r{n % 10}_) (neq t3 t{n % 7}_))))" for n in range(64)]
+
+
 def longer(size):
     """The typical mix, cut at about so many bytes: how the cost grows with the text."""
     lines = declare(40, 20, 120, 8, 12, 8) + relate(40, 20, 120)
@@ -206,6 +212,7 @@ def main():
         "lines": lines_only(),
         "one-permission": constraints(128, False),
         "spread": constraints(128, True),
+        "relabels": relabels(),
         "branches": branches(),
         "blocks": blocks(),
     }

@@ -49,6 +49,11 @@ mod linked {
             table: *const u8, table_len: usize, source_user: u64, source_role: u64, source_type: u64, target_user: u64, target_role: u64,
             target_type: u64, class: u64, permission: u64,
         ) -> Answer;
+        #[allow(clippy::too_many_arguments)]
+        pub fn tegzhumbi_relabel(
+            table: *const u8, table_len: usize, class: u64, old_user: u64, old_role: u64, old_type: u64, new_user: u64, new_role: u64,
+            new_type: u64, process_user: u64, process_role: u64, process_type: u64,
+        ) -> Answer;
         pub fn tegzhumbi_new_role(table: *const u8, table_len: usize, role: u64, kind: u64, class: u64) -> Answer;
         pub fn tegzhumbi_name(table: *const u8, table_len: usize, sort: u64, number: u64) -> Part;
         pub fn tegzhumbi_entry(table: *const u8, table_len: usize, body: u64, place: u64) -> Part;
@@ -77,6 +82,16 @@ pub fn change(table: &[u8], source: Context, target: Context, class: u64, permis
     }
 }
 
+/// Whether the process may relabel a file of a class from the old context to the new one
+pub fn relabel(table: &[u8], class: u64, old: Context, new: Context, process: Context) -> Answer {
+    unsafe {
+        linked::tegzhumbi_relabel(
+            table.as_ptr(), table.len(), class, old.user, old.role, old.kind, new.user, new.role, new.kind, process.user, process.role,
+            process.kind,
+        )
+    }
+}
+
 pub fn new_role(table: &[u8], role: u64, kind: u64, class: u64) -> Answer {
     unsafe { linked::tegzhumbi_new_role(table.as_ptr(), table.len(), role, kind, class) }
 }
@@ -86,7 +101,7 @@ pub fn name(table: &[u8], sort: u64, number: u64) -> Result<&[u8], u32> {
     shown(table, unsafe { linked::tegzhumbi_name(table.as_ptr(), table.len(), sort, number) })
 }
 
-/// The part of the table that holds the entry of a body 2 to 8 and its place there, or the refusal's number
+/// The part of the table that holds the entry of a body from 2 on and its place there, or the refusal's number
 pub fn entry(table: &[u8], body: u64, place: u64) -> Result<&[u8], u32> {
     shown(table, unsafe { linked::tegzhumbi_entry(table.as_ptr(), table.len(), body, place) })
 }

@@ -25,7 +25,8 @@ typedef struct {
 } tegzhumbi_compiled;
 
 /* outcome 0: granted, or valid; 1: denied, or not valid; 2: refused. number: that of the denial or the refusal, or the new role; else 0.
- * constraint: that of denial 4; else 0. consulted: how many constraints were asked; 0 for denials 1 to 3 and refusals */
+ * constraint: the number of the statement that fails, for denials 4 and 6; else 0. consulted: how many statements were asked; 0 for all other denials
+ * and for refusals */
 typedef struct {
     uint32_t outcome;
     uint32_t number;
@@ -41,7 +42,7 @@ typedef struct {
 } tegzhumbi_part;
 
 /* Compiles a text into the lent table. On a refusal the table holds what it held before; else the bytes past its length do. No table is
- * longer than 179,652 bytes. */
+ * longer than 186,068 bytes. */
 tegzhumbi_compiled tegzhumbi_compile(const uint8_t *text, size_t text_len, uint8_t *table, size_t table_len);
 
 /* 1: the bytes are a sound table, with anything after it; 0: they are not */
@@ -55,13 +56,19 @@ tegzhumbi_answer tegzhumbi_change(const uint8_t *table, size_t table_len, uint64
                                   uint64_t target_user, uint64_t target_role, uint64_t target_type, uint64_t class_number,
                                   uint64_t permission);
 
+/* May the process relabel a file from the old context to the new one? constraint: the number of the validatetrans statement that fails, for denial 6.
+ * Denials in order: 1 the old context is not valid, 2 the new one is not, 5 the process is not, 6 the first validatetrans statement that fails. */
+tegzhumbi_answer tegzhumbi_relabel(const uint8_t *table, size_t table_len, uint64_t class_number, uint64_t old_user, uint64_t old_role,
+                                   uint64_t old_type, uint64_t new_user, uint64_t new_role, uint64_t new_type, uint64_t process_user,
+                                   uint64_t process_role, uint64_t process_type);
+
 /* The role of a new process: that of the first matching transition, else the role given. number is the role where outcome is 0. */
 tegzhumbi_answer tegzhumbi_new_role(const uint8_t *table, size_t table_len, uint64_t role, uint64_t type, uint64_t class_number);
 
 /* The name of a number: sort 0 user, 1 role, 2 type, 3 to 5 their attributes, 6 class, 7 permission (number: class x 32 + its place) */
 tegzhumbi_part tegzhumbi_name(const uint8_t *table, size_t table_len, uint64_t sort, uint64_t number);
 
-/* The entry of a body 2 to 8, by its place there, from 0 */
+/* The entry of a body from 2 on (to 8 in a table of edition 1, to 10 in one of edition 2), by its place there, from 0 */
 tegzhumbi_part tegzhumbi_entry(const uint8_t *table, size_t table_len, uint64_t body, uint64_t place);
 
 #ifdef __cplusplus

@@ -6,7 +6,7 @@ use crate::generator::damage::damage;
 use crate::generator::policies::Shape;
 use crate::generator::questions::{ask, Question};
 use crate::generator::scans;
-use crate::generator::tables::{damaged, with_bytes_behind};
+use crate::generator::tables::{damaged, in_edition_1, with_bytes_behind};
 use crate::lexer::scan;
 use crate::pieces::{join, pieces, spans, statements, PieceKind};
 use crate::random::Random;
@@ -69,6 +69,8 @@ pub enum Case {
     Sound(Vec<u8>),
     /// The text of the table, shrunk, and the question.
     Question(Vec<u8>, Question),
+    /// The same for the text's table in edition 1.
+    Older(Vec<u8>, Question),
     /// A damaged table, and the question.
     Damaged(Vec<u8>, Question),
 }
@@ -80,6 +82,9 @@ impl fmt::Display for Difference {
             Case::Compile(text) => write!(f, "compiling differs on {}", shown(text))?,
             Case::Sound(table) => write!(f, "soundness differs on the table {table:?}")?,
             Case::Question(text, question) => write!(f, "the answer to {question:?} differs on {}", shown(text))?,
+            Case::Older(text, question) => {
+                write!(f, "the answer to {question:?} differs on edition 1 of the table of {}", shown(text))?;
+            }
             Case::Damaged(table, question) => write!(f, "the answer to {question:?} differs on the table {table:?}")?,
         }
         write!(f, "\n this program: {}\n the library:  {}", self.here, self.there)
@@ -122,6 +127,7 @@ fn some_policy(random: &mut Random) -> Vec<u8> {
         small: random.chance(50),
         objects: random.chance(20),
         blocks: random.chance(40),
+        relabels: random.chance(50),
         steps: if random.chance(60) { steps / 6 } else { steps },
     };
     policy_text(random, shape)
@@ -144,7 +150,8 @@ fn compare_scans(library: &Library, text: &[u8], random: &mut Random, tally: &mu
     None
 }
 
-/// The layers behind the scan: the policy, damaged or not, compiled; its table, damaged, judged and asked; its table asked.
+/// The layers behind the scan: the policy, damaged or not, compiled; its table, damaged, judged and asked; its table asked. Some
+/// tables are put in edition 1 before.
 fn compare_policy(library: &Library, mut text: Vec<u8>, random: &mut Random, tally: &mut Tally) -> Option<Difference> {
     for _ in 0..random.below(3) {
         text = damage(random, &text);
@@ -179,7 +186,8 @@ fn compiled(compile: fn(&[u8], &mut [u8]) -> Outcome, text: &[u8], spare: usize)
 
 fn compare_sound(library: &Library, text: &[u8], random: &mut Random, tally: &mut Tally) -> Option<Difference> {
     let theirs = library.is_sound?;
-    let table = damaged(random, &table_of(text).ok()?);
+    let whole = written(text, random.chance(OLDER))?;
+    let table = damaged(random, &whole);
     tally.tables += 1;
     if theirs(&table) == is_sound(&table) {
         return None;
@@ -192,7 +200,7 @@ fn compare_sound(library: &Library, text: &[u8], random: &mut Random, tally: &mu
 /// A question in numbers of the table before the damage: 11, unless what came of it is still sound.
 fn compare_damaged(library: &Library, text: &[u8], random: &mut Random, tally: &mut Tally) -> Option<Difference> {
     let theirs = library.answer?;
-    let whole = table_of(text).ok()?;
+    let whole = written(text, random.chance(OLDER))?;
     let table = damaged(random, &whole);
     let question = ask(random, &decode(&whole).expect("a written table is sound"));
     tally.questions += 1;
@@ -204,20 +212,31 @@ fn compare_damaged(library: &Library, text: &[u8], random: &mut Random, tally: &
 fn compare_answers(library: &Library, text: &[u8], random: &mut Random, tally: &mut Tally) -> Option<Difference> {
     let theirs = library.answer?;
     let ours = |table: &[u8], question: &Question| question_line(table, question).expect("a known kind");
-    let table = with_bytes_behind(random, &table_of(text).ok()?);
+    let older = random.chance(OLDER);
+    let table = with_bytes_behind(random, &written(text, older)?);
     let decoded = decode(&table).expect("a written table is sound");
     for _ in 0..QUESTIONS_PER_POLICY {
         let question = ask(random, &decoded);
         tally.questions += 1;
         if theirs(&table, &question) != ours(&table, &question) {
             let differs = |table: &[u8]| theirs(table, &question) != ours(table, &question);
-            let small = shrink(text, &|smaller| table_of(smaller).is_ok_and(|table| differs(&table)));
-            let table = table_of(&small).expect("the text of a table");
+            let small = shrink(text, &|smaller| written(smaller, older).is_some_and(|table| differs(&table)));
+            let table = written(&small, older).expect("the text of a table");
             let (here, there) = (ours(&table, &question), theirs(&table, &question));
-            return Some(Difference { case: Case::Question(small, question), here, there });
+            let case = if older { Case::Older(small, question) } else { Case::Question(small, question) };
+            return Some(Difference { case, here, there });
         }
     }
     None
+}
+
+/// How many of a hundred tables are put in edition 1.
+const OLDER: usize = 20;
+
+/// The table of a text in the newest edition or in edition 1, or nothing where the text is refused.
+fn written(text: &[u8], older: bool) -> Option<Vec<u8>> {
+    let table = table_of(text).ok()?;
+    Some(if older { in_edition_1(&table) } else { table })
 }
 
 /// A smaller text that still differs: statements are taken away, then blocks around others, then groups and tokens, then
@@ -452,11 +471,56 @@ mod tests {
     fn finds_and_shrinks_a_slip_of_the_answers() {
         // Counts one constraint too many.
         fn slipped(table: &[u8], question: &Question) -> String {
-            question_line(table, question).unwrap().replace("consulted 1", "consulted 2")
+            let line = question_line(table, question).unwrap();
+            if question[0] == 1 { line.replace("consulted 1", "consulted 2") } else { line }
         }
         let (_, difference) = compare(&Library { answer: Some(slipped), ..itself() }, 60, 7);
-        let Some(Case::Question(text, question)) = difference.map(|d| d.case) else { panic!("an answer differs") };
+        let Some(Case::Question(text, question) | Case::Older(text, question)) = difference.map(|d| d.case) else {
+            panic!("an answer differs")
+        };
         assert_eq!(question[0], 1);
         assert!(statements(&text).len() <= 12, "{}", String::from_utf8_lossy(&text));
+    }
+
+    /// Document 02, W-205: slips of the question of relabelling.
+    #[test]
+    fn finds_slips_of_the_relabelling() {
+        let slips: [fn(&[u8], &Question) -> String; 4] = [
+            // Denial 5 as 2.
+            |table, question| question_line(table, question).unwrap().replace("denied 5", "denied 2"),
+            // The place among those of the class.
+            |table, question| {
+                let line = question_line(table, question).unwrap();
+                let words: Vec<&str> = line.split(' ').collect();
+                match words.as_slice() {
+                    ["denied", "6", _, _, _, consulted] => {
+                        format!("denied 6 constraint {} consulted {consulted}", consulted.parse::<usize>().unwrap() - 1)
+                    }
+                    _ => line,
+                }
+            },
+            // Side 3 read from the old context.
+            |table, question| {
+                let mut other = *question;
+                if question[0] == 5 && question_line(table, question).unwrap().contains("consulted 1") {
+                    other.copy_within(2..5, 8);
+                }
+                question_line(table, &other).unwrap()
+            },
+            // Edition 1 refused.
+            |table, question| {
+                let refused = question[0] == 5 && table[0] == 1;
+                if refused { "refused 11".to_string() } else { question_line(table, question).unwrap() }
+            },
+        ];
+        for (number, slipped) in slips.into_iter().enumerate() {
+            let (_, difference) = compare(&Library { answer: Some(slipped), ..itself() }, 60, 7);
+            let Some(Case::Question(_, question) | Case::Older(_, question) | Case::Damaged(_, question)) =
+                difference.map(|d| d.case)
+            else {
+                panic!("an answer differs: slip {number}")
+            };
+            assert_eq!(question[0], 5, "slip {number}");
+        }
     }
 }

@@ -4,7 +4,10 @@
 //! * scan: u32 length, text.
 //! * compile: u32 length of the lent memory, u32 length of the text, text. Byte i of the memory holds (i*7+3) mod 256.
 //! * sound: u32 length, table.
-//! * questions: u32 length, table, u32 count, and for each question nine u64: its kind and eight arguments.
+//! * questions: u32 length, table, u32 count, and for each question nine u64: its kind and eight arguments. Kind 5, the question
+//!   of relabelling (document 02, W-205), has eleven: 5, the class, then user, role and type of the old context, of the new one
+//!   and of the process. Its answer has the words of a change: `denied 6 constraint N consulted M`, where N is the number of the
+//!   validatetrans that fails.
 //! * tries: u32 length, section 1 of the table of an accepted text, u32 count, and for each try (document 02, W-204) u32 number
 //!   of the family (0 users, 1 roles, 2 types, 3 classes, 4 + c the permissions of class c), u32 length, name. The name may
 //!   be any bytes. Each try has two lines of the same content: `chains found SORT NUMBER compared COUNT` or `chains missing
@@ -14,18 +17,19 @@
 //! What is expected for a refused text, at scan and compile, is worded as on the printed roll: `refused 5 at 8 line 1`
 //! (document 02, W-202). At compile the checksum of the memory follows.
 
-use crate::generator::asked::{in_blocks, objects, Asked};
+use crate::generator::asked::{self, in_blocks, objects, Asked};
 use crate::generator::cases::cases;
-use crate::generator::damage::{damage, damage_bytes, damage_dots};
+use crate::generator::damage::{damage, damage_bytes, damage_dots, damage_sides};
 use crate::generator::layout::{lay_out, Gaps};
 use crate::generator::policies::{policy, Shape};
-use crate::generator::questions::{ask, undeclared, Question};
+use crate::generator::questions::{ask, of, undeclared, written_length, Question};
 use crate::generator::tries::{self, Share, TryCase};
-use crate::generator::{maxima, scans, tables};
+use crate::generator::{maxima, relabels, scans, tables};
 use crate::lexer::scan;
 use crate::lookup::{try_at, Among, NameEntry};
 use crate::questions::{
-    change, entry, name_of, new_role, valid_context, Change, ChangeAnswer, Context, PartAnswer, RoleAnswer, ValidAnswer,
+    change, entry, name_of, new_role, relabel, valid_context, Change, ChangeAnswer, Context, PartAnswer, Relabel, RoleAnswer,
+    ValidAnswer,
 };
 use crate::random::Random;
 use crate::sound::{decode, is_sound, section_names};
@@ -80,8 +84,10 @@ pub fn write(layer: Layer, seed: u64) -> Vec<u8> {
             for (table, questions) in question_cases(&mut random) {
                 put_bytes(&mut corpus, &table);
                 put_length(&mut corpus, questions.len());
-                for number in questions.iter().flatten() {
-                    corpus.extend(number.to_le_bytes());
+                for question in &questions {
+                    for number in &question[..written_length(question[0])] {
+                        corpus.extend(number.to_le_bytes());
+                    }
                 }
             }
         }
@@ -157,7 +163,7 @@ fn lend(random: &mut Random, text: &[u8]) -> usize {
 
 /// The shapes that make some fault likely, and good ones.
 fn some_shape(random: &mut Random, round: usize) -> Shape {
-    let shape = Shape { blocks: random.chance(40), ..Shape::small(random.between(3, 20)) };
+    let shape = Shape { blocks: random.chance(40), relabels: random.chance(50), ..Shape::small(random.between(3, 20)) };
     match round % 10 {
         0 => Shape { cycles: true, ..shape },
         1 | 2 => Shape { clashes: true, ..shape },
@@ -188,6 +194,13 @@ fn compile_cases(random: &mut Random) -> Vec<(usize, Vec<u8>)> {
         for _ in 0..random.between(1, 2) {
             text = damage(random, &text);
         }
+        list.push((lend(random, &text), text));
+    }
+    // Document 02, W-205: sides of constrain and validatetrans mixed up.
+    for round in 0..200 {
+        let shape = Shape { relabels: true, blocks: round % 3 == 0, ..Shape::small(random.between(6, 24)) };
+        let text = policy_text(random, shape);
+        let text = damage_sides(random, &text);
         list.push((lend(random, &text), text));
     }
     list
@@ -248,12 +261,17 @@ fn base_tables() -> Vec<Vec<u8>> {
 
 fn sound_tables(random: &mut Random) -> Vec<Vec<u8>> {
     let bases = base_tables();
-    let mut list = vec![Vec::new(), vec![0; 68], table_of(b"").expect("P1")];
+    let older: Vec<Vec<u8>> = bases.iter().map(|base| tables::in_edition_1(base)).collect();
+    let empty = table_of(b"").expect("P1");
+    let mut list = vec![Vec::new(), vec![0; 68], vec![0; 84], tables::in_edition_1(&empty), empty];
     list.extend(bases.clone());
+    list.extend(older.clone());
     for (_, way) in tables::ways() {
         for base in &bases {
             list.extend((0..2).filter_map(|_| tables::apply(way, base, random)));
         }
+        let base: &Vec<u8> = random.pick(&older);
+        list.extend(tables::apply(way, base, random));
     }
     for (_, at, past) in tables::bounds() {
         list.extend([at, past]);
@@ -264,13 +282,23 @@ fn sound_tables(random: &mut Random) -> Vec<Vec<u8>> {
     }
     for round in 0..60 {
         let steps = random.between(3, 24);
-        let text = policy_text(random, Shape { blocks: round % 2 == 0, ..Shape::small(steps) });
-        let table = table_of(&text).expect("a good policy");
+        let shape = Shape { blocks: round % 2 == 0, relabels: round % 3 > 0, ..Shape::small(steps) };
+        let table = table_of(&policy_text(random, shape)).expect("a good policy");
         list.push(tables::with_bytes_behind(random, &table));
         list.push(tables::flip(random, &table));
+        // Document 02, W-205: some without sections 9 and 10.
+        if round % 3 == 0 {
+            let older = tables::in_edition_1(&table);
+            list.push(tables::flip(random, &older));
+            list.push(tables::damaged(random, &older));
+            list.push(older);
+        }
         list.push(table);
     }
-    list.push(table_of(&maxima::everything()).expect("a policy at every maximum"));
+    list.extend(relabels::tables().into_iter().map(|listed| listed.bytes));
+    let everything = table_of(&maxima::everything()).expect("a policy at every maximum");
+    list.push(tables::in_edition_1(&everything));
+    list.push(everything);
     list
 }
 
@@ -280,7 +308,7 @@ fn question_cases(random: &mut Random) -> Vec<(Vec<u8>, Vec<Question>)> {
     let mut good: Vec<(Vec<u8>, usize)> = bases.iter().map(|base| (base.clone(), 60)).collect();
     for round in 0..50 {
         let steps = random.between(20, 60);
-        let shape = Shape { small: round % 2 == 0, blocks: round % 3 == 0, ..Shape::good(steps) };
+        let shape = Shape { small: round % 2 == 0, blocks: round % 3 == 0, relabels: round % 5 < 2, ..Shape::good(steps) };
         let table = table_of(&policy_text(random, shape)).expect("a good policy");
         good.push((table, 50));
     }
@@ -300,6 +328,33 @@ fn question_cases(random: &mut Random) -> Vec<(Vec<u8>, Vec<Question>)> {
     }
     list.extend(in_blocks().into_iter().map(listed_questions));
     list.extend(object_cases(random));
+    list.extend(relabel_cases(random));
+    list
+}
+
+/// Document 02, W-205: the listed questions, and random ones on random policies with validatetrans, each on the table of the
+/// text, and some on that table in edition 1.
+fn relabel_cases(random: &mut Random) -> Vec<(Vec<u8>, Vec<Question>)> {
+    let mut list: Vec<(Vec<u8>, Vec<Question>)> = asked::relabels().into_iter().map(listed_questions).collect();
+    let listed = list.len();
+    for round in 0..16 {
+        let steps = random.between(20, 60);
+        let shape = Shape {
+            relabels: true,
+            objects: round % 5 == 0,
+            small: round % 2 == 0,
+            blocks: round % 3 == 0,
+            ..Shape::good(steps)
+        };
+        let table = table_of(&policy_text(random, shape)).expect("a good policy");
+        let decoded = decode(&table).expect("sound");
+        let questions = (0..50).map(|_| ask(random, &decoded)).collect();
+        list.push((table, questions));
+    }
+    let older = |(table, questions): &(Vec<u8>, Vec<Question>)| (tables::in_edition_1(table), questions.clone());
+    let asked_again = list[..listed].iter().chain(list[listed..].iter().step_by(2));
+    let in_edition_1: Vec<(Vec<u8>, Vec<Question>)> = asked_again.map(older).collect();
+    list.extend(in_edition_1);
     list
 }
 
@@ -325,7 +380,7 @@ fn object_cases(random: &mut Random) -> Vec<(Vec<u8>, Vec<Question>)> {
 /// Questions on a table that is not sound: 11 comes before 12.
 fn unsound_questions(random: &mut Random, place: usize) -> Vec<Question> {
     let far = undeclared(random, 3);
-    vec![[place as u64 % 5, 0, 0, 0, 0, 0, 0, 0, 0], [(place as u64 + 1) % 5, far, far, 0, 0, far, 0, far, 0]]
+    vec![of([place as u64 % 6]), of([(place as u64 + 1) % 6, far, far, 0, 0, far, 0, far])]
 }
 
 /// Document 02, W-204: listed texts, texts at the maxima, and random policies that are accepted.
@@ -338,6 +393,7 @@ pub fn try_cases(random: &mut Random) -> Vec<TryCase> {
             objects: round % 5 == 0,
             crowded: round % 15 == 1,
             blocks: round % 4 == 0,
+            relabels: round % 6 == 0,
             ..Shape::good(steps)
         };
         let text = policy_text(random, shape);
@@ -395,9 +451,9 @@ pub fn answer(layer: Layer, corpus: &[u8]) -> Result<Vec<String>, String> {
             Layer::Questions => {
                 let table = reader.bytes()?;
                 for _ in 0..reader.length()? {
-                    let mut question: Question = [0; 9];
-                    for number in &mut question {
-                        *number = reader.number()?;
+                    let mut question: Question = of([reader.number()?]);
+                    for place in 1..written_length(question[0]) {
+                        question[place] = reader.number()?;
                     }
                     lines.push(question_line(table, &question)?);
                 }
@@ -451,7 +507,7 @@ pub fn sound_line(table: &[u8]) -> String {
 }
 
 pub fn question_line(table: &[u8], question: &Question) -> Result<String, String> {
-    let [kind, a, b, c, d, e, f, g, h] = *question;
+    let [kind, a, b, c, d, e, f, g, h, i, j] = *question;
     match kind {
         0 => Ok(valid_line(valid_context(table, &Context { user: a, role: b, kind: c }))),
         1 => {
@@ -462,6 +518,12 @@ pub fn question_line(table: &[u8], question: &Question) -> Result<String, String
         2 => Ok(role_line(new_role(table, a, b, c))),
         3 => Ok(part_line(name_of(table, a, b))),
         4 => Ok(part_line(entry(table, a, b))),
+        5 => {
+            let old = Context { user: b, role: c, kind: d };
+            let new = Context { user: e, role: f, kind: g };
+            let process = Context { user: h, role: i, kind: j };
+            Ok(change_line(relabel(table, &Relabel { class: a, old, new, process })))
+        }
         _ => Err(format!("no question of kind {kind}")),
     }
 }

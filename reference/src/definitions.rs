@@ -5,17 +5,18 @@ use crate::corpus::fill;
 use crate::fault::Fault;
 use crate::generator::asked::asked;
 use crate::generator::cases::cases_for_theorems;
-use crate::generator::damage::{damage_dots, damage_tokens};
+use crate::generator::damage::{damage_dots, damage_sides, damage_tokens};
 use crate::generator::layout::{lay_out, Gaps};
 use crate::generator::maxima;
 use crate::generator::policies::{policy, Shape};
-use crate::generator::questions::{ask, Question};
-use crate::generator::tables::{apply, odd_and_sound, with_bytes_behind, ways, BASES};
+use crate::generator::questions::{ask, of, Question};
+use crate::generator::tables::{apply, in_edition_1, odd_and_sound, with_bytes_behind, ways, BASES};
 use crate::lexer::has_dot;
 use crate::meaning::meaning;
 use crate::policy::read;
 use crate::questions::{
-    change, entry, name_of, new_role, valid_context, Change, ChangeAnswer, Context, PartAnswer, RoleAnswer, ValidAnswer,
+    change, entry, name_of, new_role, relabel, valid_context, Change, ChangeAnswer, Context, PartAnswer, Relabel, RoleAnswer,
+    ValidAnswer,
 };
 use crate::random::Random;
 use crate::roll::roll;
@@ -234,6 +235,8 @@ fn refused(random: &mut Random) -> Chapter {
         add("a random policy in blocks, damaged", &damage_dots(random, &text));
         let text = small_policy(random, Shape { clashes: true, ..Shape::small(8) });
         add("a random policy with clashes", &text);
+        let text = small_policy_with_relabels(random);
+        add("a random policy with validatetrans, its sides mixed up", &damage_sides(random, &text));
     }
     for _ in 0..12 {
         let text = small_policy(random, Shape { cycles: true, ..Shape::small(12) });
@@ -259,6 +262,17 @@ fn small_policy_in_blocks(random: &mut Random) -> Vec<u8> {
         let text = small_policy(random, Shape { blocks: true, ..Shape::small(6) });
         let table = decode(&table_of(&text).expect("a good policy")).expect("sound");
         if text.len() <= MOST_TEXT && table.contents.names.iter().any(|entry| has_dot(&entry.name)) {
+            return text;
+        }
+    }
+}
+
+/// A random policy with a validatetrans, in few bytes.
+fn small_policy_with_relabels(random: &mut Random) -> Vec<u8> {
+    loop {
+        let text = small_policy(random, Shape { relabels: true, ..Shape::small(6) });
+        let table = decode(&table_of(&text).expect("a good policy")).expect("sound");
+        if text.len() <= MOST_TEXT && !table.contents.validations.is_empty() {
             return text;
         }
     }
@@ -310,6 +324,10 @@ fn accepted(random: &mut Random) -> Chapter {
         let text = small_policy_in_blocks(random);
         found += add("a random policy in blocks", &text) as usize;
     }
+    while found < 8 {
+        let text = small_policy_with_relabels(random);
+        found += add("a random policy with validatetrans", &text) as usize;
+    }
     Chapter {
         name: "Accepted",
         about: "Texts",
@@ -322,7 +340,8 @@ fn accepted(random: &mut Random) -> Chapter {
 /// Refusal 10, and the memory afterwards.
 fn lent() -> Chapter {
     let mut items = Vec::new();
-    for text in ["", "(user a)", "(class c(p))(constrain(c(p))(eq u1 u2))", "\n(user a)\n"] {
+    let validated = "(class c(p))(validatetrans c(eq u1 u2))";
+    for text in ["", "(user a)", "(class c(p))(constrain(c(p))(eq u1 u2))", "\n(user a)\n", validated] {
         let length = table_of(text.as_bytes()).expect("accepted").len();
         for lent in [0, length - 1, length, length + 1] {
             let answer = match compile(text.as_bytes(), &mut fill(lent)) {
@@ -333,8 +352,9 @@ fn lent() -> Chapter {
         }
     }
     for (rule, text, lent) in [
-        ("bytes past the table are unchanged", "(user a)", 100),
-        ("on refusal 10 the memory is unchanged", "(user a)", 88),
+        // The table has 105 bytes.
+        ("bytes past the table are unchanged", "(user a)", 116),
+        ("on refusal 10 the memory is unchanged", "(user a)", 104),
         ("on refusal 3 the memory is unchanged", "(user a)()", 96),
         ("on refusal 2 the memory is unchanged", "!", 70),
     ] {
@@ -363,7 +383,7 @@ const ASKING: &[&str] = &[
     "Rattle.policy.specs.Reading.{policy, refused}",
     "Rattle.policy.specs.Deciding.{Question, Answer, granted, denied, fails, refuses, answered, refused}",
     "Rattle.policy.specs.Answer.{answer}",
-    "Rattle.policy.specs.Questions.{changed, changeOn, validOn, newRoleOn, nameOn, entryOn}",
+    "Rattle.policy.specs.Questions.{change, decided, changeOn, relabelOn, validOn, newRoleOn, nameOn, entryOn}",
     "Rattle.policy.specs.Sound.{imageIn}",
     "Rattle.policy.specs.Outcome.{ofText, policyOf}",
     "Rattle.policy.specs.Worked.{tableOf, context}",
@@ -377,10 +397,10 @@ fromText text qs = elim (policyOf (ofText text)) [ policy p ↦ each (answer p) 
 
 -- `changeOn` for each question
 abbrev changesOn : List ℕ → List Question → List Answer
-changesOn t qs = elim (imageIn t) [ some i ↦ each (λ q. changed q (some i)) qs | none ↦ each (λ q. changed q none) qs ]
+changesOn t qs = elim (imageIn t) [ some i ↦ each (change i) qs | none ↦ each (λ q. decided (λ i. change i q) none) qs ]
 ";
 
-/// Questions on tables of accepted texts; changes also as the statements answer them.
+/// Questions on tables of accepted texts; changes also as the statements answer them. Each relabelling is a claim of its own.
 fn questions(random: &mut Random) -> Chapter {
     let mut items = Vec::new();
     for asked in asked() {
@@ -393,6 +413,7 @@ fn questions(random: &mut Random) -> Chapter {
         let list: Vec<Question> = (0..6).map(|_| ask(random, &decoded)).collect();
         items.push(asked_item("a random policy and random questions", &text, &list));
     }
+    items.extend(in_the_older_edition());
     Chapter { name: "Asked", about: "Questions", cites: ASKING, before: CHANGES, items }
 }
 
@@ -425,6 +446,23 @@ fn asked_item(rule: &str, text: &[u8], list: &[Question]) -> Item {
     Item { rule: rule.to_string(), values: vec![("", quoted(text)), ("-table", listed(&table))], claims }
 }
 
+/// Document 02, W-205: "Readers take edition 1 as having none."
+fn in_the_older_edition() -> Vec<Item> {
+    let text = "(user u)(role a)(role b)(type t)(userrole u a)(roletype a t)(class c(p))(validatetrans c(neq u3 u))\
+                (constrain(c(p))(neq u1 u2))";
+    let table = in_edition_1(&table_of(text.as_bytes()).expect("an accepted text"));
+    let (a, b) = (Context { user: 0, role: 0, kind: 0 }, Context { user: 0, role: 1, kind: 0 });
+    let asked = Change { source: a, target: a, class: 0, permission: 0 };
+    let relabels = [(a, a, a), (a, a, b), (b, a, a)].map(|(old, new, process)| Relabel { class: 0, old, new, process });
+    let mut claims = vec![format!("changeOn CASE-table {} ≡ {}", change_words(&asked), change_answer(change(&table, &asked)))];
+    claims.extend(relabels.iter().map(|question| relabel_claim("CASE-table", &table, question)));
+    let others: [Question; 4] = [of([0, 0, 0, 0]), of([4, 7, 0]), of([4, 9, 0]), of([4, 10, 0])];
+    claims.extend(others.iter().map(|question| on_table("CASE-table", &table, question)));
+    let claims = claims.into_iter().enumerate().map(|(number, claim)| (format!("-{number}"), claim)).collect();
+    let rule = "W-205, readings 70, 71 and 73: a table of edition 1".to_string();
+    vec![Item { rule, values: vec![("-table", listed(&table))], claims }]
+}
+
 /// A list of changes and the list of their answers.
 fn several(asked: &str, changes: &[Change<u64>], answer: &dyn Fn(&Change<u64>) -> ChangeAnswer) -> String {
     let questions: String = changes.iter().map(|q| format!("{} ∷ ", change_words(q))).collect();
@@ -445,15 +483,20 @@ fn in_bounds(question: &Change<u64>) -> Change<usize> {
 const RANDOM_ASKED: usize = 3;
 
 fn asked_change(question: &Question) -> Option<Change<u64>> {
-    let [kind, a, b, c, d, e, f, class, permission] = *question;
+    let [kind, a, b, c, d, e, f, class, permission, ..] = *question;
     let source = Context { user: a, role: b, kind: c };
     let target = Context { user: d, role: e, kind: f };
     (kind == 1).then_some(Change { source, target, class, permission })
 }
 
+/// A relabelling on a table.
+fn relabel_claim(named: &str, table: &[u8], question: &Relabel<u64>) -> String {
+    format!("relabelOn {named} {} ≡ {}", relabel_words(question), change_answer(relabel(table, question)))
+}
+
 /// What this program answers on the table to any question but a change.
 fn on_table(named: &str, table: &[u8], question: &Question) -> String {
-    let [kind, a, b, c, ..] = *question;
+    let [kind, a, b, c, d, e, f, g, h, i, j] = *question;
     match kind {
         0 => {
             let asked = Context { user: a, role: b, kind: c };
@@ -462,7 +505,7 @@ fn on_table(named: &str, table: &[u8], question: &Question) -> String {
                 ValidAnswer::NotValid => "answered false".to_string(),
                 ValidAnswer::Refused(number) => format!("refused {number} 0"),
             };
-            format!("validOn {named} {} ≡ {answer}", context_words(&asked))
+            format!("validOn {named} ({}) ≡ {answer}", context_words(&asked))
         }
         2 => {
             let answer = match new_role(table, a, b, c) {
@@ -472,24 +515,36 @@ fn on_table(named: &str, table: &[u8], question: &Question) -> String {
             format!("newRoleOn {named} {a} {b} {c} ≡ {answer}")
         }
         3 => format!("nameOn {named} {a} {b} ≡ {}", part_answer(name_of(table, a, b))),
+        5 => {
+            let old = Context { user: b, role: c, kind: d };
+            let new = Context { user: e, role: f, kind: g };
+            let process = Context { user: h, role: i, kind: j };
+            relabel_claim(named, table, &Relabel { class: a, old, new, process })
+        }
         _ => format!("entryOn {named} {a} {b} ≡ {}", part_answer(entry(table, a, b))),
     }
 }
 
 fn context_words(c: &Context<u64>) -> String {
-    format!("(context {} {} {})", c.user, c.role, c.kind)
+    format!("context {} {} {}", c.user, c.role, c.kind)
+}
+
+fn relabel_words(q: &Relabel<u64>) -> String {
+    let [old, new, process] = [&q.old, &q.new, &q.process].map(context_words);
+    format!("(record {{ class = {}; old = {old}; new = {new}; process = {process} }})", q.class)
 }
 
 fn change_words(q: &Change<u64>) -> String {
     let (source, target) = (context_words(&q.source), context_words(&q.target));
-    let (source, target) = (&source[1..source.len() - 1], &target[1..target.len() - 1]);
     format!("(record {{ source = {source}; target = {target}; class = {}; perm = {} }})", q.class, q.permission)
 }
 
 fn change_answer(answer: ChangeAnswer) -> String {
     match answer {
         ChangeAnswer::Granted { consulted } => said("granted", consulted),
-        ChangeAnswer::Denied { number: number @ 4, constraint, consulted } => said(&format!("fails {number} {constraint}"), consulted),
+        ChangeAnswer::Denied { number: number @ (4 | 6), constraint, consulted } => {
+            said(&format!("fails {number} {constraint}"), consulted)
+        }
         ChangeAnswer::Denied { number, consulted, .. } => said(&format!("denied {number}"), consulted),
         ChangeAnswer::Refused(number) => said(&format!("refuses {number} 0"), 0),
     }
@@ -501,14 +556,16 @@ fn said(verdict: &str, consulted: usize) -> String {
 
 fn part_answer(answer: PartAnswer) -> String {
     match answer {
-        PartAnswer::Part { start, length } => format!("answered (record {{ start = {start}; long = {length} }})"),
+        PartAnswer::Part { start, length } => format!("answered (record {{ start = {start}; size = {length} }})"),
         PartAnswer::Refused(number) => format!("refused {number} 0"),
     }
 }
 
 /// Small policies whose tables have something to damage, the smallest first.
-const SMALL_BASES: [&str; 6] = [
+const SMALL_BASES: [&str; 8] = [
     "(class c(p))(constrain(c(p))(not(eq u1 u2)))",
+    "(class c(p))(validatetrans c(not(eq u1 u2)))",
+    "(class c(p))(user u)(validatetrans c(eq u3 u))(validatetrans c(or(eq t1 t2)(neq u2 u)))",
     "(class c(p q))(user u)(constrain(c(q))(or(eq t1 t2)(neq u2 u)))(constrain(c(p))(eq t1 t2))",
     "(user u)(userattribute x)(class c(p))(class d(q r))(constrain(d(r))(and(eq u1 u2)(eq u1 x)))",
     "(role a)(user u)(userrole u a)(roleattribute y)(roleattributeset y(a))",
@@ -526,6 +583,13 @@ fn unsound(random: &mut Random) -> Chapter {
         assert!(!is_sound(&table), "{rule}");
         items.push(Item::one(rule, format!("imageIn ({}) ≡ none", listed(&table))));
     }
+    // Document 02, W-205: some of them in edition 1 too.
+    let older = [0, 3].map(|base| in_edition_1(&tables[base]));
+    for (rule, way) in ways().into_iter().filter(|(rule, _)| IN_EDITION_1.contains(rule)) {
+        let table = older.iter().find_map(|base| apply(way, base, random)).expect("a base to damage in this way");
+        assert!(!is_sound(&table), "{rule}");
+        items.push(Item::one(&format!("edition 1: {rule}"), format!("imageIn ({}) ≡ none", listed(&table))));
+    }
     Chapter {
         name: "Unsound",
         about: "Tables",
@@ -535,12 +599,15 @@ fn unsound(random: &mut Random) -> Chapter {
     }
 }
 
+/// The ways of damage that are claimed of a table of edition 1 as well.
+const IN_EDITION_1: [&str; 4] = ["another edition", "another edition's count", "cut at the end", "side 3 in section 7"];
+
 /// Sound tables that no text gives, or with bytes behind, and an answer from each.
 fn odd(random: &mut Random) -> Chapter {
     let behind = with_bytes_behind(random, &table_of(b"(user u)(role a)(userrole u a)").expect("accepted"));
     let mut tables = vec![("bytes behind the table", behind)];
     tables.extend(odd_and_sound().into_iter().filter(|(_, table)| table.len() <= 2 * MOST_TABLE));
-    let questions: [Question; 3] = [[2, 0, 0, 0, 0, 0, 0, 0, 0], [3, 1, 0, 0, 0, 0, 0, 0, 0], [4, 5, 1, 0, 0, 0, 0, 0, 0]];
+    let questions: [Question; 3] = [of([2, 0, 0, 0]), of([3, 1, 0]), of([4, 5, 1])];
     let item = |(rule, table): (&str, Vec<u8>)| Item {
         rule: rule.to_string(),
         values: vec![("-table", listed(&table))],
@@ -551,7 +618,7 @@ fn odd(random: &mut Random) -> Chapter {
 
 /// The printed roll.
 fn printed() -> Chapter {
-    let texts: [(&str, &str); 14] = [
+    let texts: [(&str, &str); 15] = [
         ("the roll of document 01", "(user u)(role a)(role b)(type t)(userrole u a)(roletype a t)"),
         ("the empty text", ""),
         ("a refusal", "(role a)(roletype a t)"),
@@ -569,6 +636,7 @@ fn printed() -> Chapter {
              (typeattributeset x(all))(roletype a x)",
         ),
         ("W-203: full names", "(block b(role a)(block c(user u)(userrole u a)))"),
+        ("W-205: validatetrans prints nothing", "(user u)(role a)(class c(p))(validatetrans c(eq r3 a))"),
         ("attributes and classes print nothing", "(userattribute x)(class c(p))(type t)(role long-name_1)"),
     ];
     let item = |(rule, text): (&str, &str)| {
@@ -617,6 +685,7 @@ mod tests {
             "verdict = granted; consulted = 0", "verdict = granted; consulted = 1", "verdict = granted; consulted = 3",
             "verdict = denied 1;", "verdict = denied 2;", "verdict = denied 3;", "verdict = fails 4 0; consulted = 1",
             "verdict = fails 4 2; consulted = 2", "verdict = fails 4 4; consulted = 3", "verdict = refuses 12 0; consulted = 0",
+            "verdict = denied 5; consulted = 0", "verdict = fails 6 1; consulted = 1", "verdict = fails 6 2; consulted = 2",
             "answered true", "answered false", "≡ answered 1", "≡ answered (record", "≡ refused 12 0", "≡ none",
             "printed (ofText (",
         ] {
@@ -625,6 +694,26 @@ mod tests {
         assert_eq!(count("CASE"), 0);
         assert!(count(" : fromText asked-") >= 20);
         assert!(count(" : changesOn asked-") >= 18 && count(" : changeOn asked-") >= 2);
+    }
+
+    /// Document 02, W-205: what is claimed of a relabelling, word for word; and no claim has a field of another name.
+    #[test]
+    fn relabellings_are_claimed() {
+        let text = all();
+        let claims: Vec<&str> = text.lines().filter(|line| line.contains(" : relabelOn asked-")).collect();
+        assert!(claims.len() >= 15, "{}", claims.len());
+        let expected = "-table (record { class = 0; old = context 1 1 1; new = context 0 0 0; process = context 1 1 1 }) \
+                        ≡ record { verdict = fails 6 1; consulted = 1 }";
+        assert!(claims.iter().any(|claim| claim.ends_with(expected)));
+        for verdict in ["granted;", "denied 1;", "denied 2;", "denied 5;", "fails 6 0;", "refuses 12 0;"] {
+            assert!(claims.iter().any(|claim| claim.contains(&format!("verdict = {verdict}"))), "{verdict}");
+        }
+        assert!(!text.contains("long = ") && text.contains("record { start = 88; size = "));
+        let in_texts = |what: &str| text.lines().filter(|line| line.contains(what) && line.contains("(validatetrans ")).count();
+        for number in [3, 5, 7] {
+            assert!(in_texts(&format!("≡ rejected (refusalAt {number} ")) >= 1, "rejected {number}");
+        }
+        assert!(in_texts(": tableOf (bytes") >= 5 && in_texts(": printed (") == 1);
     }
 
     #[test]
@@ -644,7 +733,7 @@ mod tests {
     fn the_number_of_theorems_stays_about_the_same() {
         let count = |subject| definitions(1, subject).iter().map(|file| file.text.matches("= refl\n").count()).sum::<usize>();
         let (texts, tables) = (count(Subject::Texts), count(Subject::Tables));
-        assert!((450..=520).contains(&texts) && (250..=300).contains(&tables), "{texts} {tables}");
+        assert!((450..=540).contains(&texts) && (300..=370).contains(&tables), "{texts} {tables}");
     }
 
     #[test]

@@ -22,6 +22,9 @@ pub const TRANSITIONS: usize = 128;
 pub const CONSTRAINTS: usize = 128;
 /// "constraint rows 2,048 in all"
 pub const ROWS: usize = 2_048;
+/// Document 02, W-205: "At most 64 such statements and 1,024 rows."
+pub const VALIDATETRANS: usize = 64;
+pub const VALIDATETRANS_ROWS: usize = 1_024;
 /// "Stack need of E ... At most 5."
 pub const STACK: usize = 5;
 /// "a table memory of 65,536 bytes"

@@ -51,6 +51,10 @@ extern "C" {
         table: *const u8, length: usize, source_user: u64, source_role: u64, source_type: u64, target_user: u64, target_role: u64,
         target_type: u64, class: u64, permission: u64,
     ) -> Answer;
+    fn tegzhumbi_relabel(
+        table: *const u8, length: usize, class: u64, old_user: u64, old_role: u64, old_type: u64, new_user: u64, new_role: u64,
+        new_type: u64, process_user: u64, process_role: u64, process_type: u64,
+    ) -> Answer;
     fn tegzhumbi_new_role(table: *const u8, length: usize, role: u64, kind: u64, class: u64) -> Answer;
     fn tegzhumbi_name(table: *const u8, length: usize, sort: u64, number: u64) -> Part;
     fn tegzhumbi_entry(table: *const u8, length: usize, body: u64, place: u64) -> Part;
@@ -84,7 +88,7 @@ fn is_sound(table: &[u8]) -> bool {
 }
 
 fn answer(table: &[u8], question: &Question) -> String {
-    let [kind, a, b, c, d, e, f, g, h] = *question;
+    let [kind, a, b, c, d, e, f, g, h, i, j] = *question;
     let (bytes, length) = (table.as_ptr(), table.len());
     unsafe {
         match kind {
@@ -93,6 +97,7 @@ fn answer(table: &[u8], question: &Question) -> String {
             2 => role_line(tegzhumbi_new_role(bytes, length, a, b, c)),
             3 => part_line(tegzhumbi_name(bytes, length, a, b)),
             4 => part_line(tegzhumbi_entry(bytes, length, a, b)),
+            5 => change_line(tegzhumbi_relabel(bytes, length, a, b, c, d, e, f, g, h, i, j)),
             _ => panic!("no question of kind {kind}"),
         }
     }

@@ -1,10 +1,10 @@
-//! What the statements mean: final sets, faults 8 and 9, and the answer to a change question read from the statements
-//! alone. There is no table here, no row and no stack.
+//! What the statements mean: final sets, faults 8 and 9, and the answers to a change and to a relabel question read from the
+//! statements alone. There is no table here, no row and no stack.
 
 use crate::fault::Fault;
 use crate::parser::{Expression, Family, Name, Operator, Relation, Set, Side, Statement, FAMILIES};
 use crate::policy::{Placed, Policy};
-use crate::questions::{Change, ChangeAnswer, Context};
+use crate::questions::{Change, ChangeAnswer, Context, Relabel};
 use std::collections::{BTreeMap, BTreeSet};
 
 pub type Numbers = BTreeSet<usize>;
@@ -211,8 +211,31 @@ impl Meaning {
             let permission = &class.permissions[question.permission];
             if constrain.class == class.name && constrain.permissions.contains(permission) {
                 consulted += 1;
-                if !self.is_true(&constrain.expression, question) {
+                if !self.is_true(&constrain.expression, &[question.source, question.target]) {
                     return ChangeAnswer::Denied { number: 4, constraint: number, consulted };
+                }
+            }
+        }
+        ChangeAnswer::Granted { consulted }
+    }
+
+    /// The answer the statements give to a relabel question in numbers they declare. Document 02, W-205: "denials 1 old, 2 new,
+    /// 5 process not valid, 6 with the first failing statement's number, else granted; consulted as for a change". Reading
+    /// 72 of document 02: no role allow is asked. Reading 73: the number is the place among all validatetrans.
+    pub fn relabel(&self, question: &Relabel<usize>) -> ChangeAnswer {
+        let sides = [question.old, question.new, question.process];
+        for (denial, context) in [1, 2, 5].into_iter().zip(&sides) {
+            if !self.is_valid(context) {
+                return ChangeAnswer::Denied { number: denial, constraint: 0, consulted: 0 };
+            }
+        }
+        let class = &self.policy.classes[question.class].name;
+        let mut consulted = 0;
+        for (number, validatetrans) in self.policy.validatetrans().into_iter().enumerate() {
+            if validatetrans.class == *class {
+                consulted += 1;
+                if !self.is_true(&validatetrans.expression, &sides) {
+                    return ChangeAnswer::Denied { number: 6, constraint: number, consulted };
                 }
             }
         }
@@ -233,20 +256,21 @@ impl Meaning {
         self.given(Relation::RoleAllow, from).contains(&to)
     }
 
-    /// "each E by its own form"; `and or not` as in logic.
-    fn is_true(&self, expression: &Expression, question: &Change<usize>) -> bool {
+    /// "each E by its own form"; `and or not` as in logic. The contexts are those of side 1, 2 and, for a validatetrans, 3.
+    fn is_true(&self, expression: &Expression, sides: &[Context<usize>]) -> bool {
         match expression {
-            Expression::And(e, f) => self.is_true(e, question) && self.is_true(f, question),
-            Expression::Or(e, f) => self.is_true(e, question) || self.is_true(f, question),
-            Expression::Not(e) => !self.is_true(e, question),
+            Expression::And(e, f) => self.is_true(e, sides) && self.is_true(f, sides),
+            Expression::Or(e, f) => self.is_true(e, sides) || self.is_true(f, sides),
+            Expression::Not(e) => !self.is_true(e, sides),
             Expression::Sides(operator, family) => {
-                let same = question.source.part(*family) == question.target.part(*family);
+                let same = sides[0].part(*family) == sides[1].part(*family);
                 holds(*operator, same)
             }
             Expression::Named(operator, family, side, name) => {
                 let context = match side {
-                    Side::Source => &question.source,
-                    Side::Target => &question.target,
+                    Side::One => &sides[0],
+                    Side::Two => &sides[1],
+                    Side::Three => &sides[2],
                 };
                 holds(*operator, self.stands_for(*family, name).contains(&context.part(*family)))
             }

@@ -56,14 +56,16 @@ impl Operator {
     }
 }
 
-/// "Side 1 is the source, 2 the target."
+/// "Side 1 is the source, 2 the target." Document 02, W-205: relabelling "weighs the old context (side 1), the new one (2) and
+/// the clerk's process (3)".
 #[derive(Clone, Copy, Debug, PartialEq, Eq)]
 pub enum Side {
-    Source,
-    Target,
+    One,
+    Two,
+    Three,
 }
 
-/// E of a constrain statement.
+/// E of a constrain or validatetrans statement.
 #[derive(Clone, Debug, PartialEq, Eq)]
 pub enum Expression {
     Sides(Operator, Family),
@@ -106,6 +108,13 @@ pub struct Constrain {
     pub expression: Expression,
 }
 
+/// Document 02, W-205.
+#[derive(Clone, Debug, PartialEq, Eq)]
+pub struct Validatetrans {
+    pub class: Name,
+    pub expression: Expression,
+}
+
 #[derive(Clone, Debug, PartialEq, Eq)]
 pub enum Statement {
     Thing(Family, Name),
@@ -115,6 +124,7 @@ pub enum Statement {
     Relation(Relation, Name, Name),
     Transition(Transition),
     Constrain(Constrain),
+    Validatetrans(Validatetrans),
 }
 
 /// A block's own name, and the groups in it.
@@ -174,6 +184,7 @@ pub fn form(statement: &Group) -> Option<Statement> {
         b"roleallow" => relation(Relation::RoleAllow, rest),
         b"roletransition" => transition(rest),
         b"constrain" => constrain(rest),
+        b"validatetrans" => validatetrans(rest),
         // Reading 20: statements left out and unknown keywords.
         _ => None,
     }
@@ -290,24 +301,33 @@ fn constrain(parts: &[Part]) -> Option<Statement> {
     Some(Statement::Constrain(Constrain {
         class: name(class)?,
         permissions: permissions(list)?,
-        expression: expression(e)?,
+        expression: expression(e, &[Side::One, Side::Two])?,
     }))
 }
 
-/// E; reading 18: two operands for `and` and `or`, one for `not`, each parenthesised.
-fn expression(part: &Part) -> Option<Expression> {
+/// `(validatetrans C E)`: "E as in constrain, x also u3, r3 or t3". Reading 63 of document 02: C is a name, and one E.
+fn validatetrans(parts: &[Part]) -> Option<Statement> {
+    let [class, e] = parts else { return None };
+    let expression = expression(e, &[Side::One, Side::Two, Side::Three])?;
+    Some(Statement::Validatetrans(Validatetrans { class: name(class)?, expression }))
+}
+
+/// E over the sides that its statement has; reading 18: two operands for `and` and `or`, one for `not`, each parenthesised.
+fn expression(part: &Part, sides: &[Side]) -> Option<Expression> {
+    let inner = |part| expression(part, sides).map(Box::new);
     let (first, rest) = inside(part)?.split_first()?;
     match (word(first)?, rest) {
-        (b"and", [e, f]) => Some(Expression::And(Box::new(expression(e)?), Box::new(expression(f)?))),
-        (b"or", [e, f]) => Some(Expression::Or(Box::new(expression(e)?), Box::new(expression(f)?))),
-        (b"not", [e]) => Some(Expression::Not(Box::new(expression(e)?))),
-        (operator, [left, right]) => comparison(Operator::of(operator)?, word(left)?, word(right)?),
+        (b"and", [e, f]) => Some(Expression::And(inner(e)?, inner(f)?)),
+        (b"or", [e, f]) => Some(Expression::Or(inner(e)?, inner(f)?)),
+        (b"not", [e]) => Some(Expression::Not(inner(e)?)),
+        (operator, [left, right]) => comparison(Operator::of(operator)?, word(left)?, word(right)?, sides),
         _ => None,
     }
 }
 
-/// `(op u1 u2)`, `(op t1 t2)`, `(rop r1 r2)`, `(op x name)`.
-fn comparison(operator: Operator, left: &[u8], right: &[u8]) -> Option<Expression> {
+/// `(op u1 u2)`, `(op t1 t2)`, `(rop r1 r2)`, `(op x name)`. Document 02, W-205: "no pair with side 3" (reading 64: on either
+/// side of it).
+fn comparison(operator: Operator, left: &[u8], right: &[u8], sides: &[Side]) -> Option<Expression> {
     match (left, right) {
         (b"u1", b"u2") if operator.is_op() => return Some(Expression::Sides(operator, Family::User)),
         (b"t1", b"t2") if operator.is_op() => return Some(Expression::Sides(operator, Family::Type)),
@@ -319,18 +339,24 @@ fn comparison(operator: Operator, left: &[u8], right: &[u8]) -> Option<Expressio
         return None;
     }
     let (family, side) = side_of(left)?;
+    if !sides.contains(&side) {
+        return None;
+    }
     Some(Expression::Named(operator, family, side, right.to_vec()))
 }
 
-/// "x one of u1 u2 r1 r2 t1 t2"
+/// "x one of u1 u2 r1 r2 t1 t2", "also u3, r3 or t3"
 fn side_of(word: &[u8]) -> Option<(Family, Side)> {
     match word {
-        b"u1" => Some((Family::User, Side::Source)),
-        b"u2" => Some((Family::User, Side::Target)),
-        b"r1" => Some((Family::Role, Side::Source)),
-        b"r2" => Some((Family::Role, Side::Target)),
-        b"t1" => Some((Family::Type, Side::Source)),
-        b"t2" => Some((Family::Type, Side::Target)),
+        b"u1" => Some((Family::User, Side::One)),
+        b"u2" => Some((Family::User, Side::Two)),
+        b"u3" => Some((Family::User, Side::Three)),
+        b"r1" => Some((Family::Role, Side::One)),
+        b"r2" => Some((Family::Role, Side::Two)),
+        b"r3" => Some((Family::Role, Side::Three)),
+        b"t1" => Some((Family::Type, Side::One)),
+        b"t2" => Some((Family::Type, Side::Two)),
+        b"t3" => Some((Family::Type, Side::Three)),
         _ => None,
     }
 }

@@ -5,7 +5,7 @@ use crate::fault::{line_of, Fault};
 use crate::lexer::{scan, tree, Group};
 use crate::limits;
 use crate::lookup::{attribute_sort, full_name, thing_sort, try_at, Among, NameEntry, Try, CLASS, PERMISSION};
-use crate::parser::{item, Block, Constrain, Expression, Family, Item, Name, Statement, Transition};
+use crate::parser::{item, Block, Constrain, Expression, Family, Item, Name, Statement, Transition, Validatetrans};
 use crate::resolve::Scope;
 use std::collections::BTreeSet;
 
@@ -141,6 +141,16 @@ impl Policy {
             .collect()
     }
 
+    pub fn validatetrans(&self) -> Vec<&Validatetrans> {
+        let placed = self.statements.iter();
+        placed
+            .filter_map(|p| match &p.statement {
+                Statement::Validatetrans(validatetrans) => Some(validatetrans),
+                _ => None,
+            })
+            .collect()
+    }
+
     /// The statement in full names, or its fault. Reading 23: within a statement the order is 4, 5, 6, 7.
     fn judged(&self, written: &Statement, blocks: &[Name]) -> Result<Statement, u8> {
         let statement = Scope { policy: self, blocks }.statement(written)?;
@@ -188,6 +198,13 @@ impl Policy {
                 let earlier = self.constrains();
                 let rows: usize = earlier.iter().map(|c| rows_of(&c.expression)).sum();
                 earlier.len() + 1 > limits::CONSTRAINTS || rows + rows_of(&constrain.expression) > limits::ROWS
+            }
+            // Reading 66 of document 02: counted apart from the constrains.
+            Statement::Validatetrans(validatetrans) => {
+                let earlier = self.validatetrans();
+                let rows: usize = earlier.iter().map(|v| rows_of(&v.expression)).sum();
+                earlier.len() + 1 > limits::VALIDATETRANS
+                    || rows + rows_of(&validatetrans.expression) > limits::VALIDATETRANS_ROWS
             }
         }
     }
@@ -246,6 +263,7 @@ pub fn need_of(expression: &Expression) -> usize {
 fn needs_too_much(statement: &Statement) -> bool {
     match statement {
         Statement::Constrain(constrain) => need_of(&constrain.expression) > limits::STACK,
+        Statement::Validatetrans(validatetrans) => need_of(&validatetrans.expression) > limits::STACK,
         _ => false,
     }
 }

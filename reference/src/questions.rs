@@ -1,9 +1,9 @@
-//! The five questions, asked of table bytes alone. "Each tries 11, then 12."
+//! The five questions and the relabel question, asked of table bytes alone. "Each tries 11, then 12."
 
 use crate::limits;
 use crate::parser::Family;
-use crate::sound::{decode, Decoded};
-use crate::table::{thing_sort, Row, CLASS, CONSTRAINT, NARROW, PERMISSION, ROW, TRANSITION, WIDE};
+use crate::sound::{decode, family_of_component, Decoded};
+use crate::table::{thing_sort, Row, CLASS, CONSTRAINT, NARROW, PERMISSION, ROW, TRANSITION, VALIDATION, WIDE};
 
 #[derive(Clone, Copy, Debug, PartialEq, Eq)]
 pub struct Context<N> {
@@ -30,6 +30,15 @@ pub struct Change<N> {
     pub permission: N,
 }
 
+/// Document 02, W-205: "A new question gives class and three contexts".
+#[derive(Clone, Copy, Debug, PartialEq, Eq)]
+pub struct Relabel<N> {
+    pub class: N,
+    pub old: Context<N>,
+    pub new: Context<N>,
+    pub process: Context<N>,
+}
+
 #[derive(Clone, Copy, Debug, PartialEq, Eq)]
 pub enum ValidAnswer {
     Valid,
@@ -37,7 +46,9 @@ pub enum ValidAnswer {
     Refused(u8),
 }
 
-/// `constraint` has a meaning for denial 4 only and is 0 otherwise.
+/// Of a change or of a relabelling. `constraint` has a meaning for denials 4 and 6 only, where it is the number of the failing
+/// constrain or validatetrans, and is 0 otherwise. Reading 76 of document 02: 3 and 4 are denials of a change only, 5 and 6 of
+/// a relabelling only.
 #[derive(Clone, Copy, Debug, PartialEq, Eq)]
 pub enum ChangeAnswer {
     Granted { consulted: usize },
@@ -138,8 +149,54 @@ fn decide(table: &Decoded, question: &Change<usize>) -> ChangeAnswer {
         consulted += 1;
         let first = constraint.first_row as usize;
         let rows = &table.contents.rows[first..first + constraint.row_count as usize];
-        if !run(table, rows, question) {
+        if !run(table, rows, &[question.source, question.target]) {
             return ChangeAnswer::Denied { number: 4, constraint: number, consulted };
+        }
+    }
+    ChangeAnswer::Granted { consulted }
+}
+
+/// Document 02, W-205.
+pub fn relabel(bytes: &[u8], question: &Relabel<u64>) -> ChangeAnswer {
+    let Ok(table) = decode(bytes) else { return ChangeAnswer::Refused(NOT_SOUND) };
+    // Reading 72 of document 02: 12 for the class or any of nine numbers, before any denial.
+    match declared_relabel(&table, question) {
+        None => ChangeAnswer::Refused(NOT_DECLARED),
+        Some(question) => decide_relabel(&table, &question),
+    }
+}
+
+fn declared_relabel(table: &Decoded, question: &Relabel<u64>) -> Option<Relabel<usize>> {
+    Some(Relabel {
+        class: declared(question.class, table.counts.classes())?,
+        old: declared_context(table, &question.old)?,
+        new: declared_context(table, &question.new)?,
+        process: declared_context(table, &question.process)?,
+    })
+}
+
+/// "denials 1 old, 2 new, 5 process not valid, 6 with the first failing statement's number, else granted; consulted as for a
+/// change, 0 for denials 1, 2 and 5". Reading 73 of document 02: the number is the place among all validatetrans, and edition
+/// 1, which has none, grants with 0 once all three are valid. Reading 72: no role allow is asked.
+fn decide_relabel(table: &Decoded, question: &Relabel<usize>) -> ChangeAnswer {
+    let sides = [question.old, question.new, question.process];
+    for (number, context) in [1, 2, 5].into_iter().zip(&sides) {
+        if !is_valid(table, context) {
+            return ChangeAnswer::Denied { number, constraint: 0, consulted: 0 };
+        }
+    }
+    let mut consulted = 0;
+    let mut rest = table.contents.validation_rows.as_slice();
+    for (number, validation) in table.contents.validations.iter().enumerate() {
+        // Reading 67: there is no first row; the rows follow one another.
+        let (rows, behind) = rest.split_at(validation.row_count as usize);
+        rest = behind;
+        if validation.class as usize != question.class {
+            continue;
+        }
+        consulted += 1;
+        if !run(table, rows, &sides) {
+            return ChangeAnswer::Denied { number: 6, constraint: number, consulted };
         }
     }
     ChangeAnswer::Granted { consulted }
@@ -161,8 +218,8 @@ fn name_bytes(table: &Decoded, sort: u8, number: usize) -> &[u8] {
     &found.expect("the number is declared").name
 }
 
-/// Runs a constraint's rows. A sound table keeps the stack between 1 and 5.
-fn run(table: &Decoded, rows: &[Row], question: &Change<usize>) -> bool {
+/// Runs the rows of a constrain or validatetrans over the contexts of its sides. A sound table keeps the stack between 1 and 5.
+fn run(table: &Decoded, rows: &[Row], sides: &[Context<usize>]) -> bool {
     let mut stack = Vec::new();
     for row in rows {
         let result = match row.kind {
@@ -175,7 +232,7 @@ fn run(table: &Decoded, rows: &[Row], question: &Change<usize>) -> bool {
                 let (right, left) = (pop(&mut stack), pop(&mut stack));
                 left || right
             }
-            _ => compare(table, row, question),
+            _ => compare(table, row, sides),
         };
         stack.push(result);
         assert!(stack.len() <= limits::STACK);
@@ -190,16 +247,16 @@ fn pop(stack: &mut Vec<bool>) -> bool {
 }
 
 /// A comparison row. Reading 28: `dom domby incomp` are "read as eq and neq when asked".
-fn compare(table: &Decoded, row: &Row, question: &Change<usize>) -> bool {
-    let value = component(question, row.component);
+fn compare(table: &Decoded, row: &Row, sides: &[Context<usize>]) -> bool {
+    let value = component(sides, row.component);
     let same = match row.kind {
         // "kind 3 uses u1, r1, t1": the other side is the next component.
-        3 => value == component(question, row.component + 1),
+        3 => value == component(sides, row.component + 1),
         4 => value == row.number as usize,
         _ => {
-            let sets = match row.component {
-                0 | 1 => &table.contents.userattributes,
-                2 | 3 => &table.contents.roleattributes,
+            let sets = match family_of_component(row.component) {
+                0 => &table.contents.userattributes,
+                1 => &table.contents.roleattributes,
                 _ => &table.contents.typeattributes,
             };
             sets[row.number as usize].contains(&value)
@@ -213,15 +270,18 @@ fn compare(table: &Decoded, row: &Row, question: &Change<usize>) -> bool {
     }
 }
 
-/// "component (u1 u2 r1 r2 t1 t2 as 0 to 5"
-fn component(question: &Change<usize>, component: u8) -> usize {
+/// "component (u1 u2 r1 r2 t1 t2 as 0 to 5", "u3, r3, t3 as 6, 7, 8"
+fn component(sides: &[Context<usize>], component: u8) -> usize {
     match component {
-        0 => question.source.user,
-        1 => question.target.user,
-        2 => question.source.role,
-        3 => question.target.role,
-        4 => question.source.kind,
-        _ => question.target.kind,
+        0 => sides[0].user,
+        1 => sides[1].user,
+        2 => sides[0].role,
+        3 => sides[1].role,
+        4 => sides[0].kind,
+        5 => sides[1].kind,
+        6 => sides[2].user,
+        7 => sides[2].role,
+        _ => sides[2].kind,
     }
 }
 
@@ -258,9 +318,13 @@ pub fn name_of(bytes: &[u8], sort: u64, number: u64) -> PartAnswer {
     PartAnswer::Refused(NOT_DECLARED)
 }
 
-/// Reading 36: the whole record. "no such body or entry is 12"
+/// Reading 36: the whole record. "no such body or entry is 12"; document 02, W-205: "Entry serves all later bodies too", and a
+/// body that the edition lacks is 12 (reading 71).
 pub fn entry(bytes: &[u8], body: u64, place: u64) -> PartAnswer {
     let Ok(table) = decode(bytes) else { return PartAnswer::Refused(NOT_SOUND) };
+    if body > table.offsets.len() as u64 {
+        return PartAnswer::Refused(NOT_DECLARED);
+    }
     let widths = match body {
         2 => vec![NARROW; table.counts.users()],
         3 => vec![WIDE; table.counts.roles()],
@@ -269,6 +333,8 @@ pub fn entry(bytes: &[u8], body: u64, place: u64) -> PartAnswer {
         6 => vec![CONSTRAINT; table.contents.constraints.len()],
         7 => vec![ROW; table.contents.rows.len()],
         8 => attribute_widths(&table),
+        9 => vec![VALIDATION; table.contents.validations.len()],
+        10 => vec![ROW; table.contents.validation_rows.len()],
         _ => return PartAnswer::Refused(NOT_DECLARED),
     };
     match declared(place, widths.len()) {

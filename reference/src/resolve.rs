@@ -2,7 +2,7 @@
 //! 5. From here on no block matters any more; what follows goes by full names alone.
 
 use crate::lookup::{attribute_sort, full_name, thing_sort, tried_names, try_among, Among, NameEntry, PERMISSION};
-use crate::parser::{Constrain, Expression, Family, Name, Set, Statement, Transition};
+use crate::parser::{Constrain, Expression, Family, Name, Set, Statement, Transition, Validatetrans};
 use crate::policy::Policy;
 
 /// Where a statement stands: behind what the policy declares so far, within these blocks, the outermost first.
@@ -61,6 +61,11 @@ impl Scope<'_> {
                 new_role: self.of_sort(Family::Role, thing_sort(Family::Role), &t.new_role)?,
             })),
             Statement::Constrain(constrain) => Some(Statement::Constrain(self.constrain(constrain)?)),
+            // Reading 65 of document 02: any declared class, found as any use, and no permission.
+            Statement::Validatetrans(v) => Some(Statement::Validatetrans(Validatetrans {
+                class: self.class(&v.class)?,
+                expression: self.expression(&v.expression)?,
+            })),
             _ => None,
         }
     }

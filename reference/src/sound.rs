@@ -7,15 +7,15 @@ use crate::lexer::{has_dot, is_good_name, is_reserved, parts_of};
 use crate::limits;
 use crate::meaning::Numbers;
 use crate::table::{
-    ConstraintRecord, Contents, NameEntry, Row, TransitionRecord, BODIES, CLASS, CONSTRAINT, HEADER, NARROW,
-    PERMISSION, ROW, TRANSITION, WIDE,
+    header, ConstraintRecord, Contents, NameEntry, Row, TransitionRecord, ValidationRecord, CLASS, CONSTRAINT, EDITIONS,
+    NARROW, PERMISSION, ROW, TRANSITION, VALIDATION, WIDE,
 };
 use std::collections::BTreeSet;
 
 pub type Reason = &'static str;
 
 /// Every reason that `decode` can give.
-pub const REASONS: [Reason; 46] = [
+pub const REASONS: [Reason; 49] = [
     "shorter than the header",
     "edition",
     "count of bodies",
@@ -45,6 +45,8 @@ pub const REASONS: [Reason; 46] = [
     "too many transitions",
     "too many constraints",
     "too many rows",
+    "too many validatetrans",
+    "too many validatetrans rows",
     "length of a body",
     "undeclared user bit",
     "undeclared role bit",
@@ -52,6 +54,7 @@ pub const REASONS: [Reason; 46] = [
     "undeclared transition class",
     "undeclared new role",
     "undeclared constraint class",
+    "undeclared validatetrans class",
     "empty mask",
     "undeclared permission in mask",
     "first row",
@@ -94,7 +97,7 @@ impl Counts {
 pub struct Decoded {
     pub contents: Contents,
     pub counts: Counts,
-    /// Offset of each body in the table.
+    /// Offset of each body in the table: as many as the edition has.
     pub offsets: Vec<usize>,
 }
 
@@ -108,9 +111,19 @@ pub fn decode(bytes: &[u8]) -> Result<Decoded, Reason> {
     let (users, roles, types) = (counts.users(), counts.roles(), counts.types());
     let (userattributes, roleattributes, typeattributes) = counts.attributes();
     let transitions = read_transitions(bodies[4], &counts)?;
-    let rows = read_rows(bodies[6], &counts)?;
+    let rows = read_rows(bodies[6], &counts, CONSTRAIN_ROWS)?;
     let constraints = read_constraints(bodies[5], &counts)?;
-    rows_are_taken_up(&constraints, &rows)?;
+    if !first_rows_are_sums(&constraints) {
+        return Err("first row");
+    }
+    let row_counts: Vec<u16> = constraints.iter().map(|c| c.row_count).collect();
+    rows_are_taken_up(&row_counts, &rows)?;
+    // "Readers take edition 1 as having none."
+    let (ninth, tenth) = if bodies.len() > 8 { (bodies[8], bodies[9]) } else { (&[][..], &[][..]) };
+    let validation_rows = read_rows(tenth, &counts, VALIDATETRANS_ROWS)?;
+    let validations = read_validations(ninth, &counts)?;
+    let row_counts: Vec<u16> = validations.iter().map(|v| v.row_count).collect();
+    rows_are_taken_up(&row_counts, &validation_rows)?;
     let narrow = (userattributes + roleattributes) * NARROW;
     if bodies[7].len() != narrow + typeattributes * WIDE {
         return Err("length of a body");
@@ -128,6 +141,8 @@ pub fn decode(bytes: &[u8]) -> Result<Decoded, Reason> {
         userattributes: read_sets(first, NARROW, userattributes, (users, "undeclared user bit"))?,
         roleattributes: read_sets(middle, NARROW, roleattributes, (roles, "undeclared role bit"))?,
         typeattributes: read_sets(last, WIDE, typeattributes, (types, "undeclared type bit"))?,
+        validations,
+        validation_rows,
     };
     Ok(Decoded { contents, counts, offsets })
 }
@@ -148,22 +163,26 @@ fn four(bytes: &[u8], at: usize) -> u32 {
     u32::from_le_bytes([bytes[at], bytes[at + 1], bytes[at + 2], bytes[at + 3]])
 }
 
-/// "Bytes 0-1: edition 1. Bytes 2-3: 8. Then eight pairs of offset and length ... the bodies follow from byte 68 in
-/// order, without gaps." "Bytes after the last body are not read."
+/// The edition, the sections that it has, pairs of offset and length, "the bodies follow the last pair" in order, without
+/// gaps. "Bytes after the last body are not read."
 fn split(bytes: &[u8]) -> Result<(Vec<usize>, Vec<&[u8]>), Reason> {
-    if bytes.len() < HEADER {
+    if bytes.len() < header(0) {
         return Err("shorter than the header");
     }
-    if two(bytes, 0) != 1 {
+    // Reading 68 of document 02: edition 1 has exactly 8 sections, edition 2 exactly 10.
+    let Some((_, sections)) = EDITIONS.into_iter().find(|(edition, _)| *edition == two(bytes, 0)) else {
         return Err("edition");
-    }
-    if two(bytes, 2) as usize != BODIES {
+    };
+    if two(bytes, 2) as usize != sections {
         return Err("count of bodies");
+    }
+    if bytes.len() < header(sections) {
+        return Err("shorter than the header");
     }
     let mut offsets = Vec::new();
     let mut bodies = Vec::new();
-    let mut expected = HEADER as u64;
-    for body in 0..BODIES {
+    let mut expected = header(sections) as u64;
+    for body in 0..sections {
         let offset = four(bytes, 4 + body * 8) as u64;
         let length = four(bytes, 8 + body * 8) as u64;
         if offset != expected {
@@ -378,9 +397,34 @@ fn read_constraints(body: &[u8], counts: &Counts) -> Result<Vec<ConstraintRecord
     Ok(constraints)
 }
 
-fn read_rows(body: &[u8], counts: &Counts) -> Result<Vec<Row>, Reason> {
+fn read_validations(body: &[u8], counts: &Counts) -> Result<Vec<ValidationRecord>, Reason> {
+    let mut validations = Vec::new();
+    for record in records(body, VALIDATION, limits::VALIDATETRANS, "too many validatetrans")? {
+        let validation = ValidationRecord { class: two(record, 0), row_count: two(record, 2) };
+        if validation.class as usize >= counts.classes() {
+            return Err("undeclared validatetrans class");
+        }
+        validations.push(validation);
+    }
+    Ok(validations)
+}
+
+/// What differs between the rows of section 7 and those of section 10: the most of them, and the greatest component.
+/// Document 02, W-205: "components u3, r3, t3 as 6, 7, 8, legal only here" (reading 69).
+#[derive(Clone, Copy)]
+struct RowRules {
+    most: usize,
+    too_many: Reason,
+    greatest_component: u8,
+}
+
+const CONSTRAIN_ROWS: RowRules = RowRules { most: limits::ROWS, too_many: "too many rows", greatest_component: 5 };
+const VALIDATETRANS_ROWS: RowRules =
+    RowRules { most: limits::VALIDATETRANS_ROWS, too_many: "too many validatetrans rows", greatest_component: 8 };
+
+fn read_rows(body: &[u8], counts: &Counts, rules: RowRules) -> Result<Vec<Row>, Reason> {
     let mut rows = Vec::new();
-    for record in records(body, ROW, limits::ROWS, "too many rows")? {
+    for record in records(body, ROW, rules.most, rules.too_many)? {
         let row = Row {
             kind: record[0],
             component: record[1],
@@ -388,14 +432,14 @@ fn read_rows(body: &[u8], counts: &Counts) -> Result<Vec<Row>, Reason> {
             zero: record[3],
             number: two(record, 4),
         };
-        check_row(&row, counts)?;
+        check_row(&row, counts, rules.greatest_component)?;
         rows.push(row);
     }
     Ok(rows)
 }
 
 /// Reading 32: unused fields are 0; operators 2 to 4 only for kind 3 with component 2.
-fn check_row(row: &Row, counts: &Counts) -> Result<(), Reason> {
+fn check_row(row: &Row, counts: &Counts, greatest_component: u8) -> Result<(), Reason> {
     if row.zero != 0 {
         return Err("unused field");
     }
@@ -407,10 +451,10 @@ fn check_row(row: &Row, counts: &Counts) -> Result<(), Reason> {
             (0 | 4, 0..=1) | (2, 0..=4) => Ok(()),
             _ => Err("component or operator"),
         },
-        4 | 5 if row.component > 5 || row.operator > 1 => Err("component or operator"),
+        4 | 5 if row.component > greatest_component || row.operator > 1 => Err("component or operator"),
         4 | 5 => {
-            // Components come in pairs u, r, t; sorts 0 to 2 are the things, 3 to 5 their attributes.
-            let family = row.component as usize / 2;
+            // Sorts 0 to 2 are the things, 3 to 5 their attributes.
+            let family = family_of_component(row.component);
             let sort = if row.kind == 4 { family } else { family + 3 };
             if row.number as usize >= counts.sorts[sort] {
                 return Err("undeclared row number");
@@ -421,18 +465,36 @@ fn check_row(row: &Row, counts: &Counts) -> Result<(), Reason> {
     }
 }
 
-/// "constraints take up the rows in order with none left, and each constraint's rows, at least one, leave between 1 and
-/// 5 on the stack after every row and 1 after the last" (reading 33).
-fn rows_are_taken_up(constraints: &[ConstraintRecord], rows: &[Row]) -> Result<(), Reason> {
+/// 0 for u, 1 for r, 2 for t: u1 u2 r1 r2 t1 t2 come in pairs, then u3 r3 t3.
+pub fn family_of_component(component: u8) -> usize {
+    match component {
+        0..=5 => component as usize / 2,
+        _ => component as usize - 6,
+    }
+}
+
+/// Reading 33: each first row is the sum of the earlier counts.
+fn first_rows_are_sums(constraints: &[ConstraintRecord]) -> bool {
     let mut taken = 0;
     for constraint in constraints {
         if constraint.first_row as usize != taken {
-            return Err("first row");
+            return false;
         }
-        if constraint.row_count == 0 {
+        taken += constraint.row_count as usize;
+    }
+    true
+}
+
+/// "constraints take up the rows in order with none left, and each constraint's rows, at least one, leave between 1 and
+/// 5 on the stack after every row and 1 after the last" (reading 33). Document 02, W-205: sections 9 and 10 are "sound as 6 and
+/// 7 are"; their first rows are the running sums (reading 67).
+fn rows_are_taken_up(row_counts: &[u16], rows: &[Row]) -> Result<(), Reason> {
+    let mut taken = 0;
+    for &row_count in row_counts {
+        if row_count == 0 {
             return Err("no rows");
         }
-        let end = taken + constraint.row_count as usize;
+        let end = taken + row_count as usize;
         if end > rows.len() {
             return Err("rows left or missing");
         }

@@ -7,15 +7,23 @@ use crate::policy::read;
 
 pub use crate::lookup::{thing_sort, NameEntry, CLASS, PERMISSION};
 
-/// "edition 1", "8", then eight pairs of 4 and 4 bytes.
-pub const HEADER: usize = 68;
-pub const BODIES: usize = 8;
+/// Each edition and how many sections it has: 1 those of document 01, 2 those of document 02, W-205, as well. Reading 68 of
+/// document 02: bytes 2-3 must fit the edition, and an edition not known here is unsound.
+pub const EDITIONS: [(u16, usize); 2] = [(1, 8), (2, 10)];
+
+/// Edition, count, then pairs of 4 and 4 bytes: "the bodies follow the last pair".
+pub fn header(sections: usize) -> usize {
+    4 + 8 * sections
+}
+
 /// Bytes of a set of users or roles, and of a set of types.
 pub const NARROW: usize = 16;
 pub const WIDE: usize = 64;
 pub const TRANSITION: usize = NARROW + WIDE + 1 + 1;
 pub const CONSTRAINT: usize = 10;
 pub const ROW: usize = 6;
+/// Document 02, W-205: section 9 "holds class and row count, 2 bytes each".
+pub const VALIDATION: usize = 4;
 
 #[derive(Clone, Debug, PartialEq, Eq)]
 pub struct TransitionRecord {
@@ -33,8 +41,16 @@ pub struct ConstraintRecord {
     pub row_count: u16,
 }
 
+/// A validatetrans: no first row and no mask (reading 67 of document 02).
+#[derive(Clone, Copy, Debug, PartialEq, Eq)]
+pub struct ValidationRecord {
+    pub class: u16,
+    pub row_count: u16,
+}
+
 /// "kind (0 not, 1 and, 2 or, 3 two sides, 4 side and thing, 5 side and attribute), component (u1 u2 r1 r2 t1 t2 as 0 to
-/// 5), operator (eq neq dom domby incomp as 0 to 4), 0, number in 2 bytes". `zero` is the fourth byte.
+/// 5; document 02, W-205: u3, r3, t3 as 6, 7, 8), operator (eq neq dom domby incomp as 0 to 4), 0, number in 2 bytes".
+/// `zero` is the fourth byte.
 #[derive(Clone, Copy, Debug, PartialEq, Eq, Default)]
 pub struct Row {
     pub kind: u8,
@@ -44,7 +60,7 @@ pub struct Row {
     pub number: u16,
 }
 
-/// What the eight bodies of a table hold.
+/// What the bodies of a table hold. "Readers take edition 1 as having none" of the last two.
 #[derive(Clone, Debug, PartialEq, Eq, Default)]
 pub struct Contents {
     pub names: Vec<NameEntry>,
@@ -57,6 +73,8 @@ pub struct Contents {
     pub userattributes: Vec<Numbers>,
     pub roleattributes: Vec<Numbers>,
     pub typeattributes: Vec<Numbers>,
+    pub validations: Vec<ValidationRecord>,
+    pub validation_rows: Vec<Row>,
 }
 
 #[derive(Clone, Copy, Debug, PartialEq, Eq)]
@@ -81,7 +99,7 @@ pub fn compile(text: &[u8], lent: &mut [u8]) -> Outcome {
     Outcome::Accepted(table.len())
 }
 
-/// Faults 1 to 9, or the bytes of the table.
+/// Faults 1 to 9, or the bytes of the table: "New tables are in the newest edition".
 pub fn table_of(text: &[u8]) -> Result<Vec<u8>, Fault> {
     let meaning = meaning(read(text)?)?;
     Ok(assemble(&bodies(&contents(&meaning))))
@@ -98,6 +116,7 @@ pub fn contents(meaning: &Meaning) -> Contents {
         (0..count).map(|n| meaning.attribute(family, n).clone()).collect()
     };
     let (constraints, rows) = constraints_and_rows(meaning);
+    let (validations, validation_rows) = validations_and_rows(meaning);
     Contents {
         names: policy.names.clone(),
         roles_of_user: given(Relation::UserRole, users),
@@ -109,6 +128,8 @@ pub fn contents(meaning: &Meaning) -> Contents {
         userattributes: attributes(Family::User),
         roleattributes: attributes(Family::Role),
         typeattributes: attributes(Family::Type),
+        validations,
+        validation_rows,
     }
 }
 
@@ -140,6 +161,19 @@ fn constraints_and_rows(meaning: &Meaning) -> (Vec<ConstraintRecord>, Vec<Row>) 
     (constraints, rows)
 }
 
+/// Sections 9 and 10, in text order.
+fn validations_and_rows(meaning: &Meaning) -> (Vec<ValidationRecord>, Vec<Row>) {
+    let mut validations = Vec::new();
+    let mut rows = Vec::new();
+    for validatetrans in meaning.policy.validatetrans() {
+        let first_row = rows.len();
+        write_rows(meaning, &validatetrans.expression, &mut rows);
+        let class = meaning.policy.class(&validatetrans.class).unwrap() as u16;
+        validations.push(ValidationRecord { class, row_count: (rows.len() - first_row) as u16 });
+    }
+    (validations, rows)
+}
+
 /// Reading 29: the mask's bit is the permission's place; "repeats of P are harmless".
 fn mask(meaning: &Meaning, class: usize, constrain: &Constrain) -> u32 {
     let mut mask = 0;
@@ -167,7 +201,7 @@ fn write_rows(meaning: &Meaning, expression: &Expression, rows: &mut Vec<Row>) {
             rows.push(Row { kind: 2, ..Row::default() });
         }
         Expression::Sides(operator, family) => {
-            let component = component(*family, Side::Source);
+            let component = component(*family, Side::One);
             rows.push(Row { kind: 3, component, operator: operator_number(*operator), ..Row::default() });
         }
         Expression::Named(operator, family, side, name) => {
@@ -187,14 +221,11 @@ fn thing_or_attribute(meaning: &Meaning, family: Family, name: &Name) -> (u8, u1
 }
 
 fn component(family: Family, side: Side) -> u8 {
-    let first = match family {
-        Family::User => 0,
-        Family::Role => 2,
-        Family::Type => 4,
-    };
+    let place = thing_sort(family);
     match side {
-        Side::Source => first,
-        Side::Target => first + 1,
+        Side::One => 2 * place,
+        Side::Two => 2 * place + 1,
+        Side::Three => 6 + place,
     }
 }
 
@@ -208,7 +239,7 @@ fn operator_number(operator: Operator) -> u8 {
     }
 }
 
-/// The bytes of the eight bodies.
+/// The bytes of the bodies of the newest edition; the first eight of them are those of edition 1.
 pub fn bodies(contents: &Contents) -> Vec<Vec<u8>> {
     let mut attribute_sets = sets(&contents.userattributes, NARROW);
     attribute_sets.extend(sets(&contents.roleattributes, NARROW));
@@ -222,13 +253,18 @@ pub fn bodies(contents: &Contents) -> Vec<Vec<u8>> {
         contents.constraints.iter().flat_map(constraint_bytes).collect(),
         contents.rows.iter().flat_map(row_bytes).collect(),
         attribute_sets,
+        contents.validations.iter().flat_map(validation_bytes).collect(),
+        contents.validation_rows.iter().flat_map(row_bytes).collect(),
     ]
 }
 
-/// "the bodies follow from byte 68 in order, without gaps"; reading 29: an empty body still has the running offset.
+/// The table of the edition that has so many bodies: "Bytes 2-3 say how many sections there are, and the bodies follow the last
+/// pair", "in order, without gaps"; reading 29: an empty body still has the running offset.
 pub fn assemble(bodies: &[Vec<u8>]) -> Vec<u8> {
-    let mut table = vec![1, 0, 8, 0];
-    let mut offset = HEADER;
+    let (edition, sections) = EDITIONS.into_iter().find(|(_, sections)| *sections == bodies.len()).expect("an edition");
+    let mut table = edition.to_le_bytes().to_vec();
+    table.extend((sections as u16).to_le_bytes());
+    let mut offset = header(sections);
     for body in bodies {
         table.extend((offset as u32).to_le_bytes());
         table.extend((body.len() as u32).to_le_bytes());
@@ -274,6 +310,12 @@ fn constraint_bytes(c: &ConstraintRecord) -> Vec<u8> {
     bytes.extend(c.mask.to_le_bytes());
     bytes.extend(c.first_row.to_le_bytes());
     bytes.extend(c.row_count.to_le_bytes());
+    bytes
+}
+
+fn validation_bytes(v: &ValidationRecord) -> Vec<u8> {
+    let mut bytes = v.class.to_le_bytes().to_vec();
+    bytes.extend(v.row_count.to_le_bytes());
     bytes
 }
 

@@ -336,7 +336,7 @@ fn reading_52_full_names_and_numbers() {
     assert_eq!(names(text, 1), ["b.a", "b.c.d", "a"]);
     assert_eq!((names(text, 6), names(text, 7)), (vec!["b.c.e".to_string()], vec!["p".to_string(), "b".to_string()]));
     let bytes = table(text);
-    assert_eq!(bytes[68..84], *b"\x01\x00\x00\x03b.a\x01\x01\x00\x05b.c.d");
+    assert_eq!(bytes[84..100], *b"\x01\x00\x00\x03b.a\x01\x01\x00\x05b.c.d");
     let PartAnswer::Part { start, length } = name_of(&bytes, 1, 1) else { panic!("declared") };
     assert_eq!(&bytes[start..start + length], b"b.c.d");
     assert!(roll(b"(block b(user u)(role a)(userrole u a))").ends_with(b"user b.u roles 1\nrole b.a types 0\n"));
@@ -474,7 +474,7 @@ fn random_policies_in_blocks_and_without() {
     let (mut dotted, mut deepest, mut leading, mut shadowed) = (0, 0, 0, 0);
     for round in 0..500 {
         let steps = random.between(5, 80);
-        let shape = Shape { small: round % 2 == 0, objects: round % 7 == 0, ..Shape::good(steps) };
+        let shape = Shape { small: round % 2 == 0, objects: round % 7 == 0, relabels: round % 3 == 0, ..Shape::good(steps) };
         let (inside, flat) = policy_twice(&mut random, shape);
         let inside = lay_out(&mut random, &inside, Gaps::Least);
         let flat = lay_out(&mut random, &flat, Gaps::Least);

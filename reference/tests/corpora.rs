@@ -29,7 +29,10 @@ fn every_refusal_and_denial_occurs() {
     let sound = answer(Layer::Sound, &write(Layer::Sound, 2)).unwrap();
     assert!(count(&sound, "sound") > 100 && count(&sound, "unsound") > 500);
     let questions = answer(Layer::Questions, &write(Layer::Questions, 2)).unwrap();
-    for start in ["denied 1", "denied 2", "denied 3", "denied 4", "granted", "refused 11", "refused 12", "valid", "not valid"] {
+    for number in 1..=6 {
+        assert!(count(&questions, &format!("denied {number}")) >= 40, "{number}");
+    }
+    for start in ["granted", "refused 11", "refused 12", "valid", "not valid"] {
         assert!(count(&questions, start) >= 10, "{start}");
     }
     let tries = answer(Layer::Tries, &write(Layer::Tries, 2)).unwrap();
@@ -39,11 +42,34 @@ fn every_refusal_and_denial_occurs() {
     assert!(count(&tries, "chains missing compared 0") > 1_000 && count(&tries, "chains missing compared 1") > 500);
 }
 
-/// Document 02, W-202: the last 1,000 texts of the compile corpus are random, and LFs stand in many of their gaps.
+/// Document 02, W-205: the numbers of the relabelling as the corpus has them, on tables of both editions.
+#[test]
+fn relabellings_in_the_corpus() {
+    let corpus = write(Layer::Questions, 2);
+    let number = |at: usize, width: usize| (0..width).rev().fold(0u64, |sum, byte| sum << 8 | corpus[at + byte] as u64);
+    let (mut at, mut relabellings, mut lines) = (0, [0; 3], 0);
+    while at < corpus.len() {
+        let table = at + 4;
+        at = table + number(at, 4) as usize;
+        let edition = if at > table { corpus[table] as usize % 3 } else { 0 };
+        let count = number(at, 4);
+        at += 4;
+        for _ in 0..count {
+            let kind = number(at, 8);
+            relabellings[edition] += (kind == 5) as usize;
+            at += 8 * if kind == 5 { 11 } else { 9 };
+            lines += 1;
+        }
+    }
+    assert_eq!(lines, answer(Layer::Questions, &corpus).unwrap().len());
+    assert!(relabellings[1] > 200 && relabellings[2] > 500, "{relabellings:?}");
+}
+
+/// Document 02, W-202: the last 1,200 texts of the compile corpus are random, and LFs stand in many of their gaps.
 #[test]
 fn random_texts_are_often_refused_on_a_later_line() {
     let compile = answer(Layer::Compile, &write(Layer::Compile, 2)).unwrap();
-    let random = &compile[compile.len() - 1_000..];
+    let random = &compile[compile.len() - 1_200..];
     let of_number = |number: u8| random.iter().filter(move |line| line.starts_with(&format!("refused {number} at")));
     let later = |number: u8| of_number(number).filter(|line| line_in(line) > 1).count();
     assert!((2..=9).all(|number| later(number) >= 3));
@@ -81,5 +107,5 @@ fn the_checksum() {
     assert_eq!(fill(300)[256..258], [3, 10]);
     assert_eq!(compile_line(0, b"()"), "refused 3 at 0 line 1 1");
     assert_eq!(compile_line(0, b"\n()"), "refused 3 at 1 line 2 1");
-    assert_eq!(compile_line(2, b""), format!("refused 10 at 68 line 0 {}", adler32(&[3, 10])));
+    assert_eq!(compile_line(2, b""), format!("refused 10 at 84 line 0 {}", adler32(&[3, 10])));
 }

@@ -8,10 +8,13 @@ use reference::fault::Fault;
 use reference::generator::damage::damage;
 use reference::generator::layout::{lay_out, Gaps};
 use reference::generator::policies::{policy, Shape};
-use reference::generator::tables::with_bytes_behind;
+use reference::generator::relabels::longer;
+use reference::generator::tables::{in_edition_1, with_bytes_behind};
 use reference::meaning::Meaning;
 use reference::parser::{Family, Relation};
-use reference::questions::{change, new_role, valid_context, Change, ChangeAnswer, Context, RoleAnswer, ValidAnswer};
+use reference::questions::{
+    change, new_role, relabel, valid_context, Change, ChangeAnswer, Context, Relabel, RoleAnswer, ValidAnswer,
+};
 use reference::random::Random;
 use reference::sound::decode;
 use reference::table::{compile, contents, table_of, Outcome};
@@ -21,7 +24,8 @@ fn some_policy(random: &mut Random) -> Vec<u8> {
     let small = random.chance(30);
     let objects = random.chance(30);
     let blocks = random.chance(40);
-    policy_text(random, Shape { small, objects, blocks, ..Shape::good(steps) })
+    let relabels = random.chance(50);
+    policy_text(random, Shape { small, objects, blocks, relabels, ..Shape::good(steps) })
 }
 
 /// A context in declared numbers, mostly a valid one.
@@ -88,6 +92,163 @@ fn the_table_answers_as_the_statements() {
         }
     }
     assert!(grants > 500 && denials[1..].iter().all(|&count| count > 100), "{grants} {denials:?}");
+}
+
+fn some_relabel(random: &mut Random, meaning: &Meaning) -> Relabel<usize> {
+    let [old, new, process] = [(); 3].map(|_| some_context(random, meaning));
+    let validated: Vec<usize> =
+        meaning.policy.validatetrans().iter().map(|v| meaning.policy.class(&v.class).unwrap()).collect();
+    let class = if validated.is_empty() || random.chance(20) {
+        random.below(meaning.policy.classes.len())
+    } else {
+        *random.pick(&validated)
+    };
+    Relabel { class, old, new, process }
+}
+
+fn wide_relabel(q: &Relabel<usize>) -> Relabel<u64> {
+    let [old, new, process] = [q.old, q.new, q.process].map(|c| wide_context(&c));
+    Relabel { class: q.class as u64, old, new, process }
+}
+
+/// Document 02, W-205: "Demand 3 covers this question"; on edition 1 every validatetrans is left out.
+#[test]
+fn the_table_answers_a_relabelling_as_the_statements() {
+    let mut random = Random::new(13);
+    let (mut denials, mut grants) = ([0; 7], 0);
+    for _ in 0..400 {
+        let text = some_policy(&mut random);
+        let meaning = meant(&text);
+        let table = table_of(&text).unwrap();
+        let older = in_edition_1(&table);
+        let table = with_bytes_behind(&mut random, &table);
+        for _ in 0..30 {
+            let question = some_relabel(&mut random, &meaning);
+            let answer = meaning.relabel(&question);
+            assert_eq!(relabel(&table, &wide_relabel(&question)), answer, "{}", String::from_utf8_lossy(&text));
+            let without = match answer {
+                ChangeAnswer::Denied { number: 6, .. } | ChangeAnswer::Granted { .. } => ChangeAnswer::Granted { consulted: 0 },
+                other => other,
+            };
+            assert_eq!(relabel(&older, &wide_relabel(&question)), without);
+            match answer {
+                ChangeAnswer::Granted { .. } => grants += 1,
+                ChangeAnswer::Denied { number, .. } => denials[number as usize] += 1,
+                ChangeAnswer::Refused(_) => panic!("never a refusal"),
+            }
+        }
+    }
+    assert!(grants > 500 && [1, 2, 5, 6].iter().all(|&n| denials[n] > 100), "{grants} {denials:?}");
+    assert_eq!((denials[3], denials[4]), (0, 0));
+}
+
+/// How often each of the four combinations of question and added statement kept a denial, and how often it made a new one. The
+/// first place is 0 for a change, 1 for a relabelling; the second is 0 for a constrain, 1 for a validatetrans.
+#[derive(Debug, Default)]
+struct Combined {
+    kept: [[usize; 2]; 2],
+    new: [[usize; 2]; 2],
+}
+
+impl Combined {
+    /// Document 02, reading 75: a question that the first table denies is denied by the second, with the same answer; and a
+    /// statement of the other kind leaves every answer as it was.
+    fn take(&mut self, question: usize, added: usize, first: ChangeAnswer, second: ChangeAnswer) {
+        assert!(!matches!((first, second), (ChangeAnswer::Refused(_), _) | (_, ChangeAnswer::Refused(_))));
+        if question != added || matches!(first, ChangeAnswer::Denied { .. }) {
+            assert_eq!(first, second);
+        }
+        self.kept[question][added] += matches!(first, ChangeAnswer::Denied { .. }) as usize;
+        let granted = matches!(first, ChangeAnswer::Granted { .. });
+        self.new[question][added] += (granted && matches!(second, ChangeAnswer::Denied { .. })) as usize;
+    }
+}
+
+/// Document 02, reading 75: two questions and two kinds of added statement, on random policies, some of them in blocks. Both
+/// tables answer as their statements.
+#[test]
+fn one_more_statement_of_either_kind() {
+    let mut random = Random::new(17);
+    let mut combined = Combined::default();
+    for round in 0..400 {
+        let steps = random.between(10, 60);
+        let shorter = policy_text(&mut random, Shape { relabels: true, blocks: round % 2 == 0, ..Shape::good(steps) });
+        let meaning = meant(&shorter);
+        let number = random.below(meaning.policy.classes.len());
+        let class = meaning.policy.classes[number].clone();
+        let user = random.pick(&meaning.policy.things(Family::User)).to_vec();
+        let names = [class.name, class.permissions[0].clone(), user];
+        let [name, permission, user] = names.map(|name| String::from_utf8(name).unwrap());
+        let added = round / 2 % 2;
+        let last = match added {
+            0 => format!("\n(constrain({name}({permission}))(eq u2 {user}))"),
+            _ => format!("\n(validatetrans {name}(and(eq u3 {user})(eq t1 t2)))"),
+        };
+        let longer = [shorter.clone(), last.into_bytes()].concat();
+        let (before, after) = (table_of(&shorter).unwrap(), table_of(&longer).unwrap());
+        let longer = meant(&longer);
+        for _ in 0..20 {
+            // In most cases in the class of the added statement.
+            let (mut question, mut relabelling) = (some_change(&mut random, &meaning), some_relabel(&mut random, &meaning));
+            if random.chance(70) {
+                (question.class, question.permission, relabelling.class) = (number, 0, number);
+            }
+            let (first, second) = (change(&before, &wide(&question)), change(&after, &wide(&question)));
+            assert_eq!((first, second), (meaning.change(&question), longer.change(&question)));
+            combined.take(0, added, first, second);
+            let question = relabelling;
+            let (first, second) = (relabel(&before, &wide_relabel(&question)), relabel(&after, &wide_relabel(&question)));
+            assert_eq!((first, second), (meaning.relabel(&question), longer.relabel(&question)));
+            combined.take(1, added, first, second);
+        }
+    }
+    assert!(combined.kept.iter().flatten().all(|&count| count > 500), "{combined:?}");
+    assert!(combined.new[0][0] > 50 && combined.new[1][1] > 50, "{combined:?}");
+    assert_eq!((combined.new[0][1], combined.new[1][0]), (0, 0));
+}
+
+/// Document 02, reading 75: the listed policies, every question in their numbers, also on tables in edition 1.
+#[test]
+fn one_more_statement_by_hand() {
+    let range = |count: usize| 0..count as u64;
+    for listed in longer() {
+        let (before, after) = (table(&listed.text), table(&format!("{}{}", listed.text, listed.added)));
+        let added = listed.added.starts_with("(validatetrans ") as usize;
+        assert!(added == 1 || listed.added.starts_with("(constrain("), "{}", listed.rule);
+        let decoded = decode(&before).unwrap().counts;
+        let mut contexts = Vec::new();
+        for user in range(decoded.users()) {
+            for role in range(decoded.roles()) {
+                contexts.extend(range(decoded.types()).map(|kind| Context { user, role, kind }));
+            }
+        }
+        let mut combined = Combined::default();
+        for class in range(decoded.classes()) {
+            for &source in &contexts {
+                for &target in &contexts {
+                    let question = Change { source, target, class, permission: 0 };
+                    combined.take(0, added, change(&before, &question), change(&after, &question));
+                    for &process in &contexts {
+                        let question = Relabel { class, old: source, new: target, process };
+                        combined.take(1, added, relabel(&before, &question), relabel(&after, &question));
+                        assert_eq!(relabel(&in_edition_1(&before), &question), relabel(&in_edition_1(&after), &question));
+                    }
+                }
+            }
+        }
+        assert!(combined.kept[0][added] > 0 && combined.kept[1][added] > 0, "{}", listed.rule);
+        assert_eq!(combined.new[0][added] > 0, listed.denies_change, "{}", listed.rule);
+        assert_eq!(combined.new[1][added] > 0, listed.denies_relabelling, "{}", listed.rule);
+    }
+}
+
+/// "if the longer policy is accepted": at 64 statements, or 1,024 rows, one more validatetrans is refused.
+#[test]
+fn one_validatetrans_too_many() {
+    let text = format!("(class c(p)){}", "(validatetrans c(eq u1 u2))".repeat(64));
+    let one_more = format!("{text}(validatetrans c(eq u1 u2))");
+    assert_eq!(table_of(one_more.as_bytes()), Err(Fault::new(6, text.len()).in_text(one_more.as_bytes())));
+    assert!(table_of(format!("{text}(constrain(c(p))(eq u1 u2))").as_bytes()).is_ok());
 }
 
 #[test]
@@ -222,7 +383,7 @@ fn lent_memory_just_enough_and_one_byte_less() {
     let mut short = vec![9; length - 1];
     assert_eq!(compile(b"(role a)", &mut short), Outcome::Refused(Fault::new(10, length)));
     assert_eq!(short, vec![9; length - 1]);
-    assert_eq!(compile(b"", &mut []), Outcome::Refused(Fault::new(10, 68)));
+    assert_eq!(compile(b"", &mut []), Outcome::Refused(Fault::new(10, 84)));
     // Faults 1 to 9 come before 10.
     assert!(matches!(compile(b"()", &mut []), Outcome::Refused(fault) if fault.number == 3));
 }

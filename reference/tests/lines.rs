@@ -79,13 +79,13 @@ fn reading_21_a_long_text() {
 
 #[test]
 fn reading_22_fault_10_is_not_placed_in_a_text() {
-    assert_eq!(compile(b"\n\n", &mut []), Outcome::Refused(Fault { number: 10, place: 68, line: 0 }));
+    assert_eq!(compile(b"\n\n", &mut []), Outcome::Refused(Fault { number: 10, place: 84, line: 0 }));
     let length = table("\n(role a)\n").len();
     let short = &mut vec![0; length - 1];
     assert_eq!(compile(b"\n(role a)\n", short), Outcome::Refused(Fault { number: 10, place: length, line: 0 }));
     // Not even where the length needed would be a place of the text.
     let long = "\n".repeat(100);
-    assert_eq!(compile(long.as_bytes(), &mut []), Outcome::Refused(Fault { number: 10, place: 68, line: 0 }));
+    assert_eq!(compile(long.as_bytes(), &mut []), Outcome::Refused(Fault { number: 10, place: 84, line: 0 }));
 }
 
 #[test]

@@ -17,10 +17,10 @@ fn denied(number: u8) -> ChangeAnswer {
 #[test]
 fn p1_empty_text() {
     let table = table("");
-    assert_eq!(table.len(), 68);
-    let mut expected = vec![1, 0, 8, 0];
-    for _ in 0..8 {
-        expected.extend([68, 0, 0, 0, 0, 0, 0, 0]);
+    assert_eq!(table.len(), 84);
+    let mut expected = vec![2, 0, 10, 0];
+    for _ in 0..10 {
+        expected.extend([84, 0, 0, 0, 0, 0, 0, 0]);
     }
     assert_eq!(table, expected);
 }
@@ -28,17 +28,18 @@ fn p1_empty_text() {
 #[test]
 fn p2_the_roll() {
     let table = table(ROLL);
-    assert_eq!(table.len(), 264);
+    assert_eq!(table.len(), 280);
     let number = |at: usize| u32::from_le_bytes(table[at..at + 4].try_into().unwrap());
-    let offsets: Vec<u32> = (0..8).map(|body| number(4 + body * 8)).collect();
-    assert_eq!(offsets, [68, 88, 104, 232, 264, 264, 264, 264]);
-    let lengths: Vec<u32> = (0..8).map(|body| number(8 + body * 8)).collect();
-    assert_eq!(lengths, [20, 16, 128, 32, 0, 0, 0, 0]);
-    assert_eq!(table[68..88], *b"\x00\x00\x00\x01u\x01\x00\x00\x01a\x01\x01\x00\x01b\x02\x00\x00\x01t");
+    // Document 02, reading 6.
+    let offsets: Vec<u32> = (0..10).map(|body| number(4 + body * 8)).collect();
+    assert_eq!(offsets, [84, 104, 120, 248, 280, 280, 280, 280, 280, 280]);
+    let lengths: Vec<u32> = (0..10).map(|body| number(8 + body * 8)).collect();
+    assert_eq!(lengths, [20, 16, 128, 32, 0, 0, 0, 0, 0, 0]);
+    assert_eq!(table[84..104], *b"\x00\x00\x00\x01u\x01\x00\x00\x01a\x01\x01\x00\x01b\x02\x00\x00\x01t");
     // The user has role 0, role 0 has type 0, and nothing else is set.
-    let ones: Vec<usize> = (88..264).filter(|&at| table[at] != 0).collect();
-    assert_eq!(ones, [88, 104]);
-    assert_eq!((table[88], table[104]), (1, 1));
+    let ones: Vec<usize> = (104..280).filter(|&at| table[at] != 0).collect();
+    assert_eq!(ones, [104, 120]);
+    assert_eq!((table[104], table[120]), (1, 1));
 }
 
 #[test]
@@ -107,9 +108,9 @@ fn p12_role_64_is_bit_0_of_byte_8() {
 
 #[test]
 fn the_printed_roll() {
-    let printed = "accepted 264 bytes\nuser u roles 1\nrole a types 1\nrole b types 0\n";
+    let printed = "accepted 280 bytes\nuser u roles 1\nrole a types 1\nrole b types 0\n";
     assert_eq!(roll(ROLL.as_bytes()), printed.as_bytes());
-    assert_eq!(roll(b""), b"accepted 68 bytes\n");
+    assert_eq!(roll(b""), b"accepted 84 bytes\n");
     assert_eq!(roll(b"(role a)(roletype a t)"), b"refused 5 at 8 line 1\n");
     assert_eq!(roll(&[b' '; 70_000]), b"refused 1 at 65535 line 1\n");
     // Users first, then roles, whatever the order in the text.

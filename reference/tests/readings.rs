@@ -58,6 +58,7 @@ fn every_maximum_at_once() {
     assert_eq!(all.counts.permissions, vec![32; 32]);
     let contents = all.contents;
     assert_eq!((contents.transitions.len(), contents.constraints.len(), contents.rows.len()), (128, 128, 2_048));
+    assert_eq!((contents.validations.len(), contents.validation_rows.len()), (64, 1_024));
     // x0 holds every x after it: users 0 to 62 and 127.
     assert_eq!(contents.userattributes[0], (0..63).chain([127]).collect());
     assert_eq!(contents.typeattributes[63], set(&[500, 511]));
@@ -89,26 +90,26 @@ fn byte_classes_by_count() {
 #[test]
 fn bytes_of_a_class_and_a_constraint() {
     let table = table("(class c (p q r))(constrain (c (r p r)) (eq u1 u2))");
-    assert_eq!(table.len(), 104);
-    assert_eq!(table[68..88], *b"\x06\x00\x00\x01c\x07\x00\x00\x01p\x07\x01\x00\x01q\x07\x02\x00\x01r");
-    assert_eq!(table[88..98], [0, 0, 5, 0, 0, 0, 0, 0, 1, 0]);
-    assert_eq!(table[98..], [3, 0, 0, 0, 0, 0]);
+    assert_eq!(table.len(), 120);
+    assert_eq!(table[84..104], *b"\x06\x00\x00\x01c\x07\x00\x00\x01p\x07\x01\x00\x01q\x07\x02\x00\x01r");
+    assert_eq!(table[104..114], [0, 0, 5, 0, 0, 0, 0, 0, 1, 0]);
+    assert_eq!(table[114..], [3, 0, 0, 0, 0, 0]);
     // Empty bodies have the running offset.
     let number = |at: usize| u32::from_le_bytes(table[at..at + 4].try_into().unwrap());
-    let offsets: Vec<u32> = (0..8).map(|body| number(4 + body * 8)).collect();
-    assert_eq!(offsets, [68, 88, 88, 88, 88, 88, 98, 104]);
+    let offsets: Vec<u32> = (0..10).map(|body| number(4 + body * 8)).collect();
+    assert_eq!(offsets, [84, 104, 104, 104, 104, 104, 114, 120, 120, 120]);
 }
 
 #[test]
 fn bytes_of_a_transition() {
     let table = table("(role a)(role b)(type t)(type s)(class c (p))(class d (q))(roletransition b s d b)");
     // Names 8 x 5 bytes, roles 2 x 64 and 2 x 16.
-    let start = 68 + 40 + 128 + 32;
+    let start = 84 + 40 + 128 + 32;
     let mut expected = vec![0; 82];
     (expected[0], expected[16], expected[80], expected[81]) = (2, 2, 1, 1);
     assert_eq!(table[start..], expected);
     // Class 1 has permission 0 as number 32.
-    assert_eq!(table[103..108], *b"\x07\x20\x00\x01q");
+    assert_eq!(table[119..124], *b"\x07\x20\x00\x01q");
 }
 
 #[test]
@@ -135,7 +136,7 @@ fn rows_in_order() {
 #[test]
 fn attribute_bodies_in_the_order_of_the_families() {
     let table = table("(typeattribute z)(type t)(typeattributeset z (t))(userattribute x)(user u)(userattributeset x (u))");
-    let start = 68 + 20 + 16;
+    let start = 84 + 20 + 16;
     assert_eq!(table.len(), start + 16 + 64);
     assert_eq!((table[start], table[start + 16]), (1, 1));
 }

@@ -4,7 +4,8 @@ mod common;
 
 use common::table;
 use reference::generator::maxima;
-use reference::generator::tables::{apply, bounds, odd_and_sound, ways, with_bytes_behind, BASES};
+use reference::generator::relabels;
+use reference::generator::tables::{apply, bounds, in_edition_1, odd_and_sound, ways, with_bytes_behind, BASES};
 use reference::random::Random;
 use reference::sound::{decode, is_sound, REASONS};
 use reference::table::{assemble, bodies, table_of};
@@ -16,9 +17,9 @@ fn each_way_of_damage_is_unsound_and_each_reason_is_reached() {
     let mut reached = BTreeSet::new();
     for (name, way) in ways() {
         let mut applied = 0;
-        for base in BASES {
+        for base in BASES.iter().flat_map(|base| [table(base), in_edition_1(&table(base))]) {
             for _ in 0..40 {
-                if let Some(damaged) = apply(way, &table(base), &mut random) {
+                if let Some(damaged) = apply(way, &base, &mut random) {
                     applied += 1;
                     match decode(&damaged) {
                         Ok(_) => panic!("{name} leaves a sound table"),
@@ -65,17 +66,17 @@ fn odd_tables_are_sound() {
 #[test]
 fn reading_a_sound_table_and_writing_it_gives_the_same_bytes() {
     for base in BASES {
-        let table = table(base);
-        let decoded = decode(&table).unwrap();
-        assert_eq!(assemble(&bodies(&decoded.contents)), table);
+        for table in [table(base), in_edition_1(&table(base))] {
+            let decoded = decode(&table).unwrap();
+            assert_eq!(assemble(&bodies(&decoded.contents)[..decoded.offsets.len()]), table);
+        }
     }
 }
 
 #[test]
 fn bytes_behind_are_not_read_and_every_cut_is_unsound() {
     let mut random = Random::new(5);
-    for base in BASES {
-        let table = table(base);
+    for table in BASES.iter().flat_map(|base| [table(base), in_edition_1(&table(base))]) {
         for length in 0..table.len() {
             assert!(!is_sound(&table[..length]), "{length}");
         }
@@ -87,14 +88,13 @@ fn bytes_behind_are_not_read_and_every_cut_is_unsound() {
 /// Any single byte changed: whatever is still sound reads back as those very bytes.
 #[test]
 fn a_changed_byte_is_unsound_or_reads_back() {
-    for base in BASES {
-        let table = table(base);
+    for table in BASES.iter().flat_map(|base| [table(base), in_edition_1(&table(base))]) {
         for at in 0..table.len() {
             for flip in [1, 2, 4, 128, 255] {
                 let mut changed = table.clone();
                 changed[at] ^= flip;
                 if let Ok(decoded) = decode(&changed) {
-                    assert_eq!(assemble(&bodies(&decoded.contents)), changed);
+                    assert_eq!(assemble(&bodies(&decoded.contents)[..decoded.offsets.len()]), changed);
                 }
             }
         }
@@ -104,11 +104,19 @@ fn a_changed_byte_is_unsound_or_reads_back() {
 #[test]
 fn bytes_that_are_no_table() {
     assert!(!is_sound(b""));
-    assert!(!is_sound(&[0; 68]));
+    assert!(!is_sound(&[0; 68]) && !is_sound(&[0; 84]));
     assert!(!is_sound(&[255; 500]));
     let mut random = Random::new(1);
     for _ in 0..1_000 {
         let bytes: Vec<u8> = (0..random.below(200)).map(|_| random.byte()).collect();
         assert!(!is_sound(&bytes));
+    }
+}
+
+/// Document 02, readings 67 to 70.
+#[test]
+fn every_listed_table() {
+    for listed in relabels::tables() {
+        assert_eq!(is_sound(&listed.bytes), listed.sound, "{}", listed.rule);
     }
 }

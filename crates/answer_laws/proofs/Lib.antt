@@ -1,3 +1,4 @@
+pub mod FourTests
 pub mod Agreement
 pub mod SameSets
 pub mod Placeless

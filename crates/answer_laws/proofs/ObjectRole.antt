@@ -100,12 +100,12 @@ denialOf (fails n i) = 0
 denialOf (refuses n at) = 0
 
 -- constraints give none of them
-none-of-them : {A : Type 0} (names holds : A → Bool) (i : ℕ) (xs : List A) → denialOf (firstFailing names holds i xs .verdict) ≡ 0
+none-of-them : {A : Type 0} (m : ℕ) (names holds : A → Bool) (i : ℕ) (xs : List A) → denialOf (firstFailing m names holds i xs .verdict) ≡ 0
 unfolding firstFailing
-none-of-them names holds i [] = refl
-none-of-them names holds i (x ∷ xs) = by (names x) (holds x) (firstFailing names holds (i + 1) xs) (none-of-them names holds (i + 1) xs)
+none-of-them m names holds i [] = refl
+none-of-them m names holds i (x ∷ xs) = by (names x) (holds x) (firstFailing m names holds (i + 1) xs) (none-of-them m names holds (i + 1) xs)
   where
-    by : (n b : Bool) (later : Answer) → denialOf (later .verdict) ≡ 0 → denialOf (consult n b i later .verdict) ≡ 0
+    by : (n b : Bool) (later : Answer) → denialOf (later .verdict) ≡ 0 → denialOf (consult m n b i later .verdict) ≡ 0
     by false b later h = h
     by true false later h = refl
     by true true later h = h
@@ -130,17 +130,17 @@ target-passed true true true true rest e z h = absurd (omega arith)
 module _ (p : Policy) (q : Question) where
   pub object-source : RoleNamed (declarations p) (q .source .role) objectR → denialOf (answer p q .verdict) ≡ 1 → ⊥
   unfolding answer ruledBy
-  object-source h = source-passed _ _ _ _ _ (object-valid (givenBy p) (q .source) h) (none-of-them _ _ 0 (constrains p))
+  object-source h = source-passed _ _ _ _ _ (object-valid (givenBy p) (q .source) h) (none-of-them 4 _ _ 0 (constrains p))
 
   pub object-target : RoleNamed (declarations p) (q .target .role) objectR → denialOf (answer p q .verdict) ≡ 2 → ⊥
   unfolding answer ruledBy
-  object-target h = target-passed _ _ _ _ _ (object-valid (givenBy p) (q .target) h) (none-of-them _ _ 0 (constrains p))
+  object-target h = target-passed _ _ _ _ _ (object-valid (givenBy p) (q .target) h) (none-of-them 4 _ _ 0 (constrains p))
 
 module _ (i : Image) (q : Question) where
   pub object-source-in : RoleNamed (i .names) (q .source .role) objectR → denialOf (change i q .verdict) ≡ 1 → ⊥
   unfolding change ruledBy
-  object-source-in h = source-passed _ _ _ _ _ (object-valid (givenIn i) (q .source) h) (none-of-them _ _ 0 (i .constraints))
+  object-source-in h = source-passed _ _ _ _ _ (object-valid (givenIn i) (q .source) h) (none-of-them 4 _ _ 0 (i .constraints))
 
   pub object-target-in : RoleNamed (i .names) (q .target .role) objectR → denialOf (change i q .verdict) ≡ 2 → ⊥
   unfolding change ruledBy
-  object-target-in h = target-passed _ _ _ _ _ (object-valid (givenIn i) (q .target) h) (none-of-them _ _ 0 (i .constraints))
+  object-target-in h = target-passed _ _ _ _ _ (object-valid (givenIn i) (q .target) h) (none-of-them 4 _ _ 0 (i .constraints))

@@ -5,12 +5,10 @@ use mathlib.Core.Bool.{Bool}
 use mathlib.Core.List.{List, [], _∷_}
 use mathlib.Core.Option.{Option}
 use Rattle.policy.specs.Basics.{any, each, gather}
-use Rattle.policy.specs.Statements.{Statement, Line, Policy, declared, declarations, setFor, setsFor, constrained, constrains, Constrain}
+use Rattle.policy.specs.Statements.{Statement, Line, Policy, declared, declarations, setFor, setsFor}
 use Rattle.policy.specs.Meaning.{lineGives}
-use Rattle.policy.specs.Deciding.{Question}
-use Rattle.policy.specs.Answer.{answer}
 use Rattle.answer_laws.specs.Longer.{said}
-use Rattle.answer_laws.proofs.SameSets.{SameSets, answerWith, answer-same-sets, answer-with}
+use Rattle.answer_laws.proofs.SameSets.{SameSets, Ruling, ruledWith, ruled, ruled-same-sets}
 
 -- a statement at place 0
 abbrev placeless : Statement → Line
@@ -36,14 +34,10 @@ module _ (p : Policy) where
     gives = λ s k x y. tested (lineGives s k x y) (λ l. refl) p;
   }
 
-  same-constrains : constrains (each placeless (said p)) ≡ constrains p
-  unfolding constrains
-  same-constrains = gathered constrained (λ l. refl) p
-
-  answer-placeless : (q : Question) → answer (each placeless (said p)) q ≡ answer p q
-  answer-placeless q =
-      answer-same-sets p (each placeless (said p)) same-sets q ∙ ap (λ (cs : List Constrain). answerWith p cs q) same-constrains ∙ sym (answer-with p q)
+  ruled-placeless : {A : Type 0} (k : Ruling A) → ruled k (each placeless (said p)) ≡ ruled k p
+  ruled-placeless k =
+      ruled-same-sets p (each placeless (said p)) same-sets k ∙ ap (ruledWith k p) (gathered (λ (l : Line). k .taken (l .says)) (λ l. refl) p)
 
 -- the answer does not depend on places
-pub answer-said : (p p′ : Policy) → said p′ ≡ said p → (q : Question) → answer p′ q ≡ answer p q
-answer-said p p′ h q = sym (answer-placeless p′ q) ∙ ap (λ (ss : List Statement). answer (each placeless ss) q) h ∙ answer-placeless p q
+pub ruled-said : {A : Type 0} (k : Ruling A) (p p′ : Policy) → said p′ ≡ said p → ruled k p′ ≡ ruled k p
+ruled-said k p p′ h = sym (ruled-placeless p′ k) ∙ ap (λ (ss : List Statement). ruled k (each placeless ss)) h ∙ ruled-placeless p k

@@ -29,7 +29,7 @@ ruledBefore g q rest = decide (declaredQuestion (g .names) q) (validBefore g (q 
 -- what the statements answered
 abbrev pub answerBefore : Policy → Question → Answer
 answerBefore p q = ruledBefore (givenBy p) q
-    (firstFailing (namesAsked (q .class) (q .perm)) (λ s. holds (stands p) (contextsOf q) (s .body)) 0 (constrains p))
+    (firstFailing 4 (namesAsked (q .class) (q .perm)) (λ s. holds (stands p) (contextsOf q) (s .body)) 0 (constrains p))
 
 -- what an image answered
 abbrev pub validInBefore : Image → Context → Reply Bool
@@ -37,7 +37,7 @@ validInBefore i c = cond (declaredContext (i .names) c) (answered (validBefore (
 
 abbrev pub changeBefore : Image → Question → Answer
 changeBefore i q = ruledBefore (givenIn i) q
-    (firstFailing (entryNames (q .class) (q .perm)) (entryHolds i (contextsOf q)) 0 (i .constraints))
+    (firstFailing 4 (entryNames (q .class) (q .perm)) (entryHolds i (contextsOf q)) 0 (i .constraints))
 
 -- what the bytes of a table answered
 abbrev pub validOnBefore : List ℕ → Context → Reply Bool

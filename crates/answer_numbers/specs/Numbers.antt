@@ -3,7 +3,7 @@ use Prim.Native.Nat.{ℕ, _<_}
 use mathlib.Core.Bool.{Bool, true, false}
 use Rattle.policy.specs.Meaning.{Context}
 use Rattle.policy.specs.Deciding as decided
-use Rattle.policy.specs.Deciding.{Question, Verdict, granted, denied, fails, refuses, Reply, answered, refused}
+use Rattle.policy.specs.Deciding.{Question, Relabelling, Verdict, granted, denied, fails, refuses, Reply, answered, refused}
 use Rattle.policy.specs.Outcome.{Outcome, accepted, rejected}
 use Rattle.policy.specs.Questions as replies
 use Rattle.answer_numbers.specs.declared.Compiled.{Compiled}
@@ -23,6 +23,10 @@ partOf n s l = record { number = n; start = s; length = l }
 abbrev pub asking : Context → Context → ℕ → ℕ → Question
 asking s t c k = record { source = s; target = t; class = c; perm = k }
 
+-- W-205: "class and three contexts"
+abbrev pub relabelling : ℕ → Context → Context → Context → Relabelling
+relabelling c o n p = record { class = c; old = o; new = n; process = p }
+
 -- "Refusal numbers", each with the "Place given" and, W-202, "the line"; 0 with the table's length and line 0 where there is none
 abbrev pub compiledNumbers : Outcome → Compiled
 compiledNumbers (accepted n) = compiledOf 0 n 0
@@ -40,7 +44,7 @@ validNumbers (answered false) = answerOf 1 0 0 0
 validNumbers (refused n at) = answerOf 2 n 0 0
 
 -- "Denials in order: 1 source not valid; 2 target not valid; 3 ..; 4 the first failing constraint, with its number. Otherwise granted": outcome 0
--- granted, 1 denied, 2 "11, then 12". "With it goes the number consulted"
+-- granted, 1 denied, 2 "11, then 12". "With it goes the number consulted". So for a relabelling
 abbrev pub verdictNumbers : Verdict → ℕ → Answer
 verdictNumbers granted k = answerOf 0 0 0 k
 verdictNumbers (denied n) k = answerOf 1 n 0 k
@@ -57,7 +61,7 @@ newRoleNumbers (refused n at) = answerOf 2 n 0 0
 
 -- "the part of the lent table that holds" a name or an entry; "an empty part on refusal"
 abbrev pub partNumbers : Reply replies.Part → Part
-partNumbers (answered p) = partOf 0 (p .start) (p .long)
+partNumbers (answered p) = partOf 0 (p .start) (p .size)
 partNumbers (refused n at) = partOf n 0 0
 
 -- the numbers fit into four bytes

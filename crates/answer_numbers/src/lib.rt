@@ -21,8 +21,8 @@ pub struct Compiled {
 }
 
 // What a question about a table answers. Outcome 0: granted, or valid; 1: denied, or not valid; 2: refused. `number`
-// is that of the denial or the refusal, or the new role; `constraint` that of denial 4; `consulted` says how many
-// constraints were asked.
+// is that of the denial or the refusal, or the new role; `constraint` that of the statement that fails, for denials 4
+// and 6; `consulted` says how many statements were asked.
 #[repr(C)]
 pub struct Answer {
     pub outcome: u32,
@@ -45,9 +45,6 @@ const GRANTED: u32 = 0;
 const DENIED: u32 = 1;
 
 const REFUSED: u32 = 2;
-
-// The denial by a constraint.
-const CONSTRAINT_FAILS: u32 = policy::Denial::CONSTRAINT_FAILS as u32;
 
 pub fn compiled_numbers(answer: Compiling) -> Compiled
     requires { ⌜ CompiledFits (compiledNumbers (compilingOf answer)) ⌝ }
@@ -119,11 +116,12 @@ pub fn change_numbers(answer: Change) -> Answer
             consulted: 0,
         },
         Change::Failed {
+            number,
             constraint,
             consulted,
         } => Answer {
             outcome: DENIED,
-            number: CONSTRAINT_FAILS,
+            number: number as u32,
             constraint: constraint as u32,
             consulted: consulted as u32,
         },

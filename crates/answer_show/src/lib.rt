@@ -34,7 +34,7 @@ pub fn show_refusal(refusal: Refusal) {
     line_end();
 }
 
-// `accepted 264`, or the words of a refusal, without the line's end.
+// `accepted 280`, or the words of a refusal, without the line's end.
 fn compiled(answer: Compiling) {
     match answer {
         Compiling::Accepted { length } => numbered(b"accepted ", length),
@@ -66,7 +66,7 @@ pub fn show_validity(answer: Validity) {
     }
 }
 
-// The number of a denial, of its constraint, and of those consulted.
+// The number of a denial, of the statement that fails, and of those consulted.
 fn denied(number: usize, constraint: usize, consulted: usize) {
     numbered(b"denied ", number);
     numbered(b" constraint ", constraint);
@@ -82,9 +82,10 @@ pub fn show_change(answer: Change) {
         }
         Change::Denied { number } => denied(number, 0, 0),
         Change::Failed {
+            number,
             constraint,
             consulted,
-        } => denied(4, constraint, consulted),
+        } => denied(number, constraint, consulted),
         Change::Refused { number } => refused(number),
     }
 }

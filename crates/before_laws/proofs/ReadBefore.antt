@@ -14,13 +14,13 @@ use Rattle.lexer.specs.declared.Scanned.{Scanned}
 use Rattle.policy.specs.Basics.{Name, eachOf}
 use Rattle.policy.specs.Words.{dotless}
 use Rattle.policy.specs.Statements.{roles, types, thingOf, attributeOf, fromOf, toOf, plain, class}
-use Rattle.policy.specs.Statements.{declare, attributeset, gives, roletransition, constrain, Written, Statement, Policy, declarations}
+use Rattle.policy.specs.Statements.{declare, attributeset, gives, roletransition, constrain, validatetrans, Written, Statement, asDeclaration, Policy, declarations}
 use Rattle.policy.specs.Names.{Environment, environmentOf, refer, numberIn}
 use Rattle.policy.specs.Grammar.{written, isBlock}
 use Rattle.policy.specs.Scopes.{Scoped, scoped, scopedIn}
 use Rattle.policy.specs.Reading.{again, referS, referE, resolved, isShort, hasRoom, judgeResolved, judgeStatement, judge, readFrom, afterScan, readPolicy}
 use Rattle.policy.specs.Reading.{Judged, reads, opens, fault, Read, refused}
-use Rattle.policy.proofs.IfAny.{IfAny, just, whatever}
+use Rattle.policy.proofs.IfAny.{IfAny, nothing, just, whatever}
 use Rattle.policy.proofs.Lists.{both-true}
 use Rattle.policy.proofs.Dotless.{reserved-alone}
 use Rattle.policy.proofs.BlockLaws.{no-block, in-no-blocks}
@@ -37,34 +37,32 @@ use Rattle.before_laws.proofs.WrittenNames.{Names, written-names}
 
 -- what it declares is not too long
 abbrev Short : Statement → Type 0
-Short (declare d) = isShort d ≡ true
-Short (attributeset f a s) = Unit {0}
-Short (gives r x y) = Unit {0}
-Short (roletransition r t c n) = Unit {0}
-Short (constrain c ps e) = Unit {0}
+Short s = IfAny (λ d. isShort d ≡ true) (asDeclaration s)
 
 -- a name that is declared is a word of the text
 resolved-short : (env : Environment) (w : Written) → Names Plain w → IfAny Short (resolved env w)
-resolved-short env (declare (plain s w)) x = just (le-leb (length w) maxName (x .1))
-resolved-short env (declare (class w ps)) x = just (le-leb (length w) maxName (x .1))
-resolved-short env (attributeset f a s) x = whatever (numberIn env (attributeOf f) a) _ λ a. whatever (referS env f s) _ λ s. just tt
-resolved-short env (gives r v w) x = whatever (refer env (fromOf r) v) _ λ v. whatever (refer env (toOf r) w) _ λ w. just tt
+resolved-short env (declare (plain s w)) x = just (just (le-leb (length w) maxName (x .1)))
+resolved-short env (declare (class w ps)) x = just (just (le-leb (length w) maxName (x .1)))
+resolved-short env (attributeset f a s) x = whatever (numberIn env (attributeOf f) a) _ λ a. whatever (referS env f s) _ λ s. just nothing
+resolved-short env (gives r v w) x = whatever (refer env (fromOf r) v) _ λ v. whatever (refer env (toOf r) w) _ λ w. just nothing
 resolved-short env (roletransition r t c n) x =
     whatever (refer env roles r) _ λ r. whatever (refer env types t) _ λ t. whatever (env .class c) _ λ c.
-    whatever (numberIn env (thingOf roles) n) _ λ n. just tt
+    whatever (numberIn env (thingOf roles) n) _ λ n. just nothing
 resolved-short env (constrain c ps e) x =
-    whatever (env .class c) _ λ c. whatever (eachOf (λ p. env .permission c p) ps) _ λ ps. whatever (referE env e) _ λ e. just tt
+    whatever (env .class c) _ λ c. whatever (eachOf (λ p. env .permission c p) ps) _ λ ps. whatever (referE env e) _ λ e. just nothing
+resolved-short env (validatetrans c e) x = whatever (env .class c) _ λ c. whatever (referE env e) _ λ e. just nothing
 
 -- so W-203's fault 6 is not found
 resolving-as-before : (p : Policy) (o : Option Statement) → IfAny Short o → judgeResolved p o ≡ before.judgeResolved p o
 resolving-as-before p none h = refl
 resolving-as-before p (some (declare d)) h =
-    let short : isShort d ≡ true = h .has (declare d) refl in
+    let short : isShort d ≡ true = h .has (declare d) refl .has d refl in
     rw (short, and-true (hasRoom (declarations p) d))
 resolving-as-before p (some (attributeset f a s)) h = refl
 resolving-as-before p (some (gives r x y)) h = refl
 resolving-as-before p (some (roletransition r t c n)) h = refl
 resolving-as-before p (some (constrain c ps e)) h = refl
+resolving-as-before p (some (validatetrans c e)) h = refl
 
 -- a statement by its form: tried for faults 4 to 7 as before
 naming-as-before : (p : Policy) (o : Option Written) → IfAny (Names Plain) o → judgeStatement [] p o ≡ before.judgeStatement p o

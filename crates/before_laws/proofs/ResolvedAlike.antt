@@ -11,7 +11,7 @@ use Rattle.policy.specs.Basics.{Name, _>>=_, eachOf, indexOf}
 use Rattle.policy.specs.Words.{dotless}
 use Rattle.policy.specs.Statements.{Family, roles, types, Sort, thingOf, attributeOf, familyOf, Declaration, classNames, fromOf, toOf}
 use Rattle.policy.specs.Statements.{SetExpr, nameS, allS, notS, andS, orS, xorS, unionS, emptyS, Constraint, sidesE, nameE, notE, andE, orE}
-use Rattle.policy.specs.Statements.{declare, attributeset, gives, roletransition, constrain, Written}
+use Rattle.policy.specs.Statements.{declare, attributeset, gives, roletransition, constrain, validatetrans, Written}
 use Rattle.policy.specs.Names.{Environment, hasDotInFront, tries, firstHit, firstFrom, environmentOf, refer, numberIn}
 use Rattle.policy.specs.Reading.{referS, referE, resolved}
 use Rattle.policy.proofs.Lists.{both-true}
@@ -77,6 +77,7 @@ module _ (P : Name → Type 0) (a b : Environment) (same : Agree P a b) where
   resolved-same (constrain c ps e) x =
       then-same (same .class c (x .0)) λ c. then-same (ap (λ (g : ℕ → Name → Option ℕ). eachOf (g c) ps) (same .permission)) λ ps.
       then-same (constraint-same e (x .1)) λ e. refl
+  resolved-same (validatetrans c e) x = then-same (same .class c (x .0)) λ c. then-same (constraint-same e (x .1)) λ e. refl
 
 -- ---- the whole-text level
 

@@ -5,9 +5,9 @@ use mathlib.Core.List.{List, [], _∷_}
 use mathlib.Core.Option.{Option, none, some}
 use Rattle.lexer.specs.Forms.{Forms, closed, ended, word, part}
 use Rattle.policy.specs.Basics.{Name, _>>=_, All}
-use Rattle.policy.specs.Words.{isReserved, dotless, asName, asPart, Keyword, declareK, classK, setK, relationK, transitionK, constrainK, keywordOf}
-use Rattle.policy.specs.Words.{Connective, allC, notC, andC, orC, xorC, setWord, expressionWord, opOf, isPlain, Component, componentOf}
-use Rattle.policy.specs.Statements.{plain, class, declare, attributeset, gives, roletransition, constrain, Written}
+use Rattle.policy.specs.Words.{isReserved, dotless, asName, asPart, Keyword, declareK, classK, setK, relationK, transitionK, constrainK, relabelK, keywordOf}
+use Rattle.policy.specs.Words.{Connective, allC, notC, andC, orC, xorC, setWord, expressionWord, opOf, isPlain, Sides, twoSides, threeSides, Component, componentOf}
+use Rattle.policy.specs.Statements.{plain, class, declare, attributeset, gives, roletransition, constrain, validatetrans, Written}
 use Rattle.policy.specs.Statements.{SetExpr, nameS, allS, notS, andS, orS, xorS, unionS, emptyS, Op, Constraint, sidesE, nameE, notE, andE, orE}
 use Rattle.policy.specs.Grammar.{wordThen, partThen, twoWords, wordAndPart, rowOf, oneOrMore, classIn, ofFour, formed, written}
 use Rattle.policy.specs.Grammar.{operandRow, unionOf, formS, headed, operands, setIn}
@@ -42,6 +42,7 @@ Names P (attributeset f a s) = P a × NamesS P s
 Names P (gives r x y) = P x × P y
 Names P (roletransition r t c n) = P r × P t × P c × P n
 Names P (constrain c ps e) = P c × NamesE P e
+Names P (validatetrans c e) = P c × NamesE P e
 
 module _ (P : Name → Type 0) where
   -- ---- rows
@@ -142,8 +143,8 @@ module _ (P : Name → Type 0) where
   compared-names o y w none x = and-then (asName w) _ (as-name w x) λ n p. if-given (isPlain o) _ λ _. p
   compared-names o y w (some z) x = if-given (areSides y z && (isPlain o || isRoles (y .family))) (sidesE (y .family) o) λ _. tt
 
-  comparison-names : (w : Name) (f : Forms) → Words P f → IfAny (NamesE P) (comparison w f)
-  comparison-names w f x = whatever (opOf w) _ λ o. two-words f _ x λ v w p. whatever (componentOf v) _ λ y. compared-names o y w (componentOf w) p
+  comparison-names : (n : Sides) (w : Name) (f : Forms) → Words P f → IfAny (NamesE P) (comparison n w f)
+  comparison-names n w f x = whatever (opOf w) _ λ o. two-words f _ x λ v w p. whatever (componentOf n v) _ λ y. compared-names o y w (componentOf n w) p
 
   form-e : (c : Connective) (xs : List (Constraint Name)) → All (NamesE P) xs → IfAny (NamesE P) (formE c xs)
   form-e allC xs x = nothing
@@ -152,25 +153,25 @@ module _ (P : Name → Type 0) where
   form-e orC xs x = if-two orE xs x λ a b p q. (p, q)
   form-e xorC xs x = nothing
 
-  connected-names : (w : Name) (f : Forms) (c : Option Connective) (os : Option (List (Constraint Name))) → Words P f → IfAny (All (NamesE P)) os
-      → IfAny (NamesE P) (connected w f c os)
-  connected-names w f none os x h = comparison-names w f x
-  connected-names w f (some c) os x h = and-then os _ h (form-e c)
+  connected-names : (n : Sides) (w : Name) (f : Forms) (c : Option Connective) (os : Option (List (Constraint Name))) → Words P f
+      → IfAny (All (NamesE P)) os → IfAny (NamesE P) (connected n w f c os)
+  connected-names n w f none os x h = comparison-names n w f x
+  connected-names n w f (some c) os x h = and-then os _ h (form-e c)
 
   mutual
     unfolding expressions
 
-    expressions-names : (f : Forms) → Words P f → IfAny (All (NamesE P)) (expressions f)
-    expressions-names closed x = just tt
-    expressions-names ended x = nothing
-    expressions-names (word at w after) x = nothing
-    expressions-names (part at inner after) x = if-more _ _ (expression-names inner (x .0)) (expressions-names after (x .1))
+    expressions-names : (n : Sides) (f : Forms) → Words P f → IfAny (All (NamesE P)) (expressions n f)
+    expressions-names n closed x = just tt
+    expressions-names n ended x = nothing
+    expressions-names n (word at w after) x = nothing
+    expressions-names n (part at inner after) x = if-more _ _ (expression-names n inner (x .0)) (expressions-names n after (x .1))
 
-    expression-names : (f : Forms) → Words P f → IfAny (NamesE P) (expressionIn f)
-    expression-names closed x = nothing
-    expression-names ended x = nothing
-    expression-names (word at w after) x = connected-names w after (expressionWord w) (expressions after) (x .1) (expressions-names after (x .1))
-    expression-names (part at inner after) x = nothing
+    expression-names : (n : Sides) (f : Forms) → Words P f → IfAny (NamesE P) (expressionIn n f)
+    expression-names n closed x = nothing
+    expression-names n ended x = nothing
+    expression-names n (word at w after) x = connected-names n w after (expressionWord w) (expressions n after) (x .1) (expressions-names n after (x .1))
+    expression-names n (part at inner after) x = nothing
 
   -- ---- statements
 
@@ -189,7 +190,8 @@ module _ (P : Name → Type 0) where
   formed-names (relationK r) f x = and-then _ _ (row-names asName as-name f x) λ ws y. if-two _ ws y λ v w p q. (p, q)
   formed-names transitionK f x = and-then _ _ (row-names asName as-name f x) four-names
   formed-names constrainK f x = part-then f _ x λ i r y z. part-then r _ z λ j r u _. at-close r _
-      (class-in asName as-name i _ y λ c ps p. and-then _ _ (expression-names j u) λ e q. just (p, q))
+      (class-in asName as-name i _ y λ c ps p. and-then _ _ (expression-names twoSides j u) λ e q. just (p, q))
+  formed-names relabelK f x = word-and-part f _ x λ w i p y. and-then _ _ (as-name w p) λ w p. and-then _ _ (expression-names threeSides i y) λ e q. just (p, q)
 
   -- a statement starts with its keyword, which is no name
   pub written-names : (f : Forms) → Words P f → IfAny (Names P) (written f)

@@ -18,7 +18,7 @@ use Rattle.lexer.specs.declared.Token.{Token}
 use Rattle.policy.specs.Basics.{Name, isIn, indexOf}
 use Rattle.policy.specs.Words.{reserved, isReserved, dotless, asName, asPart}
 use Rattle.policy.specs.Statements.{Declaration, Policy, classNames, permissions, declarations}
-use Rattle.policy.specs.Statements.{Written, Statement, declare, attributeset, gives, roletransition, constrain}
+use Rattle.policy.specs.Statements.{Written, Statement, asDeclaration}
 use Rattle.policy.specs.Names.{Environment, firstFrom}
 use Rattle.policy.specs.Grammar.{written, isBlock}
 use Rattle.policy.specs.Reading as today
@@ -91,11 +91,7 @@ environmentOf ds = record {
 
 -- "one of the other maxima passed": a full name is what is written, and the scan has seen to its length
 abbrev pub fits : Policy → Statement → Bool
-fits p (declare d) = hasRoom (declarations p) d
-fits p (attributeset f a s) = today.fits p (attributeset f a s)
-fits p (gives r x y) = today.fits p (gives r x y)
-fits p (roletransition r t c n) = today.fits p (roletransition r t c n)
-fits p (constrain c ps e) = today.fits p (constrain c ps e)
+fits p s = elim (asDeclaration s) [ none ↦ today.fits p s | some d ↦ hasRoom (declarations p) d ]
 
 abbrev pub judgeResolved : Policy → Option Statement → Judged
 judgeResolved p none = fault 5

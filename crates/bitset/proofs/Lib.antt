@@ -7,5 +7,5 @@ pub mod SetParts
 pub mod SetLaws
 pub mod StoreLaws
 pub mod Tests
-pub mod Turns
+pub mod LoopSteps
 pub mod Worked

@@ -10,7 +10,7 @@ use Rattle.bitset.specs.Complements.{flipped}
 use Rattle.bitset.proofs.BitLaws.{bit-zero}
 use Rattle.bitset.proofs.SetLaws.{length-setOf, member-at, byte-eq}
 use Rattle.bitset.proofs.Tests.{bit-not}
-use Rattle.bitset.proofs.Turns.{Turned, turned-read, turned-more}
+use Rattle.bitset.proofs.LoopSteps.{Turned, turned-read, turned-more}
 
 -- a turn stores the byte whose bits the rule tells
 pub byte-turn : (f : ℕ → Bool) {d e : List ℕ} {i : ℕ} (v : ℕ) → Turned (setOf (length d) f) d e i → i < length e → v < 256

@@ -1,4 +1,4 @@
-pub mod Standing
-pub mod Judging
-pub mod Opening
-pub mod Closing
+pub mod ReaderStates
+pub mod BlockFaults
+pub mod OpenedBlocks
+pub mod ClosedBlocks

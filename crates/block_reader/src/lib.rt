@@ -50,23 +50,23 @@ pub fn open_block(
     symbols: &mut [u8; SYMBOL_BYTES],
     keys: &mut [u64; BLOCKS],
     filter: &mut [u64; FILTER],
-    stand: OpenBlocks,
+    state: OpenBlocks,
 ) -> Opened
-    ensures { λ r. ⌜ OpensBlock (now (text .entry)) start len (now (keys .entry)) (now (keys .exit)) (now (filter .entry)) (now (filter .exit)) (now (symbols .entry)) (now (symbols .exit)) stand r ⌝ }
+    ensures { λ r. ⌜ OpensBlock (now (text .entry)) start len (now (keys .entry)) (now (keys .exit)) (now (filter .entry)) (now (filter .exit)) (now (symbols .entry)) (now (symbols .exit)) state r ⌝ }
 {
-    if !blocks::add(text, keys, filter, stand.count, stand.block, start, len) {
+    if !blocks::add(text, keys, filter, state.count, state.block, start, len) {
         return Opened::Fault(Refusal::DECLARED_AGAIN);
     }
-    if policy::Block::MAX_DEPTH <= stand.depth {
+    if policy::Block::MAX_DEPTH <= state.depth {
         return Opened::Fault(Refusal::MAXIMUM_PASSED);
     }
     if !scopes::enter_block(symbols, text, start, len) {
         return Opened::Fault(Refusal::MAXIMUM_PASSED);
     }
     Opened::Read(OpenBlocks {
-        count: stand.count + 1,
-        block: stand.count + 1,
-        depth: stand.depth + 1,
+        count: state.count + 1,
+        block: state.count + 1,
+        depth: state.depth + 1,
     })
 }
 
@@ -84,14 +84,14 @@ fn one_less(n: usize) -> usize
 pub fn close_block(
     symbols: &mut [u8; SYMBOL_BYTES],
     keys: &[u64; BLOCKS],
-    stand: OpenBlocks,
+    state: OpenBlocks,
 ) -> OpenBlocks
-    ensures { λ r. ⌜ ClosesBlock (now (keys .entry)) (now (symbols .entry)) (now (symbols .exit)) stand r ⌝ }
+    ensures { λ r. ⌜ ClosesBlock (now (keys .entry)) (now (symbols .entry)) (now (symbols .exit)) state r ⌝ }
 {
     scopes::leave_block(symbols);
     OpenBlocks {
-        count: stand.count,
-        block: blocks::around(keys, stand.block),
-        depth: one_less(stand.depth),
+        count: state.count,
+        block: blocks::around(keys, state.block),
+        depth: one_less(state.depth),
     }
 }

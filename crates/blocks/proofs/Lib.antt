@@ -1,3 +1,3 @@
-pub mod Adding
-pub mod Filtering
+pub mod BlockLists
+pub mod BlockFilter
 pub mod FullNames

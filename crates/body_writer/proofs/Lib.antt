@@ -1,5 +1,5 @@
-pub mod Putting
-pub mod Filling
-pub mod Standing
-pub mod Relating
-pub mod Moving
+pub mod PutLaws
+pub mod SetRows
+pub mod ReferenceSets
+pub mod RelationBodies
+pub mod TransitionRecords

@@ -20,7 +20,7 @@ use Rattle.statement_code.specs.Code.{codeOf}
 use Rattle.code_reader.specs.AttributeSets.{finalSets}
 use Rattle.clashes.specs.Clashes.{Codes}
 use Rattle.code_reader.specs.declared.CodedTransition.{CodedTransition}
-use Rattle.body_writer.specs.Writing.{Appended}
+use Rattle.body_writer.specs.WrittenBytes.{Appended}
 
 -- "2. Roles of each user, 16 bytes each. 3. Types of each role, 64 each. 4. Roles each role may become, 16 each."
 pub record WritesRelation (code : List ℕ) (relation : Relation) (fromSets toSets before : List ℕ) (at many width : ℕ) (after : List ℕ) : Type 0 where

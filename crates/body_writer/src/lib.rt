@@ -12,7 +12,7 @@ ghost use Rattle.bitset.specs.Sets.{setOf};
 ghost use Rattle.byte_slices.specs.Parts.{part, put};
 ghost use Rattle.bitset.specs.Relations.{granted};
 ghost use Rattle.set_code.specs.Evaluation.{valueOf};
-ghost use Rattle.body_writer.specs.Writing.{Appended, Copies};
+ghost use Rattle.body_writer.specs.WrittenBytes.{Appended, Copies};
 ghost use Rattle.body_writer.specs.Bodies.{WritesRelation, WritesTransition, WritesTransitions, WritesSets};
 use code_reader::CodedTransition;
 use code_reader::FAMILY_BYTES;

@@ -1,4 +1,4 @@
--- THE NUMBERS OF COMPILE'S ANSWER ARE SMALL: a refusal's number is at most 10, its place or the table's length at most 179,652, the length of
+-- THE NUMBERS OF COMPILE'S ANSWER ARE SMALL: a refusal's number is at most 10, its place or the table's length at most 186,068, the length of
 -- the longest table, its line at most 65,536. Assumes nothing.
 use Prim.Native.Nat.{ℕ, _≤_}
 use native.Mathlib.Omega.{arith}
@@ -13,18 +13,20 @@ use Rattle.policy.specs.Statements.{Policy}
 use Rattle.policy.specs.Reading.{Read, policy, refused, readPolicy}
 use Rattle.policy.specs.Faults.{cycle, clash}
 use Rattle.policy.specs.Image.{Image, imageOf}
-use Rattle.policy.specs.Encode.{encode}
+use Rattle.policy.specs.Encode.{encode, newest}
 use Rattle.policy.specs.Outcome.{Input, accept, policyOf, compiles, refuses, compiled, fitted, lineAt, refusalOf, Outcome, accepted, rejected, outcomeOf, outcome}
 use Rattle.policy.proofs.LineFeeds.{feeds-few}
 use Rattle.reading_laws.proofs.FaultOrder.{fault-order, refusal-number}
+use Rattle.table_laws.proofs.Editions.{fits-ten}
 use Rattle.table_laws.proofs.WellFormedLaid.{length-encode, table-short}
 use Rattle.demand_laws.proofs.Demand3.{read-well-formed}
 use Rattle.bound_laws.proofs.Places.{refusal-place}
 
--- the longest table has 179,652 bytes
-pub encode-short : (x : Input) (p : Policy) → policyOf x ≡ policy p → length (encode (imageOf p)) ≤ 179652
+-- the longest table has 186,068 bytes
+pub encode-short : (x : Input) (p : Policy) → policyOf x ≡ policy p → length (encode newest (imageOf p)) ≤ 186068
 encode-short x p e =
-    let w = read-well-formed x p e [] in omega (arith, length-encode (imageOf p) w, table-short (imageOf p) w)
+    let w = read-well-formed x p e [] in
+    omega (arith, length-encode (imageOf p) w newest (omega arith) (fits-ten newest (imageOf p) (omega arith)), table-short (imageOf p) w newest (omega arith))
 
 abbrev SmallRead : Read → Type 0
 SmallRead (policy p) = Unit {0}
@@ -49,8 +51,8 @@ refusal-small x = by (readPolicy (x .text)) refl
     by (policy p) e = accept-small p
 
 abbrev pub SmallOutcome : Outcome → Type 0
-SmallOutcome (accepted n) = n ≤ 179652
-SmallOutcome (rejected r) = (r .number ≤ 10) × (r .place ≤ 179652) × (r .line ≤ 65536)
+SmallOutcome (accepted n) = n ≤ 186068
+SmallOutcome (rejected r) = (r .number ≤ 10) × (r .place ≤ 186068) × (r .line ≤ 65536)
 
 -- a refusal 1 to 9 at a place of a text
 refusal-few : (x : Input) (n at : ℕ) → n ≤ 9 → at ≤ 65535 → SmallOutcome (rejected (refusalOf x n at))
@@ -60,11 +62,11 @@ refusal-few x n at l h = (omega (arith, l), omega (arith, h), line)
     line : cond (eqb n 10) 0 (lineAt (x .text) at) ≤ 65536
     line = rw (ne-eqb n 10 (λ e. omega (arith, e, l))) (omega (arith, h, feeds-few at (x .text)))
 
-fitted-small : (x : Input) (lent : ℕ) (i : Image) → length (encode i) ≤ 179652 → SmallOutcome (outcomeOf x (fitted lent i))
+fitted-small : (x : Input) (lent : ℕ) (i : Image) → length (encode newest i) ≤ 186068 → SmallOutcome (outcomeOf x (fitted lent i))
 unfolding refusalOf
-fitted-small x lent i h = by (leb (length (encode i)) lent)
+fitted-small x lent i h = by (leb (length (encode newest i)) lent)
   where
-    by : (b : Bool) → SmallOutcome (outcomeOf x (cond b (compiles i) (refuses 10 (length (encode i)))))
+    by : (b : Bool) → SmallOutcome (outcomeOf x (cond b (compiles i) (refuses 10 (length (encode newest i)))))
     by true = h
     by false = (omega arith, h, omega arith)
 

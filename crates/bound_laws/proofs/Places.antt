@@ -15,9 +15,9 @@ use Rattle.lexer.specs.Class.{classOf, inWord, endsComment, isName}
 use Rattle.lexer.specs.Scan.{Mode, between, inComment, inName, State, going, stopped, maxText, maxLevel, stepBetween, step, closedAt, endOf, scanFrom, scan}
 use Rattle.lexer.proofs.Clean.{clean-short}
 use Rattle.lexer.specs.Forms.{formsOf}
-use Rattle.policy.specs.Basics.{any, given, each, All}
-use Rattle.policy.specs.Statements.{Family, users, roles, types, attributeOf, Declaration, plain, class, sameSort, declare, attributeset, gives, roletransition}
-use Rattle.policy.specs.Statements.{constrain, Statement, Line, Policy, Transition, transition, transitions}
+use Rattle.policy.specs.Basics.{any, _>>=_, given, each, All}
+use Rattle.policy.specs.Statements.{Family, users, roles, types, attributeOf, Declaration, plain, class, sameSort, roletransition, Line}
+use Rattle.policy.specs.Statements.{asDeclaration, Policy, Transition, transition, transitions}
 use Rattle.policy.specs.Grammar.{isBlock}
 use Rattle.policy.specs.Scopes.{Scoped, scopedIn}
 use Rattle.policy.specs.Reading.{Read, policy, refused, readPolicy}
@@ -25,6 +25,7 @@ use Rattle.policy.specs.Faults.{declaresA, placeOf, places, onCycle, firstCycle
 use Rattle.policy.specs.Outcome.{Input, accept, policyOf}
 use Rattle.policy.proofs.Gathered.{OfValue, all-gather}
 use Rattle.policy.proofs.IfAny.{IfAny, nothing, just, or-else}
+use Rattle.policy.proofs.ByKind.{transition-says}
 use Rattle.reading_laws.proofs.ReadThen.{statementAt, linePlaces, read-places}
 use Rattle.reading_laws.proofs.FaultOrder.{RefusedFor, too-long, wrong-byte, at-statement, fault-order, fault-number}
 use Rattle.reading_laws.proofs.OpensAt.{OpensAt, forms-open, ScopedOpens, scoped-open, fault-place, opens-within}
@@ -143,36 +144,19 @@ module _ (P : ℕ → Type 0) where
   declared-at f at (class w ps) h = tt
 
   place-at : (f : Family) (l : Line) → LineAt l → OfValue P (placeOf f l)
-  place-at f l h = by (l .says)
+  place-at f l h = by (asDeclaration (l .says))
     where
-      by : (s : Statement) → OfValue P (elim s [
-        | declare d ↦ declaresA f (l .place) d
-        | attributeset g a s ↦ none
-        | gives j a b ↦ none
-        | roletransition r t c n ↦ none
-        | constrain c ps e ↦ none
-      ])
-      by (declare d) = declared-at f (l .place) d h
-      by (attributeset g a s) = tt
-      by (gives j a b) = tt
-      by (roletransition r t c n) = tt
-      by (constrain c ps e) = tt
+      by : (o : Option Declaration) → OfValue P (o >>= declaresA f (l .place))
+      by none = tt
+      by (some d) = declared-at f (l .place) d h
 
   moves-at : (l : Line) → LineAt l → OfValue (λ (t : Transition). P (t .place)) (transition l)
-  moves-at l h = by (l .says)
+  moves-at l h = by (transition l) (transition-says (l .place) (l .says))
     where
-      by : (s : Statement) → OfValue (λ (t : Transition). P (t .place)) (elim s [
-        | declare d ↦ none
-        | attributeset g b s ↦ none
-        | gives r x y ↦ none
-        | roletransition r t c n ↦ some (record { place = l .place; role = r; type = t; class = c; new = n })
-        | constrain c ps e ↦ none
-      ])
-      by (declare d) = tt
-      by (attributeset g a s) = tt
-      by (gives j a b) = tt
-      by (roletransition r t c n) = h
-      by (constrain c ps e) = tt
+      by : (o : Option Transition) → IfAny (λ t. (l .says ≡ roletransition (t .role) (t .type) (t .class) (t .new)) × (t .place ≡ l .place)) o
+          → OfValue (λ (t : Transition). P (t .place)) o
+      by none k = tt
+      by (some t) k = subst P (sym (k .has t refl .1)) h
 
   first-cycle-at : (p : Policy) (f : Family) (a : ℕ) (ats : List ℕ) → All P ats → IfAny P (firstCycle p f a ats)
   unfolding firstCycle

@@ -23,7 +23,7 @@ use Rattle.set_code.specs.Evaluation.{valueOf}
 use Rattle.set_code.proofs.Places.{here}
 use Rattle.meaning_laws.proofs.ListLaws.{decided, chosen}
 use Rattle.meaning_laws.proofs.WithinDeclared.{stands-within}
-use Rattle.meaning_laws.proofs.Splitting.{CutAt, cut-gathered}
+use Rattle.meaning_laws.proofs.GatherLaws.{CutAt, cut-gathered}
 use Rattle.clashes.specs.Clashes.{sharesOf, clashesOf, Codes, Segment}
 use Rattle.code_reader.specs.declared.CodedTransition.{CodedTransition}
 use Rattle.code_reader.specs.Reading.{stepOf}

@@ -9,7 +9,7 @@ use Rattle.policy.specs.Statements.{Policy, declarations, Transition, transitio
 use Rattle.policy.specs.Accepted.{Accepted}
 use Rattle.policy.proofs.Lists.{gather-append, gather-over, all-left, all-right}
 use Rattle.statement_code.specs.Code.{transitionTag, codeOf}
-use Rattle.meaning_laws.proofs.Splitting.{cut-gathered}
+use Rattle.meaning_laws.proofs.GatherLaws.{cut-gathered}
 use Rattle.clashes.specs.Clashes.{Segment, AllTransitions}
 use Rattle.code_reader.specs.Reading.{stepOf}
 use Rattle.code_reader.proofs.Items.{Item, unitsOf, itemsCode, itemOf, items, code-items, ItemIn, moveIn, transitions-items, tag-no-move}

@@ -8,7 +8,8 @@ use lib.ListN.{length}
 use Rattle.lexer.specs.Forms.{formsOf}
 use Rattle.bitset.specs.Relations.{joined}
 use Rattle.policy.specs.Basics.{each, gather, keep, All}
-use Rattle.policy.specs.Statements.{thingOf, attributeOf, Declaration, plain, class, Statement, declare, attributeset, gives, roletransition, constrain, Line, Policy}
+use Rattle.policy.specs.Statements.{thingOf, attributeOf, Declaration, plain, class, Statement, declare, attributeset, gives, roletransition, constrain, validatetrans, Line}
+use Rattle.policy.specs.Statements.{Policy}
 use Rattle.policy.specs.Scopes.{Scoped, scopedIn}
 use Rattle.policy.specs.Reading.{Judged, reads, opens, fault, judge, policy, readFrom, readPolicy}
 use Rattle.policy.proofs.Lists.{all-append}
@@ -40,6 +41,7 @@ line-coded at (attributeset f a s) cs = refl
 line-coded at (gives k x y) cs = refl
 line-coded at (roletransition r t c n) cs = refl
 line-coded at (constrain c ps e) cs = refl
+line-coded at (validatetrans c e) cs = refl
 
 pub code-coded : (p : Policy) → codeOf p ≡ unitsOf (codedIn p)
 unfolding codeOf codedIn gather unitsOf joined each
@@ -80,6 +82,7 @@ line-readable at (attributeset f a s) h k = readable s (h .1) k
 line-readable at (gives j x y) h k = h
 line-readable at (roletransition r t c n) h k = (h .0, h .1)
 line-readable at (constrain c ps e) h k = tt
+line-readable at (validatetrans c e) h k = tt
 
 pub lines-readable : (p : Policy) → All LineReadable p → All CodedReadable (codedIn p)
 unfolding codedIn

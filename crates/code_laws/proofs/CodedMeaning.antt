@@ -7,8 +7,8 @@ use mathlib.Core.List.{List, [], _∷_}
 use mathlib.Core.Option.{Option, none, some}
 use Rattle.policy.specs.Basics.{_>>=_, any, gather, keep}
 use Rattle.policy.specs.Statements.{Family, thingOf, attributeOf, Declaration, plain, class, Relation, Statement, declare, attributeset, gives, roletransition}
-use Rattle.policy.specs.Statements.{constrain, Line, Policy, setFor, setsFor, transition, transitions}
-use Rattle.policy.specs.Meaning.{Standing, lineGives, stands, related}
+use Rattle.policy.specs.Statements.{constrain, validatetrans, Line, Policy, setFor, setsFor, transition, transitions}
+use Rattle.policy.specs.Meaning.{Denotation, lineGives, stands, related}
 use Rattle.policy.specs.Faults.{declaresA, placeOf, places}
 use Rattle.reading_laws.proofs.ReadThen.{line}
 use Rattle.code_laws.specs.Coded.{Coded, codedDeclaration, coded, codedIn}
@@ -37,6 +37,7 @@ line-set f a at (attributeset g b s) = refl
 line-set f a at (gives k x y) = refl
 line-set f a at (roletransition r t c n) = refl
 line-set f a at (constrain c ps e) = refl
+line-set f a at (validatetrans c e) = refl
 
 pub coded-sets : (p : Policy) (f : Family) (a : ℕ) → gather (codedSet f a) (codedIn p) ≡ setsFor f a p
 unfolding setsFor
@@ -54,6 +55,7 @@ line-place f at (attributeset g b s) = refl
 line-place f at (gives k x y) = refl
 line-place f at (roletransition r t c n) = refl
 line-place f at (constrain c ps e) = refl
+line-place f at (validatetrans c e) = refl
 
 pub coded-places : (p : Policy) (f : Family) → gather (codedPlace f) (codedIn p) ≡ places p f
 unfolding places
@@ -71,13 +73,14 @@ line-transition at (attributeset g b s) = refl
 line-transition at (gives k x y) = refl
 line-transition at (roletransition r t c n) = refl
 line-transition at (constrain c ps e) = refl
+line-transition at (validatetrans c e) = refl
 
 pub coded-transitions : (p : Policy) → gather codedTransition (codedIn p) ≡ transitions p
 unfolding transitions
 coded-transitions p = gather-coded codedTransition transition (λ l. line-transition (l .place) (l .says)) p
 
 -- what the relations give
-module _ (for : Standing) (k : Relation) (x y : ℕ) where
+module _ (for : Denotation) (k : Relation) (x y : ℕ) where
   declaration-gives : (at : ℕ) (d : Declaration) (cs : List Coded) → any (codedGives for k x y) (keep (codedDeclaration at d) cs) ≡ any (codedGives for k x y) cs
   unfolding any
   declaration-gives at (plain (thingOf g) w) cs = refl
@@ -92,6 +95,7 @@ module _ (for : Standing) (k : Relation) (x y : ℕ) where
   line-gives at (gives j a b) cs = refl
   line-gives at (roletransition r t c n) cs = refl
   line-gives at (constrain c ps e) cs = refl
+  line-gives at (validatetrans c e) cs = refl
 
   any-coded : (p : Policy) → any (codedGives for k x y) (codedIn p) ≡ any (lineGives for k x y) p
   unfolding codedIn gather any

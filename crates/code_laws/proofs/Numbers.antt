@@ -5,7 +5,7 @@ use mathlib.Core.Bool.{true}
 use mathlib.Core.List.{List, []}
 use Rattle.policy.specs.Basics.{All}
 use Rattle.policy.specs.Statements.{roles, types, thingOf, attributeOf, Declaration, Statement, declare, attributeset, gives, roletransition, constrain, fromOf}
-use Rattle.policy.specs.Statements.{toOf, Line, Policy, declarations}
+use Rattle.policy.specs.Statements.{validatetrans, toOf, Line, Policy, declarations}
 use Rattle.policy.specs.Sound.{goodFrom}
 use Rattle.policy.specs.Accepted.{StatementIn, Accepted}
 use Rattle.policy.proofs.Counts.{few-of, few-classes}
@@ -21,6 +21,7 @@ module _ (ds : List Declaration) (good : goodFrom [] ds ≡ true) where
   statement-numbered (roletransition r t c n) h =
       (reference-numbered ds good roles r (h .0), reference-numbered ds good types t (h .1), omega (arith, few-classes ds good), omega (arith, few-of (thingOf roles) ds good))
   statement-numbered (constrain c ps e) h = tt
+  statement-numbered (validatetrans c e) h = tt
 
 abbrev pub LineNumbered : Line → Type 0
 LineNumbered l = StatementNumbered (l .says)

@@ -8,15 +8,15 @@ use mathlib.Core.Option.{Option, none, some}
 use lib.ListN.{length}
 use Rattle.lexer.specs.Forms.{Forms, closed, ended, word, part}
 use Rattle.policy.specs.Basics.{Name, more, ofOne, ofTwo, eachOf}
-use Rattle.policy.specs.Words.{asName, asPart, Keyword, declareK, classK, setK, relationK, transitionK, constrainK, keywordOf}
+use Rattle.policy.specs.Words.{asName, asPart, Keyword, declareK, classK, setK, relationK, transitionK, constrainK, relabelK, keywordOf, twoSides, threeSides}
 use Rattle.policy.specs.Statements.{roles, types, thingOf, attributeOf, Declaration, plain, class, Relation, StatementOf, declare, attributeset, gives}
-use Rattle.policy.specs.Statements.{roletransition, constrain, fromOf, toOf, Written, Statement, Policy, declarations}
+use Rattle.policy.specs.Statements.{roletransition, constrain, validatetrans, fromOf, toOf, Written, Statement, Policy, declarations}
 use Rattle.policy.specs.Grammar.{atClose, wordThen, partThen, wordAndPart, expressionIn, rowOf, oneOrMore, classIn, ofFour, formed, written}
 use Rattle.policy.specs.Names.{refer, Environment, environmentOf, numberIn}
 use Rattle.policy.specs.Scopes.{Scoped}
 use Rattle.policy.specs.Reading.{inBlocks, referE, resolved, reads, judge}
 use Rattle.policy.proofs.IfAny.{IfAny, nothing, just, and-then, whatever}
-use Rattle.reading_laws.proofs.Judging.{judge-written}
+use Rattle.reading_laws.proofs.JudgedGood.{judge-written}
 use Rattle.statement_code.specs.Code.{declarationCode, statementCode}
 use Rattle.code_laws.specs.Weight.{weight}
 use Rattle.code_laws.specs.Shape.{declarationUnits, statementUnits, StatementRowed}
@@ -111,7 +111,10 @@ formed-shaped (setK a) f n l = word-and-part f _ λ w i e. whatever (asName w) _
 formed-shaped (relationK r) f n l = and-then _ _ (names-few f) (two-shaped (omega arith) r)
 formed-shaped transitionK f n l = and-then _ _ (names-few f) (four-shaped (omega arith))
 formed-shaped constrainK f n l =
-    part-then f _ λ i r _. part-then r _ λ j r _. at-close r _ λ _. class-in asName i _ λ c ps. whatever (expressionIn j) _ λ e. just (record { rowed = tt; room = omega arith })
+    part-then f _ λ i r _. part-then r _ λ j r _. at-close r _ λ _. class-in asName i _ λ c ps. whatever (expressionIn twoSides j) _ λ e.
+    just (record { rowed = tt; room = omega arith })
+formed-shaped relabelK f n l =
+    word-and-part f _ λ w i _. whatever (asName w) _ λ w. whatever (expressionIn threeSides i) _ λ e. just (record { rowed = tt; room = omega arith })
 
 -- the statement in parentheses: one of them is not of the row in them
 written-shaped : (f : Forms) → IfAny (WrittenShaped (weight f + 1)) (written f)
@@ -130,6 +133,7 @@ blocks-shaped path (attributeset f a s) h = h
 blocks-shaped path (gives r x y) h = h
 blocks-shaped path (roletransition r t c m) h = h
 blocks-shaped path (constrain c ps e) h = h
+blocks-shaped path (validatetrans c e) h = h
 
 -- AS IT IS READ
 module _ (env : Environment) (n : ℕ) where
@@ -143,6 +147,7 @@ module _ (env : Environment) (n : ℕ) where
       just (record { rowed = tt; room = h .room })
   resolved-shaped (constrain c ps e) h =
       whatever (env .class c) _ λ c. whatever (eachOf (λ p. env .permission c p) ps) _ λ ps. whatever (referE env e) _ λ e. just (record { rowed = tt; room = h .room })
+  resolved-shaped (validatetrans c e) h = whatever (env .class c) _ λ c. whatever (referE env e) _ λ e. just (record { rowed = tt; room = h .room })
 
 -- what is judged good was written and resolved, in whatever blocks
 pub judge-shaped : (before : List Scoped) (p : Policy) (x : Scoped) (s : Statement) → judge before p x ≡ reads s → StatementShaped (weight (x .form) + 1) s
@@ -163,6 +168,7 @@ statement-length at (attributeset f a s) h = omega (arith, set-length s h)
 statement-length at (gives k x y) h = refl
 statement-length at (roletransition r t c n) h = refl
 statement-length at (constrain c ps e) h = refl
+statement-length at (validatetrans c e) h = refl
 
 -- a statement has no more units than its parentheses and what they hold have tokens, in whatever blocks
 pub statement-fits : (before : List Scoped) (p : Policy) (x : Scoped) (s : Statement) → judge before p x ≡ reads s

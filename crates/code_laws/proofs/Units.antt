@@ -10,7 +10,8 @@ use Rattle.lexer.specs.Forms.{formsOf}
 use Rattle.lexer.proofs.Clean.{clean-short}
 use Rattle.bitset.specs.Relations.{joined}
 use Rattle.policy.specs.Basics.{each, All}
-use Rattle.policy.specs.Statements.{thingOf, attributeOf, Declaration, plain, class, Statement, declare, attributeset, gives, roletransition, constrain, Policy}
+use Rattle.policy.specs.Statements.{thingOf, attributeOf, Declaration, plain, class, Statement, declare, attributeset, gives, roletransition, constrain, validatetrans}
+use Rattle.policy.specs.Statements.{Policy}
 use Rattle.policy.specs.Grammar.{isBlock}
 use Rattle.policy.specs.Scopes.{Scoped, scopedIn}
 use Rattle.policy.specs.Reading.{policy, readPolicy}
@@ -43,6 +44,7 @@ statement-units at (gives k x y) l h =
 statement-units at (roletransition r t c n) l h =
     (omega arith, (l, (omega (arith, reference-below r (h .0)), (omega (arith, reference-below t (h .1)), (omega arith, (omega arith, tt))))))
 statement-units at (constrain c ps e) l h = tt
+statement-units at (validatetrans c e) l h = tt
 
 -- THE UNITS OF THE CODE
 pub lines-units : (p : Policy) → All LineNumbered p → All IsUnit (linePlaces p) → All IsUnit (codeOf p)

@@ -5,7 +5,7 @@ use mathlib.Core.Option.{Option, none, some}
 use lib.Dec.{eqb}
 use Rattle.policy.specs.Basics.{given}
 use Rattle.policy.specs.Statements.{Family, Reference, SetExpr, Relation, fromOf, toOf, Transition, sameFamily}
-use Rattle.policy.specs.Meaning.{Standing, sameRelation}
+use Rattle.policy.specs.Meaning.{Denotation, sameRelation}
 use Rattle.code_laws.specs.Coded.{Coded, attributeAt, setAt, relationAt, transitionAt}
 
 -- the S that it gives to attribute a
@@ -30,7 +30,7 @@ codedTransition (relationAt k at x y) = none
 codedTransition (transitionAt at r t c n) = some (record { place = at; role = r; type = t; class = c; new = n })
 
 -- whether it gives y to x
-abbrev pub codedGives : Standing → Relation → ℕ → ℕ → Coded → Bool
+abbrev pub codedGives : Denotation → Relation → ℕ → ℕ → Coded → Bool
 codedGives for k x y (attributeAt g at) = false
 codedGives for k x y (setAt g at b s) = false
 codedGives for k x y (relationAt j at a b) = sameRelation k j && (for (fromOf k) a x && for (toOf k) b y)

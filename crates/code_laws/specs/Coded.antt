@@ -6,7 +6,7 @@ use mathlib.Core.Option.{Option, none, some}
 use Rattle.bitset.specs.Relations.{joined}
 use Rattle.policy.specs.Basics.{each, gather}
 use Rattle.policy.specs.Statements.{Family, thingOf, attributeOf, Declaration, plain, class, Reference, SetExpr, Relation, declare, attributeset, gives}
-use Rattle.policy.specs.Statements.{roletransition, constrain, Line, Policy}
+use Rattle.policy.specs.Statements.{roletransition, constrain, validatetrans, Line, Policy}
 use Rattle.statement_code.specs.Code.{referenceUnit, setCode, attributeTag, setTag, relationTag, transitionTag}
 use Rattle.statement_code.specs.Numbered.{NumberedR}
 use Rattle.code_laws.specs.Kinds.{Readable, Tag, attributeT, setT, relationT, transitionT, noT, tagOf}
@@ -30,6 +30,7 @@ coded l = elim (l .says) [
   | gives k x y ↦ some (relationAt k (l .place) x y)
   | roletransition r t c n ↦ some (transitionAt (l .place) r t c n)
   | constrain c ps e ↦ none
+  | validatetrans c e ↦ none
 ]
 
 -- the statements of a policy that have code, in text order

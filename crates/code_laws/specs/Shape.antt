@@ -3,7 +3,7 @@
 use Prim.Native.Nat.{ℕ, _+_}
 use mathlib.Core.List.{List, [], _∷_}
 use Rattle.policy.specs.Statements.{thingOf, attributeOf, Declaration, plain, class, SetExpr, nameS, allS, notS, andS, orS, xorS, unionS, emptyS, StatementOf}
-use Rattle.policy.specs.Statements.{declare, attributeset, gives, roletransition, constrain}
+use Rattle.policy.specs.Statements.{declare, attributeset, gives, roletransition, constrain, validatetrans}
 
 module _ {R : Type 0} where
   -- operands one after the other, up to the last
@@ -56,6 +56,7 @@ module _ {R N : Type 0} where
   statementUnits (gives k x y) = 4
   statementUnits (roletransition r t c n) = 6
   statementUnits (constrain c ps e) = 0
+  statementUnits (validatetrans c e) = 0
 
   abbrev pub StatementRowed : StatementOf R N → Type 0
   StatementRowed (declare d) = Unit {0}
@@ -63,3 +64,4 @@ module _ {R N : Type 0} where
   StatementRowed (gives k x y) = Unit {0}
   StatementRowed (roletransition r t c n) = Unit {0}
   StatementRowed (constrain c ps e) = Unit {0}
+  StatementRowed (validatetrans c e) = Unit {0}

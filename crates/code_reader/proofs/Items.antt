@@ -12,8 +12,8 @@ use lib.ListN.{length}
 use Rattle.bitset.specs.Relations.{joined}
 use Rattle.policy.specs.Basics.{any, each, gather, keep, given}
 use Rattle.policy.specs.Statements.{Family, users, roles, types, thingOf, attributeOf, Declaration, plain, class, Reference, SetExpr, Relation, fromOf, toOf}
-use Rattle.policy.specs.Statements.{Statement, declare, attributeset, gives, roletransition, constrain, sameFamily, Line, Policy, count, classNames, setFor}
-use Rattle.policy.specs.Statements.{setsFor, Transition, transition, transitions}
+use Rattle.policy.specs.Statements.{Statement, declare, attributeset, gives, roletransition, constrain, validatetrans, sameFamily, Line, Policy, count}
+use Rattle.policy.specs.Statements.{classNames, setFor, setsFor, Transition, transition, transitions}
 use Rattle.policy.specs.Faults.{placeOf, places}
 use Rattle.policy.specs.Accepted.{ReferenceIn, SetIn, StatementIn}
 use Rattle.statement_code.specs.Code.{referenceUnit, setCode, familyNumber, attributeTag, setTag, relationTag, transitionTag, statementCode, codeOf}
@@ -61,6 +61,7 @@ itemIn at (attributeset f a s) = some (fills f at a s)
 itemIn at (gives k x y) = some (relates k at x y)
 itemIn at (roletransition r t c n) = some (moves (record { place = at; role = r; type = t; class = c; new = n }))
 itemIn at (constrain c ps e) = none
+itemIn at (validatetrans c e) = none
 
 abbrev pub itemOf : Line → Option Item
 itemOf l = itemIn (l .place) (l .says)
@@ -83,6 +84,7 @@ code-items (l ∷ p) = by-line (l .says) (code-items p)
     by-line (gives k x y) h = rw h
     by-line (roletransition r t c n) h = rw h
     by-line (constrain c ps e) h = h
+    by-line (validatetrans c e) h = h
 
 -- what an item of an accepted policy names is declared
 abbrev pub ItemIn : List Declaration → Item → Type 0
@@ -100,6 +102,7 @@ item-declared ds at (gives k x y) i h e = subst (ItemIn ds) (Option·some-inject
 item-declared ds at (roletransition r t c n) i h e =
     subst (ItemIn ds) (Option·some-injective (moves (record { place = at; role = r; type = t; class = c; new = n })) i e) h
 item-declared ds at (constrain c ps x) i h e = absurd (Option·none-ne-some i e)
+item-declared ds at (validatetrans c x) i h e = absurd (Option·none-ne-some i e)
 
 -- ---- gathered values
 
@@ -155,6 +158,7 @@ sets-items f v a m p =
     by-line at (gives k x y) = refl
     by-line at (roletransition r t c n) = refl
     by-line at (constrain c ps e) = refl
+    by-line at (validatetrans c e) = refl
 
 -- THE PLACES of a family's attributes
 abbrev pub placeIn : Family → Item → Option ℕ
@@ -175,6 +179,7 @@ places-items p f = sym (gather-gather itemOf (placeIn f) (placeOf f) (λ l. by-l
     by-line at (gives k x y) = refl
     by-line at (roletransition r t c n) = refl
     by-line at (constrain c ps e) = refl
+    by-line at (validatetrans c e) = refl
 
 -- THE TRANSITIONS
 abbrev pub moveIn : Item → Option Transition
@@ -195,6 +200,7 @@ transitions-items p = sym (gather-gather itemOf moveIn transition (λ l. by-line
     by-line at (gives k x y) = refl
     by-line at (roletransition r t c n) = refl
     by-line at (constrain c ps e) = refl
+    by-line at (validatetrans c e) = refl
 
 -- ---- the tag tells the item
 

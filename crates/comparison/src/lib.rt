@@ -4,6 +4,7 @@ ghost use Rattle.lexer.specs.Scan.{scan, verdictOf};
 ghost use Rattle.comparison.specs.Numbers.{numberOf, placeOf};
 use lexer::Scanned;
 use lexer::Text;
+use policy::Refusal;
 
 // A fault by its number and place; both are 0 where there is none.
 #[repr(C)]
@@ -25,11 +26,11 @@ pub extern "C" fn tegzhumbi_scan(text: &[u8]) -> Fault
             place: 0,
         },
         Scanned::TooLong => Fault {
-            number: 1,
+            number: Refusal::TEXT_TOO_LONG as u64,
             place: Text::MAX as u64,
         },
         Scanned::Wrong(place) => Fault {
-            number: 2,
+            number: Refusal::WRONG_BYTE as u64,
             place: place as u64,
         },
     }

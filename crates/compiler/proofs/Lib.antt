@@ -1,2 +1,2 @@
-pub mod Held
-pub mod Giving
+pub mod ParserOutput
+pub mod OutcomeLaws

@@ -10,8 +10,6 @@ ghost use Rattle.policy.specs.Answers.{refusalIn};
 ghost use Rattle.compiler.specs.Passes.{Gives, Measures, Fits, ResolvesAndWrites, CompilesStatements, CompilesClean};
 ghost use Rattle.compiler.specs.Promise.{Compiles};
 use code_reader::FAMILY_BYTES;
-use constrain_statement::CONSTRAINTS_BYTES;
-use constrain_statement::ROWS_BYTES;
 use declarations::SYMBOL_BYTES;
 use lexer::Scanned;
 use lexer::Text;
@@ -22,6 +20,8 @@ use policy::Sort;
 use resolver::Resolved;
 use statement_reader::CODE_UNITS;
 use statement_reader::Progress;
+use statement_reader::RECORD_BYTES;
+use statement_reader::ROW_BYTES;
 use table_writer::Sizes;
 
 // What the passes come to: the length of the table that was written, or a fault's number and place.
@@ -44,6 +44,8 @@ fn sizes_of(progress: Progress, symbols: &[u8]) -> Sizes
         user_attributes: declarations::count(symbols, Sort::USER_ATTRIBUTE),
         role_attributes: declarations::count(symbols, Sort::ROLE_ATTRIBUTE),
         type_attributes: declarations::count(symbols, Sort::TYPE_ATTRIBUTE),
+        relabels: progress.relabels,
+        relabel_rows: progress.relabel_rows,
     }
 }
 
@@ -143,8 +145,8 @@ fn compile_statements(
     progress: Progress,
     symbols: &[u8; SYMBOL_BYTES],
     code: &[u16; CODE_UNITS],
-    constraints: &[u8; CONSTRAINTS_BYTES],
-    rows: &[u8; ROWS_BYTES],
+    constraints: &[u8; RECORD_BYTES],
+    rows: &[u8; ROW_BYTES],
     table: &mut [u8],
 ) -> Passed
     ensures { λ r. ⌜ CompilesStatements progress (now (symbols .entry)) (now (code .entry)) (now (constraints .entry)) (now (rows .entry))
@@ -162,8 +164,8 @@ fn compile_clean(text: &[u8], table: &mut [u8]) -> Passed
 {
     let mut symbols = [0u8; SYMBOL_BYTES];
     let mut code = [0u16; CODE_UNITS];
-    let mut constraints = [0u8; CONSTRAINTS_BYTES];
-    let mut rows = [0u8; ROWS_BYTES];
+    let mut constraints = [0u8; RECORD_BYTES];
+    let mut rows = [0u8; ROW_BYTES];
     let parsed = parser::parse(text, &mut symbols, &mut code, &mut constraints, &mut rows);
     match parsed {
         Parsed::Accepted(progress) => {

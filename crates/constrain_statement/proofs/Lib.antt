@@ -1,7 +1,8 @@
-pub mod Bits
-pub mod Masking
+pub mod MaskBits
+pub mod Masks
+pub mod ClassLaws
 pub mod Shapes
-pub mod Scoping
-pub mod Heads
-pub mod Admitting
-pub mod Answering
+pub mod PermissionLaws
+pub mod RecordBytes
+pub mod LimitLaws
+pub mod Answers

@@ -6,13 +6,13 @@ use mathlib.Core.Option.{Option, some, Option·some-injective}
 use Prim.Native.Nat.{ℕ}
 use Rattle.lexer.specs.Forms.{Forms, closed, ended, word, part}
 use Rattle.policy.specs.Basics.{Name, _>>=_}
-use Rattle.policy.specs.Words.{isReserved, asName, asPart, constrainK}
+use Rattle.policy.specs.Words.{isReserved, asName, asPart, constrainK, twoSides}
 use Rattle.policy.specs.Statements.{Constraint, Written, constrain}
 use Rattle.policy.specs.Grammar.{rowOf, oneOrMore, classIn, expressionIn, formed}
 use Rattle.policy.proofs.Options.{given-some}
 use Rattle.table_laws.proofs.ListLaws.{bound-then}
-use Rattle.constraint_writer.proofs.Resolving.{never}
-use Rattle.constrain_statement.specs.Scopes.{ScopeForm}
+use Rattle.constraint_writer.proofs.WrittenRows.{never}
+use Rattle.constrain_statement.specs.ClassPermissions.{ScopeForm}
 
 -- ---- "C (P ...)"
 
@@ -69,7 +69,7 @@ pub record Shape (f : Forms) (w : Written) : Type 0 where
   pub permissions : List Name
   pub body : Constraint Name
   pub scoped : ScopeForm scope class permissions
-  pub expressed : expressionIn expression ≡ some body
+  pub expressed : expressionIn twoSides expression ≡ some body
   pub written : w ≡ constrain class permissions body
 
 pub shape : (f : Forms) (w : Written) → formed constrainK f ≡ some w → Shape f w
@@ -83,8 +83,8 @@ shape (part p i (part q j ended)) w e = never e
 shape (part p i (part q j (word s v f))) w e = never e
 shape (part p i (part q j (part r k f))) w e = never e
 shape (part p i (part q j closed)) w e =
-    let c = classed (λ c ps. expressionIn j >>= λ e. some (constrain c ps e)) w i e in
-    bound-then (expressionIn j) (λ e. some (constrain (c .class) (c .permissions) e)) w (c .then) λ b d e.
+    let c = classed (λ c ps. expressionIn twoSides j >>= λ e. some (constrain c ps e)) w i e in
+    bound-then (expressionIn twoSides j) (λ e. some (constrain (c .class) (c .permissions) e)) w (c .then) λ b d e.
     record {
       scope-place = p;
       scope = i;

@@ -1,2 +1,4 @@
-pub mod Scopes
-pub mod Constraining
+pub mod ClassNames
+pub mod ClassPermissions
+pub mod ConstrainWrites
+pub mod Limits

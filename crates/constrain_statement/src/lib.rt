@@ -2,14 +2,15 @@
 // in the table; faults 5, 6 and 7. Its form is known to be good where this is called.
 ghost use mathlib.Core.Path.{_≡_};
 ghost use mathlib.Core.Bool.{_||_};
-ghost use Prim.Native.Nat.{_+_, _*_, _%_, _≤_};
+ghost use Prim.Native.Nat.{_-_, _%_, _≤_};
 ghost use lib.Dec.{eqb};
-ghost use lib.ListN.{length};
 ghost use Rattle.bitset.specs.Sets.{bit, fromBits};
-ghost use Rattle.byte_slices.specs.Parts.{put};
+ghost use Rattle.policy.specs.Maxima.{maxConstraints, maxRows};
 ghost use Rattle.policy.specs.Encode.{headBytes};
-ghost use Rattle.constrain_statement.specs.Scopes.{Masks, Scopes};
-ghost use Rattle.constrain_statement.specs.Constraining.{headWith, Admits, WritesConstrain};
+ghost use Rattle.constrain_statement.specs.ClassPermissions.{Masks, Scopes};
+ghost use Rattle.constrain_statement.specs.ClassNames.{Classes};
+ghost use Rattle.constrain_statement.specs.Limits.{Records, Admits};
+ghost use Rattle.constrain_statement.specs.ConstrainWrites.{headWith, WritesConstrain};
 use constraint_writer::RowsWritten;
 use items::Item;
 use lexer::Level;
@@ -32,6 +33,12 @@ pub enum Constrained {
     Undeclared,
     MaximumPassed,
     StackTooSmall,
+}
+
+// The number of a class that a statement names, and the place after its name; or it is not declared.
+pub enum NamedClass {
+    Is { class: usize, next: usize },
+    Undeclared,
 }
 
 // A bit for each permission of a row of them, and the place after the row's close; or one of them is not a permission
@@ -92,9 +99,9 @@ fn permission_mask(text: &[u8], at: usize, symbols: &[u8], family: usize) -> Per
     }
 }
 
-// The class and the permissions, after the open parenthesis before them: C (P ...), and the close.
-fn class_and_permissions(text: &[u8], at: usize, symbols: &[u8]) -> ClassAndPermissions
-    ensures { λ r. ⌜ Scopes (now (text .entry)) at (now (symbols .entry)) r ⌝ }
+// The class that the word at a place names.
+pub fn class_at(text: &[u8], at: usize, symbols: &[u8]) -> NamedClass
+    ensures { λ r. ⌜ Classes (now (text .entry)) at (now (symbols .entry)) r ⌝ }
 {
     let first = items::next_item(text, at);
     let Item::Word {
@@ -104,22 +111,36 @@ fn class_and_permissions(text: &[u8], at: usize, symbols: &[u8]) -> ClassAndPerm
         ..
     } = first
     else {
-        return ClassAndPermissions::Undeclared;
+        return NamedClass::Undeclared;
     };
     let end = start + len;
     let name = &text[start..end];
     let found = scopes::lookup_class(symbols, name);
     let Found::At { number, .. } = found else {
-        return ClassAndPermissions::Undeclared;
+        return NamedClass::Undeclared;
     };
     if Class::MAX <= number {
-        return ClassAndPermissions::Undeclared;
+        return NamedClass::Undeclared;
     }
+    NamedClass::Is {
+        class: number,
+        next,
+    }
+}
+
+// The class and the permissions, after the open parenthesis before them: C (P ...), and the close.
+fn class_and_permissions(text: &[u8], at: usize, symbols: &[u8]) -> ClassAndPermissions
+    ensures { λ r. ⌜ Scopes (now (text .entry)) at (now (symbols .entry)) r ⌝ }
+{
+    let named = class_at(text, at, symbols);
+    let NamedClass::Is { class, next } = named else {
+        return ClassAndPermissions::Undeclared;
+    };
     let second = items::next_item(text, next);
     let Item::Open { next, .. } = second else {
         return ClassAndPermissions::Undeclared;
     };
-    let masked = permission_mask(text, next, symbols, NameFamily::FIRST_PERMISSIONS + number);
+    let masked = permission_mask(text, next, symbols, NameFamily::FIRST_PERMISSIONS + class);
     let PermissionMask::Mask { mask, next } = masked else {
         return ClassAndPermissions::Undeclared;
     };
@@ -127,14 +148,10 @@ fn class_and_permissions(text: &[u8], at: usize, symbols: &[u8]) -> ClassAndPerm
     let Item::Close { next } = last else {
         return ClassAndPermissions::Undeclared;
     };
-    ClassAndPermissions::Of {
-        class: number,
-        mask,
-        next,
-    }
+    ClassAndPermissions::Of { class, mask, next }
 }
 
-// Writes the record of a constraint: class 2, permission mask 4, first row 2, row count 2.
+// Writes the record of a constraint, if there is room for it: class 2, permission mask 4, first row 2, row count 2.
 fn put_record(
     constraints: &mut [u8],
     count: usize,
@@ -143,9 +160,11 @@ fn put_record(
     first: usize,
     rows: usize,
 )
-    requires { ⌜ 10 * count + 10 ≤ length (now constraints) ⌝ }
-    ensures { λ _. ⌜ now (constraints .exit) ≡ put (now (constraints .entry)) (10 * count) (headBytes (headWith class mask first rows)) ⌝ }
+    ensures { λ _. ⌜ Records 10 (headBytes (headWith class mask first rows)) (now (constraints .entry)) (now (constraints .exit)) count ⌝ }
 {
+    if constraints.len() / Constraint::BYTES <= count {
+        return;
+    }
     let at = Constraint::BYTES * count;
     little_endian::put2(constraints, at, class);
     little_endian::put4(constraints, at + Constraint::MASK_AT, mask as usize);
@@ -153,10 +172,27 @@ fn put_record(
     little_endian::put2(constraints, at + Constraint::ROW_COUNT_AT, rows);
 }
 
+// Whether the maxima, of statements and of their rows, allow one more after `count` of them, whose last row is before
+// the next, and then whether the stack does: the number of the next row, or the fault.
+pub fn limit(statements: usize, rows: usize, count: usize, next: usize, need: usize) -> Constrained
+    ensures { λ r. ⌜ Admits statements rows count next need (Unit {0}) r ⌝ }
+{
+    if statements <= count {
+        return Constrained::MaximumPassed;
+    }
+    if rows < next {
+        return Constrained::MaximumPassed;
+    }
+    if Constraint::MAX_STACK < need {
+        return Constrained::StackTooSmall;
+    }
+    Constrained::Next(next)
+}
+
 // The record of a constraint whose names are declared and whose rows go from a row to before the next, if the maxima
 // allow both and the stack need of its expression.
 fn admit(
-    constraints: &mut [u8; CONSTRAINTS_BYTES],
+    constraints: &mut [u8],
     count: usize,
     class: usize,
     mask: u32,
@@ -165,32 +201,30 @@ fn admit(
     need: usize,
 ) -> Constrained
     requires { ⌜ row ≤ next ⌝ }
-    ensures { λ r. ⌜ Admits (now (constraints .entry)) (now (constraints .exit)) count class mask row next need r ⌝ }
+    ensures { λ r. ⌜ Admits maxConstraints maxRows count next need
+        (Records 10 (headBytes (headWith class mask row (next - row))) (now (constraints .entry)) (now (constraints .exit)) count) r ⌝ }
 {
-    if Constraint::MAX <= count {
-        return Constrained::MaximumPassed;
-    }
-    if Row::MAX < next {
-        return Constrained::MaximumPassed;
-    }
-    if Constraint::MAX_STACK < need {
-        return Constrained::StackTooSmall;
-    }
+    let limited = limit(Constraint::MAX, Row::MAX, count, next, need);
+    let Constrained::Next(_) = limited else {
+        return limited;
+    };
     put_record(constraints, count, class, mask, row, next - row);
     Constrained::Next(next)
 }
 
 // Resolves what follows the keyword, writes the rows of the expression from a row on, and the record of that number.
+// What has no room in the lent slices is not written; those that hold all records and rows always have it.
 pub fn write_constrain(
     text: &[u8],
     at: usize,
     symbols: &[u8],
-    constraints: &mut [u8; CONSTRAINTS_BYTES],
+    constraints: &mut [u8],
     count: usize,
-    rows: &mut [u8; ROWS_BYTES],
+    rows: &mut [u8],
     row: usize,
 ) -> Constrained
-    ensures { λ r. ⌜ WritesConstrain (now (text .entry)) at (now (symbols .entry)) (now (constraints .entry)) (now (constraints .exit)) count (now (rows .entry)) (now (rows .exit)) row r ⌝ }
+    ensures { λ r. ⌜ WritesConstrain (now (text .entry)) at (now (symbols .entry)) (now (constraints .entry)) (now (constraints .exit)) count
+        (now (rows .entry)) (now (rows .exit)) row r ⌝ }
 {
     if Row::MAX < row {
         return Constrained::MaximumPassed;

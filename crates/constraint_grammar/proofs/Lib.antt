@@ -1,2 +1,2 @@
-pub mod Comparing
+pub mod ComparisonLaws
 pub mod Expressions

@@ -3,16 +3,19 @@ ghost use mathlib.Core.Path.{_≡_};
 ghost use mathlib.Core.Bool.{not};
 ghost use Rattle.lexer.specs.Forms.{framesAt, trim};
 ghost use Rattle.policy.specs.Basics.{Name};
-ghost use Rattle.policy.specs.Words.{isReserved, expressionWord, opOf, componentOf};
+ghost use Rattle.policy.specs.Words as words;
+ghost use Rattle.policy.specs.Words.{isReserved, expressionWord, opOf, twoSides, threeSides, componentOf};
+ghost use Rattle.policy.specs.Answers.{sidesOf};
 ghost use Rattle.policy.specs.Grammar.{expressionIn};
 ghost use Rattle.words.specs.Numbers.{numberOf, wordOf};
 ghost use Rattle.items.specs.Looks.{itemAt};
 ghost use Rattle.items.specs.Reads.{isSome, Reads};
-ghost use Rattle.constraint_grammar.specs.Comparisons.{plainOp, sidesOf, comparing, secondSide, bothSides};
+ghost use Rattle.constraint_grammar.specs.Comparisons.{plainOp, pairOf, comparing, secondSide, bothSides};
 ghost use Rattle.constraint_grammar.specs.Heads.{joinsOf, headOf};
 use items::Item;
 use items::Parsed;
 use items::Wanted;
+use policy::Sides;
 use words::NameKind;
 use words::Word;
 
@@ -61,8 +64,8 @@ fn is_operator(op: usize) -> bool
 }
 
 // Whether a word is one of u1 u2 r1 r2 t1 t2.
-fn is_component(x: usize) -> bool
-    ensures { λ r. ⌜ r ≡ isSome (componentOf (wordOf x)) ⌝ }
+fn is_of_two_sides(x: usize) -> bool
+    ensures { λ r. ⌜ r ≡ isSome (componentOf twoSides (wordOf x)) ⌝ }
 {
     if x == Word::U3 {
         return false;
@@ -76,9 +79,29 @@ fn is_component(x: usize) -> bool
     Word::U1 <= x
 }
 
-// Whether the words are the two sides of one family, source first.
+// Whether a word is one of those, or u3, r3 or t3.
+fn is_of_three_sides(x: usize) -> bool
+    ensures { λ r. ⌜ r ≡ isSome (componentOf threeSides (wordOf x)) ⌝ }
+{
+    if Word::T3 < x {
+        return false;
+    }
+    Word::U1 <= x
+}
+
+// Whether a word is a component of one of the sides.
+fn is_component(x: usize, sides: Sides) -> bool
+    ensures { λ r. ⌜ r ≡ isSome (componentOf (sidesOf sides) (wordOf x)) ⌝ }
+{
+    match sides {
+        Sides::Two => is_of_two_sides(x),
+        Sides::Three => is_of_three_sides(x),
+    }
+}
+
+// Whether the words are sides 1 and 2 of one family. Side 3 is in no pair, so it does not matter how many there are.
 fn are_sides(x: usize, y: usize) -> bool
-    ensures { λ r. ⌜ r ≡ sidesOf (componentOf (wordOf x)) (componentOf (wordOf y)) ⌝ }
+    ensures { λ r. ⌜ ((n : words.Sides) → r ≡ pairOf (componentOf n (wordOf x)) (componentOf n (wordOf y))) ⌝ }
 {
     if x == Word::U1 {
         return y == Word::U2;
@@ -94,11 +117,11 @@ fn are_sides(x: usize, y: usize) -> bool
 
 // Whether a comparison may have these three words: (op x name), (op u1 u2), (op t1 t2), (rop r1 r2). Of the last one,
 // `named` says whether it is a name.
-fn compares(op: usize, x: usize, y: usize, named: bool) -> bool
-    ensures { λ r. ⌜ ((w : Name) → numberOf w ≡ y → named ≡ not (isReserved w) → r ≡ comparing op x w) ⌝ }
+fn compares(op: usize, x: usize, y: usize, named: bool, sides: Sides) -> bool
+    ensures { λ r. ⌜ ((w : Name) → numberOf w ≡ y → named ≡ not (isReserved w) → r ≡ comparing (sidesOf sides) op x w) ⌝ }
 {
     if named {
-        if is_component(x) {
+        if is_component(x, sides) {
             return is_plain(op);
         }
         return false;
@@ -113,8 +136,8 @@ fn compares(op: usize, x: usize, y: usize, named: bool) -> bool
 }
 
 // The second word of a comparison, and the close.
-fn second_side(text: &[u8], at: usize, op: usize, x: usize) -> Parsed
-    ensures { λ r. ⌜ Reads (now (text .entry)) at (secondSide op x (framesAt (now (text .entry)) at .here)) r ⌝ }
+fn second_side(text: &[u8], at: usize, op: usize, x: usize, sides: Sides) -> Parsed
+    ensures { λ r. ⌜ Reads (now (text .entry)) at (secondSide (sidesOf sides) op x (framesAt (now (text .entry)) at .here)) r ⌝ }
 {
     let item = items::next_item(text, at);
     match item {
@@ -125,7 +148,7 @@ fn second_side(text: &[u8], at: usize, op: usize, x: usize) -> Parsed
             next,
         } => {
             let named = words::is_name(NameKind::Name, text, start, len);
-            if compares(op, x, number, named) {
+            if compares(op, x, number, named, sides) {
                 return items::close_form(text, next);
             }
             Parsed::Bad
@@ -135,12 +158,12 @@ fn second_side(text: &[u8], at: usize, op: usize, x: usize) -> Parsed
 }
 
 // Both words that a comparison is of, and the close.
-fn both_sides(text: &[u8], at: usize, op: usize) -> Parsed
-    ensures { λ r. ⌜ Reads (now (text .entry)) at (bothSides op (framesAt (now (text .entry)) at .here)) r ⌝ }
+fn both_sides(text: &[u8], at: usize, op: usize, sides: Sides) -> Parsed
+    ensures { λ r. ⌜ Reads (now (text .entry)) at (bothSides (sidesOf sides) op (framesAt (now (text .entry)) at .here)) r ⌝ }
 {
     let item = items::next_item(text, at);
     match item {
-        Item::Word { number, next, .. } => second_side(text, next, op, number),
+        Item::Word { number, next, .. } => second_side(text, next, op, number, sides),
         Item::Open { .. } | Item::Close { .. } | Item::End => Parsed::Bad,
     }
 }
@@ -164,15 +187,15 @@ fn head_of(text: &[u8], at: usize) -> Head
     }
 }
 
-// What the parentheses of a constraint expression hold. It calls itself on each operand; the number that falls is the
-// levels left.
-pub fn constraint_form(text: &[u8], at: usize, levels: usize) -> Parsed
-    ensures { λ r. ⌜ Reads (now (text .entry)) at (isSome (expressionIn (trim (framesAt (now (text .entry)) at .here) levels))) r ⌝ }
+// What the parentheses of a constraint expression hold, which may name the sides. It calls itself on each operand; the
+// number that falls is the levels left.
+pub fn constraint_form(text: &[u8], at: usize, levels: usize, sides: Sides) -> Parsed
+    ensures { λ r. ⌜ Reads (now (text .entry)) at (isSome (expressionIn (sidesOf sides) (trim (framesAt (now (text .entry)) at .here) levels))) r ⌝ }
 {
     let head = head_of(text, at);
     let mut i = head.next;
     if head.wanted == 0 {
-        return both_sides(text, i, head.word);
+        return both_sides(text, i, head.word, sides);
     }
     let mut count: usize = 0;
     loop {
@@ -182,7 +205,7 @@ pub fn constraint_form(text: &[u8], at: usize, levels: usize) -> Parsed
                 if levels == 0 {
                     return Parsed::Bad;
                 }
-                let operand = constraint_form(text, next, levels - 1);
+                let operand = constraint_form(text, next, levels - 1, sides);
                 match operand {
                     Parsed::Next(past) => {
                         i = past;

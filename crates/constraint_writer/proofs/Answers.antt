@@ -15,9 +15,9 @@ use Rattle.policy.specs.Encode.{rowBytes}
 use Rattle.policy.specs.Names.{Environment}
 use Rattle.policy.proofs.RowCounts.{rows-count}
 use Rattle.scopes.specs.Symbols.{Symbols}
-use Rattle.constraint_writer.specs.Writing.{Writes}
+use Rattle.constraint_writer.specs.ExpressionWrites.{Writes}
 use Rattle.constraint_writer.specs.declared.RowsWritten.{RowsWritten}
-use Rattle.constraint_writer.proofs.Resolving.{resolved, unresolved}
+use Rattle.constraint_writer.proofs.WrittenRows.{resolved, unresolved}
 
 -- the names of an expression are declared, its rows are counted, and they are in the memory if there is room
 pub record Resolved (env : Environment) (e : Constraint Name) (before after : List ℕ) (row n : ℕ) : Type 0 where

@@ -1,8 +1,9 @@
 pub mod WordNumbers
-pub mod Putting
+pub mod RowBytes
 pub mod Operands
-pub mod Resolving
+pub mod WrittenRows
+pub mod ThreeSides
 pub mod Comparisons
 pub mod StackNeeds
-pub mod Joining
+pub mod OperandRows
 pub mod Answers

@@ -7,11 +7,11 @@ use Prim.Native.Nat.{ℕ, max, _+_}
 use native.Mathlib.Nat.{zero-add, zero-max}
 use Rattle.lexer.specs.Forms.{Forms, closed, part}
 use Rattle.policy.specs.Basics.{Name, more, ofOne, ofTwo}
-use Rattle.policy.specs.Words.{Connective, allC, notC, andC, orC, xorC}
+use Rattle.policy.specs.Words.{Connective, allC, notC, andC, orC, xorC, threeSides}
 use Rattle.policy.specs.Statements.{Constraint, notE, andE, orE, need}
 use Rattle.policy.specs.Grammar.{formE, connected, expressions, expressionIn}
-use Rattle.constraint_writer.specs.Comparing.{kindOf}
-use Rattle.constraint_writer.proofs.Resolving.{never}
+use Rattle.constraint_writer.specs.RowFields.{kindOf}
+use Rattle.constraint_writer.proofs.WrittenRows.{never}
 
 -- what an operator needs, by the operands that are left, after c of them, for which d is needed
 unfoldable pub needWith : List (Constraint Name) → ℕ → ℕ → ℕ
@@ -53,7 +53,7 @@ of-form andC es e h = of-two andE (λ a b. refl) es e h
 of-form orC es e h = of-two orE (λ a b. refl) es e h
 
 pub none-yet : (w : Name) (f : Forms) (c : Option Connective) (es : Option (List (Constraint Name))) (e : Constraint Name) → (kindOf c ≡ 3 → ⊥)
-    → connected w f c es ≡ some e → needLeft es 0 0 ≡ some (need e)
+    → connected threeSides w f c es ≡ some e → needLeft es 0 0 ≡ some (need e)
 none-yet w f none es e h g = absurd (h refl)
 none-yet w f (some c) none e h g = never g
 none-yet w f (some c) (some es) e h g = ap some (of-form c es e g)
@@ -68,11 +68,11 @@ module _ (c d k : ℕ) where
   one-more (some x) none a w h = never h
   one-more (some x) (some xs) a w h = rw (w x refl) h
 
-  pub part-needs : (p : ℕ) (f g : Forms) (a : ℕ) → ((x : Constraint Name) → expressionIn f ≡ some x → a ≡ need x)
-      → needLeft (expressions (part p f g)) c d ≡ some k → needLeft (expressions g) (c + 1) (max d (c + a)) ≡ some k
+  pub part-needs : (p : ℕ) (f g : Forms) (a : ℕ) → ((x : Constraint Name) → expressionIn threeSides f ≡ some x → a ≡ need x)
+      → needLeft (expressions threeSides (part p f g)) c d ≡ some k → needLeft (expressions threeSides g) (c + 1) (max d (c + a)) ≡ some k
   unfolding expressions
-  part-needs p f g a w h = one-more (expressionIn f) (expressions g) a w h
+  part-needs p f g a w h = one-more (expressionIn threeSides f) (expressions threeSides g) a w h
 
-  pub close-needs : needLeft (expressions closed) c d ≡ some k → d ≡ k
+  pub close-needs : needLeft (expressions threeSides closed) c d ≡ some k → d ≡ k
   unfolding expressions needWith
   close-needs h = Option·some-injective d k h

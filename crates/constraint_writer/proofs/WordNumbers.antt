@@ -14,17 +14,17 @@ use Rattle.words.proofs.Meaning.{numbered, agreeing, agree}
 use Rattle.items.proofs.Counts.{none-of}
 use Rattle.items.specs.Reads.{isSome}
 
-beyond : (ks : List ℕ) (n : ℕ) → every (λ k. leb k 39) ks ≡ true → 39 < n → isAmong n ks ≡ false
+beyond : (ks : List ℕ) (n : ℕ) → every (λ k. leb k 40) ks ≡ true → 40 < n → isAmong n ks ≡ false
 unfolding every isAmong any
 beyond [] n e h = refl
 beyond (k ∷ ks) n e h =
-    let b = both-true (leb k 39) (every (λ k. leb k 39) ks) e in
-    let g = leb-true k 39 (b .0) in
+    let b = both-true (leb k 40) (every (λ k. leb k 40) ks) e in
+    let g = leb-true k 40 (b .0) in
     rw (ne-eqb n k (λ z. omega arith)) (beyond ks n (b .1) h)
 
 pub other-words : {A : Type 0} (meaning : Name → Option A) (ks : List ℕ)
     → agreeing (λ w. isSome (meaning w)) (λ n. isAmong n ks) numbered 0 ≡ true
-    → every (λ k. leb k 39) ks ≡ true
+    → every (λ k. leb k 40) ks ≡ true
     → isSome (meaning []) ≡ false
     → (n : ℕ) → isAmong n ks ≡ false → meaning (wordOf n) ≡ none
 other-words meaning ks e s m n h =

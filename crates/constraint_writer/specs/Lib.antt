@@ -1,2 +1,2 @@
-pub mod Writing
-pub mod Comparing
+pub mod ExpressionWrites
+pub mod RowFields

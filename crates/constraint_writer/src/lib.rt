@@ -3,12 +3,14 @@ ghost use mathlib.Core.Path.{_≡_};
 ghost use mathlib.Core.List.{[], _∷_};
 ghost use Prim.Native.Nat.{max};
 ghost use Rattle.lexer.specs.Forms.{framesAt, trim};
-ghost use Rattle.policy.specs.Words.{expressionWord, opOf, componentOf};
+ghost use Rattle.policy.specs.Words.{expressionWord, opOf, Sides, threeSides, componentOf};
+ghost use Rattle.policy.specs.Statements.{Family, Side};
 ghost use Rattle.policy.specs.Grammar as grammar;
 ghost use Rattle.policy.specs.Rows as policy;
 ghost use Rattle.words.specs.Numbers.{wordOf};
-ghost use Rattle.constraint_writer.specs.Writing.{Countable, Wrote, Writes};
-ghost use Rattle.constraint_writer.specs.Comparing.{kindOf, codeOf, operatorOf, Compares};
+ghost use Rattle.symbols.specs.SearchAnswers.{familyCode};
+ghost use Rattle.constraint_writer.specs.ExpressionWrites.{Countable, Wrote, Writes};
+ghost use Rattle.constraint_writer.specs.RowFields.{kindOf, codeOf, operatorOf, Compares};
 use items::Item;
 use policy::Component;
 use policy::Operator;
@@ -33,7 +35,7 @@ enum Operand {
 // What stands for no operator, and for no component: one more than the greatest.
 const NO_OPERATOR: u8 = Operator::COUNT_OF_ROLES;
 
-const NO_COMPONENT: u8 = Component::COUNT;
+const NO_COMPONENT: u8 = Component::COUNT_OF_THREE;
 
 // Writes a row, if there is room for it.
 fn put_row(rows: &mut [u8], row: usize, kind: u8, component: u8, operator: u8, number: usize)
@@ -88,9 +90,9 @@ fn operator_of(number: usize) -> u8
     NO_OPERATOR
 }
 
-// One of u1 u2 r1 r2 t1 t2, by the number of its word.
+// A component, by the number of its word. Where an expression may not name side 3, its form has none of that side.
 fn component_of(number: usize) -> u8
-    ensures { λ r. ⌜ r ≡ codeOf (componentOf (wordOf number)) ⌝ }
+    ensures { λ r. ⌜ r ≡ codeOf (componentOf threeSides (wordOf number)) ⌝ }
 {
     if number == Word::U1 {
         return Component::U1;
@@ -110,7 +112,27 @@ fn component_of(number: usize) -> u8
     if number == Word::T2 {
         return Component::T2;
     }
+    if number == Word::U3 {
+        return Component::U3;
+    }
+    if number == Word::R3 {
+        return Component::R3;
+    }
+    if number == Word::T3 {
+        return Component::T3;
+    }
     NO_COMPONENT
+}
+
+// The family that a component is of: it has the number of the sort of its things.
+fn family_of(component: u8) -> usize
+    ensures { λ r. ⌜ ((f : Family) (s : Side) → component ≡ policy.compCode f s → r ≡ familyCode f) ⌝ }
+{
+    match component {
+        Component::U1 | Component::U2 | Component::U3 => Sort::USER,
+        Component::R1 | Component::R2 | Component::R3 => Sort::ROLE,
+        _ => Sort::TYPE,
+    }
 }
 
 // What a side is compared with, by the second word: the other side, or a name of the side's family.
@@ -123,8 +145,7 @@ fn operand_of(name: &[u8], number: usize, side: u8, symbols: &[u8]) -> Operand
             number: 0,
         };
     }
-    let family = (side / 2) as usize;
-    let found = scopes::lookup(symbols, family, name);
+    let found = scopes::lookup(symbols, family_of(side), name);
     match found {
         Found::At { sort, number } => {
             if sort < Sort::FIRST_ATTRIBUTE {
@@ -152,7 +173,7 @@ fn comparison(
     row: usize,
 ) -> RowsWritten
     requires { ⌜ Countable (now text) at row ⌝ }
-    ensures { λ r. ⌜ Writes (now (text .entry)) at (grammar.comparison (wordOf operator) (framesAt (now (text .entry)) at .here))
+    ensures { λ r. ⌜ Writes (now (text .entry)) at (grammar.comparison threeSides (wordOf operator) (framesAt (now (text .entry)) at .here))
         (now (symbols .entry)) (now (rows .entry)) (now (rows .exit)) row r ⌝ }
 {
     let first = items::next_item(text, at);
@@ -210,7 +231,8 @@ pub fn write_constraint(
     row: usize,
 ) -> RowsWritten
     requires { ⌜ Countable (now text) at row ⌝ }
-    ensures { λ r. ⌜ Writes (now (text .entry)) at (grammar.expressionIn (trim (framesAt (now (text .entry)) at .here) levels)) (now (symbols .entry)) (now (rows .entry)) (now (rows .exit)) row r ⌝ }
+    ensures { λ r. ⌜ ((n : Sides) → Writes (now (text .entry)) at (grammar.expressionIn n (trim (framesAt (now (text .entry)) at .here) levels))
+        (now (symbols .entry)) (now (rows .entry)) (now (rows .exit)) row r) ⌝ }
 {
     let first = items::next_item(text, at);
     let Item::Word { number, next, .. } = first else {

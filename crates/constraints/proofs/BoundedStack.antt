@@ -8,7 +8,7 @@ use native.Mathlib.Omega.{arith}
 use lib.Dec.{eqb, leb}
 use lib.ListN.{length}
 use borrow.Author.Tests.{leb-true, lt-ltb}
-use Rattle.policy.specs.Rows.{Row, View, opTest, isSame, notTop, andTop, orTop, turn, run, after, balanced}
+use Rattle.policy.specs.Rows.{Row, View, opTest, isSame, notTop, andTop, orTop, runRow, run, after, balanced}
 use Rattle.policy.proofs.Lists.{both-true}
 use Rattle.constraints.specs.Stack.{push, boundedRun}
 
@@ -39,4 +39,4 @@ bounded-run v (r ∷ rs) s e =
     let later = both-true (leb 1 d && leb d 5) (balanced rs d) e in
     let depth = both-true (leb 1 d) (leb d 5) (later .0) in
     let same = one-turn (eqb (r .kind) 0) (eqb (r .kind) 1) (eqb (r .kind) 2) (opTest (r .op) (isSame v r)) s (leb-true 1 d (depth .0)) (leb-true d 5 (depth .1)) in
-    ap (boundedRun v rs) (same .0) ∙ bounded-run v rs (turn v r s) (ap (balanced rs) (same .1) ∙ later .1)
+    ap (boundedRun v rs) (same .0) ∙ bounded-run v rs (runRow v r s) (ap (balanced rs) (same .1) ∙ later .1)

@@ -1,54 +1,68 @@
--- On the table of a well-formed image, whatever is after it, the bytes say of the constraints what the image says: their sets, their
--- rows, what each names and whether it holds; so the first that fails and the number consulted are the image's. Assumes nothing.
-use mathlib.Core.Path.{_≡_, refl, sym, ap, ap₂, _∙_, subst}
-use mathlib.Core.Bool.{Bool, true, false, _&&_, cond}
+-- Where the sets, the statements and the rows of an image stand in a table, the bytes say of the constraints and of the validatetrans statements what
+-- the image says: their sets, their rows, what each names and whether it holds; so the first that fails and the number consulted are the image's.
+-- Assumes nothing.
+use mathlib.Core.Path.{_≡_, refl, sym, ap, _∙_, subst}
+use mathlib.Core.Bool.{Bool, true, _&&_}
 use mathlib.Core.List.{List, [], _∷_, _++_}
-use Prim.Native.Nat.{ℕ, _+_, _*_, _^_, _<_}
+use Prim.Native.Nat.{ℕ, _+_, _*_, _^_, _<_, _≤_}
+use native.Mathlib.Nat.{mod-eq-of-lt}
 use native.Mathlib.Omega.{arith}
-use lib.Dec.{ltb}
-use lib.ListN.{length, getD, drop}
+use lib.Dec.{eqb, ltb}
+use lib.ListN.{length, getD, drop, length-append}
 use Rattle.bitset.specs.Sets.{member}
 use Rattle.byte_slices.specs.Parts.{part}
 use Rattle.bitset.specs.Relations.{joined}
 use Rattle.policy.specs.Basics.{each, every, All}
-use Rattle.policy.specs.Statements.{users, roles, types, attributeOf, Declaration, count, classNames, permissions}
+use Rattle.policy.specs.Statements.{Family, users, roles, types, attributeOf, Declaration, count, classNames, permissions}
 use Rattle.policy.specs.Meaning.{Contexts}
+use Rattle.policy.specs.Maxima.{maxRelabelRows}
 use Rattle.policy.specs.Rows.{Row, top, balanced}
-use Rattle.policy.specs.Image.{Image, ConstraintEntry, width}
-use Rattle.policy.specs.Encode.{headsFrom, headBytes, rowBytes, bodies, encode}
-use Rattle.policy.specs.Sound.{ofComp, goodRow, goodConstraint, headAt, wellFormed}
-use Rattle.policy.specs.Questions.{setsIn, viewOf, entryNames, entryHolds}
-use Rattle.policy.specs.Deciding.{Answer, consult, firstFailing}
-use Rattle.policy.specs.Answers.{changeOf}
-use Rattle.policy.specs.declared.Change.{Change}
+use Rattle.policy.specs.Image.{Image, ConstraintEntry, RelabelEntry, width}
+use Rattle.policy.specs.Encode.{ConstraintHead, headsFrom, headBytes, rowBytes, relabelHead, relabelBytes}
+use Rattle.policy.specs.Sound.{ofComp, goodRow, goodConstraint, goodRelabel, headAt, relabelAt}
+use Rattle.policy.specs.Questions.{setsIn, viewOf, rowsHold, entryNames, entryHolds}
+use Rattle.policy.specs.Deciding.{consult, firstFailing}
 use Rattle.policy.proofs.Lists.{both-true, all-left, all-right, each-append, each-length, joined-append}
-use Rattle.table_laws.proofs.ListLaws.{every-all}
-use Rattle.table_laws.proofs.Pieces.{wide-length}
-use Rattle.table_laws.proofs.Records.{head-wide, row-wide}
-use Rattle.table_laws.proofs.ImageReadBack.{Laid, every-wide, sets-length}
-use Rattle.table_laws.proofs.Lengths.{heads-length}
-use Rattle.table_laws.proofs.WellFormed.{formed}
-use Rattle.table_laws.proofs.WellFormedLaid.{well-formed-laid}
-use Rattle.table_reader.specs.Records.{records, bodyPlace}
+use Rattle.table_laws.specs.SoundTable.{allRows, relabelRows}
+use Rattle.table_laws.proofs.ListLaws.{every-all, all-each}
+use Rattle.table_laws.proofs.Pieces.{Wide, wide-length}
+use Rattle.table_laws.proofs.Records.{SmallHead, SmallRelabel, row-wide}
+use Rattle.table_reader.specs.Records.{records}
 use Rattle.table_reader.proofs.RecordLaws.{Stands, stands-left, stands-right, set-part}
-use Rattle.table_reader.proofs.BodyRecords.{SmallRow, rows-part, heads-part}
-use Rattle.table_reader.proofs.BodyPlaces.{body-stands, start-part, length-part}
+use Rattle.table_reader.proofs.BodyRecords.{SmallRow, rows-part, heads-part, relabels-part}
 use Rattle.constraints.specs.declared.Bodies.{Bodies}
 use Rattle.constraints.specs.Stack.{boundedRun}
-use Rattle.constraints.specs.TableConstraints.{viewIn, headsIn, headNames, headHolds, Placed, sidesOf, bodiesIn, Located, Decides}
+use Rattle.constraints.specs.TableConstraints.{setStart, viewIn, rowsHoldIn, sidesOf, headsIn, headNames, headHolds}
+use Rattle.constraints.specs.TableConstraints.{RelabelRun, runsFrom, relabelsIn, relabelNames, relabelHolds}
 use Rattle.constraints.proofs.BoundedStack.{bounded-run}
 use Rattle.constraints.proofs.SameView.{same-run}
 
+-- what is used here of a well-formed image: its attributes have their sets, all fits its bytes, and the statements are good
+pub record Fits (i : Image) : Type 0 where
+  pub many : (f : Family) → length (setsIn i f) ≡ count (attributeOf f) (i .names)
+  pub wide : (f : Family) → Wide (width f) (setsIn i f)
+  pub heads : All SmallHead (headsFrom 0 (i .constraints))
+  pub rows : All SmallRow (allRows i)
+  pub constraints : All (λ (c : ConstraintEntry). goodConstraint (i .names) c ≡ true) (i .constraints)
+  pub relabel-heads : All SmallRelabel (each relabelHead (i .relabels))
+  pub relabel-rows : All SmallRow (relabelRows i)
+  pub few-relabel-rows : length (relabelRows i) ≤ maxRelabelRows
+  pub relabels : All (λ (c : RelabelEntry). goodRelabel (i .names) c ≡ true) (i .relabels)
+
 -- THE SETS
 
-module _ (i : Image) (t : List ℕ) (b : Bodies) (laid : Laid i)
-    (us : b .userattributes ≡ length (i .userSets)) (rs : b .roleattributes ≡ length (i .roleSets))
-    (stand : Stands t (b .sets) (joined (i .userSets) ++ (joined (i .roleSets) ++ joined (i .typeSets)))) where
+-- the sets of an image's attributes stand where b says
+pub record PlacedSets (i : Image) (t : List ℕ) (b : Bodies) : Type 0 where
+  pub stand : Stands t (b .sets) (joined (i .userSets) ++ (joined (i .roleSets) ++ joined (i .typeSets)))
+  pub user-attributes : b .«user_attributes» ≡ length (i .userSets)
+  pub role-attributes : b .«role_attributes» ≡ length (i .roleSets)
+
+module _ (i : Image) (t : List ℕ) (b : Bodies) (fits : Fits i) (placed : PlacedSets i t b) where
   users-stand : Stands t (b .sets) (joined (i .userSets))
-  users-stand = stands-left (joined (i .userSets)) (joined (i .roleSets) ++ joined (i .typeSets)) stand
+  users-stand = stands-left (joined (i .userSets)) (joined (i .roleSets) ++ joined (i .typeSets)) (placed .stand)
 
   others-stand : Stands t (b .sets + length (joined (i .userSets))) (joined (i .roleSets) ++ joined (i .typeSets))
-  others-stand = stands-right (joined (i .userSets)) (joined (i .roleSets) ++ joined (i .typeSets)) stand
+  others-stand = stands-right (joined (i .userSets)) (joined (i .roleSets) ++ joined (i .typeSets)) (placed .stand)
 
   roles-stand : Stands t (b .sets + length (joined (i .userSets))) (joined (i .roleSets))
   roles-stand = stands-left (joined (i .roleSets)) (joined (i .typeSets)) others-stand
@@ -56,125 +70,150 @@ module _ (i : Image) (t : List ℕ) (b : Bodies) (laid : Laid i)
   types-stand : Stands t (b .sets + length (joined (i .userSets)) + length (joined (i .roleSets))) (joined (i .typeSets))
   types-stand = stands-right (joined (i .roleSets)) (joined (i .typeSets)) others-stand
 
-  -- the family by two tests, as `ofComp` tells it
-  set-of : (x y : Bool) (a : ℕ) → a < count (attributeOf (cond x users (cond y roles types))) (i .names)
-      → part t (cond x (b .sets + 16 * a) (cond y (b .sets + 16 * (b .userattributes + a)) (b .sets + 16 * (b .userattributes + b .roleattributes) + 64 * a)))
-      (width (cond x users (cond y roles types)))
-      ≡ getD (setsIn i (cond x users (cond y roles types))) a []
-  set-of true y a h = set-part 16 (i .userSets) (laid .userSets .wide) a (omega (arith, laid .userSets .many)) users-stand
-  set-of false true a h =
-      let long = sets-length (count (attributeOf users) (i .names)) 16 (i .userSets) (laid .userSets) in
-      let place : b .sets + 16 * (b .userattributes + a) ≡ b .sets + length (joined (i .userSets)) + 16 * a = omega (arith, laid .userSets .many) in
+  set-of : (f : Family) (a : ℕ) → a < count (attributeOf f) (i .names) → part t (setStart b f a) (width f) ≡ getD (setsIn i f) a []
+  set-of users a h = set-part 16 (i .userSets) (fits .wide users) a (omega (arith, fits .many users)) users-stand
+  set-of roles a h =
+      let long = wide-length 16 (i .userSets) (fits .wide users) in
+      let place : b .sets + 16 * (b .«user_attributes» + a) ≡ b .sets + length (joined (i .userSets)) + 16 * a = omega (arith, placed .user-attributes) in
       ap (λ (n : ℕ). part t n 16) place
-      ∙ set-part 16 (i .roleSets) (laid .roleSets .wide) a (omega (arith, laid .roleSets .many)) roles-stand
-  set-of false false a h =
-      let long = sets-length (count (attributeOf users) (i .names)) 16 (i .userSets) (laid .userSets) in
-      let wide = sets-length (count (attributeOf roles) (i .names)) 16 (i .roleSets) (laid .roleSets) in
-      let place : b .sets + 16 * (b .userattributes + b .roleattributes) + 64 * a ≡ b .sets + length (joined (i .userSets)) + length (joined (i .roleSets)) + 64 * a =
-      omega (arith, laid .userSets .many, laid .roleSets .many) in
+      ∙ set-part 16 (i .roleSets) (fits .wide roles) a (omega (arith, fits .many roles)) roles-stand
+  set-of types a h =
+      let long = wide-length 16 (i .userSets) (fits .wide users) in
+      let further = wide-length 16 (i .roleSets) (fits .wide roles) in
+      let place : b .sets + 16 * (b .«user_attributes» + b .«role_attributes») + 64 * a
+      ≡ b .sets + length (joined (i .userSets)) + length (joined (i .roleSets)) + 64 * a =
+      omega (arith, placed .user-attributes, placed .role-attributes) in
       ap (λ (n : ℕ). part t n 64) place
-      ∙ set-part 64 (i .typeSets) (laid .typeSets .wide) a (omega (arith, laid .typeSets .many)) types-stand
+      ∙ set-part 64 (i .typeSets) (fits .wide types) a (omega (arith, fits .many types)) types-stand
 
-  pub same-sets : (on : Contexts) (c a n : ℕ) → a < count (attributeOf (ofComp c)) (i .names)
-      → viewIn t b (sidesOf on) .inset c a n ≡ viewOf i on .inset c a n
-  same-sets on c a n h = ap (λ (l : List ℕ). member l n) (set-of (ltb c 2) (ltb c 4) a h)
+  same-sets : (on : Contexts) (c a n : ℕ) → a < count (attributeOf (ofComp c)) (i .names) → viewIn t b (sidesOf on) .inset c a n ≡ viewOf i on .inset c a n
+  same-sets on c a n h = ap (λ (l : List ℕ). member l n) (set-of (ofComp c) a h)
 
--- THE CONSTRAINTS
+  -- ONE STATEMENT'S ROWS
 
--- what soundness says of a constraint's rows
-record SoundRows (ds : List Declaration) (c : ConstraintEntry) : Type 0 where
-  good : All (λ (r : Row). goodRow ds r ≡ true) (c .rows)
-  even : balanced (c .rows) 0 ≡ true
+  -- what soundness says of them, of so many components
+  record SoundRows (many : ℕ) (rows : List Row) : Type 0 where
+    good : All (λ (r : Row). goodRow many (i .names) r ≡ true) rows
+    even : balanced rows 0 ≡ true
 
-sound-rows : (ds : List Declaration) (c : ConstraintEntry) → goodConstraint ds c ≡ true → SoundRows ds c
-sound-rows ds c h =
-    let others = ltb (c .class) (length (classNames ds)) && ltb 0 (c .mask) && ltb (c .mask) (2 ^ length (permissions ds (c .class))) in
-    let p = both-true (others && every (goodRow ds) (c .rows)) (balanced (c .rows) 0) h in
-    record { good = every-all (goodRow ds) (c .rows) (both-true others (every (goodRow ds) (c .rows)) (p .0) .1); even = p .1 }
+  sound-rows : (many : ℕ) (rows : List Row) (others : Bool) → (others && every (goodRow many (i .names)) rows && balanced rows 0) ≡ true → SoundRows many rows
+  sound-rows many rows others h =
+      let p = both-true (others && every (goodRow many (i .names)) rows) (balanced rows 0) h in
+      record { good = every-all (goodRow many (i .names)) rows (both-true others (every (goodRow many (i .names)) rows) (p .0) .1); even = p .1 }
 
-module _ (i : Image) (t : List ℕ) (b : Bodies) (on : Contexts) (class permission : ℕ)
-    (agree : (c a n : ℕ) → a < count (attributeOf (ofComp c)) (i .names) → viewIn t b (sidesOf on) .inset c a n ≡ viewOf i on .inset c a n) where
-  -- a constraint whose rows stand where its head says
-  head-holds : (c : ConstraintEntry) → SoundRows (i .names) c → All SmallRow (c .rows) → (r : ℕ) → Stands t (b .rows + 6 * r) (joined (each rowBytes (c .rows)))
-      → headHolds t b (sidesOf on) (record { class = c .class; mask = c .mask; first = r; rows = length (c .rows) }) ≡ entryHolds i on c
-  head-holds c sound small r stand =
+  -- rows that stand from row r on hold as the image says
+  rows-hold : (on : Contexts) (many : ℕ) (rows : List Row) → SoundRows many rows → All SmallRow rows → (r : ℕ) → Stands t (b .rows + 6 * r) (joined (each rowBytes rows))
+      → rowsHoldIn t b (sidesOf on) r (length rows) ≡ rowsHold i on rows
+  rows-hold on many rows sound small r stand =
       let v = viewIn t b (sidesOf on) in
       ap top (
-      ap (λ (rs : List Row). boundedRun v rs []) (rows-part (c .rows) small stand)
-      ∙ bounded-run v (c .rows) [] (sound .even)
-      ∙ same-run (i .names) (v .side) (v .inset) (viewOf i on .inset) agree (c .rows) (sound .good) []
+      ap (λ (rs : List Row). boundedRun v rs []) (rows-part rows small stand)
+      ∙ bounded-run v rows [] (sound .even)
+      ∙ same-run many (i .names) (v .side) (v .inset) (viewOf i on .inset) (same-sets on) rows (sound .good) []
       )
 
-  -- "constraints take up the rows in order"
-  pub heads-answer : (cs : List ConstraintEntry) → All (λ (c : ConstraintEntry). goodConstraint (i .names) c ≡ true) cs
-      → All SmallRow (joined (each (λ c. c .rows) cs)) → (r : ℕ) → Stands t (b .rows + 6 * r) (joined (each rowBytes (joined (each (λ c. c .rows) cs)))) → (n : ℕ)
-      → firstFailing (headNames class permission) (headHolds t b (sidesOf on)) n (headsFrom r cs) ≡ firstFailing (entryNames class permission) (entryHolds i on) n cs
-  unfolding firstFailing headsFrom joined each
-  heads-answer [] good small r stand n = refl
-  heads-answer (c ∷ cs) good small r stand n =
-      let later = joined (each (λ (c : ConstraintEntry). c .rows) cs) in
-      let both : Stands t (b .rows + 6 * r) (joined (each rowBytes (c .rows)) ++ joined (each rowBytes later)) =
-      subst (Stands t (b .rows + 6 * r)) (ap joined (each-append rowBytes (c .rows) later) ∙ joined-append (each rowBytes (c .rows)) (each rowBytes later)) stand in
-      let long : length (joined (each rowBytes (c .rows))) ≡ length (c .rows) * 6 =
-      wide-length 6 (each rowBytes (c .rows)) (every-wide 6 rowBytes row-wide (c .rows)) ∙ ap (λ (k : ℕ). k * 6) (each-length rowBytes (c .rows)) in
-      let next : b .rows + 6 * r + length (joined (each rowBytes (c .rows))) ≡ b .rows + 6 * (r + length (c .rows)) = omega arith in
-      let named : headNames class permission (record { class = c .class; mask = c .mask; first = r; rows = length (c .rows) }) ≡ entryNames class permission c = refl in
-      rw named (ap₂ (λ (x : Bool) (y : Answer). consult (entryNames class permission c) x n y)
-      (head-holds c (sound-rows (i .names) c (good .0)) (all-left SmallRow (c .rows) later small) r
-      (stands-left (joined (each rowBytes (c .rows))) (joined (each rowBytes later)) both))
-      (heads-answer cs (good .1) (all-right SmallRow (c .rows) later small) (r + length (c .rows))
-      (subst (λ (k : ℕ). Stands t k (joined (each rowBytes later))) next (stands-right (joined (each rowBytes (c .rows))) (joined (each rowBytes later)) both)) (n + 1)))
+-- ALL STATEMENTS
 
--- THE ANSWER
+-- statements whose rows follow each other, from row r on: each head has its first row
+module _ {A H : Type 0} (rows : A → List Row) (head : ℕ → A → H) where
+  unfoldable inOrder : ℕ → List A → List H
+  inOrder r [] = []
+  inOrder r (c ∷ cs) = head r c ∷ inOrder (r + length (rows c)) cs
 
--- body k stands where b says
-body-at : (i : Image) (rest : List ℕ) (k at : ℕ) → k < 8 → at ≡ bodyPlace i k → Stands (encode i ++ rest) at (getD (bodies i) k [])
-body-at i rest k at h e = subst (λ (n : ℕ). Stands (encode i ++ rest) n (getD (bodies i) k [])) (sym e) (body-stands i rest k h)
+  -- the first that fails is the same, where each names the same and holds as its rows do
+  module _ (t : List ℕ) (from n : ℕ) (names holds : H → Bool) (says keeps : A → Bool) (Good : A → Type 0)
+      (named : (r : ℕ) (c : A) → names (head r c) ≡ says c)
+      (held : (r : ℕ) (c : A) → Good c → All SmallRow (rows c) → Stands t (from + 6 * r) (joined (each rowBytes (rows c))) → holds (head r c) ≡ keeps c) where
+    in-order : (cs : List A) → All Good cs → All SmallRow (joined (each rows cs)) → (r : ℕ) → Stands t (from + 6 * r) (joined (each rowBytes (joined (each rows cs))))
+        → (k : ℕ) → firstFailing n names holds k (inOrder r cs) ≡ firstFailing n says keeps k cs
+    unfolding firstFailing inOrder joined each
+    in-order [] good small r stand k = refl
+    in-order (c ∷ cs) good small r stand k =
+        let mine = joined (each rowBytes (rows c)) in
+        let later = joined (each rows cs) in
+        let both : Stands t (from + 6 * r) (mine ++ joined (each rowBytes later)) =
+        subst (Stands t (from + 6 * r)) (ap joined (each-append rowBytes (rows c) later) ∙ joined-append (each rowBytes (rows c)) (each rowBytes later)) stand in
+        let here = all-left SmallRow (rows c) later small in
+        let long : length mine ≡ length (rows c) * 6 =
+        wide-length 6 (each rowBytes (rows c)) (all-each SmallRow (λ (s : List ℕ). length s ≡ 6) rowBytes (λ x s. row-wide x) (rows c) here)
+        ∙ ap (λ (k : ℕ). k * 6) (each-length rowBytes (rows c)) in
+        let next : from + 6 * r + length mine ≡ from + 6 * (r + length (rows c)) = omega arith in
+        let after = in-order cs (good .1) (all-right SmallRow (rows c) later small) (r + length (rows c))
+        (subst (λ (p : ℕ). Stands t p (joined (each rowBytes later))) next (stands-right mine (joined (each rowBytes later)) both)) (k + 1) in
+        λ j. consult n (named r c j) (held r c (good .0) here (stands-left mine (joined (each rowBytes later)) both) j) k (after j)
 
-pub image-answers : (i : Image) → wellFormed i ≡ true → (rest : List ℕ) (b : Bodies) → Placed i b → (on : Contexts) (class permission : ℕ)
-    → firstFailing (headNames class permission) (headHolds (encode i ++ rest) b (sidesOf on)) 0 (headsIn (encode i ++ rest) b)
-    ≡ firstFailing (entryNames class permission) (entryHolds i on) 0 (i .constraints)
-unfolding bodies
-image-answers i good rest b placed on class permission =
-    let t = encode i ++ rest in
-    let laid = well-formed-laid i good in
-    let heads : headsIn t b ≡ headsFrom 0 (i .constraints) =
-    ap (λ (n : ℕ). records 10 headAt n (drop (b .constraints) t)) (placed .count ∙ sym (heads-length 0 (i .constraints)))
-    ∙ heads-part (headsFrom 0 (i .constraints)) (laid .heads) (body-at i rest 5 (b .constraints) (omega arith) (placed .constraints)) in
-    let start : b .rows + 6 * 0 ≡ bodyPlace i 6 = omega (arith, placed .rows) in
-    ap (firstFailing (headNames class permission) (headHolds t b (sidesOf on)) 0) heads
-    ∙ heads-answer i t b on class permission
-    (same-sets i t b laid (placed .userattributes) (placed .roleattributes) (body-at i rest 7 (b .sets) (omega arith) (placed .sets)) on)
-    (i .constraints) (formed i good .constraints) (laid .rows) 0 (body-at i rest 6 (b .rows + 6 * 0) (omega arith) start) 0
+-- CONSTRAINTS
 
-pub decides : (t : List ℕ) (b : Bodies) (class permission : ℕ) (sides : List ℕ) (r : Change)
-    → changeOf r ≡ firstFailing (headNames class permission) (headHolds t b sides) 0 (headsIn t b) → Decides t b class permission sides r
-decides t b class permission sides r e = record {
-  bytes = e;
-  image = λ i rest on good table placed six. e
-      ∙ ap₂ (λ (t : List ℕ) (l : List ℕ). firstFailing (headNames class permission) (headHolds t b l) 0 (headsIn t b)) table six
-      ∙ image-answers i good rest b placed on class permission;
-}
+abbrev headOf : ℕ → ConstraintEntry → ConstraintHead
+headOf r c = record { class = c .class; mask = c .mask; first = r; rows = length (c .rows) }
 
--- the header says where the bodies are
-header-places : (i : Image) (rest : List ℕ) → wellFormed i ≡ true → Placed i (bodiesIn (encode i ++ rest) (length (i .userSets)) (length (i .roleSets)))
-unfolding bodies
-header-places i rest good =
-    let hs = headsFrom 0 (i .constraints) in
-    let long : length (joined (each headBytes hs)) ≡ length (i .constraints) * 10 =
-    wide-length 10 (each headBytes hs) (every-wide 10 headBytes head-wide hs)
-    ∙ ap (λ (n : ℕ). n * 10) (each-length headBytes hs ∙ heads-length 0 (i .constraints)) in
-    record {
-      constraints = start-part i good rest 5 (omega arith);
-      count = omega (arith, length-part i good rest 5 (omega arith), long);
-      rows = start-part i good rest 6 (omega arith);
-      sets = start-part i good rest 7 (omega arith);
-      userattributes = refl;
-      roleattributes = refl;
-    }
+heads-in-order : (r : ℕ) (cs : List ConstraintEntry) → headsFrom r cs ≡ inOrder (λ c. c .rows) headOf r cs
+unfolding headsFrom inOrder
+heads-in-order r [] = refl
+heads-in-order r (c ∷ cs) = ap (λ (l : List ConstraintHead). headOf r c ∷ l) (heads-in-order (r + length (c .rows)) cs)
 
-pub located : (t : List ℕ) (us rs : ℕ) (b : Bodies) → b ≡ bodiesIn t us rs → Located t us rs b
-located t us rs b e = record {
-  bytes = e;
-  image = λ i rest good table same-us same-rs. rw (e, table, same-us, same-rs) (header-places i rest good);
-}
+-- the constraints of an image and their rows stand where b says
+pub record Placed (i : Image) (t : List ℕ) (b : Bodies) : Type 0 where
+  pub sets : PlacedSets i t b
+  pub count : b .count ≡ length (headsFrom 0 (i .constraints))
+  pub heads : Stands t (b .statements) (joined (each headBytes (headsFrom 0 (i .constraints))))
+  pub rows : Stands t (b .rows) (joined (each rowBytes (allRows i)))
+
+pub image-constraints : (i : Image) (t : List ℕ) (b : Bodies) → Fits i → Placed i t b → (on : Contexts) (class permission : ℕ)
+    → firstFailing 4 (headNames class permission) (headHolds t b (sidesOf on)) 0 (headsIn t b)
+    ≡ firstFailing 4 (entryNames class permission) (entryHolds i on) 0 (i .constraints)
+image-constraints i t b fits placed on class permission =
+    let ds = i .names in
+    let others : ConstraintEntry → Bool =
+    λ c. ltb (c .class) (length (classNames ds)) && ltb 0 (c .mask) && ltb (c .mask) (2 ^ length (permissions ds (c .class))) in
+    let start : b .rows ≡ b .rows + 6 * 0 = omega arith in
+    ap (firstFailing 4 (headNames class permission) (headHolds t b (sidesOf on)) 0) (
+    ap (λ (n : ℕ). records 10 headAt n (drop (b .statements) t)) (placed .count)
+    ∙ heads-part (headsFrom 0 (i .constraints)) (fits .heads) (placed .heads)
+    ∙ heads-in-order 0 (i .constraints)
+    )
+    ∙ in-order (λ c. c .rows) headOf t (b .rows) 4 (headNames class permission) (headHolds t b (sidesOf on)) (entryNames class permission) (entryHolds i on)
+    (λ c. goodConstraint ds c ≡ true) (λ r c. refl)
+    (λ r c good small stand. rows-hold i t b fits (placed .sets) on 6 (c .rows) (sound-rows i t b fits (placed .sets) 6 (c .rows) (others c) good) small r stand)
+    (i .constraints) (fits .constraints) (fits .rows) 0 (subst (λ (p : ℕ). Stands t p (joined (each rowBytes (allRows i)))) start (placed .rows)) 0
+
+-- VALIDATETRANS STATEMENTS
+
+abbrev runOf : ℕ → RelabelEntry → RelabelRun
+runOf r c = record { class = c .class; first = r; rows = length (c .rows) }
+
+-- the running sums, which stay below where they go round
+runs-in-order : (r : ℕ) (cs : List RelabelEntry) → r + length (joined (each (λ c. c .rows) cs)) < 65536
+    → runsFrom r (each relabelHead cs) ≡ inOrder (λ c. c .rows) runOf r cs
+unfolding runsFrom inOrder joined each
+runs-in-order r [] h = refl
+runs-in-order r (c ∷ cs) h =
+    let later = joined (each (λ (c : RelabelEntry). c .rows) cs) in
+    let sum = length-append (c .rows) later in
+    let below : r + length (c .rows) < 65536 = omega arith in
+    rw (mod-eq-of-lt below) (
+    ap (λ (l : List RelabelRun). runOf r c ∷ l) (runs-in-order (r + length (c .rows)) cs (omega arith))
+    )
+
+-- the validatetrans statements of an image and their rows stand where b says
+pub record PlacedRelabels (i : Image) (t : List ℕ) (b : Bodies) : Type 0 where
+  pub sets : PlacedSets i t b
+  pub count : b .count ≡ length (i .relabels)
+  pub heads : Stands t (b .statements) (joined (each relabelBytes (each relabelHead (i .relabels))))
+  pub rows : Stands t (b .rows) (joined (each rowBytes (relabelRows i)))
+
+pub image-relabels : (i : Image) (t : List ℕ) (b : Bodies) → Fits i → PlacedRelabels i t b → (on : Contexts) (class : ℕ)
+    → firstFailing 6 (relabelNames class) (relabelHolds t b (sidesOf on)) 0 (relabelsIn t b)
+    ≡ firstFailing 6 (λ x. eqb (x .class) class) (λ x. rowsHold i on (x .rows)) 0 (i .relabels)
+image-relabels i t b fits placed on class =
+    let ds = i .names in
+    let start : b .rows ≡ b .rows + 6 * 0 = omega arith in
+    ap (firstFailing 6 (relabelNames class) (relabelHolds t b (sidesOf on)) 0) (
+    ap (λ (n : ℕ). runsFrom 0 (records 4 relabelAt n (drop (b .statements) t))) (placed .count ∙ sym (each-length relabelHead (i .relabels)))
+    ∙ ap (runsFrom 0) (relabels-part (each relabelHead (i .relabels)) (fits .relabel-heads) (placed .heads))
+    ∙ runs-in-order 0 (i .relabels) (omega (arith, fits .few-relabel-rows))
+    )
+    ∙ in-order (λ c. c .rows) runOf t (b .rows) 6 (relabelNames class) (relabelHolds t b (sidesOf on)) (λ x. eqb (x .class) class) (λ x. rowsHold i on (x .rows))
+    (λ c. goodRelabel ds c ≡ true) (λ r c. refl)
+    (λ r c good small stand. rows-hold i t b fits (placed .sets) on 9 (c .rows) (sound-rows i t b fits (placed .sets) 9 (c .rows) (ltb (c .class) (length (classNames ds))) good) small r stand)
+    (i .relabels) (fits .relabels) (fits .relabel-rows) 0 (subst (λ (p : ℕ). Stands t p (joined (each rowBytes (relabelRows i)))) start (placed .rows)) 0

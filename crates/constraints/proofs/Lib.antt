@@ -5,3 +5,4 @@ pub mod ScanLaws
 pub mod BoundedStack
 pub mod SameView
 pub mod ImageAnswers
+pub mod HeaderPlaces

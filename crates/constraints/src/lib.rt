@@ -1,9 +1,12 @@
-// The constraints of a table: rows run on a stack of five, and the first constraint that fails. Every function
-// answers for every table, sound or not, and for all numbers.
+// The constraints of a table and its validatetrans statements: rows run on a stack of five, and the first statement
+// that fails. Every function answers for every table, sound or not, and for all numbers.
 use policy::Change;
 use policy::Constraint;
+use policy::Denial;
+use policy::Family;
 use policy::Operator;
 use policy::Permission;
+use policy::Relabel;
 use policy::Role;
 use policy::Row;
 use policy::Section;
@@ -16,38 +19,65 @@ ghost use mathlib.Core.Bool.{Bool};
 ghost use mathlib.Core.List.{List, []};
 ghost use lib.ListN.{getD};
 ghost use Rattle.policy.specs.Image.{width};
-ghost use Rattle.policy.specs.Sound.{ofComp};
 ghost use Rattle.policy.specs.Rows.{notTop, andTop, orTop, top, opTest, isSame};
 ghost use Rattle.policy.specs.Deciding.{firstFailing};
-ghost use Rattle.policy.specs.Answers.{changeOf};
+ghost use Rattle.policy.specs.Answers.{familyOf, changeOf};
 ghost use Rattle.table_reader.specs.Records.{rowOf, headOf};
 ghost use Rattle.constraints.specs.Stack as stack;
-ghost use Rattle.constraints.specs.Stack.{code, boundedTurn, boundedRun};
-ghost use Rattle.constraints.specs.TableConstraints.{setStart, viewIn, headsIn, headNames, rowsIn, headHolds, Located, Decides};
+ghost use Rattle.constraints.specs.Stack.{code, boundedTurn};
+ghost use Rattle.constraints.specs.TableConstraints.{bodiesIn, relabelCount, relabelBodiesIn, setStart, viewIn, rowsHoldIn};
+ghost use Rattle.constraints.specs.TableConstraints.{headsIn, headNames, headHolds, relabelsIn, relabelNames, relabelHolds};
 
-// Where the bodies 6, 7 and 8 of a table start; how many constraints body 6 has; and how many sets of userattributes
-// and of roleattributes come before the other sets of body 8.
+// Where the constraints of a table, or its validatetrans statements, start and how many there are; where their rows
+// start; where the sets of attributes start, and how many of userattributes and of roleattributes come before the
+// others.
 pub struct Bodies {
-    pub constraints: u32,
+    pub statements: u32,
     pub count: u32,
     pub rows: u32,
     pub sets: u32,
-    pub userattributes: u16,
-    pub roleattributes: u16,
+    pub user_attributes: u16,
+    pub role_attributes: u16,
 }
 
-// Where the header of a table says that these bodies stand; how many userattributes and roleattributes there are, its
-// names say.
-pub fn locate(table: &[u8], userattributes: u16, roleattributes: u16) -> Bodies
-    ensures { λ r. ⌜ Located (now (table .entry)) userattributes roleattributes r ⌝ }
+// Where the header of a table says that the constraints stand; how many userattributes and roleattributes there are,
+// its names say.
+pub fn locate(table: &[u8], user_attributes: u16, role_attributes: u16) -> Bodies
+    ensures { λ r. ⌜ r ≡ bodiesIn (now (table .entry)) «user_attributes» «role_attributes» ⌝ }
 {
     Bodies {
-        constraints: table_reader::body_start(table, Section::CONSTRAINTS),
+        statements: table_reader::body_start(table, Section::CONSTRAINTS),
         count: table_reader::body_length(table, Section::CONSTRAINTS) / Constraint::BYTES as u32,
         rows: table_reader::body_start(table, Section::ROWS),
         sets: table_reader::body_start(table, Section::ATTRIBUTE_SETS),
-        userattributes: userattributes,
-        roleattributes: roleattributes,
+        user_attributes: user_attributes,
+        role_attributes: role_attributes,
+    }
+}
+
+// How many validatetrans statements the header of a table says that there are: none where its edition has no section
+// for them.
+fn relabel_count(table: &[u8]) -> u32
+    ensures { λ r. ⌜ r ≡ relabelCount (now (table .entry)) ⌝ }
+{
+    let sections = table_reader::sections_of(table_reader::edition(table));
+    if sections <= Section::RELABELS {
+        return 0;
+    }
+    table_reader::body_length(table, Section::RELABELS) / Relabel::BYTES as u32
+}
+
+// Where the header of a table says that the validatetrans statements stand.
+pub fn locate_relabels(table: &[u8], user_attributes: u16, role_attributes: u16) -> Bodies
+    ensures { λ r. ⌜ r ≡ relabelBodiesIn (now (table .entry)) «user_attributes» «role_attributes» ⌝ }
+{
+    Bodies {
+        statements: table_reader::body_start(table, Section::RELABELS),
+        count: relabel_count(table),
+        rows: table_reader::body_start(table, Section::RELABEL_ROWS),
+        sets: table_reader::body_start(table, Section::ATTRIBUTE_SETS),
+        user_attributes: user_attributes,
+        role_attributes: role_attributes,
     }
 }
 
@@ -142,7 +172,7 @@ impl Stack {
 
 // ---- one row
 
-// The number of a component, u1 u2 r1 r2 t1 t2 as 0 to 5.
+// The number of a component, u1 u2 r1 r2 t1 t2 u3 r3 t3 as 0 to 8.
 fn side(sides: &[usize], component: usize) -> usize
     ensures { λ r. ⌜ r ≡ getD (now (sides .entry)) component 0 ⌝ }
 {
@@ -152,34 +182,30 @@ fn side(sides: &[usize], component: usize) -> usize
     0
 }
 
-// Where the set of an attribute starts; the component says its family.
-fn set_start(bodies: Bodies, component: usize, attribute: u16) -> usize
-    ensures { λ r. ⌜ r ≡ setStart bodies component attribute ⌝ }
+// Where the set of an attribute of a family starts.
+fn set_start(bodies: Bodies, family: Family, attribute: u16) -> usize
+    ensures { λ r. ⌜ r ≡ setStart bodies (familyOf family) attribute ⌝ }
 {
     let start = bodies.sets as usize;
-    let users = bodies.userattributes as usize;
-    let roles = bodies.roleattributes as usize;
+    let users = bodies.user_attributes as usize;
+    let roles = bodies.role_attributes as usize;
     let number = attribute as usize;
-    if component < 2 {
-        return start + User::SET_BYTES * number;
+    match family {
+        Family::Users => start + User::SET_BYTES * number,
+        Family::Roles => start + Role::SET_BYTES * (users + number),
+        Family::Types => start + Role::SET_BYTES * (users + roles) + Type::SET_BYTES * number,
     }
-    if component < 4 {
-        return start + Role::SET_BYTES * (users + number);
-    }
-    start + Role::SET_BYTES * (users + roles) + Type::SET_BYTES * number
 }
 
-// How many bytes a set of the component's family has.
-fn set_width(component: usize) -> usize
-    ensures { λ r. ⌜ r ≡ width (ofComp component) ⌝ }
+// How many bytes a set of a family has.
+fn set_width(family: Family) -> usize
+    ensures { λ r. ⌜ r ≡ width (familyOf family) ⌝ }
 {
-    if component < 2 {
-        return User::SET_BYTES;
+    match family {
+        Family::Users => User::SET_BYTES,
+        Family::Roles => Role::SET_BYTES,
+        Family::Types => Type::SET_BYTES,
     }
-    if component < 4 {
-        return Role::SET_BYTES;
-    }
-    Type::SET_BYTES
 }
 
 // Whether the two that a comparison compares are the same, or the one is in the other.
@@ -196,8 +222,9 @@ fn is_same(table: &[u8], bodies: Bodies, row: RowRecord, sides: &[usize]) -> boo
     if kind == Row::SIDE_AND_THING {
         return here == number as usize;
     }
-    let start = set_start(bodies, component, number);
-    set_rows::contains_at(table, start, set_width(component), here)
+    let family = table_reader::family_of(row.component);
+    let start = set_start(bodies, family, number);
+    set_rows::contains_at(table, start, set_width(family), here)
 }
 
 // What a comparison says.
@@ -233,11 +260,11 @@ fn row_step(table: &[u8], bodies: Bodies, row: RowRecord, sides: &[usize], befor
     before.push(compare(table, bodies, row, sides))
 }
 
-// ---- one constraint
+// ---- one statement
 
 // Runs `count` rows from row `first` on, from an empty stack.
 fn evaluate(table: &[u8], bodies: Bodies, first: u16, count: u16, sides: &[usize]) -> bool
-    ensures { λ r. ⌜ r ≡ top (boundedRun (viewIn (now (table .entry)) bodies (now (sides .entry))) (rowsIn (now (table .entry)) bodies first count) []) ⌝ }
+    ensures { λ r. ⌜ r ≡ rowsHoldIn (now (table .entry)) bodies (now (sides .entry)) first count ⌝ }
 {
     let rows = bodies.rows;
     let mut values = Stack::empty();
@@ -265,20 +292,21 @@ fn names(constraint: ConstraintRecord, class: usize, permission: usize) -> bool
     (constraint.mask >> permission) % 2 == 1
 }
 
-// Whether a constraint holds.
-fn holds(table: &[u8], bodies: Bodies, constraint: ConstraintRecord, sides: &[usize]) -> bool
-    ensures { λ r. ⌜ r ≡ headHolds (now (table .entry)) bodies (now (sides .entry)) (headOf constraint) ⌝ }
-{
-    evaluate(table, bodies, constraint.first, constraint.rows, sides)
-}
+// ---- all statements
 
-// ---- all constraints
-
-// Asks the constraints in order.
-fn scan(table: &[u8], bodies: Bodies, class: usize, permission: usize, sides: &[usize]) -> Change
-    ensures { λ r. ⌜ changeOf r ≡ firstFailing (headNames class permission) (headHolds (now (table .entry)) bodies (now (sides .entry))) 0 (headsIn (now (table .entry)) bodies) ⌝ }
+// The first constraint that names the class and the permission and fails for these sides, u1 u2 r1 r2 t1 t2 u3 r3 t3,
+// with its number; or granted. With it goes the number consulted: the constraints that name them, up to and including
+// the first that fails.
+pub fn first_failing(
+    table: &[u8],
+    bodies: Bodies,
+    class: usize,
+    permission: usize,
+    sides: &[usize],
+) -> Change
+    ensures { λ r. ⌜ changeOf r ≡ firstFailing 4 (headNames class permission) (headHolds (now (table .entry)) bodies (now (sides .entry))) 0 (headsIn (now (table .entry)) bodies) ⌝ }
 {
-    let start = bodies.constraints;
+    let start = bodies.statements;
     let count = bodies.count;
     let mut consulted = 0;
     let mut next = 0;
@@ -290,8 +318,9 @@ fn scan(table: &[u8], bodies: Bodies, class: usize, permission: usize, sides: &[
             continue;
         }
         consulted += 1;
-        if !holds(table, bodies, constraint, sides) {
+        if !evaluate(table, bodies, constraint.first, constraint.rows, sides) {
             return Change::Failed {
+                number: Denial::CONSTRAINT_FAILS,
                 constraint: number as usize,
                 consulted: consulted,
             };
@@ -302,17 +331,34 @@ fn scan(table: &[u8], bodies: Bodies, class: usize, permission: usize, sides: &[
     }
 }
 
-// The first constraint that names the class and the permission and fails for these sides, u1 u2 r1 r2 t1 t2, with its
-// number; or granted. With it goes the number consulted: the constraints that name them, up to and including the
-// first that fails.
-pub fn first_failing(
-    table: &[u8],
-    bodies: Bodies,
-    class: usize,
-    permission: usize,
-    sides: &[usize],
-) -> Change
-    ensures { λ r. ⌜ Decides (now (table .entry)) bodies class permission (now (sides .entry)) r ⌝ }
+// The first validatetrans statement of the class that fails for these sides, with its number; or granted. With it goes
+// the number asked: those of the class, up to and including the first that fails. A statement's rows follow those of
+// the statement before it; the row's number goes round at its end, which no sound table reaches.
+pub fn first_failing_relabel(table: &[u8], bodies: Bodies, class: usize, sides: &[usize]) -> Change
+    ensures { λ r. ⌜ changeOf r ≡ firstFailing 6 (relabelNames class) (relabelHolds (now (table .entry)) bodies (now (sides .entry))) 0 (relabelsIn (now (table .entry)) bodies) ⌝ }
 {
-    scan(table, bodies, class, permission, sides)
+    let start = bodies.statements;
+    let count = bodies.count;
+    let mut asked = 0;
+    let mut next = 0;
+    let mut row = 0;
+    while next < count {
+        let number = next;
+        let first = row;
+        let statement = table_reader::relabel_at(table, start, number);
+        next += 1;
+        row = std::num::wrapping_add_u16(first, statement.rows);
+        if statement.class as usize != class {
+            continue;
+        }
+        asked += 1;
+        if !evaluate(table, bodies, first, statement.rows, sides) {
+            return Change::Failed {
+                number: Denial::RELABEL_FAILS,
+                constraint: number as usize,
+                consulted: asked,
+            };
+        }
+    }
+    Change::Granted { consulted: asked }
 }

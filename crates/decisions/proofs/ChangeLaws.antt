@@ -1,26 +1,21 @@
 -- **Change** on a sound table, by what the bytes say. Assumes nothing.
-use Prim.Native.Nat.{ℕ, _<_, _≤_}
-use native.Mathlib.Omega.{arith}
+use Prim.Native.Nat.{ℕ, _<_}
 use mathlib.Core.Path.{_≡_, refl, sym, ap, _∙_}
 use mathlib.Core.Bool.{Bool, true, false, not, _&&_, _||_}
 use mathlib.Core.List.{List}
 use lib.Dec.{eqb, ltb}
 use lib.ListN.{length}
 use borrow.Author.Tests.{eq-eqb, ne-eqb, ltb-true}
-use Rattle.policy.specs.Statements.{Family, attributeOf, classNames, permissions}
-use Rattle.policy.specs.Encode.{sortCode}
-use Rattle.policy.specs.Maxima.{maxOf}
+use Rattle.policy.specs.Statements.{classNames, permissions}
 use Rattle.policy.specs.Image.{Image}
 use Rattle.policy.specs.Deciding.{mayBecome, ruledBy, contextsOf, Question, Answer, decide, firstFailing, declaredContext, declaredQuestion, roleMay}
-use Rattle.policy.specs.Questions.{entryNames, entryHolds, change, changed, changeOn}
+use Rattle.policy.specs.Questions.{entryNames, entryHolds, change, decided, changeOn}
 use Rattle.policy.proofs.Lists.{both-true}
-use Rattle.policy.proofs.Counts.{few-of}
 use Rattle.table_laws.specs.SoundTable.{Sound}
-use Rattle.table_laws.proofs.WellFormed.{formed}
 use Rattle.table_laws.proofs.SoundLaws.{sound-read}
 use Rattle.decisions.specs.TableAnswers.{declaresQuestion, isValidIn, setHas}
-use Rattle.table_names.specs.TableNames.{countIn, countsIn, asksRoleIn}
-use Rattle.decisions.proofs.SoundLaws.{things-of, declared-numbers, role-role}
+use Rattle.table_names.specs.TableNames.{countsIn, asksRoleIn}
+use Rattle.decisions.proofs.SoundLaws.{declared-numbers, role-role}
 use Rattle.decisions.proofs.ContextLaws.{is-valid-of}
 use Rattle.decisions.proofs.NameLaws.{declares-question, asks-role-of}
 
@@ -41,19 +36,11 @@ pub role-asked : (asks : Bool) (a b : ℕ) (may : Bool) → (a ≡ b → ⊥) �
 role-asked true a b may d h = rw (ne-eqb a b d, h)
 role-asked false a b may d h = refl
 
--- THE ATTRIBUTES
-
-pub few-attributes : (t : List ℕ) (s : Sound t) (f : Family) → countIn t (sortCode (attributeOf f)) ≤ 64
-few-attributes t s f = omega (arith, things-of t s (attributeOf f), few-of (attributeOf f) (s .image .names) (formed (s .image) (s .formed) .names), most f)
-  where
-    most : (f : Family) → maxOf (attributeOf f) ≤ 64
-    most f = omega arith
-
 -- ALL OF IT
 
 -- what the constraints of the image answer
 abbrev pub constraintsSay : Image → Question → Answer
-constraintsSay i q = firstFailing (entryNames (q .class) (q .perm)) (entryHolds i (contextsOf q)) 0 (i .constraints)
+constraintsSay i q = firstFailing 4 (entryNames (q .class) (q .perm)) (entryHolds i (contextsOf q)) 0 (i .constraints)
 
 module _ (t : List ℕ) (s : Sound t) (q : Question) where
   -- the numbers of a declared question
@@ -87,7 +74,7 @@ module _ (t : List ℕ) (s : Sound t) (q : Question) where
 
   pub change-of : changeOn t q ≡ decide (declaresQuestion t (countsIn t) q) (isValidIn t (q .source)) (isValidIn t (q .target)) roleMayIn (constraintsSay (s .image) q)
   unfolding changeOn change ruledBy mayBecome decide
-  change-of = ap (changed q) (sound-read t s) ∙ by (declaredQuestion (s .image .names) q) refl
+  change-of = ap (decided (λ i. change i q)) (sound-read t s) ∙ by (declaredQuestion (s .image .names) q) refl
     where
       by : (b : Bool) → declaredQuestion (s .image .names) q ≡ b
           → change (s .image) q ≡ decide (declaresQuestion t (countsIn t) q) (isValidIn t (q .source)) (isValidIn t (q .target)) roleMayIn (constraintsSay (s .image) q)

@@ -2,13 +2,15 @@
 use Prim.Native.Nat.{ℕ}
 use mathlib.Core.Path.{_≡_, refl, sym, ap, ap₂, _∙_}
 use mathlib.Core.Bool.{Bool, true, false, _&&_, _||_, cond}
+use native.Mathlib.Omega.{arith}
 use mathlib.Core.List.{List}
 use Rattle.policy.specs.Meaning.{Context}
-use Rattle.policy.specs.Deciding.{validBy, declaredContext, answered, refused}
+use Rattle.policy.specs.Deciding.{validBy, declaredContext, answered, refused, Answer, denied, unconsulted, decide, decideRelabel}
 use Rattle.policy.specs.Questions.{givenIn, valid, validOn}
+use Rattle.answer_laws.proofs.FourTests.{FourTests, change-tests, relabel-tests}
 use Rattle.table_laws.specs.SoundTable.{Sound}
 use Rattle.table_laws.proofs.QuestionLaws.{asked-sound}
-use Rattle.decisions.specs.TableAnswers.{declaresContext, isGivenIn, isValidIn}
+use Rattle.decisions.specs.TableAnswers.{declaresContext, isGivenIn, isValidIn, contextDenial, contextDenialIn}
 use Rattle.table_names.specs.TableNames.{countsIn}
 use Rattle.decisions.proofs.SoundLaws.{declares-context, declared-numbers, user-role, role-type}
 use Rattle.decisions.proofs.NameLaws.{object-of}
@@ -33,3 +35,31 @@ module _ (t : List ℕ) (s : Sound t) where
           → cond b (answered (validBy (givenIn (s .image)) c)) (refused 12 0) ≡ cond b (answered (isValidIn t c)) (refused 12 0)
       by true q = ap answered (sym (is-valid-of c q))
       by false q = refl
+
+-- THE FIRST OF TWO THAT IS NOT VALID
+
+both-valid-of : (a b : Bool) → contextDenial a b ≡ 0 → (a ≡ true) × (b ≡ true)
+both-valid-of true true h = (refl, refl)
+both-valid-of true false h = absurd (omega arith)
+both-valid-of false b h = absurd (omega arith)
+
+-- a decision that answers 1 and 2 for them
+denied-first : (n : ℕ) (f : Bool → Bool → Bool → Bool → Answer → Answer) → FourTests n f → (a b c : Bool) (rest : Answer) → (contextDenial a b ≡ 0 → ⊥)
+    → unconsulted (denied (contextDenial a b)) ≡ f true a b c rest
+denied-first n f is true true c rest some = absurd (some refl)
+denied-first n f is true false c rest some = sym (is .second c rest)
+denied-first n f is false b c rest some = sym (is .first b c rest)
+
+module _ (t : List ℕ) (a b : Context) {n : ℕ} (e : n ≡ contextDenialIn t a b) where
+  pub both-valid : n ≡ 0 → (isValidIn t a ≡ true) × (isValidIn t b ≡ true)
+  both-valid z = both-valid-of (isValidIn t a) (isValidIn t b) (sym e ∙ z)
+
+  -- their denial is that of a change, and that of a relabelling
+  module _ (some : n ≡ 0 → ⊥) (c : Bool) (rest : Answer) where
+    pub denied-change : unconsulted (denied n) ≡ decide true (isValidIn t a) (isValidIn t b) c rest
+    denied-change =
+        ap {B = Answer} (λ (n : ℕ). unconsulted (denied n)) e ∙ denied-first 3 decide change-tests (isValidIn t a) (isValidIn t b) c rest (λ z. some (e ∙ z))
+
+    pub denied-relabel : unconsulted (denied n) ≡ decideRelabel true (isValidIn t a) (isValidIn t b) c rest
+    denied-relabel =
+        ap {B = Answer} (λ (n : ℕ). unconsulted (denied n)) e ∙ denied-first 5 decideRelabel relabel-tests (isValidIn t a) (isValidIn t b) c rest (λ z. some (e ∙ z))

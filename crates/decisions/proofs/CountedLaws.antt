@@ -11,17 +11,16 @@ use Rattle.byte_slices.specs.Parts.{part}
 use Rattle.bitset.proofs.SetLaws.{length-tabulate, getD-tabulate}
 use Rattle.policy.specs.Statements.{users, roles, types, thingOf, attributeOf, Declaration, classNames, permissions}
 use Rattle.policy.specs.declared.NameCounts.{NameCounts}
-use Rattle.policy.specs.Encode.{firstBody}
 use Rattle.sound_names.specs.declared.Counted as counted
 use Rattle.sound_names.specs.SoundNames.{soundNames, countsOf, permissionsAfter}
 use Rattle.sound_names.proofs.Answers.{answered-sound}
-use Rattle.table_reader.specs.Records.{lengthIn}
+use Rattle.table_reader.specs.Records.{startIn, lengthIn}
 use Rattle.sound_bodies.proofs.SoundImage.{image-names}
 use Rattle.table_laws.specs.SoundTable.{Bytes, Sound}
 use Rattle.table_laws.proofs.SoundLaws.{sound-read}
 use Rattle.soundness.specs.IsSound.{isSound}
 use Rattle.soundness.specs.TableCounts.{Tells}
-use Rattle.soundness.proofs.Deciding.{sound-by}
+use Rattle.soundness.proofs.AnswerLaws.{sound-by}
 use Rattle.table_names.specs.TableNames.{countsIn, permissionIn, isFoundName}
 use Rattle.decisions.proofs.SoundLaws.{sound-table, things-of, classes-of}
 use Rattle.decisions.proofs.NameLaws.{permission-found, class-below}
@@ -36,13 +35,13 @@ module _ (t : List ℕ) (bytes : Bytes t) {ps : List ℕ} {r : counted.Counted} 
   abbrev held : List Declaration
   held = s .image .names
 
-  names : soundNames (part t firstBody (lengthIn t 0)) ≡ some held
+  names : soundNames (part t (startIn t 0) (lengthIn t 0)) ≡ some held
   names = image-names t (s .image) (sound-read t s)
 
   -- the names that were counted are those of the image
   counted-names : n ≡ countsOf held
   counted-names =
-      let named = answered-sound n (soundNames (part t firstBody (lengthIn t 0))) (sym is ∙ h .counts is-sound .0) in
+      let named = answered-sound n (soundNames (part t (startIn t 0) (lengthIn t 0))) (sym is ∙ h .counts is-sound .0) in
       named .counts ∙ ap countsOf (Option·some-injective (named .names) held (sym (named .are) ∙ names))
 
   pub counts-are : n ≡ countsIn t

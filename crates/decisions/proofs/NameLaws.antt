@@ -11,8 +11,8 @@ use borrow.Author.Tests.{lt-ltb, le-ltb, ltb-true, ltb-false}
 use Rattle.byte_slices.specs.Parts.{part}
 use Rattle.policy.specs.Basics.{Name, same, isIn}
 use Rattle.policy.specs.Statements.{roles, thingOf, namesOf, count, classNames, permissions}
-use Rattle.policy.specs.Words.{process, transitionWords, objectR}
-use Rattle.policy.specs.Encode.{NameEntry, firstBody}
+use Rattle.policy.specs.Words.{processWord, transitionWords, objectR}
+use Rattle.policy.specs.Encode.{NameEntry}
 use Rattle.policy.specs.Deciding.{isObject, Question, declaredContext, declaredQuestion, asksRole, Reply, answered, refused}
 use Rattle.policy.specs.Questions.{Part, nameFrom, nameOf}
 use Rattle.policy.proofs.Lists.{both-true, at-place, under, any-ext}
@@ -22,7 +22,8 @@ use Rattle.table_laws.specs.SoundTable.{Sound}
 use Rattle.table_laws.specs.Shown.{shown, orTwelve, nameIn}
 use Rattle.table_laws.proofs.NameShown.{name-shown}
 use Rattle.table_laws.proofs.WellFormed.{formed}
-use Rattle.decisions.specs.TableAnswers.{declaresQuestion}
+use Rattle.table_reader.proofs.SoundPlaces.{first-of}
+use Rattle.decisions.specs.TableAnswers.{declaresContexts, declaresQuestion}
 use Rattle.table_names.specs.TableNames.{countsIn, nameAt, permissionIn, isFoundName, hasName, asksRoleIn}
 use Rattle.decisions.proofs.SoundLaws.{names-of, classes-of, declares-context}
 
@@ -43,7 +44,7 @@ module _ (t : List ℕ) where
   bears-by : (r : Reply Part) (o : Option Name) → shown t r ≡ orTwelve o → (w : Name) → hasName t r w ≡ isNamed o w
   unfolding part
   bears-by (answered p) none h w = let z : _≡_ {A = ℕ} 0 1 = cc in absurd (omega arith)
-  bears-by (answered p) (some v) h w = ap (λ (x : List ℕ). same x w) (answered-injective (take (p .long) (drop (p .start) t)) v h)
+  bears-by (answered p) (some v) h w = ap (λ (x : List ℕ). same x w) (answered-injective (take (p .size) (drop (p .start) t)) v h)
     where
       answered-injective : (x y : List ℕ) → answered x ≡ answered y → x ≡ y
       answered-injective x y h = cc
@@ -66,9 +67,9 @@ module _ (t : List ℕ) (s : Sound t) where
   name-at : (x n : ℕ) → shown t (nameAt t x n) ≡ orTwelve (nameIn (s .image .names) x n)
   unfolding nameOf
   name-at x n =
-      ap (λ (es : List NameEntry). shown t (nameFrom x n firstBody es)) (names-of t s)
-      ∙ ap (λ (l : List ℕ). shown l (nameOf (s .image) x n)) (s .laid)
-      ∙ name-shown (s .image) (s .formed) (s .rest) x n
+      ap₂ (λ (o : ℕ) (es : List NameEntry). shown t (nameFrom x n o es)) (first-of t s) (names-of t s)
+      ∙ ap (λ (l : List ℕ). shown l (nameOf (s .edition) (s .image) x n)) (s .laid)
+      ∙ name-shown (s .edition) (s .image) (s .known) (s .fits) (s .formed) (s .rest) x n
 
   role-at : (r : ℕ) → shown t (nameAt t 1 r) ≡ orTwelve (getElem? (namesOf (thingOf roles) (s .image .names)) r)
   unfolding nameIn
@@ -113,12 +114,16 @@ module _ (t : List ℕ) (s : Sound t) where
           ∙ sym (le-ltb k (length (permissions (s .image .names) c)) (omega (arith, ltb-false k 32 q, few-in-class c)))
 
   pub declares-question : (q : Question) → declaresQuestion t (countsIn t) q ≡ declaredQuestion (s .image .names) q
-  unfolding declaresQuestion declaredQuestion
+  unfolding declaresQuestion declaresContexts declaredQuestion
   declares-question q =
       let ds = s .image .names in
       let contexts = declaredContext ds (q .source) && declaredContext ds (q .target) in
       let class = ltb (q .class) (length (classNames ds)) in
-      rw (declares-context t s (q .source), declares-context t s (q .target), classes-of t s)
+      rw (
+        declares-context t s (q .source),
+        declares-context t s (q .target),
+        classes-of t s,
+      )
       (under (contexts && class)
       (λ h. permission-found (q .class) (q .perm) (ltb-true (q .class) (length (classNames ds)) (both-true contexts class h .1))))
 
@@ -128,7 +133,7 @@ module _ (t : List ℕ) (s : Sound t) where
   asks-role-of c k h l =
       let ds = s .image .names in
       ap₂ _&&_
-      (bears-by t (nameAt t 6 c) (getElem? (classNames ds) c) (class-at c) process ∙ ap (λ (o : Option Name). isNamed o process) (at-place (classNames ds) c [] h))
+      (bears-by t (nameAt t 6 c) (getElem? (classNames ds) c) (class-at c) processWord ∙ ap (λ (o : Option Name). isNamed o processWord) (at-place (classNames ds) c [] h))
       (any-ext (hasName t (permissionIn t c k)) (same (getD (permissions ds c) k [])) transitionWords
       (λ w. bears-by t (permissionIn t c k) (getElem? (permissions ds c) k) (permission-at c k (class-below c h) (omega (arith, few-in-class c))) w
       ∙ ap (λ (o : Option Name). isNamed o w) (at-place (permissions ds c) k [] l)))

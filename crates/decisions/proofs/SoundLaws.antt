@@ -1,7 +1,7 @@
 -- On a sound table the bytes say of contexts what the image says. Assumes nothing.
 use Prim.Native.Nat.{ℕ, _-_, _<_, _≤_}
 use native.Mathlib.Omega.{arith}
-use mathlib.Core.Path.{_≡_, refl, sym, ap, _∙_, subst}
+use mathlib.Core.Path.{_≡_, refl, ap, _∙_, subst}
 use mathlib.Core.Bool.{true, _&&_, false≢true}
 use mathlib.Core.List.{List, []}
 use mathlib.Core.Option.{Option, none, some}
@@ -16,7 +16,7 @@ use Rattle.policy.specs.Basics.{each}
 use Rattle.policy.specs.Statements.{users, roles, types, Sort, thingOf, Declaration, count, classNames}
 use Rattle.policy.specs.Meaning.{Context}
 use Rattle.policy.specs.Image.{Image}
-use Rattle.policy.specs.Encode.{sortCode, entryBytes, entries, bodies, firstBody}
+use Rattle.policy.specs.Encode.{sortCode, entryBytes, entries, bodies}
 use Rattle.policy.specs.Sound.{imageIn}
 use Rattle.policy.specs.Deciding.{declaredContext}
 use Rattle.policy.specs.Questions.{inSet}
@@ -24,7 +24,7 @@ use Rattle.policy.proofs.Lists.{both-true}
 use Rattle.policy.proofs.Counts.{few-of}
 use Rattle.policy.proofs.Sorts.{max-small}
 use Rattle.symbols.specs.Section.{between}
-use Rattle.symbols.proofs.Written.{entries-written}
+use Rattle.symbols.proofs.HeldEntries.{entries-written}
 use Rattle.sound_constraints.specs.SoundRows.{isSome}
 use Rattle.table_laws.specs.SoundTable.{Bytes, Sound}
 use Rattle.table_laws.proofs.Pieces.{Wide}
@@ -32,12 +32,12 @@ use Rattle.table_laws.proofs.ImageReadBack.{Laid}
 use Rattle.table_laws.proofs.WellFormed.{formed}
 use Rattle.table_laws.proofs.WellFormedLaid.{well-formed-laid}
 use Rattle.table_laws.proofs.SoundLaws.{read-sound}
-use Rattle.table_reader.specs.Records.{bodyPlace, startIn, lengthIn}
+use Rattle.table_reader.specs.Records.{startIn}
 use Rattle.table_reader.proofs.RecordLaws.{Stands, set-part}
-use Rattle.table_reader.proofs.BodyPlaces.{body-stands, start-part, length-part}
+use Rattle.table_reader.proofs.SoundPlaces.{length-of, stands-of}
 use Rattle.soundness.specs.IsSound.{isSound}
 use Rattle.decisions.specs.TableAnswers.{declaresContext, setHas}
-use Rattle.table_names.specs.TableNames.{namesEnd, namesIn, countIn, countsIn}
+use Rattle.table_names.specs.TableNames.{namesStart, namesEnd, namesIn, countIn, countsIn}
 use Rattle.symbols.specs.Lookup.{countSort}
 use Rattle.symbols.proofs.CountLaws.{count-things, count-classes}
 
@@ -51,41 +51,23 @@ sound-table t b h = by (imageIn t) refl h
     by (some i) e h = read-sound t b i e .0
 
 module _ (t : List ℕ) (s : Sound t) where
-  -- THE BODIES
-
-  -- the header says where each body starts and how long it is, and there it stands
-  start-of : (k : ℕ) → k < 8 → startIn t k ≡ bodyPlace (s .image) k
-  start-of k h = ap (λ (l : List ℕ). startIn l k) (s .laid) ∙ start-part (s .image) (s .formed) (s .rest) k h
-
-  pub length-of : (k : ℕ) → k < 8 → lengthIn t k ≡ length (getD (bodies (s .image)) k [])
-  length-of k h = ap (λ (l : List ℕ). lengthIn l k) (s .laid) ∙ length-part (s .image) (s .formed) (s .rest) k h
-
-  pub stands-of : (k : ℕ) → k < 8 → Stands t (startIn t k) (getD (bodies (s .image)) k [])
-  stands-of k h =
-      subst (λ (n : ℕ). Stands t n (getD (bodies (s .image)) k [])) (sym (start-of k h))
-      (subst (λ (l : List ℕ). Stands l (bodyPlace (s .image) k) (getD (bodies (s .image)) k [])) (sym (s .laid)) (body-stands (s .image) (s .rest) k h))
-
   laid-of : Laid (s .image)
   laid-of = well-formed-laid (s .image) (s .formed)
 
   -- THE NAMES
 
-  first-place : startIn t 0 ≡ firstBody
-  unfolding bodyPlace joined
-  first-place = start-of 0 (omega arith)
-
-  names-stand : between t firstBody (namesEnd t) ≡ joined (each entryBytes (entries (s .image .names)))
+  names-stand : between t (namesStart t) (namesEnd t) ≡ joined (each entryBytes (entries (s .image .names)))
   unfolding bodies part
   names-stand =
       let body = joined (each entryBytes (entries (s .image .names))) in
-      let stands : Stands t firstBody body = subst (λ (n : ℕ). Stands t n body) first-place (stands-of 0 (omega arith)) in
-      let long : namesEnd t - firstBody ≡ length body = omega (arith, length-of 0 (omega arith)) in
-      ap (λ (n : ℕ). part t firstBody n) long
+      let stands : Stands t (namesStart t) body = stands-of t s 0 in
+      let long : namesEnd t - namesStart t ≡ length body = omega (arith, length-of t s 0 (s .known)) in
+      ap (λ (n : ℕ). part t (namesStart t) n) long
       ∙ ap (take (length body)) (stands .here) ∙ take-at body (stands .rest) (length body) refl
 
   -- the entries are those of the image's declarations
   pub names-of : namesIn t ≡ entries (s .image .names)
-  names-of = entries-written t firstBody (namesEnd t) (entries (s .image .names)) (laid-of .numbers) names-stand
+  names-of = entries-written t (namesStart t) (namesEnd t) (entries (s .image .names)) (laid-of .numbers) names-stand
 
   pub things-of : (x : Sort) → countIn t (sortCode x) ≡ count x (s .image .names)
   things-of x = ap (countSort (sortCode x)) names-of ∙ count-things x (s .image .names)
@@ -103,31 +85,31 @@ module _ (t : List ℕ) (s : Sound t) where
   declares-context c = rw (things-of (thingOf users), things-of (thingOf roles), things-of (thingOf types))
 
   -- a set of a body
-  set-of : (b w : ℕ) (ss : List (List ℕ)) → b < 8 → getD (bodies (s .image)) b [] ≡ joined ss → Wide w ss → length ss ≤ 512 → (k n : ℕ) → k < length ss
+  set-of : (b w : ℕ) (ss : List (List ℕ)) → getD (bodies (s .image)) b [] ≡ joined ss → Wide w ss → length ss ≤ 512 → (k n : ℕ) → k < length ss
       → setHas t b w k n ≡ inSet ss k n
   unfolding setHas
-  set-of b w ss l e wide many k n h =
+  set-of b w ss e wide many k n h =
       rw (lt-ltb k 65536 (omega arith))
-      (ap (λ (x : List ℕ). member x n) (set-part w ss wide k h (subst (Stands t (startIn t b)) e (stands-of b l))))
+      (ap (λ (x : List ℕ). member x n) (set-part w ss wide k h (subst (Stands t (startIn t b)) e (stands-of t s b))))
 
   module _ (n : ℕ) where
     pub user-role : (u : ℕ) → u < count (thingOf users) (s .image .names) → setHas t 1 16 u n ≡ inSet (s .image .userRoles) u n
     unfolding bodies
     user-role u h =
         let sets = laid-of .userRoles in
-        set-of 1 16 (s .image .userRoles) (omega arith) refl (sets .wide) (omega (arith, sets .many, few (thingOf users))) u n (omega (arith, sets .many))
+        set-of 1 16 (s .image .userRoles) refl (sets .wide) (omega (arith, sets .many, few (thingOf users))) u n (omega (arith, sets .many))
 
     pub role-type : (r : ℕ) → r < count (thingOf roles) (s .image .names) → setHas t 2 64 r n ≡ inSet (s .image .roleTypes) r n
     unfolding bodies
     role-type r h =
         let sets = laid-of .roleTypes in
-        set-of 2 64 (s .image .roleTypes) (omega arith) refl (sets .wide) (omega (arith, sets .many, few (thingOf roles))) r n (omega (arith, sets .many))
+        set-of 2 64 (s .image .roleTypes) refl (sets .wide) (omega (arith, sets .many, few (thingOf roles))) r n (omega (arith, sets .many))
 
     pub role-role : (r : ℕ) → r < count (thingOf roles) (s .image .names) → setHas t 3 16 r n ≡ inSet (s .image .roleRoles) r n
     unfolding bodies
     role-role r h =
         let sets = laid-of .roleRoles in
-        set-of 3 16 (s .image .roleRoles) (omega arith) refl (sets .wide) (omega (arith, sets .many, few (thingOf roles))) r n (omega (arith, sets .many))
+        set-of 3 16 (s .image .roleRoles) refl (sets .wide) (omega (arith, sets .many, few (thingOf roles))) r n (omega (arith, sets .many))
 
 -- a context's numbers by themselves
 pub record Declared (ds : List Declaration) (c : Context) : Type 0 where

@@ -25,9 +25,10 @@ use Rattle.table_laws.proofs.QuestionLaws.{asked-sound}
 use Rattle.table_reader.specs.Records.{records, startIn, lengthIn}
 use Rattle.table_reader.proofs.RecordLaws.{records-step, records-none}
 use Rattle.table_reader.proofs.BodyRecords.{transitions-part}
+use Rattle.table_reader.proofs.SoundPlaces.{known-section, length-of, stands-of}
 use Rattle.decisions.specs.TableAnswers.{transitionsIn}
 use Rattle.table_names.specs.TableNames.{countIn}
-use Rattle.decisions.proofs.SoundLaws.{length-of, stands-of, things-of, classes-of}
+use Rattle.decisions.proofs.SoundLaws.{things-of, classes-of}
 
 -- ONE BY ONE
 
@@ -83,8 +84,8 @@ module _ (t : List ℕ) (s : Sound t) where
       let laid = well-formed-laid (s .image) (s .formed) in
       let long : length (joined (each transitionBytes ms)) ≡ length ms * 82 =
       wide-length 82 (each transitionBytes ms) (transitions-wide ms (laid .transitions)) ∙ ap (λ (n : ℕ). n * 82) (each-length transitionBytes ms) in
-      let many : lengthIn t 4 / 82 ≡ length ms = omega (arith, length-of t s 4 (omega arith), long) in
-      ap (λ (n : ℕ). records 82 transitionAt n (drop (startIn t 4) t)) many ∙ transitions-part ms (laid .transitions) (stands-of t s 4 (omega arith))
+      let many : lengthIn t 4 / 82 ≡ length ms = omega (arith, length-of t s 4 (known-section t s 4 (omega arith)), long) in
+      ap (λ (n : ℕ). records 82 transitionAt n (drop (startIn t 4) t)) many ∙ transitions-part ms (laid .transitions) (stands-of t s 4)
 
   -- **New role**, by what the bytes say
   pub new-role-of : (r y c : ℕ)

@@ -1,9 +1,10 @@
-// Three questions on a sound table: valid context, new role, change. All numbers are answered: 12 where one is not
-// declared, tried before anything else. The inner functions say what the bytes of any table say, but for the
-// constraints, which speak of sound tables; that on a sound table all this is what its image says, the three
-// questions promise.
+// Four questions on a sound table: valid context, new role, change, relabelling. All numbers are answered: 12 where one
+// is not declared, tried before anything else. The inner functions say what the bytes of any table say, but for the
+// constraints and the validatetrans statements, which speak of sound tables; that on a sound table all this is what
+// its image says, the four questions promise.
 use policy::Attribute;
 use policy::Change;
+use policy::Component;
 use policy::Denial;
 use policy::NameCounts;
 use policy::NewRole;
@@ -18,15 +19,17 @@ ghost use mathlib.Core.Path.{_≡_};
 ghost use mathlib.Core.Bool.{true};
 ghost use mathlib.Core.List.{List};
 ghost use Prim.Native.Nat.{ℕ, _≤_, _<_};
+ghost use lib.Dec.{eqb};
 ghost use lib.ListN.{drop};
 ghost use Rattle.policy.specs.Sound.{transitionAt};
-ghost use Rattle.policy.specs.Deciding.{contextsOf, firstFailing, roleMay};
+ghost use Rattle.policy.specs.Deciding.{contextsOf, relabelContexts, firstFailing, roleMay};
 ghost use Rattle.policy.specs.Answers.{validityOf, changeOf, newRoleOf};
-ghost use Rattle.policy.specs.Questions.{matches, firstTransition, entryNames, entryHolds, validOn, newRoleOn, changeOn};
+ghost use Rattle.policy.specs.Questions.{matches, firstTransition, entryNames, entryHolds, rowsHold, validOn, newRoleOn, changeOn, relabelOn};
 ghost use Rattle.table_laws.specs.SoundTable.{Sound};
 ghost use Rattle.soundness.specs.IsSound.{isSound};
-ghost use Rattle.decisions.specs.Asked.{context, contextOf, question};
-ghost use Rattle.decisions.specs.TableAnswers.{setHas, declaresContext, isGivenIn, isValidIn, transitionsIn, declaresQuestion};
+ghost use Rattle.decisions.specs.Asked.{context, contextOf, question, relabelling};
+ghost use Rattle.decisions.specs.TableAnswers.{setHas, declaresContext, declaresContexts, isGivenIn, isValidIn, transitionsIn};
+ghost use Rattle.decisions.specs.TableAnswers.{declaresQuestion, declaresRelabelling, contextDenialIn, sidesOfThree};
 ghost use Rattle.table_names.specs.TableNames.{countsIn, isFoundName, permissionIn, asksRoleIn};
 
 // A context by its numbers. `kind` is the type: the language has another use for that word.
@@ -181,6 +184,66 @@ pub fn new_role_in_sound(table: &[u8], role: usize, kind: usize, class: usize) -
     }
 }
 
+// ---- the two contexts of a change, or the old and the new one of a relabelling
+
+// Whether the numbers of both are declared.
+fn declares_contexts(counts: NameCounts, source: Context, target: Context) -> bool
+    ensures { λ r. ⌜ r ≡ declaresContexts counts (contextOf source) (contextOf target) ⌝ }
+{
+    if !declares_context(counts, source) {
+        return false;
+    }
+    declares_context(counts, target)
+}
+
+// No denial has this number.
+const NO_DENIAL: usize = 0;
+
+// The denial of the first of the two that is not valid.
+fn context_denial(table: &[u8], source: Context, target: Context) -> usize
+    ensures { λ r. ⌜ r ≡ contextDenialIn (now (table .entry)) (contextOf source) (contextOf target) ⌝ }
+{
+    if !is_valid(table, source) {
+        return Denial::SOURCE_NOT_VALID;
+    }
+    if !is_valid(table, target) {
+        return Denial::TARGET_NOT_VALID;
+    }
+    NO_DENIAL
+}
+
+// ---- what statements are asked of
+
+// How many sides a statement can name.
+const SIDES: usize = Component::COUNT_OF_THREE as usize;
+
+// The numbers of three contexts in the order in which a table's rows name them, u1 u2 r1 r2 t1 t2 u3 r3 t3.
+fn sides_of(source: Context, target: Context, process: Context) -> [usize; SIDES]
+    ensures { λ r. ⌜ r ≡ sidesOfThree (contextOf source) (contextOf target) (contextOf process) ⌝ }
+{
+    [
+        source.user,
+        target.user,
+        source.role,
+        target.role,
+        source.kind,
+        target.kind,
+        process.user,
+        process.role,
+        process.kind,
+    ]
+}
+
+// A number of attributes. A sound table has no more than may be declared, so that it fits.
+fn attribute_count(attributes: usize) -> u16
+    ensures { λ r. ⌜ (attributes ≤ 64 → r ≡ attributes) ⌝ }
+{
+    if Attribute::MAX < attributes {
+        return 0;
+    }
+    attributes as u16
+}
+
 // ---- change: the numbers of a question
 
 // Whether all numbers of a question are declared, where it is known of a declared class whether it has the permission.
@@ -194,10 +257,7 @@ fn declares_question(
     ensures { λ r. ⌜ ((t : List ℕ) (permission : ℕ) → (class < counts .classes → has ≡ isFoundName (permissionIn t class permission))
         → r ≡ declaresQuestion t counts (question source target class permission)) ⌝ }
 {
-    if !declares_context(counts, source) {
-        return false;
-    }
-    if !declares_context(counts, target) {
+    if !declares_contexts(counts, source, target) {
         return false;
     }
     if counts.classes <= class {
@@ -230,17 +290,8 @@ fn role_may(table: &[u8], source: usize, target: usize, class: usize, permission
 
 // ---- change: the constraints
 
-// A number of attributes. A sound table has no more than may be declared, so that it fits.
-fn attribute_count(attributes: usize) -> u16
-    ensures { λ r. ⌜ (attributes ≤ 64 → r ≡ attributes) ⌝ }
-{
-    if Attribute::MAX < attributes {
-        return 0;
-    }
-    attributes as u16
-}
-
-// What the constraints answer, where the table is sound. The sides are u1 u2 r1 r2 t1 t2.
+// What the constraints answer, where the table is sound. A change has no third side; the process that changes is the
+// source.
 fn ask_constraints(
     table: &[u8],
     counts: NameCounts,
@@ -250,16 +301,9 @@ fn ask_constraints(
     permission: usize,
 ) -> Change
     ensures { λ r. ⌜ ((s : Sound (now (table .entry))) → counts ≡ countsIn (now (table .entry))
-        → changeOf r ≡ firstFailing (entryNames class permission) (entryHolds (s .image) (contextsOf (question source target class permission))) 0 (s .image .constraints)) ⌝ }
+        → changeOf r ≡ firstFailing 4 (entryNames class permission) (entryHolds (s .image) (contextsOf (question source target class permission))) 0 (s .image .constraints)) ⌝ }
 {
-    let sides = [
-        source.user,
-        target.user,
-        source.role,
-        target.role,
-        source.kind,
-        target.kind,
-    ];
+    let sides = sides_of(source, target, source);
     let users = attribute_count(counts.user_attributes);
     let roles = attribute_count(counts.role_attributes);
     let bodies = constraints::locate(table, users, roles);
@@ -286,15 +330,9 @@ pub fn change_in_counted(
             number: Refusal::NUMBER_UNDECLARED,
         };
     }
-    if !is_valid(table, source) {
-        return Change::Denied {
-            number: Denial::SOURCE_NOT_VALID,
-        };
-    }
-    if !is_valid(table, target) {
-        return Change::Denied {
-            number: Denial::TARGET_NOT_VALID,
-        };
+    let denial = context_denial(table, source, target);
+    if denial != NO_DENIAL {
+        return Change::Denied { number: denial };
     }
     if !role_may(table, source.role, target.role, class, permission) {
         return Change::Denied {
@@ -318,4 +356,90 @@ pub fn change_in_sound(
     let counts = table_names::count_names(table);
     let has = table_names::declares_permission(table, class, permission);
     change_in_counted(table, counts, has, source, target, class, permission)
+}
+
+// ---- relabelling
+
+// Whether all numbers of a relabelling are declared.
+fn declares_relabelling(
+    counts: NameCounts,
+    class: usize,
+    old: Context,
+    new: Context,
+    process: Context,
+) -> bool
+    ensures { λ r. ⌜ r ≡ declaresRelabelling counts (relabelling class old new process) ⌝ }
+{
+    if !declares_contexts(counts, old, new) {
+        return false;
+    }
+    if !declares_context(counts, process) {
+        return false;
+    }
+    class < counts.classes
+}
+
+// What the validatetrans statements answer, where the table is sound.
+fn ask_relabels(
+    table: &[u8],
+    counts: NameCounts,
+    class: usize,
+    old: Context,
+    new: Context,
+    process: Context,
+) -> Change
+    ensures { λ r. ⌜ ((s : Sound (now (table .entry))) → counts ≡ countsIn (now (table .entry))
+        → changeOf r ≡ firstFailing 6 (λ x. eqb (x .class) class) (λ x. rowsHold (s .image) (relabelContexts (relabelling class old new process)) (x .rows)) 0 (s .image .relabels)) ⌝ }
+{
+    let sides = sides_of(old, new, process);
+    let users = attribute_count(counts.user_attributes);
+    let roles = attribute_count(counts.role_attributes);
+    let bodies = constraints::locate_relabels(table, users, roles);
+    constraints::first_failing_relabel(table, bodies, class, &sides)
+}
+
+// Whether something of the class may be given the new context in place of the old one by the process, on a table whose
+// names are counted: denials 1, 2 and 5 in their order, then the validatetrans statements of the class, with the number
+// asked. The role may become any other: no role allow is asked.
+pub fn relabel_in_counted(
+    table: &[u8],
+    counts: NameCounts,
+    class: usize,
+    old: Context,
+    new: Context,
+    process: Context,
+) -> Change
+    requires { ⌜ (isSound (now table) ≡ true) × (counts ≡ countsIn (now table)) ⌝ }
+    ensures { λ r. ⌜ changeOf r ≡ relabelOn (now (table .entry)) (relabelling class old new process) ⌝ }
+{
+    if !declares_relabelling(counts, class, old, new, process) {
+        return Change::Refused {
+            number: Refusal::NUMBER_UNDECLARED,
+        };
+    }
+    let denial = context_denial(table, old, new);
+    if denial != NO_DENIAL {
+        return Change::Denied { number: denial };
+    }
+    if !is_valid(table, process) {
+        return Change::Denied {
+            number: Denial::PROCESS_NOT_VALID,
+        };
+    }
+    ask_relabels(table, counts, class, old, new, process)
+}
+
+// The same on a table that is only known to be sound.
+pub fn relabel_in_sound(
+    table: &[u8],
+    class: usize,
+    old: Context,
+    new: Context,
+    process: Context,
+) -> Change
+    requires { ⌜ isSound (now table) ≡ true ⌝ }
+    ensures { λ r. ⌜ changeOf r ≡ relabelOn (now (table .entry)) (relabelling class old new process) ⌝ }
+{
+    let counts = table_names::count_names(table);
+    relabel_in_counted(table, counts, class, old, new, process)
 }

@@ -23,25 +23,25 @@ use Rattle.reading_laws.proofs.FullNames.{declaration-good}
 use Rattle.table_laws.proofs.NamesFit.{part-is-good}
 use Rattle.table_laws.proofs.NamesRoom.{name-short, entries-room}
 use Rattle.symbols.specs.Lookup.{familyNumber, firstNamed}
-use Rattle.symbols.specs.Resolving.{isFound}
+use Rattle.symbols.specs.SearchAnswers.{isFound}
 use Rattle.symbols.specs.declared.Found.{Found}
 use Rattle.symbols.proofs.ClassesFound.{class-found}
-use Rattle.symbols.proofs.Declaring.{entries-more}
+use Rattle.symbols.proofs.DeclaredEntries.{entries-more}
 use Rattle.symbols.specs.Section.{nameBytes}
 use Rattle.name_chains.specs.Chains.{Chained}
 use Rattle.scopes.specs.Scope.{InScope}
 use Rattle.name_rows.specs.WordRows.{wordsIn, WordHere, WordIs, Inside}
 use Rattle.name_rows.specs.declared.NextWord.{NextWord}
-use Rattle.declarations.specs.Counting.{Stands}
-use Rattle.declarations.specs.Entering.{Entered, Fitting, Enters, answerOf, Indexable}
-use Rattle.declarations.specs.Declaring.{Holds, Declares, DeclaresAt, DeclaresClass}
+use Rattle.declarations.specs.SortCounts.{Stands}
+use Rattle.declarations.specs.NewEntries.{Entered, Fitting, Enters, answerOf, Indexable}
+use Rattle.declarations.specs.Declares.{Holds, Declares, DeclaresAt, DeclaresClass}
 use Rattle.declarations.specs.declared.Declared.{Declared}
 use Rattle.declarations.specs.declared.Added.{Added}
 use Rattle.declarations.specs.declared.NameStatus.{NameStatus}
-use Rattle.declarations.proofs.Holding.{long-missing, room-for}
-use Rattle.declarations.proofs.EnteringLaws.{bytes-append, entered-then}
+use Rattle.declarations.proofs.SymbolMemory.{long-missing, room-for}
+use Rattle.declarations.proofs.NewEntryLaws.{bytes-append, entered-then}
 use Rattle.declarations.proofs.NewPermissions.{permissions-indexable}
-use Rattle.declarations.proofs.Formed.{class-has-word, class-here}
+use Rattle.declarations.proofs.DeclarationForms.{class-has-word, class-here}
 use Rattle.declarations.proofs.FullNames.{FullIs}
 use Rattle.declarations.proofs.NameAnswers.{taken-found, free-missing}
 

@@ -1,8 +1,8 @@
-pub mod Standings
-pub mod EnteringLaws
-pub mod Holding
+pub mod StatusLaws
+pub mod NewEntryLaws
+pub mod SymbolMemory
 pub mod Maxima
-pub mod Formed
+pub mod DeclarationForms
 pub mod FullNames
 pub mod NewPermissions
 pub mod NameAnswers

@@ -6,7 +6,7 @@ use lib.Dec.{eqb}
 use Rattle.policy.specs.Statements.{users, roles, types, Sort, thingOf, attributeOf}
 use Rattle.policy.specs.Maxima.{maxOf}
 use Rattle.policy.specs.Encode.{sortCode}
-use Rattle.declarations.specs.Counting.{MostIs}
+use Rattle.declarations.specs.SortCounts.{MostIs}
 
 abbrev pub maxAt : ℕ → ℕ
 maxAt n = cond (eqb n 0) 128 (cond (eqb n 1) 128 (cond (eqb n 2) 512 64))

@@ -21,22 +21,22 @@ use Rattle.policy.proofs.Sorts.{max-small, code-below}
 use Rattle.reading_laws.proofs.FullNames.{full-good}
 use Rattle.table_laws.proofs.NamesRoom.{name-short, entries-room}
 use Rattle.symbols.specs.Lookup.{familyNumber, firstNamed}
-use Rattle.symbols.specs.Resolving.{isFound, familyCode}
+use Rattle.symbols.specs.SearchAnswers.{isFound, familyCode}
 use Rattle.symbols.specs.declared.Found.{Found}
 use Rattle.symbols.proofs.ReferencesFound.{reference-found, code-of, family-below}
-use Rattle.symbols.proofs.Declaring.{entries-more}
+use Rattle.symbols.proofs.DeclaredEntries.{entries-more}
 use Rattle.name_chains.specs.Chains.{Chained}
 use Rattle.scopes.specs.Scope.{InScope}
 use Rattle.name_rows.specs.WordRows.{WordHere, WordIs}
 use Rattle.name_rows.specs.declared.NextWord.{NextWord}
-use Rattle.declarations.specs.Counting.{standing, MostIs, Stands}
-use Rattle.declarations.specs.Entering.{Entered, Enters, answerOf, Indexable}
-use Rattle.declarations.specs.Declaring.{Holds, Declares, DeclaresName, DeclaresPlain}
+use Rattle.declarations.specs.SortCounts.{standing, MostIs, Stands}
+use Rattle.declarations.specs.NewEntries.{Entered, Enters, answerOf, Indexable}
+use Rattle.declarations.specs.Declares.{Holds, Declares, DeclaresName, DeclaresPlain}
 use Rattle.declarations.specs.declared.Declared.{Declared}
 use Rattle.declarations.specs.declared.Added.{Added}
 use Rattle.declarations.specs.declared.NameStatus.{NameStatus}
-use Rattle.declarations.proofs.Holding.{long-missing, room-for}
-use Rattle.declarations.proofs.Formed.{plain-has-word, plain-here}
+use Rattle.declarations.proofs.SymbolMemory.{long-missing, room-for}
+use Rattle.declarations.proofs.DeclarationForms.{plain-has-word, plain-here}
 use Rattle.declarations.proofs.FullNames.{FullIs}
 
 -- ---- what the lookup said

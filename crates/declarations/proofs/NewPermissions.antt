@@ -7,9 +7,9 @@ use lib.ListN.{length, length-append}
 use Rattle.policy.specs.Basics.{Name}
 use Rattle.policy.specs.Statements.{Declaration, classNames}
 use Rattle.policy.specs.Encode.{NameEntry, nameEntry, permissionEntries, entries}
-use Rattle.symbols.proofs.Declaring.{permission-more}
+use Rattle.symbols.proofs.DeclaredEntries.{permission-more}
 use Rattle.table_laws.proofs.NamesRoom.{permissions-length}
-use Rattle.declarations.specs.Entering.{Indexable}
+use Rattle.declarations.specs.NewEntries.{Indexable}
 
 module _ (ds : List Declaration) (v : Name) (small : length (classNames ds) < 32) (short : length (entries ds) ≤ 1983) where
   abbrev number : ℕ

@@ -1,3 +1,3 @@
-pub mod Declaring
-pub mod Counting
-pub mod Entering
+pub mod Declares
+pub mod SortCounts
+pub mod NewEntries

@@ -12,10 +12,10 @@ ghost use lib.ListN.{length};
 ghost use Rattle.lexer.specs.Forms.{framesAt};
 ghost use Rattle.policy.specs.Encode.{nameEntry, permissionEntries};
 ghost use Rattle.policy.specs.Words.{classK};
-ghost use Rattle.declarations.specs.Counting.{Counts, MostIs, Stands};
+ghost use Rattle.declarations.specs.SortCounts.{Counts, MostIs, Stands};
 ghost use Rattle.name_rows.specs.WordRows.{wordsIn};
-ghost use Rattle.declarations.specs.Entering.{Enters, answerOf};
-ghost use Rattle.declarations.specs.Declaring.{DeclaresAt, DeclaresName, DeclaresPlain, DeclaresClass};
+ghost use Rattle.declarations.specs.NewEntries.{Enters, answerOf};
+ghost use Rattle.declarations.specs.Declares.{DeclaresAt, DeclaresName, DeclaresPlain, DeclaresClass};
 ghost use Rattle.name_index.specs.Index.{indexBytes};
 ghost use Rattle.symbols.specs.Section.{nameBytes};
 

@@ -6,10 +6,10 @@ use mathlib.Core.List.{List, _++_}
 use lib.ListN.{take}
 use Rattle.policy.specs.Statements.{Policy, declarations}
 use Rattle.policy.specs.Reading.{policy}
-use Rattle.policy.specs.Deciding.{Question, Verdict, granted, denied, fails, refuses, declaredQuestion}
-use Rattle.policy.specs.Answer.{answer}
+use Rattle.policy.specs.Deciding.{Question, Verdict, granted, denied, fails, refuses, declaredQuestion, Relabelling, declaredRelabel}
+use Rattle.policy.specs.Answer.{answer, relabelAnswer}
 use Rattle.policy.specs.Outcome.{Input, policyOf, after}
-use Rattle.policy.specs.Questions.{changeOn}
+use Rattle.policy.specs.Questions.{changeOn, relabelOn}
 
 -- a refusal, by any number
 abbrev pub isRefusal : Verdict → Bool
@@ -26,3 +26,6 @@ pub record TableAnswers (x : Input) (lent : List ℕ) (n : ℕ) : Type 0 where
   pub read : policyOf x ≡ policy statements
   pub answers : (behind : List ℕ) (q : Question) → changeOn (take n (after x lent) ++ behind) q ≡ answer statements q
   pub never-refused : (q : Question) → declaredQuestion (declarations statements) q ≡ true → isRefusal (answer statements q .verdict) ≡ false
+  -- W-205: "Demand 3 covers this question"
+  pub relabels : (behind : List ℕ) (q : Relabelling) → relabelOn (take n (after x lent) ++ behind) q ≡ relabelAnswer statements q
+  pub relabels-never-refused : (q : Relabelling) → declaredRelabel (declarations statements) q ≡ true → isRefusal (relabelAnswer statements q .verdict) ≡ false

@@ -10,7 +10,7 @@ use Rattle.policy.specs.Deciding.{answered, refused, Question, Answer, denied, 
 use Rattle.policy.specs.Answer.{givenBy}
 use Rattle.policy.specs.Image.{Image}
 use Rattle.policy.specs.Sound.{imageIn}
-use Rattle.policy.specs.Questions.{givenIn, asked, valid, validOn, changed, changeOn}
+use Rattle.policy.specs.Questions.{givenIn, asked, valid, validOn, change, decided, changeOn}
 use Rattle.answer_laws.specs.Granting.{RoleNamed}
 use Rattle.answer_laws.specs.Before.{validInBefore, changedBefore}
 use Rattle.answer_laws.proofs.ObjectRole.{object-valid, other-valid, answer-before, change-before, denialOf, object-source, object-target, object-source-in, object-target-in}
@@ -21,9 +21,9 @@ module _ (t : List ℕ) (i : Image) (sound : imageIn t ≡ some i) where
   unfolding validOn
   valid-there c = ap (asked (λ i. valid i c)) sound
 
-  change-there : (q : Question) → changeOn t q ≡ changed q (some i)
+  change-there : (q : Question) → changeOn t q ≡ change i q
   unfolding changeOn
-  change-there q = ap (changed q) sound
+  change-there q = ap (decided (λ i. change i q)) sound
 
   -- the two that 12 comes before
   there-valid : (c : Context) → declaredContext (i .names) c ≡ true → RoleNamed (i .names) (c .role) objectR → valid i c ≡ answered true
@@ -34,7 +34,7 @@ module _ (t : List ℕ) (i : Image) (sound : imageIn t ≡ some i) where
   unfolding valid
   there-other c other = ap (λ (b : Bool). cond (declaredContext (i .names) c) (answered b) (refused 12 0)) (other-valid (givenIn i) c other)
 
-  denied-there : (q : Question) (n : ℕ) → changeOn t q .verdict ≡ denied n → denialOf (changed q (some i) .verdict) ≡ n
+  denied-there : (q : Question) (n : ℕ) → changeOn t q .verdict ≡ denied n → denialOf (change i q .verdict) ≡ n
   denied-there q n e = ap (λ (a : Answer). denialOf (a .verdict)) (sym (change-there q)) ∙ ap denialOf e
 
   on-table : OnTable t i

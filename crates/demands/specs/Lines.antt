@@ -6,7 +6,7 @@ use lib.ListN.{length, take}
 use Rattle.policy.specs.declared.Refusal as theRefusal
 use Rattle.policy.specs.declared.Compiling.{Compiling}
 use Rattle.policy.specs.Answers.{compilingOf}
-use Rattle.policy.specs.Encode.{encode}
+use Rattle.policy.specs.Encode.{encode, newest}
 use Rattle.policy.specs.Outcome as outcomes
 use Rattle.policy.specs.Outcome.{Input, Compiled, compiles, refuses, compiled, lineFeeds, Outcome, afterOf}
 use Rattle.compiler.specs.Promise.{Compiles}
@@ -17,7 +17,7 @@ pub data Before : Type 0 where
   rejected : ℕ → ℕ → Before
 
 abbrev pub answerBefore : Compiled → Before
-answerBefore (compiles i) = accepted (length (encode i))
+answerBefore (compiles i) = accepted (length (encode newest i))
 answerBefore (refuses n at) = rejected n at
 
 abbrev pub withoutLine : Outcome → Before

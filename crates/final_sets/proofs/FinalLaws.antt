@@ -19,7 +19,7 @@ use Rattle.policy.specs.Meaning.{ofS, countIn, unionOf, nested, final}
 use Rattle.policy.specs.Faults.{mentions, attributesIn, onCycle}
 use Rattle.policy.specs.Accepted.{Accepted}
 use Rattle.set_code.specs.Evaluation.{setsIn}
-use Rattle.meaning_laws.specs.Mentioning.{MentionsDirectly, Mentions, directly, through}
+use Rattle.meaning_laws.specs.Mentions.{MentionsDirectly, Mentions, directly, through}
 use Rattle.meaning_laws.proofs.ListLaws.{or-left, or-right}
 use Rattle.meaning_laws.proofs.FinalSets.{same-union}
 use Rattle.meaning_laws.proofs.DirectMention.{mentions-exactly, direct-declared}

@@ -25,7 +25,7 @@ use Rattle.grammar.specs.declared.Header.{Header}
 by-item : {t : List ℕ} {at : ℕ} (k : Item) → Looked t at k → startsBlock k ≡ isBlock (framesAt t at .here)
 by-item {t} (Item.Word s n k q) l =
     let w = take n (drop s t) in
-    sym (ap isBlock (l .here) ∙ block-number w ∙ ap (λ (m : ℕ). eqb m 39) (l .ahead .2))
+    sym (ap isBlock (l .here) ∙ block-number w ∙ ap (λ (m : ℕ). eqb m 40) (l .ahead .2))
 by-item (Item.Open p q) l = sym (ap isBlock (l .here))
 by-item (Item.Close q) l = sym (ap isBlock (l .here))
 by-item Item.End l = sym (ap isBlock (l .here))

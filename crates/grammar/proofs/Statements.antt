@@ -10,11 +10,12 @@ use borrow.Author.Tests.{lt-ltb, ne-eqb}
 use lib.ListN.{length, take, drop}
 use Rattle.lexer.specs.Forms.{Forms, closed, ended, word, part, framesAt, trim}
 use Rattle.policy.specs.Basics.{Name, _>>=_}
-use Rattle.policy.specs.Words.{isReserved, asName, asPart, Keyword, declareK, classK, setK, relationK, transitionK, constrainK, keywordOf}
-use Rattle.policy.specs.Statements.{SetExpr, plain, class, declare, attributeset, gives, constrain}
+use Rattle.policy.specs.Words.{isReserved, asName, asPart, Keyword, declareK, classK, setK, relationK, transitionK, constrainK, relabelK, keywordOf, twoSides, threeSides}
+use Rattle.policy.specs.Statements.{SetExpr, plain, class, declare, attributeset, gives, constrain, validatetrans, Constraint, Written}
 use Rattle.policy.specs.Grammar.{wordAndPart, setIn, expressionIn, rowOf, oneOrMore, classIn, ofFour, formed, written}
 use Rattle.words.specs.Numbers.{wordOf, mayBe, takenAs}
 use Rattle.words.specs.declared.NameKind.{NameKind}
+use Rattle.policy.specs.declared.Sides.{Sides}
 use Rattle.words.proofs.Meaning.{keyword-number}
 use Rattle.items.specs.Reads.{isSome, counted}
 use Rattle.items.specs.declared.Item.{Item}
@@ -76,6 +77,24 @@ set-asks h w i = go (not (isReserved w)) refl
     go true e = rw e (set-then (setIn i) (h w))
     go false e = rw e
 
+-- a class and an E
+relabel-asks : (w : Name) (i : Forms) → isSome (asName w >>= λ c. expressionIn threeSides i >>= λ e. some (validatetrans c e))
+    ≡ (mayBe NameKind.Name w && contentOf (Content.Constraint Sides.Three) i) && true
+relabel-asks w i = go (not (isReserved w)) refl
+  where
+    saying : Name → Constraint Name → Written
+    saying c e = validatetrans c e
+
+    then : (e : Option (Constraint Name)) → isSome (e >>= λ e. some (saying w e)) ≡ isSome e && true
+    then none = refl
+    then (some e) = refl
+
+    go : (q : Bool) → not (isReserved w) ≡ q
+        → isSome (asName w >>= λ c. expressionIn threeSides i >>= λ e. some (saying c e))
+        ≡ (not (isReserved w) && contentOf (Content.Constraint Sides.Three) i) && true
+    go true e = rw e (then (expressionIn threeSides i))
+    go false e = rw e
+
 -- a class with permissions, and an E
 then-expression : {A B : Type 0} (h : B → A) (e : Option B) → isSome (e >>= λ e. some (h e)) ≡ isSome e
 then-expression h none = refl
@@ -89,11 +108,11 @@ constrain-is (part p i closed) = sym (and-false (nameAndPart NameKind.Name Conte
 constrain-is (part p i ended) = sym (and-false (nameAndPart NameKind.Name Content.Permissions i))
 constrain-is (part p i (word s w f)) = sym (and-false (nameAndPart NameKind.Name Content.Permissions i))
 constrain-is (part p i (part q j closed)) =
-    class-is NameKind.Name (λ c ps. expressionIn j >>= λ e. some (constrain c ps e)) (isSome (expressionIn j)) (λ c ps. then-expression (constrain c ps) (expressionIn j)) i
-    ∙ ap (λ (b : Bool). nameAndPart NameKind.Name Content.Permissions i && b) (sym (and-true (isSome (expressionIn j))))
-constrain-is (part p i (part q j ended)) = rw (and-false (isSome (expressionIn j)), and-false (nameAndPart NameKind.Name Content.Permissions i))
-constrain-is (part p i (part q j (word s w f))) = rw (and-false (isSome (expressionIn j)), and-false (nameAndPart NameKind.Name Content.Permissions i))
-constrain-is (part p i (part q j (part r f g))) = rw (and-false (isSome (expressionIn j)), and-false (nameAndPart NameKind.Name Content.Permissions i))
+    class-is NameKind.Name (λ c ps. expressionIn twoSides j >>= λ e. some (constrain c ps e)) (isSome (expressionIn twoSides j)) (λ c ps. then-expression (constrain c ps) (expressionIn twoSides j)) i
+    ∙ ap (λ (b : Bool). nameAndPart NameKind.Name Content.Permissions i && b) (sym (and-true (isSome (expressionIn twoSides j))))
+constrain-is (part p i (part q j ended)) = rw (and-false (isSome (expressionIn twoSides j)), and-false (nameAndPart NameKind.Name Content.Permissions i))
+constrain-is (part p i (part q j (word s w f))) = rw (and-false (isSome (expressionIn twoSides j)), and-false (nameAndPart NameKind.Name Content.Permissions i))
+constrain-is (part p i (part q j (part r f g))) = rw (and-false (isSome (expressionIn twoSides j)), and-false (nameAndPart NameKind.Name Content.Permissions i))
 
 four : (xs : Option (List Name)) → counted (Wanted.Exactly 4) 0 xs ≡ isSome (xs >>= ofFour)
 unfolding counted
@@ -115,6 +134,9 @@ formed-is (setK a) f =
 formed-is (relationK r) f = sym (of-two (gives r) (rowOf asName f))
 formed-is transitionK f = sym (four (rowOf asName f))
 formed-is constrainK f = constrain-is f
+formed-is relabelK f =
+    word-and-part (λ c i. asName c >>= λ c. expressionIn threeSides i >>= λ e. some (validatetrans c e)) NameKind.Name (Content.Constraint Sides.Three) true relabel-asks f
+    ∙ and-true (nameAndPart NameKind.Name (Content.Constraint Sides.Three) f)
 
 by-keyword : (k : Option Keyword) (f : Forms) → isSome (k >>= λ k. formed k f) ≡ byShape (shapeOf k) f
 by-keyword none f = refl

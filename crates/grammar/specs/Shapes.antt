@@ -9,9 +9,10 @@ use lib.Dec.{eqb}
 use lib.ListN.{length, take, drop}
 use Rattle.lexer.specs.Forms.{Forms, closed, ended, word, part, framesAt}
 use Rattle.policy.specs.Words as words
-use Rattle.policy.specs.Words.{keywordOf, declareK, classK, setK, relationK, transitionK, constrainK}
+use Rattle.policy.specs.Words.{keywordOf, declareK, classK, setK, relationK, transitionK, constrainK, relabelK}
 use Rattle.policy.specs.Statements.{thingOf, attributeOf}
-use Rattle.policy.specs.Answers.{familyOf, relationOf}
+use Rattle.policy.specs.Answers.{familyOf, relationOf, sidesOf}
+use Rattle.policy.specs.declared.Sides.{Sides}
 use Rattle.policy.specs.Grammar.{setIn, expressionIn, rowOf, headerIn}
 use Rattle.words.specs.Numbers.{mayBe, takenAs}
 use Rattle.words.specs.declared.NameKind.{NameKind}
@@ -32,13 +33,14 @@ keywordIn (Keyword.Set f) = some (setK (familyOf f))
 keywordIn (Keyword.Relation r) = some (relationK (relationOf r))
 keywordIn Keyword.Transition = some transitionK
 keywordIn Keyword.Constrain = some constrainK
+keywordIn Keyword.Relabel = some relabelK
 keywordIn Keyword.Unknown = none
 
 -- what a part holds
 abbrev pub contentOf : Content → Forms → Bool
 contentOf Content.Permissions f = counted Wanted.OneOrMore 0 (rowOf (takenAs NameKind.Part) f)
 contentOf Content.Set f = isSome (setIn f)
-contentOf Content.Constraint f = isSome (expressionIn f)
+contentOf (Content.Constraint n) f = isSome (expressionIn (sidesOf n) f)
 
 -- a part, and the close
 abbrev pub onlyPart : Content → Forms → Bool
@@ -59,7 +61,7 @@ abbrev pub classAndConstraint : Forms → Bool
 classAndConstraint closed = false
 classAndConstraint ended = false
 classAndConstraint (word s b f) = false
-classAndConstraint (part p f g) = nameAndPart NameKind.Name Content.Permissions f && onlyPart Content.Constraint g
+classAndConstraint (part p f g) = nameAndPart NameKind.Name Content.Permissions f && onlyPart (Content.Constraint Sides.Two) g
 
 -- the shape of what follows a keyword
 abbrev pub shapeOf : Option words.Keyword → Shape
@@ -70,12 +72,14 @@ shapeOf (some (setK f)) = Shape.Set
 shapeOf (some (relationK r)) = Shape.Names NameKind.Name 2
 shapeOf (some transitionK) = Shape.Names NameKind.Name 4
 shapeOf (some constrainK) = Shape.Constrain
+shapeOf (some relabelK) = Shape.Relabel
 
 abbrev pub byShape : Shape → Forms → Bool
 byShape (Shape.Names k n) f = counted (Wanted.Exactly n) 0 (rowOf (takenAs k) f)
 byShape Shape.Class f = nameAndPart NameKind.Part Content.Permissions f
 byShape Shape.Set f = nameAndPart NameKind.Name Content.Set f
 byShape Shape.Constrain f = classAndConstraint f
+byShape Shape.Relabel f = nameAndPart NameKind.Name (Content.Constraint Sides.Three) f
 byShape Shape.Unknown f = false
 
 -- what the parentheses of a statement hold
@@ -89,7 +93,7 @@ isStatement (part p f g) = false
 
 -- by an item, whether a block is next
 abbrev pub startsBlock : Item → Bool
-startsBlock (Item.Word s n k q) = eqb k 39
+startsBlock (Item.Word s n k q) = eqb k 40
 startsBlock (Item.Open p q) = false
 startsBlock (Item.Close q) = false
 startsBlock Item.End = false

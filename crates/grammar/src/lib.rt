@@ -15,11 +15,12 @@ use items::Wanted;
 use lexer::Level;
 use policy::Family;
 use policy::Relation;
+use policy::Sides;
 use words::NameKind;
 use words::Word;
 
 // What a statement is by its first word: it declares a thing, an attribute or a class, fills an attribute, relates
-// two names, is a role transition or a constraint. Or the word is no keyword.
+// two names, is a role transition, a constraint or a rule for relabelling. Or the word is no keyword.
 pub enum Keyword {
     Thing(Family),
     Attribute(Family),
@@ -28,6 +29,7 @@ pub enum Keyword {
     Relation(Relation),
     Transition,
     Constrain,
+    Relabel,
     Unknown,
 }
 
@@ -35,16 +37,17 @@ pub enum Keyword {
 enum Content {
     Permissions,
     Set,
-    Constraint,
+    Constraint(Sides),
 }
 
 // What follows a keyword: so many names of a kind; a name and permissions; a name and a set expression; a class with
-// permissions and a constraint expression. Or the word is no keyword.
+// permissions and a constraint expression; a class and a constraint expression. Or the word is no keyword.
 enum Shape {
     Names(NameKind, usize),
     Class,
     Set,
     Constrain,
+    Relabel,
     Unknown,
 }
 
@@ -77,6 +80,7 @@ pub fn keyword_of(number: usize) -> Keyword
         Word::ROLEALLOW => Keyword::Relation(Relation::RoleAllow),
         Word::ROLETRANSITION => Keyword::Transition,
         Word::CONSTRAIN => Keyword::Constrain,
+        Word::VALIDATETRANS => Keyword::Relabel,
         _ => Keyword::Unknown,
     }
 }
@@ -93,6 +97,7 @@ fn shape_of(keyword: Keyword) -> Shape
         Keyword::Relation(_) => Shape::Names(NameKind::Name, 2),
         Keyword::Transition => Shape::Names(NameKind::Name, 4),
         Keyword::Constrain => Shape::Constrain,
+        Keyword::Relabel => Shape::Relabel,
         Keyword::Unknown => Shape::Unknown,
     }
 }
@@ -104,7 +109,9 @@ fn content_form(text: &[u8], at: usize, content: Content, levels: usize) -> Pars
     match content {
         Content::Permissions => items::names_form(text, at, NameKind::Part, Wanted::OneOrMore),
         Content::Set => set_grammar::set_form(text, at, levels),
-        Content::Constraint => constraint_grammar::constraint_form(text, at, levels),
+        Content::Constraint(sides) => {
+            constraint_grammar::constraint_form(text, at, levels, sides)
+        }
     }
 }
 
@@ -161,7 +168,9 @@ fn constrain_form(text: &[u8], at: usize, levels: usize) -> Parsed
             }
             let class = name_and_part(text, next, NameKind::Name, Content::Permissions, levels - 1);
             match class {
-                Parsed::Next(past) => only_part(text, past, Content::Constraint, levels),
+                Parsed::Next(past) => {
+                    only_part(text, past, Content::Constraint(Sides::Two), levels)
+                },
                 Parsed::Bad => Parsed::Bad,
             }
         }
@@ -178,6 +187,10 @@ fn shape_form(text: &[u8], at: usize, shape: Shape, levels: usize) -> Parsed
         Shape::Class => name_and_part(text, at, NameKind::Part, Content::Permissions, levels),
         Shape::Set => name_and_part(text, at, NameKind::Name, Content::Set, levels),
         Shape::Constrain => constrain_form(text, at, levels),
+        Shape::Relabel => {
+            let content = Content::Constraint(Sides::Three);
+            name_and_part(text, at, NameKind::Name, content, levels)
+        }
         Shape::Unknown => Parsed::Bad,
     }
 }

@@ -1,43 +1,40 @@
--- What reading leaves of the statements, gathered by their kind: the sets of each attribute, the transitions, the constrains. Assumes nothing.
-use Prim.Native.Nat.{ℕ}
+-- What reading leaves of the statements, gathered by their kind: the transitions, the constrains, the validatetrans. Assumes nothing.
+use mathlib.Core.Path.{_≡_, subst}
 use mathlib.Core.Option.{Option}
 use Rattle.policy.specs.Basics.{gather, All}
-use Rattle.policy.specs.Statements.{Statement, declare, attributeset, gives, roletransition, constrain, Line, Policy, declarations, Transition, transition}
-use Rattle.policy.specs.Statements.{transitions, Constrain, constrained, constrains}
+use Rattle.policy.specs.Statements.{Statement, roletransition, constrain, validatetrans, Line, Policy, declarations, Transition, transition, transitions}
+use Rattle.policy.specs.Statements.{Constrain, constrained, constrains, Relabel, relabelled, relabels}
 use Rattle.policy.specs.Accepted.{StatementIn, Accepted}
-use Rattle.policy.proofs.Gathered.{OfValue, all-gather}
+use Rattle.policy.proofs.IfAny.{IfAny}
+use Rattle.policy.proofs.ByKind.{transition-says, constrain-says, relabel-says}
+use Rattle.meaning_laws.proofs.ListLaws.{all-gathered}
 
--- a transition and a constrain as their statements are left
+-- a transition, a constrain and a validatetrans as their statements are left
 abbrev pub TransitionIn : Policy → Transition → Type 0
 TransitionIn p t = StatementIn (declarations p) (roletransition (t .role) (t .type) (t .class) (t .new))
 
 abbrev pub ConstrainIn : Policy → Constrain → Type 0
 ConstrainIn p c = StatementIn (declarations p) (constrain (c .class) (c .perms) (c .body))
 
-module _ (p : Policy) where
-  transition-in : (at : ℕ) (s : Statement) → StatementIn (declarations p) s → OfValue (TransitionIn p) (transition (record { place = at; says = s }))
-  transition-in at (declare d) h = tt
-  transition-in at (attributeset f a s) h = tt
-  transition-in at (gives k x y) h = tt
-  transition-in at (roletransition r t c n) h = h
-  transition-in at (constrain c ps e) h = tt
+abbrev pub RelabelIn : Policy → Relabel → Type 0
+RelabelIn p c = StatementIn (declarations p) (validatetrans (c .class) (c .body))
 
-  constrain-in : (at : ℕ) (s : Statement) → StatementIn (declarations p) s → OfValue (ConstrainIn p) (constrained (record { place = at; says = s }))
-  constrain-in at (declare d) h = tt
-  constrain-in at (attributeset f a s) h = tt
-  constrain-in at (gives k x y) h = tt
-  constrain-in at (roletransition r t c n) h = tt
-  constrain-in at (constrain c ps e) h = h
+module _ (p : Policy) (ok : Accepted p) where
+  -- what is gathered from lines of one kind, of which each says what was gathered from it
+  gathered : {B : Type 0} (says : B → Statement) (f : Line → Option B) → ((l : Line) → IfAny (λ b. l .says ≡ says b) (f l))
+      → All (λ b. StatementIn (declarations p) (says b)) (gather f p)
+  gathered says f k = all-gathered (λ (l : Line). StatementIn (declarations p) (l .says)) _ f
+      (λ l b h e. subst (StatementIn (declarations p)) (k l .has b e) h) p (ok .statements)
 
-  module _ (ok : Accepted p) where
-    -- once over what is gathered
-    gathered : {B : Type 0} (Q : B → Type 0) (f : Line → Option B) → ((l : Line) → StatementIn (declarations p) (l .says) → OfValue Q (f l)) → All Q (gather f p)
-    gathered Q f g = all-gather Q (λ (l : Line). StatementIn (declarations p) (l .says)) f g p (ok .statements)
+  pub transitions-in : All (TransitionIn p) (transitions p)
+  unfolding transitions
+  transitions-in = gathered (λ (t : Transition). roletransition (t .role) (t .type) (t .class) (t .new)) transition
+      (λ l. record { has = λ t e. transition-says (l .place) (l .says) .has t e .0 })
 
-    pub transitions-in : All (TransitionIn p) (transitions p)
-    unfolding transitions
-    transitions-in = gathered (TransitionIn p) transition (λ l h. transition-in (l .place) (l .says) h)
+  pub constrains-in : All (ConstrainIn p) (constrains p)
+  unfolding constrains
+  constrains-in = gathered (λ (c : Constrain). constrain (c .class) (c .perms) (c .body)) constrained (λ l. constrain-says (l .says))
 
-    pub constrains-in : All (ConstrainIn p) (constrains p)
-    unfolding constrains
-    constrains-in = gathered (ConstrainIn p) constrained (λ l h. constrain-in (l .place) (l .says) h)
+  pub relabels-in : All (RelabelIn p) (relabels p)
+  unfolding relabels
+  relabels-in = gathered (λ (c : Relabel). validatetrans (c .class) (c .body)) relabelled (λ l. relabel-says (l .says))

@@ -1,16 +1,17 @@
--- What the answers of an image need of its policy: everything fits the bytes that hold it, and constraints name only declared attributes.
+-- What the answers of an image need of its policy: everything fits the bytes that hold it, and each E names only declared attributes.
 -- All of it follows from what reading leaves of the statements. Assumes nothing.
 use Prim.Native.Nat.{ℕ, _*_, _≤_, _<_}
 use lib.ListN.{length}
 use Rattle.policy.specs.Statements.{Family, users, roles, types, thingOf, Reference, thing, attribute, Constraint, sidesE, nameE, notE, andE, orE, Policy}
-use Rattle.policy.specs.Statements.{Constrain, constrains, declarations, permissions}
+use Rattle.policy.specs.Statements.{Constrain, constrains, Relabel, relabels, declarations, permissions}
+use Rattle.policy.specs.Words.{Sides, twoSides, threeSides}
 use Rattle.policy.specs.Meaning.{countIn}
 use Rattle.policy.specs.Faults.{attributesIn}
 use Rattle.policy.specs.Image.{width}
 use Rattle.policy.specs.Basics.{All}
 use Rattle.policy.specs.Accepted.{ReferenceIn, ConstraintIn, Accepted}
 use Rattle.policy.proofs.Gathered.{all-map}
-use Rattle.image_laws.proofs.AcceptedParts.{ConstrainIn, constrains-in}
+use Rattle.image_laws.proofs.AcceptedParts.{ConstrainIn, constrains-in, RelabelIn, relabels-in}
 use Rattle.policy.proofs.Counts.{few-of, few-permissions-of}
 
 -- E names only attributes that p declares
@@ -29,6 +30,7 @@ pub record Fits (p : Policy) : Type 0 where
   pub few : (f : Family) → countIn p f ≤ 8 * width f
   pub few-permissions : (c : ℕ) → length (permissions (declarations p) c) ≤ 32
   pub known : All (λ (c : Constrain). Known p (c .body)) (constrains p)
+  pub known-relabels : All (λ (c : Relabel). Known p (c .body)) (relabels p)
 
 module _ (p : Policy) where
   known-reference : (f : Family) (r : Reference) → ReferenceIn (declarations p) f r → KnownR p f r
@@ -36,12 +38,12 @@ module _ (p : Policy) where
   known-reference f (thing n) h = tt
   known-reference f (attribute a) h = h
 
-  known-constraint : (e : Constraint Reference) → ConstraintIn (declarations p) e → Known p e
-  known-constraint (sidesE f o) h = tt
-  known-constraint (nameE f s o r) h = known-reference f r (h .1)
-  known-constraint (notE a) h = known-constraint a h
-  known-constraint (andE a b) h = (known-constraint a (h .0), known-constraint b (h .1))
-  known-constraint (orE a b) h = (known-constraint a (h .0), known-constraint b (h .1))
+  known-constraint : (n : Sides) (e : Constraint Reference) → ConstraintIn (declarations p) n e → Known p e
+  known-constraint n (sidesE f o) h = tt
+  known-constraint n (nameE f s o r) h = known-reference f r (h .1)
+  known-constraint n (notE a) h = known-constraint n a h
+  known-constraint n (andE a b) h = (known-constraint n a (h .0), known-constraint n b (h .1))
+  known-constraint n (orE a b) h = (known-constraint n a (h .0), known-constraint n b (h .1))
 
 few-things : (p : Policy) → Accepted p → (f : Family) → countIn p f ≤ 8 * width f
 unfolding countIn
@@ -53,5 +55,6 @@ pub image-fits : (p : Policy) → Accepted p → Fits p
 image-fits p ok = record {
   few = few-things p ok;
   few-permissions = few-permissions-of (declarations p) (ok .names);
-  known = all-map (ConstrainIn p) (λ (c : Constrain). Known p (c .body)) (λ c h. known-constraint p (c .body) (h .3)) (constrains p) (constrains-in p ok);
+  known = all-map (ConstrainIn p) (λ (c : Constrain). Known p (c .body)) (λ c h. known-constraint p twoSides (c .body) (h .3)) (constrains p) (constrains-in p ok);
+  known-relabels = all-map (RelabelIn p) (λ (c : Relabel). Known p (c .body)) (λ c h. known-constraint p threeSides (c .body) (h .1)) (relabels p) (relabels-in p ok);
 }

@@ -1,4 +1,4 @@
--- The parts of a policy's image, each against the declared: sets, transitions, constraints. Assumes nothing.
+-- The parts of a policy's image, each against the declared: sets, transitions, constraints, the entries of validatetrans. Assumes nothing.
 use Prim.Native.Nat.{ℕ, zero, suc, _^_, _<_}
 use mathlib.Core.Path.{_≡_, refl, ap₂}
 use mathlib.Core.Bool.{Bool, true, _&&_}
@@ -8,12 +8,13 @@ use borrow.Author.Tests.{lt-ltb, eq-eqb}
 use Rattle.bitset.specs.Sets.{tabulate, setOf}
 use Rattle.policy.specs.Basics.{each, every, All}
 use Rattle.policy.specs.Statements.{Family, roles, types, thingOf, Relation, toOf, Policy, count, classNames, permissions, declarations, Transition}
-use Rattle.policy.specs.Statements.{transitions, Constrain, constrains}
+use Rattle.policy.specs.Statements.{transitions, Constrain, constrains, Relabel, relabels}
+use Rattle.policy.specs.Words.{twoSides, threeSides}
 use Rattle.policy.specs.Meaning.{Set, countIn, stands, related, final}
-use Rattle.policy.specs.Image.{width, setsOf, maskOf, transitionEntry, constraintEntry}
-use Rattle.policy.specs.Sound.{goodSet, goodSets, goodTransition, goodConstraint}
+use Rattle.policy.specs.Image.{width, setsOf, maskOf, transitionEntry, constraintEntry, relabelEntry}
+use Rattle.policy.specs.Sound.{goodSet, goodSets, goodTransition, goodConstraint, goodRelabel}
 use Rattle.policy.specs.Accepted.{Accepted}
-use Rattle.image_laws.proofs.AcceptedParts.{TransitionIn, ConstrainIn, transitions-in, constrains-in}
+use Rattle.image_laws.proofs.AcceptedParts.{TransitionIn, ConstrainIn, RelabelIn, transitions-in, constrains-in, relabels-in}
 use Rattle.policy.proofs.Counts.{few-permissions-of}
 use Rattle.bitset.proofs.SetLaws.{length-tabulate, length-setOf}
 use Rattle.meaning_laws.proofs.WithinDeclared.{final-within, stands-within, related-within}
@@ -84,9 +85,22 @@ module _ (p : Policy) where
       (lt-ltb (c .class) (length (classNames ds)) (h .0))
       (lt-ltb 0 (maskOf (c .perms)) (mask-positive n (c .perms) (h .2) (few-permissions-of ds (ok .names) (c .class)) (h .1))))
       (lt-ltb (maskOf (c .perms)) (2 ^ n) (mask-below n (c .perms) (h .2))))
-      (good-rows ds (c .body) (h .3)))
+      (good-rows ds twoSides (c .body) (h .3)))
       (balanced-whole (c .body) (h .4))
 
   pub good-constraints : Accepted p → every (goodConstraint (declarations p)) (each constraintEntry (constrains p)) ≡ true
   good-constraints ok =
       every-each (ConstrainIn p) (goodConstraint (declarations p)) constraintEntry (good-constraint ok) (constrains p) (constrains-in p ok)
+
+  -- ---- validatetrans
+
+  good-relabel : (c : Relabel) → RelabelIn p c → goodRelabel (declarations p) (relabelEntry c) ≡ true
+  good-relabel c h =
+      ap₂ _&&_
+      (ap₂ _&&_
+      (lt-ltb (c .class) (length (classNames (declarations p))) (h .0))
+      (good-rows (declarations p) threeSides (c .body) (h .1)))
+      (balanced-whole (c .body) (h .2))
+
+  pub good-relabels : Accepted p → every (goodRelabel (declarations p)) (each relabelEntry (relabels p)) ≡ true
+  good-relabels ok = every-each (RelabelIn p) (goodRelabel (declarations p)) relabelEntry good-relabel (relabels p) (relabels-in p ok)

@@ -5,35 +5,31 @@ use mathlib.Core.Path.{_≡_, refl, sym, ap, _∙_, subst}
 use mathlib.Core.Logic.{_⊎_, inl, inr, _↔_}
 use mathlib.Core.Bool.{true, false, cond, true≢false}
 use mathlib.Core.List.{[], _∷_, _++_}
-use mathlib.Core.Option.{none, some}
-use Rattle.policy.specs.Basics.{any, gather, All}
-use Rattle.policy.specs.Statements.{Statement, declare, attributeset, gives, roletransition, constrain, Line, Policy, declarations, Transition, transition, transitions}
+use mathlib.Core.Option.{Option, none, some}
+use Rattle.policy.specs.Basics.{any, gather, keep, All}
+use Rattle.policy.specs.Statements.{Line, Policy, declarations, Transition, transition, transitions}
 use Rattle.policy.specs.Faults.{clashes, firstClash, clash}
 use Rattle.policy.specs.Accepted.{StatementIn, Accepted}
 use Rattle.policy.proofs.Lists.{gather-over, gather-last, all-left, all-right}
-use Rattle.meaning_laws.specs.Clashing.{ClashFree, ClashAt}
+use Rattle.policy.proofs.ByKind.{transition-says}
+use Rattle.meaning_laws.specs.Clashes.{ClashFree, ClashAt}
 use Rattle.meaning_laws.proofs.ListLaws.{decided, chosen}
 use Rattle.meaning_laws.proofs.FirstOf.{firstOf, Free, first-exactly, none-exactly}
-use Rattle.meaning_laws.proofs.ClashTest.{clashesAfter, line-exactly}
+use Rattle.meaning_laws.proofs.ClashTest.{says, clashesAfter, line-exactly}
 
 module _ (p : Policy) (ok : Accepted p) where
   -- the search over the transitions is the search over the lines
   one-line : (done : Policy) (l : Line) (left : Policy) → firstClash p (gather transition done) (gather transition (l ∷ left))
       ≡ cond (clashesAfter p done l) (some (l .place)) (firstClash p (gather transition (done ++ (l ∷ []))) (gather transition left))
   unfolding clashesAfter gather firstClash
-  one-line done l left = by-line (l .says)
+  one-line done l left = by (transition l) refl
     where
-      by-line : (s : Statement) → let k : Line = record { place = l .place; says = s } in
-          firstClash p (gather transition done) (gather transition (k ∷ left))
-          ≡ cond (clashesAfter p done k) (some (k .place)) (firstClash p (gather transition (done ++ (k ∷ []))) (gather transition left))
-      by-line (declare d) = rw (gather-over transition done (record { place = l .place; says = declare d }) refl)
-      by-line (attributeset f a s) = rw (gather-over transition done (record { place = l .place; says = attributeset f a s }) refl)
-      by-line (gives k x y) = rw (gather-over transition done (record { place = l .place; says = gives k x y }) refl)
-      by-line (roletransition r t c n) =
-          let u : Transition = record { place = l .place; role = r; type = t; class = c; new = n } in
-          rw (gather-last transition done (record { place = l .place; says = roletransition r t c n }) u refl)
-          (chosen (any (clashes p u) (gather transition done)) (some (l .place)) (firstClash p (gather transition done ++ (u ∷ [])) (gather transition left)))
-      by-line (constrain c ps e) = rw (gather-over transition done (record { place = l .place; says = constrain c ps e }) refl)
+      by : (o : Option Transition) → transition l ≡ o → firstClash p (gather transition done) (keep o (gather transition left))
+          ≡ cond (says (λ t. any (clashes p t) (gather transition done)) o) (some (l .place))
+          (firstClash p (gather transition (done ++ (l ∷ []))) (gather transition left))
+      by none e = rw (gather-over transition done l e)
+      by (some t) e = rw (gather-last transition done l t e, ← transition-says (l .place) (l .says) .has t e .1)
+          (chosen (any (clashes p t) (gather transition done)) (some (t .place)) (firstClash p (gather transition done ++ (t ∷ [])) (gather transition left)))
 
   searched : (left done : Policy) → firstClash p (gather transition done) (gather transition left) ≡ firstOf (clashesAfter p) (λ l. l .place) done left
   unfolding firstOf gather firstClash

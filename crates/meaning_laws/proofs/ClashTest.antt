@@ -9,17 +9,18 @@ use mathlib.Core.Option.{Option, none, some, Option·none-ne-some, Option·some-
 use lib.Dec.{eqb}
 use borrow.Author.Tests.{eqb-true, eqb-false, eq-eqb, ne-eqb, not-true}
 use Rattle.policy.specs.Basics.{any, gather, keep}
-use Rattle.policy.specs.Statements.{Family, roles, types, Reference, Statement, declare, attributeset, gives, roletransition, constrain, Line, Policy}
+use Rattle.policy.specs.Statements.{Family, roles, types, Reference, Statement, Line, Policy}
 use Rattle.policy.specs.Statements.{declarations, Transition, transition}
 use Rattle.policy.specs.Meaning.{Set, stands, countIn}
 use Rattle.bitset.specs.Sets.{meet}
 use Rattle.policy.specs.Faults.{clashes}
 use Rattle.policy.specs.Accepted.{ReferenceIn, StatementIn, Accepted}
 use Rattle.policy.proofs.Lists.{both-true}
-use Rattle.meaning_laws.specs.Mentioning.{Some}
-use Rattle.meaning_laws.specs.Clashing.{Share, Clash, LinesClash}
+use Rattle.policy.proofs.ByKind.{transition-says}
+use Rattle.meaning_laws.specs.Mentions.{Some}
+use Rattle.meaning_laws.specs.Clashes.{Share, Clash, LinesClash}
 use Rattle.meaning_laws.proofs.ListLaws.{decided, from-either, or-right, or-says}
-use Rattle.meaning_laws.proofs.Counting.{lower}
+use Rattle.meaning_laws.proofs.CountLaws.{lower}
 use Rattle.meaning_laws.proofs.WithinDeclared.{stands-within}
 
 -- two sets meet below c
@@ -41,13 +42,7 @@ meet-back (suc c) f g h = from-either (f c && g c) (meet c f g) (λ e. let both 
 transition-declared : (p : Policy) (at : ℕ) (s : Statement) (t : Transition) → StatementIn (declarations p) s
     → transition (record { place = at; says = s }) ≡ some t
     → ReferenceIn (declarations p) roles (t .role) × ReferenceIn (declarations p) types (t .type)
-transition-declared p at (declare d) t h e = absurd (Option·none-ne-some t e)
-transition-declared p at (attributeset f a s) t h e = absurd (Option·none-ne-some t e)
-transition-declared p at (gives k x y) t h e = absurd (Option·none-ne-some t e)
-transition-declared p at (roletransition r y c n) t h e =
-    subst (λ (u : Transition). ReferenceIn (declarations p) roles (u .role) × ReferenceIn (declarations p) types (u .type))
-    (Option·some-injective (record { place = at; role = r; type = y; class = c; new = n }) t e) (h .0, h .1)
-transition-declared p at (constrain c ps e′) t h e = absurd (Option·none-ne-some t e)
+transition-declared p at s t h e = let k = subst (StatementIn (declarations p)) (transition-says at s .has t e .0) h in (k .0, k .1)
 
 -- what a test says of a value, if there is one
 abbrev pub says : {A : Type 0} → (A → Bool) → Option A → Bool

@@ -9,7 +9,7 @@ use Rattle.policy.specs.Statements.{Family, users, roles, types, Policy}
 use Rattle.policy.specs.Faults.{familyCycle, cycle}
 use Rattle.policy.specs.Basics.{orElse}
 use Rattle.policy.specs.Accepted.{Accepted}
-use Rattle.meaning_laws.specs.Mentioning.{Mentions, turn, CycleAt, NoCycle}
+use Rattle.meaning_laws.specs.Mentions.{Mentions, turn, CycleAt, NoCycle}
 use Rattle.meaning_laws.proofs.FamilyCycle.{CycleIn, none-acyclic, acyclic-none, some-cycle, cycle-some}
 
 module _ (p : Policy) (ok : Accepted p) where

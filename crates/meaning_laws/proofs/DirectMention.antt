@@ -3,20 +3,22 @@
 use Prim.Native.Nat.{ℕ, _<_}
 use mathlib.Core.Path.{_≡_, refl, sym, subst}
 use mathlib.Core.Logic.{_⊎_, inl, inr, _↔_}
-use mathlib.Core.Bool.{Bool, true, false, _&&_, cond, false≢true, or-false}
+use mathlib.Core.Bool.{Bool, true, false, _&&_, false≢true, or-false}
 use mathlib.Core.List.{List, [], _∷_, _++_}
 use mathlib.Core.Option.{Option, none, some}
 use lib.Dec.{eqb}
 use borrow.Author.Tests.{eq-eqb, eqb-true}
 use Rattle.bitset.specs.Relations.{joined}
-use Rattle.policy.specs.Basics.{any, each, keep, gather, isAmong}
+use Rattle.policy.specs.Basics.{any, _>>=_, given, each, keep, gather, isAmong}
 use Rattle.policy.specs.Statements.{Family, Reference, thing, attribute, SetExpr, nameS, allS, notS, andS, orS, xorS, unionS, emptyS, attributeOf, Declaration}
-use Rattle.policy.specs.Statements.{Statement, declare, attributeset, gives, roletransition, constrain, sameFamily, Line, Policy, count, declarations, setFor}
+use Rattle.policy.specs.Statements.{Statement, attributeset, AttributeSet, asSet, sameFamily, Line, Policy, count, declarations, setFor}
 use Rattle.policy.specs.Statements.{setsFor}
 use Rattle.policy.specs.Faults.{mentionsS, mentions, attributesIn}
 use Rattle.policy.specs.Accepted.{SetIn, StatementIn, Accepted}
 use Rattle.policy.proofs.Lists.{both-true, any-append}
-use Rattle.meaning_laws.specs.Mentioning.{MentionsS, SetMentions, MentionsDirectly, Mentions, directly, through}
+use Rattle.policy.proofs.IfAny.{IfAny}
+use Rattle.policy.proofs.ByKind.{set-says}
+use Rattle.meaning_laws.specs.Mentions.{MentionsS, MentionsIn, SetMentions, MentionsDirectly, Mentions, directly, through}
 use Rattle.meaning_laws.proofs.ListLaws.{or-says, some-of}
 use Rattle.policy.proofs.Sameness.{family-same, family-self}
 
@@ -56,19 +58,28 @@ unfolding joined each
 kept-mentions none ss = refl
 kept-mentions (some s) ss = refl
 
-line-mentions : (f : Family) (a b at : ℕ) (s : Statement) → SetMentions f a b s ↔ (isAmong b (mentionsO (setFor f a (record { place = at; says = s }))) ≡ true)
-line-mentions f a b at (declare d) = never b
-line-mentions f a b at (attributeset g c s) = (there, back (sameFamily f g && eqb a c) refl)
+-- an S that is given to an attribute is taken for attribute a where it is given to that one
+set-mentions : (f : Family) (a b : ℕ) (x : AttributeSet) → MentionsIn f a b (some x)
+    ↔ (isAmong b (mentionsO (given (sameFamily f (x .family) && eqb a (x .attribute)) (x .set))) ≡ true)
+set-mentions f a b x = (there, back (sameFamily f (x .family) && eqb a (x .attribute)) refl)
   where
-    there : (g ≡ f) × (c ≡ a) × MentionsS b s → isAmong b (mentionsO (setFor f a (record { place = at; says = attributeset g c s }))) ≡ true
-    there h = rw (h .0, h .1, family-self f, eq-eqb a a refl) (S-mentions b s .0 (h .2))
+    there : MentionsIn f a b (some x) → isAmong b (mentionsO (given (sameFamily f (x .family) && eqb a (x .attribute)) (x .set))) ≡ true
+    there h = rw (h .0, h .1, family-self f, eq-eqb a a refl) (S-mentions b (x .set) .0 (h .2))
 
-    back : (t : Bool) → (sameFamily f g && eqb a c) ≡ t → isAmong b (mentionsO (cond t (some s) none)) ≡ true → (g ≡ f) × (c ≡ a) × MentionsS b s
-    back true e h = let both = both-true (sameFamily f g) (eqb a c) e in (sym (family-same f g (both .0)), sym (eqb-true a c (both .1)), S-mentions b s .1 h)
+    back : (t : Bool) → (sameFamily f (x .family) && eqb a (x .attribute)) ≡ t → isAmong b (mentionsO (given t (x .set))) ≡ true
+        → MentionsIn f a b (some x)
+    back true e h =
+        let both = both-true (sameFamily f (x .family)) (eqb a (x .attribute)) e in
+        (sym (family-same f (x .family) (both .0)), sym (eqb-true a (x .attribute) (both .1)), S-mentions b (x .set) .1 h)
     back false e h = absurd (never b .1 h)
-line-mentions f a b at (gives k x y) = never b
-line-mentions f a b at (roletransition r t c n) = never b
-line-mentions f a b at (constrain c ps e) = never b
+
+line-mentions : (f : Family) (a b at : ℕ) (s : Statement) → SetMentions f a b s ↔ (isAmong b (mentionsO (setFor f a (record { place = at; says = s }))) ≡ true)
+line-mentions f a b at s = by (asSet s)
+  where
+    by : (o : Option AttributeSet) → MentionsIn f a b o
+        ↔ (isAmong b (mentionsO (o >>= λ x. given (sameFamily f (x .family) && eqb a (x .attribute)) (x .set))) ≡ true)
+    by none = never b
+    by (some x) = set-mentions f a b x
 
 -- THE LIST OF MENTIONS holds exactly what the lines mention
 pub mentions-exactly : (p : Policy) (f : Family) (a b : ℕ) → MentionsDirectly p f a b ↔ (isAmong b (mentions p f a) ≡ true)
@@ -100,9 +111,15 @@ module _ (p : Policy) (f : Family) (ok : Accepted p) where
     where
       by-line : (s : Statement) → SetMentions f a b s → StatementIn (declarations p) s
           → (a < count (attributeOf f) (declarations p)) × (b < count (attributeOf f) (declarations p))
-      by-line (attributeset g c s) h e =
-          let e′ : (a < count (attributeOf f) (declarations p)) × SetIn (declarations p) f s = rw (← h .0, ← h .1) e in
-          (e′ .0, S-declared (declarations p) f b s (e′ .1) (h .2))
+      by-line s h e = by (asSet s) (set-says s) h
+        where
+          by : (o : Option AttributeSet) → IfAny (λ x. s ≡ attributeset (x .family) (x .attribute) (x .set)) o
+              → MentionsIn f a b o → (a < count (attributeOf f) (declarations p)) × (b < count (attributeOf f) (declarations p))
+          by none k h = absurd h
+          by (some x) k h =
+              let i = subst (StatementIn (declarations p)) (k .has x refl) e in
+              let j : (a < count (attributeOf f) (declarations p)) × SetIn (declarations p) f (x .set) = rw (← h .0, ← h .1) i in
+              (j .0, S-declared (declarations p) f b (x .set) (j .1) (h .2))
 
   pub mentions-declared : {a b : ℕ} → Mentions p f a b → (a < attributesIn p f) × (b < attributesIn p f)
   mentions-declared (directly {a} {b} h) = direct-declared a b h

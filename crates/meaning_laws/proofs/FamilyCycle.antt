@@ -11,11 +11,11 @@ use lib.ListN.{length, length-append}
 use Rattle.policy.specs.Statements.{Family, Policy}
 use Rattle.policy.specs.Faults.{attributesIn, onCycle, places, firstCycle, familyCycle}
 use Rattle.policy.specs.Accepted.{Accepted}
-use Rattle.meaning_laws.specs.Mentioning.{Mentions, DeclaredAt}
+use Rattle.meaning_laws.specs.Mentions.{Mentions, DeclaredAt}
 use Rattle.meaning_laws.proofs.ListLaws.{decided, chosen}
 use Rattle.meaning_laws.proofs.FirstOf.{firstOf, first-exactly, none-exactly, cut-at}
 use Rattle.meaning_laws.proofs.DirectMention.{mentions-declared}
-use Rattle.meaning_laws.proofs.Reaching.{on-cycle-exactly}
+use Rattle.meaning_laws.proofs.Reachability.{on-cycle-exactly}
 use Rattle.meaning_laws.proofs.AttributePlaces.{as-many, place-declared, declared-place}
 
 module _ (p : Policy) (f : Family) (ok : Accepted p) where

@@ -1,10 +1,10 @@
 pub mod ListLaws
-pub mod Counting
-pub mod Splitting
+pub mod CountLaws
+pub mod GatherLaws
 pub mod FirstOf
 pub mod WithinDeclared
 pub mod DirectMention
-pub mod Reaching
+pub mod Reachability
 pub mod AttributePlaces
 pub mod FamilyCycle
 pub mod CyclePlace

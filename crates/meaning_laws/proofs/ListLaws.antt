@@ -8,7 +8,7 @@ use mathlib.Core.Option.{Option, none, some}
 use lib.Dec.{eqb}
 use borrow.Author.Tests.{eq-eqb, eqb-true}
 use Rattle.policy.specs.Basics.{any, gather, keep, isAmong, All}
-use Rattle.meaning_laws.specs.Mentioning.{Some}
+use Rattle.meaning_laws.specs.Mentions.{Some}
 
 pub decided : (t : Bool) → (t ≡ true) ⊎ (t ≡ false)
 decided true = inl refl

@@ -12,9 +12,9 @@ use Rattle.policy.specs.Basics.{any, isAmong}
 use Rattle.policy.specs.Statements.{Family, Policy, attributeOf, declarations}
 use Rattle.policy.specs.Faults.{mentions, attributesIn}
 use Rattle.policy.specs.Accepted.{Accepted}
-use Rattle.meaning_laws.specs.Mentioning.{MentionsDirectly, Mentions, directly, through}
+use Rattle.meaning_laws.specs.Mentions.{MentionsDirectly, Mentions, directly, through}
 use Rattle.meaning_laws.proofs.ListLaws.{decided, from-either, any-none}
-use Rattle.meaning_laws.proofs.Counting.{amongBelow, one-joins}
+use Rattle.meaning_laws.proofs.CountLaws.{amongBelow, one-joins}
 use Rattle.meaning_laws.proofs.DirectMention.{mentions-exactly, direct-declared}
 use Rattle.policy.proofs.Counts.{few-of}
 use Rattle.bitset.proofs.CountLaws.{countBelow-le}

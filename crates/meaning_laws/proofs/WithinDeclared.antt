@@ -1,21 +1,23 @@
 -- Every final set, and what all lines of a relation together give, stays within the things that the text declares: by induction on how
 -- deep the attributes are nested, then on the form of S. Assumes nothing.
 use Prim.Native.Nat.{ℕ, zero, suc, _<_}
-use mathlib.Core.Path.{_≡_, refl, sym, subst}
+use mathlib.Core.Path.{_≡_, refl, sym, subst, _∙_}
 use mathlib.Core.Bool.{Bool, true, false, not, _&&_, _||_, false≢true}
 use mathlib.Core.List.{List}
-use mathlib.Core.Option.{some, Option·none-ne-some}
+use mathlib.Core.Option.{Option, none, some, Option·none-ne-some}
 use lib.Dec.{eqb, ltb}
 use borrow.Author.Tests.{eqb-true, ltb-true}
 use Rattle.policy.specs.Statements.{Family, Reference, thing, attribute, SetExpr, nameS, allS, notS, andS, orS, xorS, unionS, emptyS, thingOf, Declaration}
-use Rattle.policy.specs.Statements.{Statement, declare, attributeset, gives, roletransition, constrain, Relation, fromOf, toOf, sameFamily, Line, Policy, count}
+use Rattle.policy.specs.Statements.{Statement, attributeset, AttributeSet, asSet, gives, Gives, asGives, Relation, fromOf, toOf, sameFamily, Line, Policy, count}
 use Rattle.policy.specs.Statements.{declarations, setFor, setsFor}
 use Rattle.policy.specs.Meaning.{Set, standsIn, oneOf, ofS, countIn, unionOf, nested, final, stands, sameRelation, lineGives, related}
-use Rattle.policy.specs.Basics.{All}
+use Rattle.policy.specs.Basics.{_>>=_, given, All}
 use Rattle.policy.specs.Accepted.{ReferenceIn, SetIn, StatementIn, Accepted}
 use Rattle.policy.proofs.Lists.{both-true}
 use Rattle.policy.proofs.Sameness.{family-same, relation-same}
 use Rattle.policy.proofs.Options.{given-some}
+use Rattle.policy.proofs.IfAny.{IfAny}
+use Rattle.policy.proofs.ByKind.{set-says, gives-says}
 use Rattle.meaning_laws.proofs.ListLaws.{from-either, any-of, all-gathered}
 
 -- S names only what is declared, and the attributes' sets stay within it: so does S
@@ -55,16 +57,15 @@ module _ (ds : List Declaration) (f : Family) where
 -- a line whose S is taken for attribute a is a statement for it
 pub line-of-set : (f : Family) (a at : ℕ) (s : Statement) (x : SetExpr Reference)
     → setFor f a (record { place = at; says = s }) ≡ some x → s ≡ attributeset f a x
-line-of-set f a at (declare d) x h = absurd (Option·none-ne-some x h)
-line-of-set f a at (attributeset g b y) x h = go (given-some (sameFamily f g && eqb a b) y x h)
+line-of-set f a at s x h = by (asSet s) (set-says s) h
   where
-    go : ((sameFamily f g && eqb a b) ≡ true) × (y ≡ x) → attributeset g b y ≡ attributeset f a x
-    go e =
-        let both = both-true (sameFamily f g) (eqb a b) (e .0) in
-        rw (family-same f g (both .0), eqb-true a b (both .1), e .1)
-line-of-set f a at (gives k y z) x h = absurd (Option·none-ne-some x h)
-line-of-set f a at (roletransition r t c n) x h = absurd (Option·none-ne-some x h)
-line-of-set f a at (constrain c ps e) x h = absurd (Option·none-ne-some x h)
+    by : (o : Option AttributeSet) → IfAny (λ y. s ≡ attributeset (y .family) (y .attribute) (y .set)) o
+        → (o >>= λ y. given (sameFamily f (y .family) && eqb a (y .attribute)) (y .set)) ≡ some x → s ≡ attributeset f a x
+    by none k e = absurd (Option·none-ne-some x e)
+    by (some y) k e =
+        let told = given-some (sameFamily f (y .family) && eqb a (y .attribute)) (y .set) x e in
+        let both = both-true (sameFamily f (y .family)) (eqb a (y .attribute)) (told .0) in
+        k .has y refl ∙ rw (family-same f (y .family) (both .0), eqb-true a (y .attribute) (both .1), told .1)
 
 module _ (p : Policy) (ok : Accepted p) where
   -- each statement for attribute a names only what is declared
@@ -98,16 +99,16 @@ module _ (p : Policy) (ok : Accepted p) where
   unfolding related
   related-within k x y h =
       let found = any-of (λ (l : Line). StatementIn (declarations p) (l .says)) (lineGives (stands p) k x y) p (ok .statements) h in
-      by-line (found .0 .place) (found .0 .says) (found .1) (found .2)
+      by (found .0 .says) (found .1) (asGives (found .0 .says)) (gives-says (found .0 .says)) (found .2)
     where
-      by-line : (at : ℕ) (s : Statement) → StatementIn (declarations p) s → lineGives (stands p) k x y (record { place = at; says = s }) ≡ true
+      by : (s : Statement) → StatementIn (declarations p) s → (o : Option Gives) → IfAny (λ g. s ≡ gives (g .relation) (g .from) (g .to)) o
+          → elim o [ none ↦ false | some g ↦ sameRelation k (g .relation) && (stands p (fromOf k) (g .from) x && stands p (toOf k) (g .to) y) ] ≡ true
           → (x < countIn p (fromOf k)) × (y < countIn p (toOf k))
-      by-line at (declare d) h e = absurd (false≢true e)
-      by-line at (attributeset g b s) h e = absurd (false≢true e)
-      by-line at (gives j a b) h e =
-          let told = both-true (sameRelation k j) (stands p (fromOf k) a x && stands p (toOf k) b y) e in
-          let both = both-true (stands p (fromOf k) a x) (stands p (toOf k) b y) (told .1) in
-          let names : ReferenceIn (declarations p) (fromOf k) a × ReferenceIn (declarations p) (toOf k) b = rw (relation-same k j (told .0)) h in
-          (stands-within (fromOf k) a x (names .0) (both .0), stands-within (toOf k) b y (names .1) (both .1))
-      by-line at (roletransition r t c n) h e = absurd (false≢true e)
-      by-line at (constrain c ps e′) h e = absurd (false≢true e)
+      by s h none i e = absurd (false≢true e)
+      by s h (some g) i e =
+          let told = both-true (sameRelation k (g .relation)) (stands p (fromOf k) (g .from) x && stands p (toOf k) (g .to) y) e in
+          let both = both-true (stands p (fromOf k) (g .from) x) (stands p (toOf k) (g .to) y) (told .1) in
+          let said = subst (StatementIn (declarations p)) (i .has g refl) h in
+          let names : ReferenceIn (declarations p) (fromOf k) (g .from) × ReferenceIn (declarations p) (toOf k) (g .to)
+          = rw (relation-same k (g .relation) (told .0)) said in
+          (stands-within (fromOf k) (g .from) x (names .0) (both .0), stands-within (toOf k) (g .to) y (names .1) (both .1))

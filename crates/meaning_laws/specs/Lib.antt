@@ -1,2 +1,2 @@
-pub mod Mentioning
-pub mod Clashing
+pub mod Mentions
+pub mod Clashes

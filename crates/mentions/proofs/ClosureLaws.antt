@@ -22,11 +22,11 @@ use Rattle.policy.specs.Faults.{mentions, attributesIn, onCycle}
 use Rattle.policy.specs.Accepted.{Accepted}
 use Rattle.policy.proofs.Lists.{both-true, true-both, same-tests}
 use Rattle.set_code.specs.Evaluation.{setsIn}
-use Rattle.meaning_laws.specs.Mentioning.{Mentions, directly, through}
+use Rattle.meaning_laws.specs.Mentions.{Mentions, directly, through}
 use Rattle.meaning_laws.proofs.ListLaws.{decided, or-left, or-right, from-either}
-use Rattle.meaning_laws.proofs.Counting.{lower}
+use Rattle.meaning_laws.proofs.CountLaws.{lower}
 use Rattle.meaning_laws.proofs.DirectMention.{mentions-exactly, mentions-declared}
-use Rattle.meaning_laws.proofs.Reaching.{on-cycle-exactly}
+use Rattle.meaning_laws.proofs.Reachability.{on-cycle-exactly}
 use Rattle.mentions.specs.Closure.{columnOf, throughOf, closedOf}
 use Rattle.code_reader.proofs.Numbers.{few-attributes}
 use Rattle.code_reader.proofs.RowLaws.{sets-in}

@@ -1,5 +1,5 @@
 pub mod TestLaws
 pub mod ColumnLaws
 pub mod ClosureLaws
-pub mod Collecting
-pub mod Seeking
+pub mod OperandAttributes
+pub mod CycleSearch

@@ -1,5 +1,5 @@
 pub mod CandidateLaws
 pub mod TryLaws
 pub mod FindLaws
-pub mod Entering
-pub mod Starting
+pub mod NewEntry
+pub mod EmptyChains

@@ -16,7 +16,7 @@ use Rattle.symbols.specs.declared.Entry.{Entry}
 use Rattle.symbols.specs.declared.Found.{Found}
 use Rattle.symbols.proofs.SameLaws.{same-length}
 use Rattle.symbols.proofs.FindLaws.{ahead}
-use Rattle.symbols.proofs.Searching.{own-entry}
+use Rattle.symbols.proofs.SearchLaws.{own-entry}
 use Rattle.name_chains.specs.Compared.{isCandidate, comparedIn, TriedIn}
 use Rattle.name_chains.specs.Chains.{howMany, firstCandidate, Nth}
 use Rattle.name_chains.proofs.CandidateLaws.{candidate-is, none-many}

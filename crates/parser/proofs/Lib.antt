@@ -1,5 +1,5 @@
-pub mod Resuming
-pub mod Turning
-pub mod Running
-pub mod Stating
-pub mod Entering
+pub mod RestOfText
+pub mod LoopInvariant
+pub mod StatementRuns
+pub mod OneStatement
+pub mod BlockHeaders

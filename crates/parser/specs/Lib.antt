@@ -1,4 +1,4 @@
-pub mod Parsing
+pub mod Parses
 pub mod Parts
-pub mod Left
+pub mod Remaining
 pub mod Runs

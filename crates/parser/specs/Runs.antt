@@ -13,8 +13,8 @@ use Rattle.block_reader.specs.Within.{noneOpen}
 use Rattle.block_reader.specs.declared.OpenBlocks.{OpenBlocks}
 use Rattle.statement_reader.specs.Memory.{Memory}
 use Rattle.statement_reader.specs.declared.Progress.{Progress}
-use Rattle.parser.specs.Left.{whole, Rest}
-use Rattle.parser.specs.Parsing.{Reads}
+use Rattle.parser.specs.Remaining.{whole, Rest}
+use Rattle.parser.specs.Parses.{Reads}
 use Rattle.parser.specs.Parts.{behindOf}
 use Rattle.parser.specs.declared.Parsed.{Parsed}
 use Rattle.parser.specs.declared.Run.{Run}

@@ -4,8 +4,6 @@ use block_reader::BLOCKS;
 use block_reader::FILTER;
 use block_reader::OpenBlocks;
 use block_reader::Opened;
-use constrain_statement::CONSTRAINTS_BYTES;
-use constrain_statement::ROWS_BYTES;
 use declarations::SYMBOL_BYTES;
 use grammar::Header;
 use items::Item;
@@ -13,6 +11,8 @@ use lexer::Text;
 use policy::Refusal;
 use statement_reader::CODE_UNITS;
 use statement_reader::Progress;
+use statement_reader::RECORD_BYTES;
+use statement_reader::ROW_BYTES;
 use statement_reader::Step;
 ghost use mathlib.Core.Path.{_≡_};
 ghost use mathlib.Core.Bool.{_&&_};
@@ -21,7 +21,7 @@ ghost use lib.ListN.{length};
 ghost use Prim.Native.Nat.{ℕ, _<_};
 ghost use Rattle.items.specs.Looks.{itemAt};
 ghost use Rattle.statement_reader.specs.Memory.{memory};
-ghost use Rattle.parser.specs.Parsing.{Parses, ParsesCleared};
+ghost use Rattle.parser.specs.Parses.{Parses, ParsesCleared};
 ghost use Rattle.parser.specs.Parts.{States, Enters, behindOf};
 ghost use Rattle.parser.specs.Runs.{Runs, ParsesAfter};
 ghost use Rattle.statement_reader.specs.Steps.{nothingRead};
@@ -76,15 +76,15 @@ fn place_unit(place: usize) -> u16
 // Whether the lent memory is as long as the text's maximum and the maxima of constraints and rows ask. It always is,
 // by its types; the proof of `read` learns the lengths where the arrays are lent as slices here.
 fn has_room(code: &[u16], constraints: &[u8], rows: &[u8]) -> bool
-    ensures { λ r. ⌜ r ≡ (leb 65536 (length (now (code .entry))) && leb 1280 (length (now (constraints .entry))) && leb 12288 (length (now (rows .entry)))) ⌝ }
+    ensures { λ r. ⌜ r ≡ (leb 65536 (length (now (code .entry))) && leb 1536 (length (now (constraints .entry))) && leb 18432 (length (now (rows .entry)))) ⌝ }
 {
     if code.len() < CODE_UNITS {
         return false;
     }
-    if constraints.len() < CONSTRAINTS_BYTES {
+    if constraints.len() < RECORD_BYTES {
         return false;
     }
-    ROWS_BYTES <= rows.len()
+    ROW_BYTES <= rows.len()
 }
 
 // The progress before the first statement.
@@ -97,6 +97,8 @@ fn nothing_read() -> Progress
         transitions: 0,
         constraints: 0,
         rows: 0,
+        relabels: 0,
+        relabel_rows: 0,
     }
 }
 
@@ -107,8 +109,8 @@ fn read(
     place: usize,
     symbols: &mut [u8; SYMBOL_BYTES],
     code: &mut [u16; CODE_UNITS],
-    constraints: &mut [u8; CONSTRAINTS_BYTES],
-    rows: &mut [u8; ROWS_BYTES],
+    constraints: &mut [u8; RECORD_BYTES],
+    rows: &mut [u8; ROW_BYTES],
     progress: Progress,
 ) -> Stated
     ensures { λ r. ⌜ ((at : ℕ) → first ≡ itemAt (now (text .entry)) at → States (now (text .entry)) at place
@@ -147,15 +149,15 @@ fn enter(
     symbols: &mut [u8; SYMBOL_BYTES],
     keys: &mut [u64; BLOCKS],
     filter: &mut [u64; FILTER],
-    stand: OpenBlocks,
+    state: OpenBlocks,
 ) -> Entered
-    ensures { λ r. ⌜ Enters (now (text .entry)) at (now (keys .entry)) (now (keys .exit)) (now (filter .entry)) (now (filter .exit)) (now (symbols .entry)) (now (symbols .exit)) stand r ⌝ }
+    ensures { λ r. ⌜ Enters (now (text .entry)) at (now (keys .entry)) (now (keys .exit)) (now (filter .entry)) (now (filter .exit)) (now (symbols .entry)) (now (symbols .exit)) state r ⌝ }
 {
     let header = grammar::block_form(text, at);
     let Header::Name { start, len } = header else {
         return Entered::Fault(Refusal::NO_FORM);
     };
-    let opened = block_reader::open_block(text, start, len, symbols, keys, filter, stand);
+    let opened = block_reader::open_block(text, start, len, symbols, keys, filter, state);
     match opened {
         Opened::Read(further) => Entered::Inside(start + len, further),
         Opened::Fault(number) => Entered::Fault(number),
@@ -181,8 +183,8 @@ fn read_statements(
     start: usize,
     symbols: &mut [u8; SYMBOL_BYTES],
     code: &mut [u16; CODE_UNITS],
-    constraints: &mut [u8; CONSTRAINTS_BYTES],
-    rows: &mut [u8; ROWS_BYTES],
+    constraints: &mut [u8; RECORD_BYTES],
+    rows: &mut [u8; ROW_BYTES],
     before: Progress,
 ) -> Run
     ensures { λ r. ⌜ Runs (now (text .entry)) start
@@ -234,8 +236,8 @@ fn parse_blocks(
     first: Run,
     symbols: &mut [u8; SYMBOL_BYTES],
     code: &mut [u16; CODE_UNITS],
-    constraints: &mut [u8; CONSTRAINTS_BYTES],
-    rows: &mut [u8; ROWS_BYTES],
+    constraints: &mut [u8; RECORD_BYTES],
+    rows: &mut [u8; ROW_BYTES],
 ) -> Parsed
     ensures { λ r. ⌜ ParsesAfter (now (text .entry)) first
         (memory (now (symbols .entry)) (now (code .entry)) (now (constraints .entry)) (now (rows .entry)))
@@ -284,8 +286,8 @@ fn parse_cleared(
     text: &[u8],
     symbols: &mut [u8; SYMBOL_BYTES],
     code: &mut [u16; CODE_UNITS],
-    constraints: &mut [u8; CONSTRAINTS_BYTES],
-    rows: &mut [u8; ROWS_BYTES],
+    constraints: &mut [u8; RECORD_BYTES],
+    rows: &mut [u8; ROW_BYTES],
 ) -> Parsed
     ensures { λ r. ⌜ ParsesCleared (now (text .entry))
         (memory (now (symbols .entry)) (now (code .entry)) (now (constraints .entry)) (now (rows .entry)))
@@ -312,8 +314,8 @@ pub fn parse(
     text: &[u8],
     symbols: &mut [u8; SYMBOL_BYTES],
     code: &mut [u16; CODE_UNITS],
-    constraints: &mut [u8; CONSTRAINTS_BYTES],
-    rows: &mut [u8; ROWS_BYTES],
+    constraints: &mut [u8; RECORD_BYTES],
+    rows: &mut [u8; ROW_BYTES],
 ) -> Parsed
     ensures { λ r. ⌜ Parses (now (text .entry))
         (memory (now (symbols .entry)) (now (code .entry)) (now (constraints .entry)) (now (rows .entry)))

@@ -4,7 +4,7 @@ use mathlib.Core.Bool.{false}
 use mathlib.Core.List.{[]}
 use mathlib.Core.Option.{none}
 use Rattle.lexer.specs.Forms.{Forms, closed, ended, word, part}
-use Rattle.policy.specs.Statements.{Written, plain, class, declare, attributeset, gives, roletransition, constrain}
+use Rattle.policy.specs.Statements.{Written, plain, class, declare, attributeset, gives, roletransition, constrain, validatetrans}
 use Rattle.policy.specs.Grammar.{isBlock, blockIn}
 use Rattle.policy.specs.Names.{full}
 use Rattle.policy.specs.Reading.{inBlocks}
@@ -25,3 +25,4 @@ in-no-blocks (attributeset f a s) = refl
 in-no-blocks (gives r x y) = refl
 in-no-blocks (roletransition r t c n) = refl
 in-no-blocks (constrain c ps e) = refl
+in-no-blocks (validatetrans c e) = refl

@@ -4,6 +4,7 @@ pub mod Sameness
 pub mod Gathered
 pub mod Good
 pub mod IfAny
+pub mod ByKind
 pub mod Counts
 pub mod Differing
 pub mod Environments
@@ -14,3 +15,4 @@ pub mod BlockLaws
 pub mod Sorts
 pub mod RowCounts
 pub mod Outcomes
+pub mod SameQuestions

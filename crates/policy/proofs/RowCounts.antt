@@ -4,7 +4,7 @@ use native.Mathlib.Omega.{arith}
 use mathlib.Core.Path.{_≡_, refl}
 use mathlib.Core.List.{List, [], _∷_, _++_}
 use lib.ListN.{length, length-append}
-use Rattle.policy.specs.Statements.{Reference, Constraint, sidesE, nameE, notE, andE, orE, Constrain, size}
+use Rattle.policy.specs.Statements.{Reference, Constraint, sidesE, nameE, notE, andE, orE, size}
 use Rattle.policy.specs.Reading.{rowCount}
 use Rattle.policy.specs.Rows.{rowsOf}
 
@@ -17,8 +17,8 @@ rows-count (notE a) = simp (length-append, rows-count a) (omega arith)
 rows-count (andE a b) = simp (length-append, rows-count a, rows-count b) (omega arith)
 rows-count (orE a b) = simp (length-append, rows-count a, rows-count b) (omega arith)
 
--- one constraint more
-pub rows-last : (xs : List Constrain) (c : Constrain) → rowCount (xs ++ (c ∷ [])) ≡ rowCount xs + size (c .body)
+-- one statement more
+pub rows-last : {A : Type 0} (body : A → Constraint Reference) (xs : List A) (c : A) → rowCount body (xs ++ (c ∷ [])) ≡ rowCount body xs + size (body c)
 unfolding rowCount
-rows-last [] c = omega arith
-rows-last (x ∷ xs) c = omega (arith, rows-last xs c)
+rows-last body [] c = omega arith
+rows-last body (x ∷ xs) c = omega (arith, rows-last body xs c)

@@ -3,7 +3,7 @@ use mathlib.Core.Path.{_≡_, refl, sym, ap, _∙_}
 use mathlib.Core.Option.{some, Option·some-injective}
 use Prim.Native.Nat.{_≤_, _<_}
 use native.Mathlib.Omega.{arith}
-use Rattle.policy.specs.Statements.{Family, users, roles, types, Side, source, target, Sort, thingOf, attributeOf}
+use Rattle.policy.specs.Statements.{Family, users, roles, types, Side, source, target, process, Sort, thingOf, attributeOf}
 use Rattle.policy.specs.Maxima.{maxOf}
 use Rattle.policy.specs.Encode.{sortCode}
 use Rattle.policy.specs.Rows.{compCode}
@@ -48,6 +48,9 @@ comp-family roles source = refl
 comp-family roles target = refl
 comp-family types source = refl
 comp-family types target = refl
+comp-family users process = refl
+comp-family roles process = refl
+comp-family types process = refl
 
 -- "types 512", and of no other sort are there more
 pub max-small : (s : Sort) → maxOf s ≤ 512

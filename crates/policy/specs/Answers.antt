@@ -3,6 +3,7 @@ use Prim.Native.Nat.{ℕ}
 use mathlib.Core.Bool.{Bool, true, false}
 use Rattle.policy.specs.declared.Family as theFamily
 use Rattle.policy.specs.declared.Relation as theRelation
+use Rattle.policy.specs.declared.Sides as theSides
 use Rattle.policy.specs.declared.Refusal as theRefusal
 use Rattle.policy.specs.declared.Compiling.{Compiling}
 use Rattle.policy.specs.declared.Validity.{Validity}
@@ -10,6 +11,7 @@ use Rattle.policy.specs.declared.Change.{Change}
 use Rattle.policy.specs.declared.NewRole.{NewRole}
 use Rattle.policy.specs.declared.Place.{Place}
 use Rattle.policy.specs.Statements.{Family, users, roles, types, Relation, userrole, roletype, roleallow}
+use Rattle.policy.specs.Words.{Sides, twoSides, threeSides}
 use Rattle.policy.specs.Deciding.{Answer, granted, denied, fails, refuses, unconsulted, Reply, answered, refused}
 use Rattle.policy.specs.Outcome.{Refusal, refusalAt, Outcome, accepted, rejected}
 use Rattle.policy.specs.Questions.{Part}
@@ -18,6 +20,11 @@ abbrev pub familyOf : theFamily.Family → Family
 familyOf theFamily.Family.Users = users
 familyOf theFamily.Family.Roles = roles
 familyOf theFamily.Family.Types = types
+
+-- which sides an E may name
+abbrev pub sidesOf : theSides.Sides → Sides
+sidesOf theSides.Sides.Two = twoSides
+sidesOf theSides.Sides.Three = threeSides
 
 -- "`(userrole U R)`, `(roletype R T)`, `(roleallow R R)`"
 abbrev pub relationOf : theRelation.Relation → Relation
@@ -41,11 +48,11 @@ validityOf Validity.NotValid = answered false
 validityOf (Validity.Refused n) = refused n 0
 
 -- "Denials in order: 1 source not valid; 2 target not valid; 3 ..; 4 the first failing constraint, with its number"; the number consulted is "0 for denials 1
--- to 3 and for refusals"
+-- to 3 and for refusals"; W-205: "denials 1 old, 2 new, 5 process not valid, 6 with the first failing statement's number"
 abbrev pub changeOf : Change → Answer
 changeOf (Change.Granted k) = record { verdict = granted; consulted = k }
 changeOf (Change.Denied n) = unconsulted (denied n)
-changeOf (Change.Failed i k) = record { verdict = fails 4 i; consulted = k }
+changeOf (Change.Failed n i k) = record { verdict = fails n i; consulted = k }
 changeOf (Change.Refused n) = unconsulted (refuses n 0)
 
 abbrev pub newRoleOf : NewRole → Reply ℕ
@@ -53,5 +60,5 @@ newRoleOf (NewRole.Role r) = answered r
 newRoleOf (NewRole.Refused n) = refused n 0
 
 abbrev pub placeOf : Place → Reply Part
-placeOf (Place.Part s n) = answered (record { start = s; long = n })
+placeOf (Place.Part s n) = answered (record { start = s; size = n })
 placeOf (Place.Refused n) = refused n 0

@@ -9,10 +9,11 @@ use Rattle.lexer.specs.Scan.{scanFrom, scan}
 use Rattle.lexer.specs.Token.{tokensFrom, tokensAt, tokens, tokenAt}
 use Rattle.policy.specs.Basics.{same, any, every, each, eachOf, gather, isIn, isAmong, differ, indexOf, lookup, le, unle}
 use Rattle.policy.specs.Statements.{namesOf, familyNames, classNames, permissions, count as count-of-Statements, declarations, setsFor}
-use Rattle.policy.specs.Statements.{transitions, constrains, size, need}
+use Rattle.policy.specs.Statements.{transitions, constrains, relabels, size, need}
 use Rattle.policy.specs.Meaning.{ofS, countIn, unionOf as unionOf-of-Meaning, nested, final, stands, related, holds}
 use Rattle.policy.specs.Deciding.{isObject, validBy, firstFailing, decide, declaredContext, declaredQuestion, asksRole, mayBecome, ruledBy}
-use Rattle.policy.specs.Answer.{answer}
+use Rattle.policy.specs.Deciding.{decideRelabel, declaredRelabel, ruledRelabel}
+use Rattle.policy.specs.Answer.{answer, relabelAnswer}
 use Rattle.policy.specs.Words.{reserved, isReserved, dotless, keywordOf, setWord, expressionWord, opOf, componentOf}
 use Rattle.policy.specs.Grammar.{operandRow, operands, setIn, expressions, expressionIn, rowOf, partsAlone}
 use Rattle.policy.specs.Names.{full, outward, tries, firstHit, firstFrom, environmentOf, refer, numberIn}
@@ -24,9 +25,9 @@ use Rattle.policy.specs.Rows.{rowsOf, run, balanced as balanced-of-Rows}
 use Rattle.policy.specs.Image.{maskOf as maskOf-of-Image, imageOf}
 use Rattle.policy.specs.Encode.{permissionEntries, entriesFrom, entries, headsFrom, bodies, pairs, encode}
 use Rattle.policy.specs.Sound.{goodFrom, wellFormed, bodyLengths, splitBodies, bodiesIn, pieces, entriesIn, group, sameNumbers, namesAt}
-use Rattle.policy.specs.Sound.{assignRows, imageIn}
-use Rattle.policy.specs.Questions.{valid, change, firstTransition, newRole, nameFrom, nameOf, recordFrom, entryOf, validOn, newRoleOn, nameOn}
-use Rattle.policy.specs.Questions.{entryOn, changeOn}
+use Rattle.policy.specs.Sound.{assignRows, assignRelabels, imageIn}
+use Rattle.policy.specs.Questions.{valid, change, relabel, firstTransition, newRole, nameFrom, nameOf, recordFrom, entryOf, validOn, newRoleOn}
+use Rattle.policy.specs.Questions.{nameOn, entryOn, changeOn, relabelOn}
 use Rattle.policy.specs.Outcome.{accept, policyOf, compiled, lineFeeds, refusalOf, outcome, after}
 use Rattle.policy.specs.Roll.{digits, rollLines, rollOf, printed}
 
@@ -36,12 +37,13 @@ unfolding bit member fromBits tabulate setOf countBelow allBelow meet inserted r
     copyOf emptied complementOf within meets equal count bitByte maskOf joined relation granted classOf allGoOn isPart allParts parts
     hasGoodParts isName build framesAt formsOf trim closes balanced namesGood scanFrom scan tokensFrom tokensAt tokens tokenAt same any every
     each eachOf gather isIn isAmong differ indexOf lookup le unle namesOf familyNames classNames permissions count-of-Statements declarations
-    setsFor transitions constrains size need ofS countIn unionOf-of-Meaning nested final stands related holds isObject validBy firstFailing
-    decide declaredContext declaredQuestion asksRole mayBecome ruledBy answer reserved isReserved dotless keywordOf setWord expressionWord opOf
-    componentOf operandRow operands setIn expressions expressionIn rowOf partsAlone full outward tries firstHit firstFrom environmentOf refer
-    numberIn scopedIn blocksIn referS referE rowCount judge readFrom readPolicy mentionsS mentions attributesIn below mentionedBy reach onCycle
-    places firstCycle cycle clashes firstClash clash rowsOf run balanced-of-Rows maskOf-of-Image imageOf permissionEntries entriesFrom entries
-    headsFrom bodies pairs encode goodFrom wellFormed bodyLengths splitBodies bodiesIn pieces entriesIn group sameNumbers namesAt assignRows
-    imageIn valid change firstTransition newRole nameFrom nameOf recordFrom entryOf validOn newRoleOn nameOn entryOn changeOn accept policyOf
-    compiled lineFeeds refusalOf outcome after digits rollLines rollOf printed
+    setsFor transitions constrains relabels size need ofS countIn unionOf-of-Meaning nested final stands related holds isObject validBy
+    firstFailing decide declaredContext declaredQuestion asksRole mayBecome ruledBy decideRelabel declaredRelabel ruledRelabel answer
+    relabelAnswer reserved isReserved dotless keywordOf setWord expressionWord opOf componentOf operandRow operands setIn expressions
+    expressionIn rowOf partsAlone full outward tries firstHit firstFrom environmentOf refer numberIn scopedIn blocksIn referS referE rowCount
+    judge readFrom readPolicy mentionsS mentions attributesIn below mentionedBy reach onCycle places firstCycle cycle clashes firstClash clash
+    rowsOf run balanced-of-Rows maskOf-of-Image imageOf permissionEntries entriesFrom entries headsFrom bodies pairs encode goodFrom wellFormed
+    bodyLengths splitBodies bodiesIn pieces entriesIn group sameNumbers namesAt assignRows assignRelabels imageIn valid change relabel
+    firstTransition newRole nameFrom nameOf recordFrom entryOf validOn newRoleOn nameOn entryOn changeOn relabelOn accept policyOf compiled
+    lineFeeds refusalOf outcome after digits rollLines rollOf printed
 computing = tt

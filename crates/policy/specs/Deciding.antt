@@ -1,13 +1,13 @@
--- Documents 01 and 02 (W-201), **Valid context** and **Change**: a valid context, the order of the denials and the number consulted, over what is given. The
--- statements and a table both decide by these lines; here is neither. Assumes nothing.
+-- Documents 01 and 02 (W-201, W-205), **Valid context**, **Change** and the question of relabelling: a valid context, the order of the denials and the number
+-- consulted, over what is given. The statements and a table both decide by these lines; here is neither. Assumes nothing.
 use Prim.Native.Nat.{ℕ, _+_}
 use mathlib.Core.Bool.{Bool, true, false, not, _&&_, _||_, cond}
 use mathlib.Core.List.{List, [], _∷_}
 use lib.Dec.{eqb, ltb}
 use lib.ListN.{length, getD}
 use Rattle.policy.specs.Basics.{same, isIn}
-use Rattle.policy.specs.Words.{process, transitionWords, objectR}
-use Rattle.policy.specs.Statements.{users, roles, types, thingOf, source, target, Declaration, namesOf, classNames, permissions, count, Relation}
+use Rattle.policy.specs.Words.{processWord, transitionWords, objectR}
+use Rattle.policy.specs.Statements.{users, roles, types, thingOf, source, target, process, Declaration, namesOf, classNames, permissions, count, Relation}
 use Rattle.policy.specs.Statements.{userrole, roletype, roleallow}
 use Rattle.policy.specs.Meaning.{Set, Context, Contexts}
 
@@ -38,13 +38,27 @@ pub record Question : Type 0 where
   pub class : ℕ
   pub perm : ℕ
 
--- its contexts by their sides
+-- its contexts by their sides. A change has no third side and a constrain names none (fault 3): the process that changes is the source
 abbrev pub contextsOf : Question → Contexts
 contextsOf q source = q .source
 contextsOf q target = q .target
+contextsOf q process = q .source
 
--- granted; a denial by its number, 1, 2 or 3; a denial by its number, 4, with the number of the first failing constraint; a refusal by its number, 11 or 12,
--- and its place, 0
+-- W-205: "A new question gives class and three contexts"
+pub record Relabelling : Type 0 where
+  pub class : ℕ
+  pub old : Context
+  pub new : Context
+  pub process : Context
+
+-- "the old context (side 1), the new one (2) and the clerk's process (3)"
+abbrev pub relabelContexts : Relabelling → Contexts
+relabelContexts q source = q .old
+relabelContexts q target = q .new
+relabelContexts q process = q .process
+
+-- granted; a denial by its number, 1, 2, 3 or 5; a denial by its number, 4 or 6, with the number of the first failing statement; a refusal by its number, 11
+-- or 12, and its place, 0
 pub data Verdict : Type 0 where
   granted : Verdict
   denied : ℕ → Verdict
@@ -64,17 +78,17 @@ unconsulted v = record { verdict = v; consulted = 0 }
 abbrev pub oneMore : Answer → Answer
 oneMore a = record { verdict = a .verdict; consulted = 1 + a .consulted }
 
--- a constraint that does not name what is asked; one that does, and fails: "4 the first failing constraint, with its number"; one that does, and holds:
--- before the answer of the later ones
-abbrev pub consult : Bool → Bool → ℕ → Answer → Answer
-consult false b i later = later
-consult true false i later = record { verdict = fails 4 i; consulted = 1 }
-consult true true i later = oneMore later
+-- a statement that does not name what is asked; one that does, and fails, denial n: "4 the first failing constraint, with its number"; one that does, and
+-- holds: before the answer of the later ones
+abbrev pub consult : ℕ → Bool → Bool → ℕ → Answer → Answer
+consult n false b i later = later
+consult n true false i later = record { verdict = fails n i; consulted = 1 }
+consult n true true i later = oneMore later
 
--- "the constraints naming that class and permission, up to and including the first that fails"; i is the number of the first of the list
-unfoldable pub firstFailing : {A : Type 0} → (A → Bool) → (A → Bool) → ℕ → List A → Answer
-firstFailing names holds i [] = unconsulted granted
-firstFailing names holds i (x ∷ xs) = consult (names x) (holds x) i (firstFailing names holds (i + 1) xs)
+-- "the constraints naming that class and permission, up to and including the first that fails"; n is the denial, i the number of the first of the list
+unfoldable pub firstFailing : {A : Type 0} → ℕ → (A → Bool) → (A → Bool) → ℕ → List A → Answer
+firstFailing n names holds i [] = unconsulted granted
+firstFailing n names holds i (x ∷ xs) = consult n (names x) (holds x) i (firstFailing n names holds (i + 1) xs)
 
 -- "Denials in order": are all numbers declared, is the source valid, is the target, may the role change; then the constraints
 unfoldable pub decide : Bool → Bool → Bool → Bool → Answer → Answer
@@ -100,7 +114,7 @@ validReply g c = cond (declaredContext (g .names) c) (answered (validBy g c)) (r
 
 -- "class `process`, permission `transition` or `dyntransition`"
 unfoldable pub asksRole : List Declaration → ℕ → ℕ → Bool
-asksRole ds c k = same (getD (classNames ds) c []) process && isIn (getD (permissions ds c) k []) transitionWords
+asksRole ds c k = same (getD (classNames ds) c []) processWord && isIn (getD (permissions ds c) k []) transitionWords
 
 -- not (that class and permission, "roles differ and source may not become target")
 abbrev pub roleMay : Bool → ℕ → ℕ → Bool → Bool
@@ -116,3 +130,19 @@ mayBecome g q =
 -- **Change**: the decision, where the constraints answer `rest`
 unfoldable pub ruledBy : Given → Question → Answer → Answer
 ruledBy g q rest = decide (declaredQuestion (g .names) q) (validBy g (q .source)) (validBy g (q .target)) (mayBecome g q) rest
+
+-- W-205: "denials 1 old, 2 new, 5 process not valid, 6 ..": are all numbers declared, is each of the three contexts valid; then the statements
+unfoldable pub decideRelabel : Bool → Bool → Bool → Bool → Answer → Answer
+decideRelabel false o n p rest = unconsulted (refuses 12 0)
+decideRelabel true false n p rest = unconsulted (denied 1)
+decideRelabel true true false p rest = unconsulted (denied 2)
+decideRelabel true true true false rest = unconsulted (denied 5)
+decideRelabel true true true true rest = rest
+
+unfoldable pub declaredRelabel : List Declaration → Relabelling → Bool
+declaredRelabel ds q =
+    declaredContext ds (q .old) && declaredContext ds (q .new) && declaredContext ds (q .process) && ltb (q .class) (length (classNames ds))
+
+-- relabelling: the decision, where the validatetrans statements answer `rest`. No role allow is asked
+unfoldable pub ruledRelabel : Given → Relabelling → Answer → Answer
+ruledRelabel g q rest = decideRelabel (declaredRelabel (g .names) q) (validBy g (q .old)) (validBy g (q .new)) (validBy g (q .process)) rest

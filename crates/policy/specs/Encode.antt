@@ -1,12 +1,12 @@
 -- Document 01, "The table, contents first": the bytes of an image. Assumes nothing.
 use Prim.Native.Nat.{ℕ, _+_, _*_}
 use mathlib.Core.List.{List, [], _∷_, _++_}
-use lib.ListN.{length}
+use lib.ListN.{length, getD, take}
 use Rattle.bitset.specs.Relations.{joined}
 use Rattle.policy.specs.Basics.{Name, each, le}
 use Rattle.policy.specs.Statements.{users, roles, types, Sort, thingOf, attributeOf, Declaration, plain, class, count, classNames}
 use Rattle.policy.specs.Rows.{Row}
-use Rattle.policy.specs.Image.{Image, TransitionEntry, ConstraintEntry}
+use Rattle.policy.specs.Image.{Image, TransitionEntry, ConstraintEntry, RelabelEntry}
 
 -- "sort in 1 byte (0 user, 1 role, 2 type, 3 to 5 their attributes, 6 class, 7 permission)"
 abbrev pub sortCode : Sort → ℕ
@@ -70,7 +70,18 @@ headsFrom r (c ∷ cs) = record { class = c .class; mask = c .mask; first = r; r
 abbrev pub rowBytes : Row → List ℕ
 rowBytes r = r .kind ∷ r .comp ∷ r .op ∷ 0 ∷ le 2 (r .num)
 
--- the eight bodies
+-- W-205: "9 holds class and row count, 2 bytes each"
+pub record RelabelHead : Type 0 where
+  pub class : ℕ
+  pub rows : ℕ
+
+abbrev pub relabelHead : RelabelEntry → RelabelHead
+relabelHead c = record { class = c .class; rows = length (c .rows) }
+
+abbrev pub relabelBytes : RelabelHead → List ℕ
+relabelBytes h = le 2 (h .class) ++ le 2 (h .rows)
+
+-- the bodies of all sections
 unfoldable pub bodies : Image → List (List ℕ)
 bodies i =
     joined (each entryBytes (entries (i .names)))
@@ -81,6 +92,8 @@ bodies i =
     ∷ joined (each headBytes (headsFrom 0 (i .constraints)))
     ∷ joined (each rowBytes (joined (each (λ c. c .rows) (i .constraints))))
     ∷ (joined (i .userSets) ++ (joined (i .roleSets) ++ joined (i .typeSets)))
+    ∷ joined (each relabelBytes (each relabelHead (i .relabels)))
+    ∷ joined (each rowBytes (joined (each (λ c. c .rows) (i .relabels))))
     ∷ []
 
 -- "pairs of offset and length, 4 bytes each; the bodies follow .. in order, without gaps", the first at the offset o
@@ -88,19 +101,23 @@ unfoldable pub pairs : ℕ → List (List ℕ) → List ℕ
 pairs o [] = []
 pairs o (b ∷ bs) = le 4 o ++ (le 4 (length b) ++ pairs (o + length b) bs)
 
--- "Bytes 0-1: edition 1. Bytes 2-3: 8. .. from byte 68"
-abbrev pub edition : ℕ
-edition = 1
+-- how many sections the tables of an edition have, by its number; 0 for an edition that there is not. "Bytes 0-1: edition 1. Bytes 2-3: 8"; W-205: "edition 2
+-- with ten sections"
+abbrev pub sectionsOf : ℕ → ℕ
+sectionsOf e = getD (0 ∷ 8 ∷ 10 ∷ []) e 0
 
-abbrev pub bodyCount : ℕ
-bodyCount = 8
+-- "New tables are in the newest edition"
+abbrev pub newest : ℕ
+newest = 2
 
-abbrev pub firstBody : ℕ
-firstBody = 68
+-- "the bodies follow the last pair": from byte 68 in edition 1, from byte 84 in edition 2
+abbrev pub firstBody : ℕ → ℕ
+firstBody e = 4 + 8 * sectionsOf e
 
-abbrev pub layout : List (List ℕ) → List ℕ
-layout bs = le 2 edition ++ (le 2 bodyCount ++ (pairs firstBody bs ++ joined bs))
+-- a table of an edition and its bodies
+abbrev pub layout : ℕ → List (List ℕ) → List ℕ
+layout e bs = le 2 e ++ (le 2 (sectionsOf e) ++ (pairs (firstBody e) bs ++ joined bs))
 
--- the table of an image
-unfoldable pub encode : Image → List ℕ
-encode i = layout (bodies i)
+-- the table of an image in an edition
+unfoldable pub encode : ℕ → Image → List ℕ
+encode e i = layout e (take (sectionsOf e) (bodies i))

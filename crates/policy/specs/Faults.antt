@@ -6,9 +6,9 @@ use mathlib.Core.Option.{Option, none, some}
 use lib.Dec.{eqb}
 use Rattle.bitset.specs.Sets.{meet}
 use Rattle.bitset.specs.Relations.{joined}
-use Rattle.policy.specs.Basics.{any, gather, given, isAmong, each, orElse}
+use Rattle.policy.specs.Basics.{any, _>>=_, gather, given, isAmong, each, orElse}
 use Rattle.policy.specs.Statements.{Family, users, roles, types, attributeOf, Declaration, plain, class, sameSort, Reference, thing, attribute, SetExpr}
-use Rattle.policy.specs.Statements.{nameS, allS, notS, andS, orS, xorS, unionS, emptyS, declare, attributeset, gives, roletransition, constrain, Line}
+use Rattle.policy.specs.Statements.{nameS, allS, notS, andS, orS, xorS, unionS, emptyS, Line, asDeclaration}
 use Rattle.policy.specs.Statements.{Policy, count, declarations, setsFor, Transition, transitions}
 use Rattle.policy.specs.Meaning.{stands, countIn}
 
@@ -58,13 +58,7 @@ declaresA f at (plain s w) = given (sameSort s (attributeOf f)) at
 declaresA f at (class w ps) = none
 
 abbrev pub placeOf : Family → Line → Option ℕ
-placeOf f l = elim (l .says) [
-  | declare d ↦ declaresA f (l .place) d
-  | attributeset g a s ↦ none
-  | gives j a b ↦ none
-  | roletransition r t c n ↦ none
-  | constrain c ps e ↦ none
-]
+placeOf f l = asDeclaration (l .says) >>= declaresA f (l .place)
 
 unfoldable pub places : Policy → Family → List ℕ
 places p f = gather (placeOf f) p

@@ -1,5 +1,5 @@
--- Document 01, "Statements", and document 02, W-203: the forms of the statements, as they are written, with their names, and of blocks; none where a statement
--- or a block is of no form, fault 3.
+-- Document 01, "Statements", and document 02, W-203 and W-205: the forms of the statements, as they are written, with their names, and of blocks; none where
+-- a statement or a block is of no form, fault 3.
 -- A row that the end of the text cuts short (`ended`) is of no form; a text that the scan finds clean has no such row inside a statement.
 -- Assumes nothing.
 use mathlib.Core.Bool.{Bool, true, false, _&&_, _||_, cond}
@@ -7,10 +7,10 @@ use mathlib.Core.List.{List, [], _∷_}
 use mathlib.Core.Option.{Option, none, some}
 use Rattle.lexer.specs.Forms.{Forms, closed, ended, word, part}
 use Rattle.policy.specs.Basics.{Name, same, _>>=_, given, more, ofNone, ofOne, ofTwo}
-use Rattle.policy.specs.Words.{asName, asPart, blockWord, Keyword, declareK, classK, setK, relationK, transitionK, constrainK, keywordOf, Connective}
-use Rattle.policy.specs.Words.{allC, notC, andC, orC, xorC, setWord, expressionWord, opOf, isPlain, Component, componentOf}
-use Rattle.policy.specs.Statements.{Family, roles, plain, class, SetExpr, nameS, allS, notS, andS, orS, xorS, unionS, emptyS, source, target, Op}
-use Rattle.policy.specs.Statements.{Constraint, sidesE, nameE, notE, andE, orE, declare, attributeset, gives, roletransition, constrain}
+use Rattle.policy.specs.Words.{asName, asPart, blockWord, Keyword, declareK, classK, setK, relationK, transitionK, constrainK, relabelK, keywordOf, Connective}
+use Rattle.policy.specs.Words.{allC, notC, andC, orC, xorC, setWord, expressionWord, opOf, isPlain, Sides, twoSides, threeSides, Component, componentOf}
+use Rattle.policy.specs.Statements.{Family, roles, plain, class, SetExpr, nameS, allS, notS, andS, orS, xorS, unionS, emptyS, source, target, process, Op}
+use Rattle.policy.specs.Statements.{Constraint, sidesE, nameE, notE, andE, orE, declare, attributeset, gives, roletransition, constrain, validatetrans}
 use Rattle.policy.specs.Statements.{Written, sameFamily}
 
 -- "one or more operands (their union)": an operand, and those after it
@@ -48,11 +48,12 @@ unfoldable mutual
   setIn (word at w after) = headed w (setWord w) (operands after)
   setIn (part p inner after) = unionOf (setIn inner) (operands after)
 
--- "`(op u1 u2)`, `(op t1 t2)`, `(rop r1 r2)`": the second side of the same family after the first
+-- "`(op u1 u2)`, `(op t1 t2)`, `(rop r1 r2)`": the second side of the same family after the first; W-205: "no pair with side 3"
 abbrev pub areSides : Component → Component → Bool
 areSides x y = elim (x .side) [
-  | source ↦ elim (y .side) [ source ↦ false | target ↦ sameFamily (x .family) (y .family) ]
+  | source ↦ elim (y .side) [ source ↦ false | target ↦ sameFamily (x .family) (y .family) | process ↦ false ]
   | target ↦ false
+  | process ↦ false
 ]
 
 abbrev pub isRoles : Family → Bool
@@ -93,8 +94,8 @@ twoParts r f = partThen r (λ i r. partThen r (λ j r. atClose r (f i j)))
 abbrev pub wordAndPart : {A : Type 0} → Forms → (Name → Forms → Option A) → Option A
 wordAndPart r f = wordThen r (λ w r. partThen r (λ i r. atClose r (f w i)))
 
-abbrev pub comparison : Name → Forms → Option (Constraint Name)
-comparison o f = opOf o >>= λ o. twoWords f (λ v w. componentOf v >>= λ x. compared o x w (componentOf w))
+abbrev pub comparison : Sides → Name → Forms → Option (Constraint Name)
+comparison n o f = opOf o >>= λ o. twoWords f (λ v w. componentOf n v >>= λ x. compared o x w (componentOf n w))
 
 -- "`(and E E)`, `(or E E)`, `(not E)`"
 abbrev pub formE : Connective → List (Constraint Name) → Option (Constraint Name)
@@ -104,23 +105,23 @@ formE andC xs = ofTwo andE xs
 formE orC xs = ofTwo orE xs
 formE xorC xs = none
 
-abbrev pub connected : Name → Forms → Option Connective → Option (List (Constraint Name)) → Option (Constraint Name)
-connected w after none es = comparison w after
-connected w after (some c) es = es >>= formE c
+abbrev pub connected : Sides → Name → Forms → Option Connective → Option (List (Constraint Name)) → Option (Constraint Name)
+connected n w after none es = comparison n w after
+connected n w after (some c) es = es >>= formE c
 
--- Es one after the other; E by what its parentheses hold
+-- Es one after the other; E by what its parentheses hold, where it may name the sides n
 unfoldable mutual
-  pub expressions : Forms → Option (List (Constraint Name))
-  expressions closed = some []
-  expressions ended = none
-  expressions (word at w after) = none
-  expressions (part p inner after) = more (expressionIn inner) (expressions after)
+  pub expressions : Sides → Forms → Option (List (Constraint Name))
+  expressions n closed = some []
+  expressions n ended = none
+  expressions n (word at w after) = none
+  expressions n (part p inner after) = more (expressionIn n inner) (expressions n after)
 
-  pub expressionIn : Forms → Option (Constraint Name)
-  expressionIn closed = none
-  expressionIn ended = none
-  expressionIn (word at w after) = connected w after (expressionWord w) (expressions after)
-  expressionIn (part p inner after) = none
+  pub expressionIn : Sides → Forms → Option (Constraint Name)
+  expressionIn n closed = none
+  expressionIn n ended = none
+  expressionIn n (word at w after) = connected n w after (expressionWord w) (expressions n after)
+  expressionIn n (part p inner after) = none
 
 -- words and nothing else, each taken as a name
 unfoldable pub rowOf : (Name → Option Name) → Forms → Option (List Name)
@@ -147,6 +148,10 @@ ofFour (r ∷ t ∷ c ∷ []) = none
 ofFour (r ∷ t ∷ c ∷ n ∷ []) = some (roletransition r t c n)
 ofFour (r ∷ t ∷ c ∷ n ∷ x ∷ xs) = none
 
+-- W-205: "`(validatetrans C E)`", whose E may name the third side too
+abbrev pub relabelForm : Forms → Option Written
+relabelForm f = wordAndPart f (λ c i. asName c >>= λ c. expressionIn threeSides i >>= λ e. some (validatetrans c e))
+
 -- the forms of "Statements", by the keyword and what follows it
 abbrev pub formed : Keyword → Forms → Option Written
 formed (declareK s) f = rowOf asPart f >>= ofOne (λ w. declare (plain s w))
@@ -154,7 +159,8 @@ formed classK f = classIn asPart f (λ c ps. some (declare (class c ps)))
 formed (setK a) f = wordAndPart f (λ w i. asName w >>= λ w. setIn i >>= λ s. some (attributeset a w s))
 formed (relationK r) f = rowOf asName f >>= ofTwo (gives r)
 formed transitionK f = rowOf asName f >>= ofFour
-formed constrainK f = twoParts f (λ i j. classIn asName i (λ c ps. expressionIn j >>= λ e. some (constrain c ps e)))
+formed constrainK f = twoParts f (λ i j. classIn asName i (λ c ps. expressionIn twoSides j >>= λ e. some (constrain c ps e)))
+formed relabelK f = relabelForm f
 
 -- what the parentheses of a statement hold
 abbrev pub written : Forms → Option Written

@@ -4,7 +4,7 @@ use mathlib.Core.List.{List}
 use mathlib.Core.Option.{none}
 use Rattle.policy.specs.Basics.{each, isAmong}
 use Rattle.policy.specs.Statements.{Family, users, roles, types, thingOf, attributeOf, Declaration, class, Policy, count}
-use Rattle.policy.specs.Statements.{declarations, transitions, Transition, constrains, Constrain, userrole, roletype, roleallow}
+use Rattle.policy.specs.Statements.{declarations, transitions, Transition, constrains, Constrain, relabels, Relabel, userrole, roletype, roleallow}
 use Rattle.policy.specs.Meaning.{Set, stands, related, final}
 use Rattle.bitset.specs.Sets.{setOf, fromBits, tabulate}
 use Rattle.policy.specs.Rows.{Row, rowsOf}
@@ -28,7 +28,12 @@ pub record ConstraintEntry : Type 0 where
   pub mask : ℕ
   pub rows : List Row
 
--- the eight bodies; each set is its bytes
+-- W-205, bodies 9 and 10: the class of a validatetrans statement, and its rows
+pub record RelabelEntry : Type 0 where
+  pub class : ℕ
+  pub rows : List Row
+
+-- what the sections hold; each set is its bytes
 pub record Image : Type 0 where
   pub names : List Declaration
   pub userRoles : List (List ℕ)
@@ -39,6 +44,7 @@ pub record Image : Type 0 where
   pub userSets : List (List ℕ)
   pub roleSets : List (List ℕ)
   pub typeSets : List (List ℕ)
+  pub relabels : List RelabelEntry
 
 -- the sets f 0, f 1, .., n of them, in the bytes of a family
 abbrev pub setsOf : ℕ → Family → (ℕ → Set) → List (List ℕ)
@@ -59,6 +65,9 @@ transitionEntry p t = record {
 abbrev pub constraintEntry : Constrain → ConstraintEntry
 constraintEntry c = record { class = c .class; mask = maskOf (c .perms); rows = rowsOf (c .body) }
 
+abbrev pub relabelEntry : Relabel → RelabelEntry
+relabelEntry c = record { class = c .class; rows = rowsOf (c .body) }
+
 -- what the table of a policy holds
 unfoldable pub imageOf : Policy → Image
 imageOf p =
@@ -73,4 +82,5 @@ imageOf p =
       userSets = setsOf (count (attributeOf users) ds) users (final p users);
       roleSets = setsOf (count (attributeOf roles) ds) roles (final p roles);
       typeSets = setsOf (count (attributeOf types) ds) types (final p types);
+      relabels = each relabelEntry (relabels p);
     }

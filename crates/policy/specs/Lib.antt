@@ -31,3 +31,4 @@ pub mod Slips
 pub mod Objects
 pub mod Lines
 pub mod Blocks
+pub mod Relabels

@@ -20,7 +20,7 @@ pub record Lines : Type 0 where
   -- 8 at the declaration
   pub cycle : (lent : ℕ) → outcome (ofText (bytes "\n(roleattribute x)\n(roleattributeset x (x))")) lent ≡ rejected (refusalAt 8 1 2)
   -- the place of 10 is a length
-  pub short : outcome (ofText (bytes "\n\n")) 67 ≡ rejected (refusalAt 10 68 0)
+  pub short : outcome (ofText (bytes "\n\n")) 83 ≡ rejected (refusalAt 10 84 0)
   -- "The program prints `refused 5 at 8 line 1`"
   pub prints : printed (ofText (bytes "(role a)(roletype a t)")) ≡ bytes "refused 5 at 8 line 1\n"
 

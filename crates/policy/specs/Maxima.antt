@@ -1,4 +1,4 @@
--- Document 01, "How many": the maxima, each of the thing that it limits. Those of text, name and level are the lexer's. Assumes nothing.
+-- Document 01, "How many", and document 02: the maxima, each of the thing that it limits. Those of text, name and level are the lexer's. Assumes nothing.
 use Prim.Native.Nat.{ℕ}
 use Rattle.policy.specs.Statements.{users, roles, types, Sort, thingOf, attributeOf}
 
@@ -25,6 +25,13 @@ maxConstraints = 128
 
 abbrev pub maxRows : ℕ
 maxRows = 2048
+
+-- W-205: "At most 64 such statements and 1,024 rows"
+abbrev pub maxRelabels : ℕ
+maxRelabels = 64
+
+abbrev pub maxRelabelRows : ℕ
+maxRelabelRows = 1024
 
 -- W-203: "blocks nest to 8"; full names have "at most .. nine parts": those of eight blocks, and an own name
 abbrev pub maxDepth : ℕ

@@ -1,11 +1,12 @@
 -- Document 01, "What a promise says here": what the statements say, each by its own form. No table, rows or stack. Assumes nothing.
 use Prim.Native.Nat.{ℕ, zero, suc}
 use mathlib.Core.Bool.{Bool, true, false, not, _&&_, _||_}
+use mathlib.Core.Option.{none, some}
 use lib.Dec.{eqb, ltb}
 use Rattle.policy.specs.Basics.{any}
 use Rattle.policy.specs.Statements.{Family, users, roles, types, thingOf, Reference, thing, attribute, SetExpr, nameS, allS, notS, andS, orS, xorS}
 use Rattle.policy.specs.Statements.{unionS, emptyS, Side, source, target, Op, eq, neq, dom, domby, incomp, Constraint, sidesE, nameE, notE, andE, orE}
-use Rattle.policy.specs.Statements.{Relation, userrole, roletype, roleallow, fromOf, toOf, declare, attributeset, gives, roletransition, constrain, Line}
+use Rattle.policy.specs.Statements.{Relation, userrole, roletype, roleallow, fromOf, toOf, Line, Gives, asGives}
 use Rattle.policy.specs.Statements.{Policy, count, declarations, setsFor}
 
 -- a set of numbers, as a test
@@ -68,17 +69,14 @@ unfoldable pub stands : Policy → Family → Reference → Set
 stands p f r n = standsIn (final p f) r n
 
 -- what each reference of each family stands for
-abbrev pub Standing : Type 0
-Standing = Family → Reference → Set
+abbrev pub Denotation : Type 0
+Denotation = Family → Reference → Set
 
 -- one line gives y to x: "`userrole` gives every user of its first set every role of its second", and the others likewise
-abbrev pub lineGives : Standing → Relation → ℕ → ℕ → Line → Bool
-lineGives for k x y l = elim (l .says) [
-  | declare d ↦ false
-  | attributeset f a s ↦ false
-  | gives j a b ↦ sameRelation k j && (for (fromOf k) a x && for (toOf k) b y)
-  | roletransition r t c n ↦ false
-  | constrain c ps e ↦ false
+abbrev pub lineGives : Denotation → Relation → ℕ → ℕ → Line → Bool
+lineGives for k x y l = elim (asGives (l .says)) [
+  | none ↦ false
+  | some g ↦ sameRelation k (g .relation) && (for (fromOf k) (g .from) x && for (toOf k) (g .to) y)
 ]
 
 -- "What all such lines together give"
@@ -97,7 +95,7 @@ part users c = c .user
 part roles c = c .role
 part types c = c .type
 
--- the context of each side: "Side 1 is the source, 2 the target"
+-- the context of each side: "Side 1 is the source, 2 the target"; W-205: "the old context (side 1), the new one (2) and the clerk's process (3)"
 abbrev pub Contexts : Type 0
 Contexts = Side → Context
 
@@ -110,7 +108,7 @@ compares domby b = b
 compares incomp b = not b
 
 -- E by its form, of the contexts of its sides
-unfoldable pub holds : Standing → Contexts → Constraint Reference → Bool
+unfoldable pub holds : Denotation → Contexts → Constraint Reference → Bool
 holds for on (sidesE f o) = compares o (eqb (part f (on source)) (part f (on target)))
 holds for on (nameE f x o r) = compares o (for f r (part f (on x)))
 holds for on (notE e) = not (holds for on e)

@@ -62,7 +62,7 @@ pub record Objects : Type 0 where
   -- "Elsewhere `object_r` is a role like any other": a role allow is asked, constraints decide, and no bit of a set is written for it
   pub role-allow : (rest : Answer) → ruledBy (roleZero lease) (change 0 1 0) rest ≡ unconsulted (denied 3)
   pub no-role-allow : (rest : Answer) → ruledBy (roleZero lease) (change 0 1 1) rest ≡ rest
-  pub nothing-written : drop 80 (tableOf (bytes "(role object_r)")) ≡ replicate 80 0
+  pub nothing-written : drop 96 (tableOf (bytes "(role object_r)")) ≡ replicate 80 0
 
 pub objects : Objects
 unfolding computing

@@ -9,7 +9,7 @@ use Rattle.policy.specs.Statements.{Policy}
 use Rattle.policy.specs.Reading.{Read, policy, refused, readPolicy}
 use Rattle.policy.specs.Faults.{cycle, clash}
 use Rattle.policy.specs.Image.{Image, imageOf}
-use Rattle.policy.specs.Encode.{encode}
+use Rattle.policy.specs.Encode.{encode, newest}
 
 -- "then 8; 9"
 unfoldable pub accept : Policy → Read
@@ -26,14 +26,14 @@ ofText t = record { text = t }
 unfoldable pub policyOf : Input → Read
 policyOf x = elim (readPolicy (x .text)) [ refused n at ↦ refused n at | policy p ↦ accept p ]
 
--- what compiling gives: the content of the table, or a refusal's number and place
+-- what compiling gives: the content of the table, which is in the newest edition, or a refusal's number and place
 pub data Compiled : Type 0 where
   compiles : Image → Compiled
   refuses : ℕ → ℕ → Compiled
 
 -- 10: "lent table memory shorter than the table", at "the length needed"
 abbrev pub fitted : ℕ → Image → Compiled
-fitted lent i = cond (leb (length (encode i)) lent) (compiles i) (refuses 10 (length (encode i)))
+fitted lent i = cond (leb (length (encode newest i)) lent) (compiles i) (refuses 10 (length (encode newest i)))
 
 unfoldable pub compiled : Input → ℕ → Compiled
 compiled x lent = elim (policyOf x) [ refused n at ↦ refuses n at | policy p ↦ fitted lent (imageOf p) ]
@@ -66,12 +66,12 @@ pub data Outcome : Type 0 where
   rejected : Refusal → Outcome
 
 abbrev pub outcomeOf : Input → Compiled → Outcome
-outcomeOf x (compiles i) = accepted (length (encode i))
+outcomeOf x (compiles i) = accepted (length (encode newest i))
 outcomeOf x (refuses n at) = rejected (refusalOf x n at)
 
 -- "On refusal the lent memory is unchanged. On success bytes past the table are unchanged"
 abbrev pub afterOf : Compiled → List ℕ → List ℕ
-afterOf (compiles i) lent = encode i ++ drop (length (encode i)) lent
+afterOf (compiles i) lent = encode newest i ++ drop (length (encode newest i)) lent
 afterOf (refuses n at) lent = lent
 
 -- the answer, with lent memory of a length; the lent memory afterwards

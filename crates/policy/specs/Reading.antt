@@ -12,10 +12,10 @@ use Rattle.lexer.specs.Forms.{formsOf}
 use Rattle.policy.specs.Basics.{Name, _>>=_, eachOf, isIn, differ}
 use Rattle.policy.specs.Statements.{Family, roles, types, thingOf, attributeOf, Declaration, plain, class, Reference, SetExpr, nameS, allS, notS, andS}
 use Rattle.policy.specs.Statements.{orS, xorS, unionS, emptyS, Constraint, sidesE, nameE, notE, andE, orE, fromOf, toOf, declare, attributeset, gives}
-use Rattle.policy.specs.Statements.{roletransition, constrain, Written, Statement, Policy, familyOf, familyNames, classNames, count, declarations}
-use Rattle.policy.specs.Statements.{transitions, constrains, Constrain, size, need}
+use Rattle.policy.specs.Statements.{roletransition, constrain, validatetrans, Written, Statement, Policy, familyOf, familyNames, classNames, count, declarations}
+use Rattle.policy.specs.Statements.{transitions, constrains, constrainBody, relabels, relabelBody, size, need}
 use Rattle.policy.specs.Names.{full, Environment, environmentOf, refer, numberIn}
-use Rattle.policy.specs.Maxima.{maxOf, maxClasses, maxPermissions, maxTransitions, maxConstraints, maxRows, maxStack, maxDepth}
+use Rattle.policy.specs.Maxima.{maxOf, maxClasses, maxPermissions, maxTransitions, maxConstraints, maxRows, maxRelabels, maxRelabelRows, maxStack, maxDepth}
 use Rattle.policy.specs.Grammar.{written, isBlock, blockIn}
 use Rattle.policy.specs.Scopes.{Scoped, scopedIn, blocksIn}
 
@@ -30,6 +30,7 @@ inBlocks path (attributeset f a s) = attributeset f a s
 inBlocks path (gives r x y) = gives r x y
 inBlocks path (roletransition r t c n) = roletransition r t c n
 inBlocks path (constrain c ps e) = constrain c ps e
+inBlocks path (validatetrans c e) = validatetrans c e
 
 -- FAULT 4: "name declared again in its family, or permission twice in a class"
 abbrev pub isNew : List Declaration → Declaration → Bool
@@ -42,6 +43,7 @@ again ds (attributeset f a s) = false
 again ds (gives r x y) = false
 again ds (roletransition r t c n) = false
 again ds (constrain c ps e) = false
+again ds (validatetrans c e) = false
 
 -- FAULT 5: the numbers of the names; none where one is "not declared before, or of the wrong sort"
 unfoldable pub referS : Environment → Family → SetExpr Name → Option (SetExpr Reference)
@@ -71,8 +73,9 @@ resolved env (roletransition r t c n) =
 resolved env (constrain c ps e) =
     env .class c >>= λ c. eachOf (λ p. env .permission c p) ps >>= λ ps.
     referE env e >>= λ e. some (constrain c ps e)
+resolved env (validatetrans c e) = env .class c >>= λ c. referE env e >>= λ e. some (validatetrans c e)
 
--- FAULT 6: "one of the other maxima passed"; W-203: "6 for a full name too long"
+-- FAULT 6: "one of the other maxima passed"; W-205: "6 and 7 as for constrain"; W-203: "6 for a full name too long"
 abbrev pub isShort : Declaration → Bool
 isShort (plain s w) = leb (length w) maxName
 isShort (class w ps) = leb (length w) maxName
@@ -81,16 +84,18 @@ abbrev pub hasRoom : List Declaration → Declaration → Bool
 hasRoom ds (plain s w) = ltb (count s ds) (maxOf s)
 hasRoom ds (class w ps) = ltb (length (classNames ds)) maxClasses && leb (length ps) maxPermissions
 
-unfoldable pub rowCount : List Constrain → ℕ
-rowCount [] = 0
-rowCount (c ∷ cs) = size (c .body) + rowCount cs
+-- the rows of statements whose E is their body
+unfoldable pub rowCount : {A : Type 0} → (A → Constraint Reference) → List A → ℕ
+rowCount body [] = 0
+rowCount body (c ∷ cs) = size (body c) + rowCount body cs
 
 abbrev pub fits : Policy → Statement → Bool
 fits p (declare d) = hasRoom (declarations p) d && isShort d
 fits p (attributeset f a s) = true
 fits p (gives r x y) = true
 fits p (roletransition r t c n) = ltb (length (transitions p)) maxTransitions
-fits p (constrain c ps e) = ltb (length (constrains p)) maxConstraints && leb (rowCount (constrains p) + size e) maxRows
+fits p (constrain c ps e) = ltb (length (constrains p)) maxConstraints && leb (rowCount constrainBody (constrains p) + size e) maxRows
+fits p (validatetrans c e) = ltb (length (relabels p)) maxRelabels && leb (rowCount relabelBody (relabels p) + size e) maxRelabelRows
 
 -- FAULT 7: "stack need above 5"
 abbrev pub shallow : Statement → Bool
@@ -99,6 +104,7 @@ shallow (attributeset f a s) = true
 shallow (gives r x y) = true
 shallow (roletransition r t c n) = true
 shallow (constrain c ps e) = leb (need e) maxStack
+shallow (validatetrans c e) = leb (need e) maxStack
 
 -- a statement as read, a block that is opened, or the number of a fault: "each tried for 3, 4, 5, 6, 7"
 pub data Judged : Type 0 where

@@ -10,7 +10,7 @@ use Rattle.policy.specs.Basics.{Name}
 use Rattle.policy.specs.Statements.{users, roles, thingOf, namesOf}
 use Rattle.bitset.specs.Sets.{count}
 use Rattle.policy.specs.Image.{Image}
-use Rattle.policy.specs.Encode.{encode}
+use Rattle.policy.specs.Encode.{encode, newest}
 use Rattle.policy.specs.Outcome.{Input, compiles, refuses, compiled, Refusal, refusalOf}
 
 -- a number in decimal digits, at most k of them
@@ -44,9 +44,9 @@ labelled w n = w ++ decimal n
 abbrev pub refusal : Refusal → List ℕ
 refusal r = joined (labelled (bytes "refused ") (r .number) ∷ labelled (bytes " at ") (r .place) ∷ labelled (bytes " line ") (r .line) ∷ (10 ∷ []) ∷ [])
 
--- `accepted 264 bytes`, then the lines
+-- `accepted 280 bytes`, then the lines
 abbrev pub roll : Image → List ℕ
-roll i = joined (bytes "accepted " ∷ decimal (length (encode i)) ∷ bytes " bytes" ∷ (10 ∷ []) ∷ rollOf i ∷ [])
+roll i = joined (bytes "accepted " ∷ decimal (length (encode newest i)) ∷ bytes " bytes" ∷ (10 ∷ []) ∷ rollOf i ∷ [])
 
 -- "with a table memory of 65,536 bytes"
 unfoldable pub printed : Input → List ℕ

@@ -3,7 +3,7 @@ use mathlib.Core.Bool.{Bool, false, not, _&&_, _||_, cond}
 use mathlib.Core.List.{List, [], _∷_, _++_}
 use Prim.Native.Nat.{ℕ, suc, pred, _+_}
 use lib.Dec.{eqb, leb}
-use Rattle.policy.specs.Statements.{Family, users, roles, types, Reference, thing, attribute, Side, source, target, Op, eq, neq, dom, domby, incomp}
+use Rattle.policy.specs.Statements.{Family, users, roles, types, Reference, thing, attribute, Side, source, target, process, Op, eq, neq, dom, domby, incomp}
 use Rattle.policy.specs.Statements.{Constraint, sidesE, nameE, notE, andE, orE}
 use Rattle.policy.specs.Maxima.{maxStack}
 
@@ -17,14 +17,17 @@ pub record Row : Type 0 where
 abbrev pub row : ℕ → ℕ → ℕ → ℕ → Row
 row k c o n = record { kind = k; comp = c; op = o; num = n }
 
--- "u1 u2 r1 r2 t1 t2 as 0 to 5"
+-- "u1 u2 r1 r2 t1 t2 as 0 to 5"; W-205: "u3, r3, t3 as 6, 7, 8"
 abbrev pub compCode : Family → Side → ℕ
 compCode users source = 0
 compCode users target = 1
+compCode users process = 6
 compCode roles source = 2
 compCode roles target = 3
+compCode roles process = 7
 compCode types source = 4
 compCode types target = 5
+compCode types process = 8
 
 -- "eq neq dom domby incomp as 0 to 4"
 abbrev pub opCode : Op → ℕ
@@ -47,7 +50,7 @@ rowsOf (notE a) = rowsOf a ++ (row 0 0 0 0 ∷ [])
 rowsOf (andE a b) = rowsOf a ++ (rowsOf b ++ (row 1 0 0 0 ∷ []))
 rowsOf (orE a b) = rowsOf a ++ (rowsOf b ++ (row 2 0 0 0 ∷ []))
 
--- what a row is asked about: the six numbers by component, and the attributes' sets by component, number and thing
+-- what a row is asked about: the numbers by component, and the attributes' sets by component, number and thing
 pub record View : Type 0 where
   pub side : ℕ → ℕ
   pub inset : ℕ → ℕ → ℕ → Bool
@@ -78,8 +81,9 @@ orTop [] = []
 orTop (x ∷ []) = x ∷ []
 orTop (y ∷ (x ∷ s)) = (x || y) ∷ s
 
-abbrev pub turn : View → Row → List Bool → List Bool
-turn v r s =
+-- the stack after a row
+abbrev pub runRow : View → Row → List Bool → List Bool
+runRow v r s =
     cond (eqb (r .kind) 0) (notTop s)
     (cond (eqb (r .kind) 1) (andTop s)
     (cond (eqb (r .kind) 2) (orTop s)
@@ -87,7 +91,7 @@ turn v r s =
 
 unfoldable pub run : View → List Row → List Bool → List Bool
 run v [] s = s
-run v (r ∷ rs) s = run v rs (turn v r s)
+run v (r ∷ rs) s = run v rs (runRow v r s)
 
 -- what is left on the stack after the last row
 abbrev pub top : List Bool → Bool

@@ -1,4 +1,4 @@
--- Document 01: "A table is **sound** when ..": the image that a table holds, if it is sound. Assumes nothing.
+-- Document 01: "A table is **sound** when ..", and document 02, W-205: the image that a table holds, if it is sound. Assumes nothing.
 use Prim.Native.Nat.{ℕ, zero, suc, _+_, _*_, _/_, _^_}
 use mathlib.Core.Bool.{Bool, true, false, not, _&&_, _||_, cond}
 use mathlib.Core.List.{List, [], _∷_, _++_}
@@ -10,12 +10,12 @@ use Rattle.policy.specs.Basics.{Name, _>>=_, given, more, each, eachOf, 
 use Rattle.lexer.specs.Class.{maxName, isPart, parts, hasGoodParts}
 use Rattle.policy.specs.Words.{isReserved}
 use Rattle.policy.specs.Statements.{Family, users, roles, types, Sort, thingOf, attributeOf, Declaration, plain, class, count, classNames, permissions}
-use Rattle.policy.specs.Maxima.{maxTransitions, maxConstraints, maxRows, maxParts}
+use Rattle.policy.specs.Maxima.{maxTransitions, maxConstraints, maxRows, maxRelabels, maxRelabelRows, maxParts}
 use Rattle.policy.specs.Reading.{isNew, hasRoom}
 use Rattle.bitset.specs.Sets.{within}
 use Rattle.policy.specs.Rows.{Row, row, balanced}
-use Rattle.policy.specs.Image.{Image, TransitionEntry, ConstraintEntry, width}
-use Rattle.policy.specs.Encode.{NameEntry, nameEntry, entries, ConstraintHead, edition, bodyCount, firstBody}
+use Rattle.policy.specs.Image.{Image, TransitionEntry, ConstraintEntry, RelabelEntry, width}
+use Rattle.policy.specs.Encode.{NameEntry, nameEntry, entries, ConstraintHead, RelabelHead, sectionsOf, firstBody}
 
 -- WELL FORMED: what must hold of an image besides its layout
 
@@ -52,25 +52,30 @@ goodTransition ds m =
     goodSet ds roles (m .roles) && goodSet ds types (m .types)
     && ltb (m .class) (length (classNames ds)) && ltb (m .new) (count (thingOf roles) ds)
 
--- the family of a component
+-- the family of a component: u1 u2 r1 r2 t1 t2 as 0 to 5, u3 r3 t3 as 6 to 8
 abbrev pub ofComp : ℕ → Family
-ofComp c = cond (ltb c 2) users (cond (ltb c 4) roles types)
+ofComp c = cond (ltb c 2) users (cond (ltb c 4) roles (cond (ltb c 6) types (cond (ltb c 7) users (cond (ltb c 8) roles types))))
 
 -- "operators are those the forms above allow (kinds 4 and 5 only eq and neq, and so for u and t)", "Unused fields are 0"
-abbrev pub goodRow : List Declaration → Row → Bool
-goodRow ds r =
+-- components are those below n: a constrain's six; W-205: "u3, r3, t3 as 6, 7, 8, legal only here"
+abbrev pub goodRow : ℕ → List Declaration → Row → Bool
+goodRow n ds r =
     cond (ltb (r .kind) 3) (eqb (r .comp) 0 && eqb (r .op) 0 && eqb (r .num) 0)
     (cond (eqb (r .kind) 3)
     ((eqb (r .comp) 0 || eqb (r .comp) 4) && ltb (r .op) 2 && eqb (r .num) 0 || eqb (r .comp) 2 && ltb (r .op) 5 && eqb (r .num) 0)
-    (cond (eqb (r .kind) 4) (ltb (r .comp) 6 && ltb (r .op) 2 && ltb (r .num) (count (thingOf (ofComp (r .comp))) ds))
-    (cond (eqb (r .kind) 5) (ltb (r .comp) 6 && ltb (r .op) 2 && ltb (r .num) (count (attributeOf (ofComp (r .comp))) ds))
+    (cond (eqb (r .kind) 4) (ltb (r .comp) n && ltb (r .op) 2 && ltb (r .num) (count (thingOf (ofComp (r .comp))) ds))
+    (cond (eqb (r .kind) 5) (ltb (r .comp) n && ltb (r .op) 2 && ltb (r .num) (count (attributeOf (ofComp (r .comp))) ds))
     false)))
 
 -- "masks are not 0"; "each constraint's rows, at least one, leave .." (no rows leave 0, and not 1)
 abbrev pub goodConstraint : List Declaration → ConstraintEntry → Bool
 goodConstraint ds c =
     ltb (c .class) (length (classNames ds)) && ltb 0 (c .mask) && ltb (c .mask) (2 ^ length (permissions ds (c .class)))
-    && every (goodRow ds) (c .rows) && balanced (c .rows) 0
+    && every (goodRow 6 ds) (c .rows) && balanced (c .rows) 0
+
+-- W-205: "sound as 6 and 7 are"
+abbrev pub goodRelabel : List Declaration → RelabelEntry → Bool
+goodRelabel ds c = ltb (c .class) (length (classNames ds)) && every (goodRow 9 ds) (c .rows) && balanced (c .rows) 0
 
 unfoldable pub wellFormed : Image → Bool
 wellFormed i =
@@ -85,6 +90,8 @@ wellFormed i =
     && goodSets ds (count (attributeOf users) ds) users (i .userSets)
     && goodSets ds (count (attributeOf roles) ds) roles (i .roleSets)
     && goodSets ds (count (attributeOf types) ds) types (i .typeSets)
+    && (leb (length (i .relabels)) maxRelabels && every (goodRelabel ds) (i .relabels))
+    && leb (length (joined (each (λ c. c .rows) (i .relabels)))) maxRelabelRows
 
 -- LAYOUT: "holds exactly"
 
@@ -100,11 +107,18 @@ unfoldable pub splitBodies : List ℕ → List ℕ → Option (List (List ℕ))
 splitBodies [] t = some []
 splitBodies (n ∷ ns) t = cond (leb n (length t)) (more (some (take n t)) (splitBodies ns (drop n t))) none
 
+-- "Bytes 0-1: edition"
+abbrev pub editionIn : List ℕ → ℕ
+editionIn t = unle (take 2 t)
+
+-- an edition that there is, and as many sections as its tables have: "Bytes 2-3 say how many sections there are"
+abbrev pub hasHeader : ℕ → List ℕ → Bool
+hasHeader e t = ltb 0 (sectionsOf e) && leb (firstBody e) (length t) && eqb (unle (take 2 (drop 2 t))) (sectionsOf e)
+
 unfoldable pub bodiesIn : List ℕ → Option (List (List ℕ))
 bodiesIn t =
-    cond (leb firstBody (length t) && eqb (unle (take 2 t)) edition && eqb (unle (take 2 (drop 2 t))) bodyCount)
-    (bodyLengths bodyCount firstBody (drop 4 t)) none
-    >>= λ ns. splitBodies ns (drop firstBody t)
+    let e = editionIn t in
+    cond (hasHeader e t) (bodyLengths (sectionsOf e) (firstBody e) (drop 4 t)) none >>= λ ns. splitBodies ns (drop (firstBody e) t)
 
 -- n parts of w bytes, one after the other
 unfoldable pub pieces : ℕ → ℕ → List ℕ → List (List ℕ)
@@ -184,7 +198,19 @@ assignRows r (h ∷ hs) rs = cond (eqb (h .first) r && leb (h .rows) (length rs)
     (more (some (record { class = h .class; mask = h .mask; rows = take (h .rows) rs })) (assignRows (r + h .rows) hs (drop (h .rows) rs)))
     none
 
--- the image of eight bodies
+-- W-205: a record of body 9
+abbrev pub relabelAt : List ℕ → RelabelHead
+relabelAt t = record { class = unle (take 2 t); rows = unle (take 2 (drop 2 t)) }
+
+-- the statements of body 9 take up the rows of body 10 in order with none left
+unfoldable pub assignRelabels : List RelabelHead → List Row → Option (List RelabelEntry)
+assignRelabels [] [] = some []
+assignRelabels [] (x ∷ xs) = none
+assignRelabels (h ∷ hs) rs = cond (leb (h .rows) (length rs))
+    (more (some (record { class = h .class; rows = take (h .rows) rs })) (assignRelabels hs (drop (h .rows) rs)))
+    none
+
+-- the image of the bodies; one that the edition does not have is empty: "Readers take edition 1 as having none"
 abbrev pub imageFrom : List (List ℕ) → Option Image
 imageFrom bs =
     namesAt (getD bs 0 []) >>= λ ds.
@@ -201,7 +227,22 @@ imageFrom bs =
     exactly (count (attributeOf users) ds) 16 (take ua (getD bs 7 [])) >>= λ us.
     exactly (count (attributeOf roles) ds) 16 (take ra (drop ua (getD bs 7 []))) >>= λ rss.
     exactly (count (attributeOf types) ds) 64 (drop ra (drop ua (getD bs 7 []))) >>= λ ts.
-    some (record { names = ds; userRoles = ur; roleTypes = rt; roleRoles = rr; transitions = each transitionAt ms; constraints = cs; userSets = us; roleSets = rss; typeSets = ts })
+    exactly (length (getD bs 8 []) / 4) 4 (getD bs 8 []) >>= λ vs.
+    exactly (length (getD bs 9 []) / 6) 6 (getD bs 9 []) >>= λ ws.
+    eachOf rowAt ws >>= λ ws.
+    assignRelabels (each relabelAt vs) ws >>= λ vs.
+    some (record {
+      names = ds;
+      userRoles = ur;
+      roleTypes = rt;
+      roleRoles = rr;
+      transitions = each transitionAt ms;
+      constraints = cs;
+      userSets = us;
+      roleSets = rss;
+      typeSets = ts;
+      relabels = vs;
+    })
 
 -- the image that a table holds; none where it is not sound
 unfoldable pub imageIn : List ℕ → Option Image

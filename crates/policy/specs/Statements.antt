@@ -1,11 +1,11 @@
--- Document 01, "Statements" and "How many": the statements as read, and what a list of them declares. Assumes nothing.
+-- Document 01, "Statements" and "How many", and document 02, W-205: the statements as read, and what a list of them declares. Assumes nothing.
 use Prim.Native.Nat.{ℕ, max, _+_}
 use mathlib.Core.Bool.{Bool, true, false, _&&_, cond}
 use mathlib.Core.List.{List, []}
 use mathlib.Core.Option.{Option, none, some}
 use lib.Dec.{eqb}
 use lib.ListN.{length, getD}
-use Rattle.policy.specs.Basics.{Name, gather}
+use Rattle.policy.specs.Basics.{Name, _>>=_, given, gather}
 
 -- users with userattributes; roles with roleattributes; types with typeattributes
 pub data Family : Type 0 where
@@ -34,9 +34,9 @@ pub data SetExpr (R : Type 0) : Type 0 where
   unionS : SetExpr R → SetExpr R → SetExpr R
   emptyS : SetExpr R
 
--- side 1 is the source, 2 the target
+-- side 1 is the source, 2 the target; W-205: of a relabelling 1 is the old context, 2 the new one, 3 the process that relabels
 pub data Side : Type 0 where
-  source target : Side
+  source target process : Side
 
 pub data Op : Type 0 where
   eq neq dom domby incomp : Op
@@ -69,6 +69,7 @@ pub data StatementOf (R N : Type 0) : Type 0 where
   gives : Relation → R → R → StatementOf R N
   roletransition : R → R → N → N → StatementOf R N
   constrain : N → List N → Constraint R → StatementOf R N
+  validatetrans : N → Constraint R → StatementOf R N
 
 -- as it is written, with names; as it is read, with numbers
 abbrev pub Written : Type 0
@@ -142,33 +143,45 @@ permissions ds c = getD (gather withPermissions ds) c []
 unfoldable pub count : Sort → List Declaration → ℕ
 count s ds = length (namesOf s ds)
 
--- what a policy declares
-abbrev pub declared : Line → Option Declaration
-declared l = elim (l .says) [
-  | declare d ↦ some d
-  | attributeset f a s ↦ none
-  | gives r x y ↦ none
-  | roletransition r t c n ↦ none
-  | constrain c ps e ↦ none
-]
+-- A STATEMENT BY ITS KIND: what it says if it is of that kind, else none. Nothing below these projections asks for the kind of a statement
 
-unfoldable pub declarations : Policy → List Declaration
-declarations p = gather declared p
+abbrev pub asDeclaration : Statement → Option Declaration
+asDeclaration (declare d) = some d
+asDeclaration (attributeset f a s) = none
+asDeclaration (gives k x y) = none
+asDeclaration (roletransition r t c n) = none
+asDeclaration (constrain c ps e) = none
+asDeclaration (validatetrans c e) = none
 
--- the S of the statements for attribute a of the family f
-abbrev pub setFor : Family → ℕ → Line → Option (SetExpr Reference)
-setFor f a l = elim (l .says) [
-  | declare d ↦ none
-  | attributeset g b s ↦ cond (sameFamily f g && eqb a b) (some s) none
-  | gives r x y ↦ none
-  | roletransition r t c n ↦ none
-  | constrain c ps e ↦ none
-]
+-- `(userattributeset A S)` and the like
+pub record AttributeSet : Type 0 where
+  pub family : Family
+  pub attribute : ℕ
+  pub set : SetExpr Reference
 
-unfoldable pub setsFor : Family → ℕ → Policy → List (SetExpr Reference)
-setsFor f a p = gather (setFor f a) p
+abbrev pub asSet : Statement → Option AttributeSet
+asSet (declare d) = none
+asSet (attributeset f a s) = some (record { family = f; attribute = a; set = s })
+asSet (gives k x y) = none
+asSet (roletransition r t c n) = none
+asSet (constrain c ps e) = none
+asSet (validatetrans c e) = none
 
--- the transitions in text order
+-- `(userrole U R)` and the like
+pub record Gives : Type 0 where
+  pub relation : Relation
+  pub from : Reference
+  pub to : Reference
+
+abbrev pub asGives : Statement → Option Gives
+asGives (declare d) = none
+asGives (attributeset f a s) = none
+asGives (gives k x y) = some (record { relation = k; from = x; to = y })
+asGives (roletransition r t c n) = none
+asGives (constrain c ps e) = none
+asGives (validatetrans c e) = none
+
+-- `(roletransition R T C R)`, with the place of its statement
 pub record Transition : Type 0 where
   pub place : ℕ
   pub role : Reference
@@ -176,35 +189,81 @@ pub record Transition : Type 0 where
   pub class : ℕ
   pub new : ℕ
 
-abbrev pub transition : Line → Option Transition
-transition l = elim (l .says) [
-  | declare d ↦ none
-  | attributeset g b s ↦ none
-  | gives r x y ↦ none
-  | roletransition r t c n ↦ some (record { place = l .place; role = r; type = t; class = c; new = n })
-  | constrain c ps e ↦ none
-]
+abbrev pub asTransition : ℕ → Statement → Option Transition
+asTransition at (declare d) = none
+asTransition at (attributeset f a s) = none
+asTransition at (gives k x y) = none
+asTransition at (roletransition r t c n) = some (record { place = at; role = r; type = t; class = c; new = n })
+asTransition at (constrain c ps e) = none
+asTransition at (validatetrans c e) = none
 
-unfoldable pub transitions : Policy → List Transition
-transitions p = gather transition p
-
--- the constrains in text order: "its number is its place among all constrains, from 0"
+-- `(constrain (C (P ...)) E)`
 pub record Constrain : Type 0 where
   pub class : ℕ
   pub perms : List ℕ
   pub body : Constraint Reference
 
+abbrev pub asConstrain : Statement → Option Constrain
+asConstrain (declare d) = none
+asConstrain (attributeset f a s) = none
+asConstrain (gives k x y) = none
+asConstrain (roletransition r t c n) = none
+asConstrain (constrain c ps e) = some (record { class = c; perms = ps; body = e })
+asConstrain (validatetrans c e) = none
+
+-- W-205: `(validatetrans C E)`
+pub record Relabel : Type 0 where
+  pub class : ℕ
+  pub body : Constraint Reference
+
+abbrev pub asRelabel : Statement → Option Relabel
+asRelabel (declare d) = none
+asRelabel (attributeset f a s) = none
+asRelabel (gives k x y) = none
+asRelabel (roletransition r t c n) = none
+asRelabel (constrain c ps e) = none
+asRelabel (validatetrans c e) = some (record { class = c; body = e })
+
+-- what a policy declares
+abbrev pub declared : Line → Option Declaration
+declared l = asDeclaration (l .says)
+
+unfoldable pub declarations : Policy → List Declaration
+declarations p = gather declared p
+
+-- the S of the statements for attribute a of the family f
+abbrev pub setFor : Family → ℕ → Line → Option (SetExpr Reference)
+setFor f a l = asSet (l .says) >>= λ x. given (sameFamily f (x .family) && eqb a (x .attribute)) (x .set)
+
+unfoldable pub setsFor : Family → ℕ → Policy → List (SetExpr Reference)
+setsFor f a p = gather (setFor f a) p
+
+-- the transitions in text order
+abbrev pub transition : Line → Option Transition
+transition l = asTransition (l .place) (l .says)
+
+unfoldable pub transitions : Policy → List Transition
+transitions p = gather transition p
+
+-- the constrains in text order: "its number is its place among all constrains, from 0"
 abbrev pub constrained : Line → Option Constrain
-constrained l = elim (l .says) [
-  | declare d ↦ none
-  | attributeset g b s ↦ none
-  | gives r x y ↦ none
-  | roletransition r t c n ↦ none
-  | constrain c ps e ↦ some (record { class = c; perms = ps; body = e })
-]
+constrained l = asConstrain (l .says)
 
 unfoldable pub constrains : Policy → List Constrain
 constrains p = gather constrained p
+
+abbrev pub constrainBody : Constrain → Constraint Reference
+constrainBody c = c .body
+
+-- W-205: the validatetrans statements in text order: the number of one is its place among them, from 0
+abbrev pub relabelled : Line → Option Relabel
+relabelled l = asRelabel (l .says)
+
+unfoldable pub relabels : Policy → List Relabel
+relabels p = gather relabelled p
+
+abbrev pub relabelBody : Relabel → Constraint Reference
+relabelBody c = c .body
 
 -- "one per operator and comparison"
 unfoldable pub size : {R : Type 0} → Constraint R → ℕ

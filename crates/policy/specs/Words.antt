@@ -1,4 +1,4 @@
--- The keywords and reserved words of document 01, and what W-203 adds to them. Assumes nothing.
+-- The keywords and reserved words of document 01, and what W-203 and W-205 add to them. Assumes nothing.
 use Prim.Native.String.{String}
 use mathlib.Core.Bool.{Bool, true, false, not, _&&_}
 use mathlib.Core.List.{List, [], _∷_}
@@ -6,7 +6,7 @@ use mathlib.Core.Option.{Option}
 use Rattle.lexer.specs.Spell.{bytes}
 use Rattle.lexer.specs.Class.{is, parts}
 use Rattle.policy.specs.Basics.{Name, isIn, any, Under, lookup, given}
-use Rattle.policy.specs.Statements.{Family, users, roles, types, Sort, thingOf, attributeOf, Side, source, target, Op, eq, neq, dom, domby, incomp}
+use Rattle.policy.specs.Statements.{Family, users, roles, types, Sort, thingOf, attributeOf, Side, source, target, process, Op, eq, neq, dom, domby, incomp}
 use Rattle.policy.specs.Statements.{Relation, userrole, roletype, roleallow}
 
 -- a word and its value
@@ -43,7 +43,7 @@ pub data Keyword : Type 0 where
   classK : Keyword
   setK : Family → Keyword
   relationK : Relation → Keyword
-  transitionK constrainK : Keyword
+  transitionK constrainK relabelK : Keyword
 
 unfoldable pub keywordOf : Name → Option Keyword
 keywordOf w = lookup w (
@@ -62,6 +62,7 @@ keywordOf w = lookup w (
     ∷ "roleallow" ↦→ relationK roleallow
     ∷ "roletransition" ↦→ transitionK
     ∷ "constrain" ↦→ constrainK
+    ∷ "validatetrans" ↦→ relabelK
     ∷ [])
 
 -- W-203: the word that a block starts with
@@ -89,7 +90,11 @@ isPlain dom = false
 isPlain domby = false
 isPlain incomp = false
 
--- "x one of u1 u2 r1 r2 t1 t2"
+-- which sides an E may name: a constrain's two, or, W-205, the three of a relabelling
+pub data Sides : Type 0 where
+  twoSides threeSides : Sides
+
+-- a component of the context of a side
 pub record Component : Type 0 where
   pub family : Family
   pub side : Side
@@ -97,16 +102,26 @@ pub record Component : Type 0 where
 abbrev pub component : Family → Side → Component
 component f s = record { family = f; side = s }
 
-unfoldable pub componentOf : Name → Option Component
-componentOf w = lookup w (
+-- "x one of u1 u2 r1 r2 t1 t2"
+abbrev pub ofTwoSides : List (Under Component)
+ofTwoSides =
     "u1" ↦→ component users source ∷ "u2" ↦→ component users target
     ∷ "r1" ↦→ component roles source ∷ "r2" ↦→ component roles target
     ∷ "t1" ↦→ component types source ∷ "t2" ↦→ component types target
-    ∷ [])
+    ∷ []
+
+-- W-205: "x also u3, r3 or t3"
+abbrev pub components : Sides → List (Under Component)
+components twoSides = ofTwoSides
+components threeSides =
+    "u3" ↦→ component users process ∷ "r3" ↦→ component roles process ∷ "t3" ↦→ component types process ∷ ofTwoSides
+
+unfoldable pub componentOf : Sides → Name → Option Component
+componentOf n w = lookup w (components n)
 
 -- the words of denial 3
-abbrev pub process : Name
-process = bytes "process"
+abbrev pub processWord : Name
+processWord = bytes "process"
 
 abbrev pub transitionWords : List Name
 transitionWords = bytes "transition" ∷ bytes "dyntransition" ∷ []

@@ -1,4 +1,4 @@
--- Document 01, "Checked by hand": P1 to P12, proved of the rules themselves as one list under one claim. Assumes nothing.
+-- Document 01, "Checked by hand", and document 02, W-205: P1 to P12, proved of the rules themselves as one list under one claim. Assumes nothing.
 use Prim.Native.Nat.{ℕ, zero, suc, _+_, _*_}
 use mathlib.Core.Path.{_≡_, refl}
 use mathlib.Core.Bool.{true}
@@ -15,7 +15,7 @@ use Rattle.policy.specs.Deciding.{Question, denied, unconsulted}
 use Rattle.policy.specs.Answer.{answer}
 use Rattle.bitset.specs.Sets.{setOf, tabulate}
 use Rattle.policy.specs.Outcome.{ofText, compiles, refuses, refusalAt, accepted, rejected, outcome, compiled, policyOf}
-use Rattle.policy.specs.Encode.{encode}
+use Rattle.policy.specs.Encode.{sectionsOf, newest, encode}
 use Rattle.policy.specs.Questions.{changeOn}
 use Rattle.policy.specs.Computing.{computing}
 
@@ -38,11 +38,11 @@ rollLines =
 
 -- the table of a text; nothing where it is refused
 abbrev pub tableOf : List ℕ → List ℕ
-tableOf text = elim (compiled (ofText text) 65536) [ compiles i ↦ encode i | refuses n p ↦ [] ]
+tableOf text = elim (compiled (ofText text) 65536) [ compiles i ↦ encode newest i | refuses n p ↦ [] ]
 
--- the eight offsets of a table
+-- the offsets of the sections of a table
 abbrev pub offsets : List ℕ → List ℕ
-offsets t = tabulate 8 (λ k. unle (take 4 (drop (4 + 8 * k) t)))
+offsets t = tabulate (sectionsOf newest) (λ k. unle (take 4 (drop (4 + 8 * k) t)))
 
 -- the final set of roleattribute 0 of a text, in 16 bytes; nothing where it is refused
 abbrev pub firstSet : List ℕ → List ℕ
@@ -68,9 +68,9 @@ abbrev asked : ℕ → Question
 asked k = record { source = context 0 0 0; target = context 0 1 0; class = 0; perm = k }
 
 pub record Worked : Type 0 where
-  pub p1 : outcome (ofText (bytes "")) 68 ≡ accepted 68
-  pub p2 : (readPolicy rollText ≡ policy rollLines) × (outcome (ofText rollText) 264 ≡ accepted 264)
-      × (offsets (tableOf rollText) ≡ 68 ∷ 88 ∷ 104 ∷ 232 ∷ 264 ∷ 264 ∷ 264 ∷ 264 ∷ [])
+  pub p1 : outcome (ofText (bytes "")) 84 ≡ accepted 84
+  pub p2 : (readPolicy rollText ≡ policy rollLines) × (outcome (ofText rollText) 280 ≡ accepted 280)
+      × (offsets (tableOf rollText) ≡ 84 ∷ 104 ∷ 120 ∷ 248 ∷ 280 ∷ 280 ∷ 280 ∷ 280 ∷ 280 ∷ 280 ∷ [])
   pub p3 : (lent : ℕ) → outcome (ofText (bytes "(role a)(role a)")) lent ≡ rejected (refusalAt 4 8 1)
   pub p4 : (lent : ℕ) → outcome (ofText (bytes "(role a)(roletype a t)")) lent ≡ rejected (refusalAt 5 8 1)
   pub p5 : (lent : ℕ) → outcome (ofText (bytes "(")) lent ≡ rejected (refusalAt 2 1 1)

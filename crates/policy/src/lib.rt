@@ -90,6 +90,22 @@ impl Constraint {
     pub const ROW_COUNT_AT: usize = 8;
 }
 
+// The number of a validatetrans statement, which says when a file may be relabelled.
+pub struct Relabel(pub u64);
+
+impl Relabel {
+    pub const MAX: usize = 64;
+
+    // The most rows of all of them.
+    pub const MAX_ROWS: usize = 1_024;
+
+    // The bytes of one in a table: its class, and how many rows it has.
+    pub const BYTES: usize = 4;
+
+    // Where they are in it; the class comes first.
+    pub const ROW_COUNT_AT: usize = 2;
+}
+
 // The number of a constraint row, over all constraints.
 pub struct Row(pub u64);
 
@@ -138,8 +154,16 @@ impl Component {
 
     pub const T2: u8 = 5;
 
-    // How many there are.
+    pub const U3: u8 = 6;
+
+    pub const R3: u8 = 7;
+
+    pub const T3: u8 = 8;
+
+    // How many there are of two sides, and of three.
     pub const COUNT: u8 = 6;
+
+    pub const COUNT_OF_THREE: u8 = 9;
 }
 
 // The operator of a comparison, as a row has it.
@@ -214,14 +238,14 @@ pub struct NameCounts {
     pub classes: usize,
 }
 
-// A table: its edition, how many sections it has, and the bytes of its header: the edition and the number of
-// sections, and for each section its offset and its length.
+// A table: the edition that is written, how many sections it has, and the bytes of its header: the edition and the
+// number of sections, and for each section its offset and its length.
 pub struct Table;
 
 impl Table {
-    pub const EDITION: u16 = 1;
+    pub const EDITION: u16 = 2;
 
-    pub const SECTIONS: u8 = 8;
+    pub const SECTIONS: u8 = 10;
 
     // Where the pairs of offset and length start, where the first length is, and the bytes of each pair.
     pub const FIRST_PAIR: usize = 4;
@@ -266,6 +290,11 @@ impl Section {
     pub const ROWS: u8 = 6;
 
     pub const ATTRIBUTE_SETS: u8 = 7;
+
+    // The validatetrans statements, and their rows.
+    pub const RELABELS: u8 = 8;
+
+    pub const RELABEL_ROWS: u8 = 9;
 }
 
 // Users with userattributes, roles with roleattributes, types with typeattributes.
@@ -273,6 +302,12 @@ pub enum Family {
     Users,
     Roles,
     Types,
+}
+
+// Which sides a constraint expression may name: the two of a change, or the three of a relabelling.
+pub enum Sides {
+    Two,
+    Three,
 }
 
 // What gives roles to users, types to roles, and to roles the roles that they may become.
@@ -316,7 +351,8 @@ impl Refusal {
     pub const NUMBER_UNDECLARED: usize = 12;
 }
 
-// The numbers of the denials of a change. The last comes with the number of the constraint that fails.
+// The numbers of the denials of a change and of a relabelling. A statement that fails comes with its number. Of a
+// relabelling the source is the old context and the target the new one.
 pub struct Denial;
 
 impl Denial {
@@ -327,6 +363,10 @@ impl Denial {
     pub const ROLE_MAY_NOT_CHANGE: usize = 3;
 
     pub const CONSTRAINT_FAILS: usize = 4;
+
+    pub const PROCESS_NOT_VALID: usize = 5;
+
+    pub const RELABEL_FAILS: usize = 6;
 }
 
 // What compiling a text answers: the length of its table, or a refusal.
@@ -342,13 +382,24 @@ pub enum Validity {
     Refused { number: usize },
 }
 
-// What a change question answers: granted; denial 1, 2 or 3; denial 4 with the number of the constraint that fails;
-// or a refusal, 11 or 12. `consulted` counts the constraints that were asked; where it is missing it is 0.
+// What a change question, or one of relabelling, answers: granted; denial 1, 2, 3 or 5; denial 4 or 6 with the number
+// of the statement that fails; or a refusal, 11 or 12. `consulted` counts the statements that were asked; where it is
+// missing it is 0.
 pub enum Change {
-    Granted { consulted: usize },
-    Denied { number: usize },
-    Failed { constraint: usize, consulted: usize },
-    Refused { number: usize },
+    Granted {
+        consulted: usize,
+    },
+    Denied {
+        number: usize,
+    },
+    Failed {
+        number: usize,
+        constraint: usize,
+        consulted: usize,
+    },
+    Refused {
+        number: usize,
+    },
 }
 
 // The role that a transition proposes, or the role given; or a refusal, 11 or 12.

@@ -9,12 +9,12 @@ use Rattle.policy.specs.Computing.{computing}
 
 -- the roll of document 01
 printed-0 : printed (ofText (bytes "(user u)(role a)(role b)(type t)(userrole u a)(roletype a t)")) ≡ bytes
-    "accepted 264 bytes\nuser u roles 1\nrole a types 1\nrole b types 0\n"
+    "accepted 280 bytes\nuser u roles 1\nrole a types 1\nrole b types 0\n"
 unfolding computing
 printed-0 = refl
 
 -- the empty text
-printed-1 : printed (ofText (bytes "")) ≡ bytes "accepted 68 bytes\n"
+printed-1 : printed (ofText (bytes "")) ≡ bytes "accepted 84 bytes\n"
 unfolding computing
 printed-1 = refl
 
@@ -50,37 +50,43 @@ printed-7 = refl
 
 -- users first
 printed-8 : printed (ofText (bytes "(role b)(user v)(role a)(user u)(userrole u b)")) ≡ bytes
-    "accepted 280 bytes\nuser v roles 0\nuser u roles 1\nrole b types 0\nrole a types 0\n"
+    "accepted 296 bytes\nuser v roles 0\nuser u roles 1\nrole b types 0\nrole a types 0\n"
 unfolding computing
 printed-8 = refl
 
 -- by number, not by name
 printed-9 : printed (ofText (bytes "(user z)(user a)(role r)(userrole a r)")) ≡ bytes
-    "accepted 195 bytes\nuser z roles 0\nuser a roles 1\nrole r types 0\n"
+    "accepted 211 bytes\nuser z roles 0\nuser a roles 1\nrole r types 0\n"
 unfolding computing
 printed-9 = refl
 
 -- sets through attributes
 printed-10 : printed (ofText (bytes "(user u)(role a)(role b)(roleattribute x)(userrole u x)(roleattributeset x(all))")) ≡ bytes
-    "accepted 280 bytes\nuser u roles 2\nrole a types 0\nrole b types 0\n"
+    "accepted 296 bytes\nuser u roles 2\nrole a types 0\nrole b types 0\n"
 unfolding computing
 printed-10 = refl
 
 -- more than nine members
 printed-11 : printed (ofText (bytes
     "(role a)(type a)(type b)(type c)(type d)(type e)(type f)(type g)(type h)(type i)(type j)(typeattribute x)(typeattributes" ++ bytes
-    "et x(all))(roletype a x)")) ≡ bytes "accepted 272 bytes\nrole a types 10\n"
+    "et x(all))(roletype a x)")) ≡ bytes "accepted 288 bytes\nrole a types 10\n"
 unfolding computing
 printed-11 = refl
 
 -- W-203: full names
 printed-12 : printed (ofText (bytes "(block b(role a)(block c(user u)(userrole u a)))")) ≡ bytes
-    "accepted 180 bytes\nuser b.c.u roles 1\nrole b.a types 0\n"
+    "accepted 196 bytes\nuser b.c.u roles 1\nrole b.a types 0\n"
 unfolding computing
 printed-12 = refl
 
--- attributes and classes print nothing
-printed-13 : printed (ofText (bytes "(userattribute x)(class c(p))(type t)(role long-name_1)")) ≡ bytes
-    "accepted 199 bytes\nrole long-name_1 types 0\n"
+-- W-205: validatetrans prints nothing
+printed-13 : printed (ofText (bytes "(user u)(role a)(class c(p))(validatetrans c(eq r3 a))")) ≡ bytes
+    "accepted 210 bytes\nuser u roles 0\nrole a types 0\n"
 unfolding computing
 printed-13 = refl
+
+-- attributes and classes print nothing
+printed-14 : printed (ofText (bytes "(userattribute x)(class c(p))(type t)(role long-name_1)")) ≡ bytes
+    "accepted 215 bytes\nrole long-name_1 types 0\n"
+unfolding computing
+printed-14 = refl

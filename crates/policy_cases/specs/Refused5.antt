@@ -6,105 +6,150 @@ use Rattle.lexer.specs.Spell.{bytes}
 use Rattle.policy.specs.Outcome.{ofText, refusalAt, rejected, outcome}
 use Rattle.policy.specs.Computing.{computing}
 
--- W-203, reading 31: lowest place
-refused-300 : outcome (ofText (bytes "(role a!.b)")) 65536 ≡ rejected (refusalAt 2 7 1)
+-- W-203, reading 32: two good names
+refused-300 : outcome (ofText (bytes "(role a .b)")) 65536 ≡ rejected (refusalAt 3 0 1)
 unfolding computing
 refused-300 = refl
 
--- W-203, reading 32: two good names
-refused-301 : outcome (ofText (bytes "(role a .b)")) 65536 ≡ rejected (refusalAt 3 0 1)
+-- W-203, reading 33: a use of ten parts finds nothing
+refused-301 : outcome (ofText (bytes "(roleallow a.b.c.d.e.f.g.h.i.j a)")) 65536 ≡ rejected (refusalAt 5 0 1)
 unfolding computing
 refused-301 = refl
 
--- W-203, reading 33: a use of ten parts finds nothing
-refused-302 : outcome (ofText (bytes "(roleallow a.b.c.d.e.f.g.h.i.j a)")) 65536 ≡ rejected (refusalAt 5 0 1)
+-- W-203, reading 35: the header before anything in it
+refused-302 : outcome (ofText (bytes "(block b(role a)(role a) x)")) 65536 ≡ rejected (refusalAt 3 0 1)
 unfolding computing
 refused-302 = refl
 
--- W-203, reading 35: the header before anything in it
-refused-303 : outcome (ofText (bytes "(block b(role a)(role a) x)")) 65536 ≡ rejected (refusalAt 3 0 1)
+-- W-203, reading 36: the statement's own parenthesis
+refused-303 : outcome (ofText (bytes "(block b\n())")) 65536 ≡ rejected (refusalAt 3 9 2)
 unfolding computing
 refused-303 = refl
 
--- W-203, reading 36: the statement's own parenthesis
-refused-304 : outcome (ofText (bytes "(block b\n())")) 65536 ≡ rejected (refusalAt 3 9 2)
+-- W-203, reading 37: a dot in a permission
+refused-304 : outcome (ofText (bytes "(class c (.p))")) 65536 ≡ rejected (refusalAt 3 0 1)
 unfolding computing
 refused-304 = refl
 
--- W-203, reading 37: a dot in a permission
-refused-305 : outcome (ofText (bytes "(class c (.p))")) 65536 ≡ rejected (refusalAt 3 0 1)
+-- W-203, reading 38: a reserved part
+refused-305 : outcome (ofText (bytes "(userrole b.all r)")) 65536 ≡ rejected (refusalAt 3 0 1)
 unfolding computing
 refused-305 = refl
 
--- W-203, reading 38: a reserved part
-refused-306 : outcome (ofText (bytes "(userrole b.all r)")) 65536 ≡ rejected (refusalAt 3 0 1)
+-- W-203, reading 39: keywords only undotted
+refused-306 : outcome (ofText (bytes "(.role a)")) 65536 ≡ rejected (refusalAt 3 0 1)
 unfolding computing
 refused-306 = refl
 
--- W-203, reading 39: keywords only undotted
-refused-307 : outcome (ofText (bytes "(.role a)")) 65536 ≡ rejected (refusalAt 3 0 1)
+-- W-203, reading 41: opened twice
+refused-307 : outcome (ofText (bytes "(block b)\n(block b)")) 65536 ≡ rejected (refusalAt 4 10 2)
 unfolding computing
 refused-307 = refl
 
--- W-203, reading 41: opened twice
-refused-308 : outcome (ofText (bytes "(block b)\n(block b)")) 65536 ≡ rejected (refusalAt 4 10 2)
+-- W-203, reading 43: the whole-text level alone
+refused-308 : outcome (ofText (bytes "(block p(role n)(roleallow .n n))")) 65536 ≡ rejected (refusalAt 5 16 1)
 unfolding computing
 refused-308 = refl
 
--- W-203, reading 43: the whole-text level alone
-refused-309 : outcome (ofText (bytes "(block p(role n)(roleallow .n n))")) 65536 ≡ rejected (refusalAt 5 16 1)
+-- W-203, reading 44: the first hit of the family decides, of the wrong sort too
+refused-309 : outcome (ofText (bytes "(roleattribute x)(block k(role x)\n(roleattributeset x(all)))")) 65536 ≡ rejected (refusalAt 5 34 2)
 unfolding computing
 refused-309 = refl
 
--- W-203, reading 44: the first hit of the family decides, of the wrong sort too
-refused-310 : outcome (ofText (bytes "(roleattribute x)(block k(role x)\n(roleattributeset x(all)))")) 65536 ≡ rejected (refusalAt 5 34 2)
+-- W-203, reading 46: a permission of the class found
+refused-310 : outcome (ofText (bytes "(class c(p))(block b(class c(q))(constrain(c(p))(eq u1 u2)))")) 65536 ≡ rejected (refusalAt 5 32 1)
 unfolding computing
 refused-310 = refl
 
--- W-203, reading 46: a permission of the class found
-refused-311 : outcome (ofText (bytes "(class c(p))(block b(class c(q))(constrain(c(p))(eq u1 u2)))")) 65536 ≡ rejected (refusalAt 5 32 1)
+-- W-203, reading 51: the declaration's own parenthesis
+refused-311 : outcome (ofText (bytes "(block b\n(roleattribute x)(roleattributeset x(.b.x)))")) 65536 ≡ rejected (refusalAt 8 9 2)
 unfolding computing
 refused-311 = refl
 
--- W-203, reading 51: the declaration's own parenthesis
-refused-312 : outcome (ofText (bytes "(block b\n(roleattribute x)(roleattributeset x(.b.x)))")) 65536 ≡ rejected (refusalAt 8 9 2)
+-- W-205, reading 63: C is a name
+refused-312 : outcome (ofText (bytes "(class c(p))(validatetrans (c) (eq u1 u2))")) 65536 ≡ rejected (refusalAt 3 12 1)
 unfolding computing
 refused-312 = refl
 
--- W-202, reading 19: a name of 65 bytes
-refused-313 : outcome (ofText (bytes "(role\nnnnnnnnnnnnnnnnnnnnnnnnnnnnnnnnnnnnnnnnnnnnnnnnnnnnnnnnnnnnnnnnnn\n)")) 65536 ≡ rejected (refusalAt 2
-    6 2)
+-- W-205, reading 63: no permissions
+refused-313 : outcome (ofText (bytes "(class c(p))\n(validatetrans (c (p)) (eq u1 u2))")) 65536 ≡ rejected (refusalAt 3 13 2)
 unfolding computing
 refused-313 = refl
 
--- W-202, reading 19: level 33
-refused-314 : outcome (ofText (bytes "\n((((((((((((((((((((((((((((((((\n()))))))))))))))))))))))))))))))))")) 65536 ≡ rejected (refusalAt 2 34
-    3)
+-- W-205, reading 63: one E
+refused-314 : outcome (ofText (bytes "(validatetrans c (eq u1 u2) (eq u1 u2))")) 65536 ≡ rejected (refusalAt 3 0 1)
 unfolding computing
 refused-314 = refl
 
--- W-202, reading 20: 32 open, each on a line
-refused-315 : outcome (ofText (bytes "(\n(\n(\n(\n(\n(\n(\n(\n(\n(\n(\n(\n(\n(\n(\n(\n(\n(\n(\n(\n(\n(\n(\n(\n(\n(\n(\n(\n(\n(\n(\n(\n")) 65536 ≡
-    rejected (refusalAt 2 64 33)
+-- W-205, reading 63: left out
+refused-315 : outcome (ofText (bytes "(mlsvalidatetrans c (eq u1 u2))")) 65536 ≡ rejected (refusalAt 3 0 1)
 unfolding computing
 refused-315 = refl
 
--- W-202: 6 on a later line
-refused-316 : outcome (ofText (bytes
-    "\n\n(class c(A\nB\nC\nD\nE\nF\nG\nH\nI\nJ\nK\nL\nM\nN\nO\nP\nQ\nR\nS\nT\nU\nV\nW\nX\nY\nZ\na\nb\nc\nd\ne\nf\ng))")) 65536 ≡ rejected (refusalAt 6
-    2 3)
+-- W-205, reading 64: no pair with side 3
+refused-316 : outcome (ofText (bytes "(validatetrans c (eq u1 u3))")) 65536 ≡ rejected (refusalAt 3 0 1)
 unfolding computing
 refused-316 = refl
 
--- W-202: 7 on a later line
-refused-317 : outcome (ofText (bytes
-    "(class c(p))\n\n(constrain(c(p))\n(and(eq t1 t2)\n(and(eq t1 t2)\n(and(eq t1 t2)\n(and(eq t1 t2)\n(and(eq t1 t2)(eq t1 t2))))))" ++ bytes ")"))
-    65536 ≡ rejected (refusalAt 7 14 3)
+-- W-205, reading 64: no pair with side 3
+refused-317 : outcome (ofText (bytes "(validatetrans c (eq u3 u3))")) 65536 ≡ rejected (refusalAt 3 0 1)
 unfolding computing
 refused-317 = refl
 
+-- W-205, reading 64: eq and neq alone
+refused-318 : outcome (ofText (bytes "(validatetrans c (dom r3 a))")) 65536 ≡ rejected (refusalAt 3 0 1)
+unfolding computing
+refused-318 = refl
+
+-- W-205, reading 64: in constrain it stays 3
+refused-319 : outcome (ofText (bytes "(class c (p))(user u)(constrain (c (p)) (eq u3 u))")) 65536 ≡ rejected (refusalAt 3 21 1)
+unfolding computing
+refused-319 = refl
+
+-- W-205, reading 65: a class declared before
+refused-320 : outcome (ofText (bytes "(user u)\n(validatetrans c (eq u3 u))(class c(p))")) 65536 ≡ rejected (refusalAt 5 9 2)
+unfolding computing
+refused-320 = refl
+
+-- W-205, reading 65: a name of the family
+refused-321 : outcome (ofText (bytes "(role u)(class c(p))(validatetrans c (or (eq u1 u2) (eq u3 u)))")) 65536 ≡ rejected (refusalAt 5 20 1)
+unfolding computing
+refused-321 = refl
+
+-- W-202, reading 19: a name of 65 bytes
+refused-322 : outcome (ofText (bytes "(role\nnnnnnnnnnnnnnnnnnnnnnnnnnnnnnnnnnnnnnnnnnnnnnnnnnnnnnnnnnnnnnnnnn\n)")) 65536 ≡ rejected (refusalAt 2
+    6 2)
+unfolding computing
+refused-322 = refl
+
+-- W-202, reading 19: level 33
+refused-323 : outcome (ofText (bytes "\n((((((((((((((((((((((((((((((((\n()))))))))))))))))))))))))))))))))")) 65536 ≡ rejected (refusalAt 2 34
+    3)
+unfolding computing
+refused-323 = refl
+
+-- W-202, reading 20: 32 open, each on a line
+refused-324 : outcome (ofText (bytes "(\n(\n(\n(\n(\n(\n(\n(\n(\n(\n(\n(\n(\n(\n(\n(\n(\n(\n(\n(\n(\n(\n(\n(\n(\n(\n(\n(\n(\n(\n(\n(\n")) 65536 ≡
+    rejected (refusalAt 2 64 33)
+unfolding computing
+refused-324 = refl
+
+-- W-202: 6 on a later line
+refused-325 : outcome (ofText (bytes
+    "\n\n(class c(A\nB\nC\nD\nE\nF\nG\nH\nI\nJ\nK\nL\nM\nN\nO\nP\nQ\nR\nS\nT\nU\nV\nW\nX\nY\nZ\na\nb\nc\nd\ne\nf\ng))")) 65536 ≡ rejected (refusalAt 6
+    2 3)
+unfolding computing
+refused-325 = refl
+
+-- W-202: 7 on a later line
+refused-326 : outcome (ofText (bytes
+    "(class c(p))\n\n(constrain(c(p))\n(and(eq t1 t2)\n(and(eq t1 t2)\n(and(eq t1 t2)\n(and(eq t1 t2)\n(and(eq t1 t2)(eq t1 t2))))))" ++ bytes ")"))
+    65536 ≡ rejected (refusalAt 7 14 3)
+unfolding computing
+refused-326 = refl
+
 -- past the maximum: users
-refused-318 : outcome (ofText (bytes
+refused-327 : outcome (ofText (bytes
     "(user a0)(user a1)(user a2)(user a3)(user a4)(user a5)(user a6)(user a7)(user a8)(user a9)(user a10)(user a11)(user a12)" ++ bytes
     "(user a13)(user a14)(user a15)(user a16)(user a17)(user a18)(user a19)(user a20)(user a21)(user a22)(user a23)(user a24)" ++ bytes
     "(user a25)(user a26)(user a27)(user a28)(user a29)(user a30)(user a31)(user a32)(user a33)(user a34)(user a35)(user a36)" ++ bytes
@@ -118,10 +163,10 @@ refused-318 : outcome (ofText (bytes
     "user a119)(user a120)(user a121)(user a122)(user a123)(user a124)(user a125)(user a126)(user a127)(user a128)")) 65536 ≡ rejected (refusalAt 6
     1298 1)
 unfolding computing
-refused-318 = refl
+refused-327 = refl
 
 -- past the maximum: roles
-refused-319 : outcome (ofText (bytes
+refused-328 : outcome (ofText (bytes
     "(role a0)(role a1)(role a2)(role a3)(role a4)(role a5)(role a6)(role a7)(role a8)(role a9)(role a10)(role a11)(role a12)" ++ bytes
     "(role a13)(role a14)(role a15)(role a16)(role a17)(role a18)(role a19)(role a20)(role a21)(role a22)(role a23)(role a24)" ++ bytes
     "(role a25)(role a26)(role a27)(role a28)(role a29)(role a30)(role a31)(role a32)(role a33)(role a34)(role a35)(role a36)" ++ bytes
@@ -135,10 +180,10 @@ refused-319 : outcome (ofText (bytes
     "role a119)(role a120)(role a121)(role a122)(role a123)(role a124)(role a125)(role a126)(role a127)(role a128)")) 65536 ≡ rejected (refusalAt 6
     1298 1)
 unfolding computing
-refused-319 = refl
+refused-328 = refl
 
 -- past the maximum: userattributes
-refused-320 : outcome (ofText (bytes
+refused-329 : outcome (ofText (bytes
     "(userattribute a0)(userattribute a1)(userattribute a2)(userattribute a3)(userattribute a4)(userattribute a5)(userattribu" ++ bytes
     "te a6)(userattribute a7)(userattribute a8)(userattribute a9)(userattribute a10)(userattribute a11)(userattribute a12)(us" ++ bytes
     "erattribute a13)(userattribute a14)(userattribute a15)(userattribute a16)(userattribute a17)(userattribute a18)(userattr" ++ bytes
@@ -151,10 +196,10 @@ refused-320 : outcome (ofText (bytes
     "tribute a57)(userattribute a58)(userattribute a59)(userattribute a60)(userattribute a61)(userattribute a62)(userattribut" ++ bytes
     "e a63)(userattribute a64)")) 65536 ≡ rejected (refusalAt 6 1206 1)
 unfolding computing
-refused-320 = refl
+refused-329 = refl
 
 -- past the maximum: roleattributes
-refused-321 : outcome (ofText (bytes
+refused-330 : outcome (ofText (bytes
     "(roleattribute a0)(roleattribute a1)(roleattribute a2)(roleattribute a3)(roleattribute a4)(roleattribute a5)(roleattribu" ++ bytes
     "te a6)(roleattribute a7)(roleattribute a8)(roleattribute a9)(roleattribute a10)(roleattribute a11)(roleattribute a12)(ro" ++ bytes
     "leattribute a13)(roleattribute a14)(roleattribute a15)(roleattribute a16)(roleattribute a17)(roleattribute a18)(roleattr" ++ bytes
@@ -167,10 +212,10 @@ refused-321 : outcome (ofText (bytes
     "tribute a57)(roleattribute a58)(roleattribute a59)(roleattribute a60)(roleattribute a61)(roleattribute a62)(roleattribut" ++ bytes
     "e a63)(roleattribute a64)")) 65536 ≡ rejected (refusalAt 6 1206 1)
 unfolding computing
-refused-321 = refl
+refused-330 = refl
 
 -- past the maximum: typeattributes
-refused-322 : outcome (ofText (bytes
+refused-331 : outcome (ofText (bytes
     "(typeattribute a0)(typeattribute a1)(typeattribute a2)(typeattribute a3)(typeattribute a4)(typeattribute a5)(typeattribu" ++ bytes
     "te a6)(typeattribute a7)(typeattribute a8)(typeattribute a9)(typeattribute a10)(typeattribute a11)(typeattribute a12)(ty" ++ bytes
     "peattribute a13)(typeattribute a14)(typeattribute a15)(typeattribute a16)(typeattribute a17)(typeattribute a18)(typeattr" ++ bytes
@@ -183,289 +228,199 @@ refused-322 : outcome (ofText (bytes
     "tribute a57)(typeattribute a58)(typeattribute a59)(typeattribute a60)(typeattribute a61)(typeattribute a62)(typeattribut" ++ bytes
     "e a63)(typeattribute a64)")) 65536 ≡ rejected (refusalAt 6 1206 1)
 unfolding computing
-refused-322 = refl
+refused-331 = refl
 
 -- past the maximum: classes
-refused-323 : outcome (ofText (bytes
+refused-332 : outcome (ofText (bytes
     "(class a0(p))(class a1(p))(class a2(p))(class a3(p))(class a4(p))(class a5(p))(class a6(p))(class a7(p))(class a8(p))(cl" ++ bytes
     "ass a9(p))(class a10(p))(class a11(p))(class a12(p))(class a13(p))(class a14(p))(class a15(p))(class a16(p))(class a17(p" ++ bytes
     "))(class a18(p))(class a19(p))(class a20(p))(class a21(p))(class a22(p))(class a23(p))(class a24(p))(class a25(p))(class" ++ bytes
     " a26(p))(class a27(p))(class a28(p))(class a29(p))(class a30(p))(class a31(p))(class a32(p))")) 65536 ≡ rejected (refusalAt 6 438 1)
 unfolding computing
-refused-323 = refl
+refused-332 = refl
 
 -- at the maximum: classes
-refused-324 : outcome (ofText (bytes
+refused-333 : outcome (ofText (bytes
     "(class a0(p))(class a1(p))(class a2(p))(class a3(p))(class a4(p))(class a5(p))(class a6(p))(class a7(p))(class a8(p))(cl" ++ bytes
     "ass a9(p))(class a10(p))(class a11(p))(class a12(p))(class a13(p))(class a14(p))(class a15(p))(class a16(p))(class a17(p" ++ bytes
     "))(class a18(p))(class a19(p))(class a20(p))(class a21(p))(class a22(p))(class a23(p))(class a24(p))(class a25(p))(class" ++ bytes
     " a26(p))(class a27(p))(class a28(p))(class a29(p))(class a30(p))(class a31(p))()")) 65536 ≡ rejected (refusalAt 3 438 1)
 unfolding computing
-refused-324 = refl
+refused-333 = refl
 
 -- past the maximum: permissions
-refused-325 : outcome (ofText (bytes
+refused-334 : outcome (ofText (bytes
     "(class c(p0 p1 p2 p3 p4 p5 p6 p7 p8 p9 p10 p11 p12 p13 p14 p15 p16 p17 p18 p19 p20 p21 p22 p23 p24 p25 p26 p27 p28 p29 p" ++ bytes
     "30 p31 p32))")) 65536 ≡ rejected (refusalAt 6 0 1)
 unfolding computing
-refused-325 = refl
+refused-334 = refl
 
 -- at the maximum: permissions
-refused-326 : outcome (ofText (bytes
+refused-335 : outcome (ofText (bytes
     "(class c(p0 p1 p2 p3 p4 p5 p6 p7 p8 p9 p10 p11 p12 p13 p14 p15 p16 p17 p18 p19 p20 p21 p22 p23 p24 p25 p26 p27 p28 p29 p" ++ bytes "30 p31))()"))
     65536 ≡ rejected (refusalAt 3 128 1)
 unfolding computing
-refused-326 = refl
+refused-335 = refl
 
 -- past the maximum: levels of a set
-refused-327 : outcome (ofText (bytes
+refused-336 : outcome (ofText (bytes
     "(role a)(roleattribute x)(roleattributeset x ((((((((((((((((((((((((((((((((a)))))))))))))))))))))))))))))))))")) 65536 ≡ rejected (refusalAt 2
     76 1)
 unfolding computing
-refused-327 = refl
+refused-336 = refl
 
 -- at the maximum: levels of a set
-refused-328 : outcome (ofText (bytes
+refused-337 : outcome (ofText (bytes
     "(role a)(roleattribute x)(roleattributeset x (((((((((((((((((((((((((((((((a))))))))))))))))))))))))))))))))()")) 65536 ≡ rejected (refusalAt 3
     109 1)
 unfolding computing
-refused-328 = refl
+refused-337 = refl
 
 -- past the maximum: levels of a constraint
-refused-329 : outcome (ofText (bytes
+refused-338 : outcome (ofText (bytes
     "(class c(p))(constrain(c(p))(not(not(not(not(not(not(not(not(not(not(not(not(not(not(not(not(not(not(not(not(not(not(not" ++ bytes
     "(not(not(not(not(not(not(not(not(eq u1 u2)))))))))))))))))))))))))))))))))")) 65536 ≡ rejected (refusalAt 2 152 1)
 unfolding computing
-refused-329 = refl
+refused-338 = refl
 
 -- at the maximum: levels of a constraint
-refused-330 : outcome (ofText (bytes
+refused-339 : outcome (ofText (bytes
     "(class c(p))(constrain(c(p))(not(not(not(not(not(not(not(not(not(not(not(not(not(not(not(not(not(not(not(not(not(not(not" ++ bytes
     "(not(not(not(not(not(not(not(eq u1 u2))))))))))))))))))))))))))))))))()")) 65536 ≡ rejected (refusalAt 3 189 1)
 unfolding computing
-refused-330 = refl
-
--- past the maximum: name
-refused-331 : outcome (ofText (bytes "(role nnnnnnnnnnnnnnnnnnnnnnnnnnnnnnnnnnnnnnnnnnnnnnnnnnnnnnnnnnnnnnnnn)")) 65536 ≡ rejected (refusalAt 2 6
-    1)
-unfolding computing
-refused-331 = refl
-
--- at the maximum: name
-refused-332 : outcome (ofText (bytes "(role nnnnnnnnnnnnnnnnnnnnnnnnnnnnnnnnnnnnnnnnnnnnnnnnnnnnnnnnnnnnnnnn)()")) 65536 ≡ rejected (refusalAt 3
-    71 1)
-unfolding computing
-refused-332 = refl
-
--- past the maximum: permission
-refused-333 : outcome (ofText (bytes "(class c(p nnnnnnnnnnnnnnnnnnnnnnnnnnnnnnnnnnnnnnnnnnnnnnnnnnnnnnnnnnnnnnnnn))")) 65536 ≡ rejected
-    (refusalAt 2 11 1)
-unfolding computing
-refused-333 = refl
-
--- at the maximum: permission
-refused-334 : outcome (ofText (bytes "(class c(p nnnnnnnnnnnnnnnnnnnnnnnnnnnnnnnnnnnnnnnnnnnnnnnnnnnnnnnnnnnnnnnn))()")) 65536 ≡ rejected
-    (refusalAt 3 77 1)
-unfolding computing
-refused-334 = refl
-
--- past the maximum: name before a comment
-refused-335 : outcome (ofText (bytes "(type nnnnnnnnnnnnnnnnnnnnnnnnnnnnnnnnnnnnnnnnnnnnnnnnnnnnnnnnnnnnnnnnn;\n)")) 65536 ≡ rejected (refusalAt 2
-    6 1)
-unfolding computing
-refused-335 = refl
-
--- at the maximum: name before a comment
-refused-336 : outcome (ofText (bytes "(type nnnnnnnnnnnnnnnnnnnnnnnnnnnnnnnnnnnnnnnnnnnnnnnnnnnnnnnnnnnnnnnn;\n)()")) 65536 ≡ rejected (refusalAt
-    3 73 2)
-unfolding computing
-refused-336 = refl
-
--- past the maximum: stack to the right
-refused-337 : outcome (ofText (bytes
-    "(class c(p))(constrain(c(p))(and(neq r1 r2)(and(neq r1 r2)(and(neq r1 r2)(and(neq r1 r2)(and(neq r1 r2)(neq r1 r2)))))))")) 65536 ≡ rejected
-    (refusalAt 7 12 1)
-unfolding computing
-refused-337 = refl
-
--- at the maximum: stack to the right
-refused-338 : outcome (ofText (bytes
-    "(class c(p))(constrain(c(p))(and(neq r1 r2)(and(neq r1 r2)(and(neq r1 r2)(and(neq r1 r2)(neq r1 r2))))))()")) 65536 ≡ rejected (refusalAt 3 104
-    1)
-unfolding computing
-refused-338 = refl
-
--- past the maximum: stack under not
-refused-339 : outcome (ofText (bytes
-    "(class c(p))(constrain(c(p))(and(or(neq r1 r2)(neq r1 r2))(not(or(neq r1 r2)(or(neq r1 r2)(or(neq r1 r2)(or(neq r1 r2)(n" ++ bytes
-    "eq r1 r2))))))))")) 65536 ≡ rejected (refusalAt 7 12 1)
-unfolding computing
 refused-339 = refl
 
--- at the maximum: stack under not
-refused-340 : outcome (ofText (bytes
-    "(class c(p))(constrain(c(p))(and(or(neq r1 r2)(neq r1 r2))(not(or(neq r1 r2)(or(neq r1 r2)(or(neq r1 r2)(neq r1 r2))))))" ++ bytes ")()")) 65536
-    ≡ rejected (refusalAt 3 121 1)
+-- past the maximum: name
+refused-340 : outcome (ofText (bytes "(role nnnnnnnnnnnnnnnnnnnnnnnnnnnnnnnnnnnnnnnnnnnnnnnnnnnnnnnnnnnnnnnnn)")) 65536 ≡ rejected (refusalAt 2 6
+    1)
 unfolding computing
 refused-340 = refl
 
--- past the maximum: blocks nested
-refused-341 : outcome (ofText (bytes "(block b(block b(block b(block b(block b(block b(block b(block b(block b(type t))))))))))")) 65536 ≡
-    rejected (refusalAt 6 64 1)
+-- at the maximum: name
+refused-341 : outcome (ofText (bytes "(role nnnnnnnnnnnnnnnnnnnnnnnnnnnnnnnnnnnnnnnnnnnnnnnnnnnnnnnnnnnnnnnn)()")) 65536 ≡ rejected (refusalAt 3
+    71 1)
 unfolding computing
 refused-341 = refl
 
--- at the maximum: blocks nested
-refused-342 : outcome (ofText (bytes "(block b(block b(block b(block b(block b(block b(block b(block b(type t)))))))))()")) 65536 ≡ rejected
-    (refusalAt 3 80 1)
+-- past the maximum: permission
+refused-342 : outcome (ofText (bytes "(class c(p nnnnnnnnnnnnnnnnnnnnnnnnnnnnnnnnnnnnnnnnnnnnnnnnnnnnnnnnnnnnnnnnn))")) 65536 ≡ rejected
+    (refusalAt 2 11 1)
 unfolding computing
 refused-342 = refl
 
--- past the maximum: name behind a leading dot
-refused-343 : outcome (ofText (bytes
-    "(role nnnnnnnnnnnnnnnnnnnnnnnnnnnnnnnnnnnnnnnnnnnnnnnnnnnnnnnnnnnnnnnn)(roleallow .nnnnnnnnnnnnnnnnnnnnnnnnnnnnnnnnnnnnn" ++ bytes
-    "nnnnnnnnnnnnnnnnnnnnnnnnnnn .nnnnnnnnnnnnnnnnnnnnnnnnnnnnnnnnnnnnnnnnnnnnnnnnnnnnnnnnnnnnnnnnn)")) 65536 ≡ rejected (refusalAt 2 148 1)
+-- at the maximum: permission
+refused-343 : outcome (ofText (bytes "(class c(p nnnnnnnnnnnnnnnnnnnnnnnnnnnnnnnnnnnnnnnnnnnnnnnnnnnnnnnnnnnnnnnn))()")) 65536 ≡ rejected
+    (refusalAt 3 77 1)
 unfolding computing
 refused-343 = refl
 
--- at the maximum: name behind a leading dot
-refused-344 : outcome (ofText (bytes
-    "(role nnnnnnnnnnnnnnnnnnnnnnnnnnnnnnnnnnnnnnnnnnnnnnnnnnnnnnnnnnnnnnnn)(roleallow .nnnnnnnnnnnnnnnnnnnnnnnnnnnnnnnnnnnnn" ++ bytes
-    "nnnnnnnnnnnnnnnnnnnnnnnnnnn .nnnnnnnnnnnnnnnnnnnnnnnnnnnnnnnnnnnnnnnnnnnnnnnnnnnnnnnnnnnnnnnn)()")) 65536 ≡ rejected (refusalAt 3 214 1)
+-- past the maximum: name before a comment
+refused-344 : outcome (ofText (bytes "(type nnnnnnnnnnnnnnnnnnnnnnnnnnnnnnnnnnnnnnnnnnnnnnnnnnnnnnnnnnnnnnnnn;\n)")) 65536 ≡ rejected (refusalAt 2
+    6 1)
 unfolding computing
 refused-344 = refl
 
--- past the maximum: full name of a role
-refused-345 : outcome (ofText (bytes "(block b(block c(role nnnnnnnnnnnnnnnnnnnnnnnnnnnnnnnnnnnnnnnnnnnnnnnnnnnnnnnnnnnnn)))")) 65536 ≡ rejected
-    (refusalAt 6 16 1)
+-- at the maximum: name before a comment
+refused-345 : outcome (ofText (bytes "(type nnnnnnnnnnnnnnnnnnnnnnnnnnnnnnnnnnnnnnnnnnnnnnnnnnnnnnnnnnnnnnnn;\n)()")) 65536 ≡ rejected (refusalAt
+    3 73 2)
 unfolding computing
 refused-345 = refl
 
--- at the maximum: full name of a role
-refused-346 : outcome (ofText (bytes "(block b(block c(role nnnnnnnnnnnnnnnnnnnnnnnnnnnnnnnnnnnnnnnnnnnnnnnnnnnnnnnnnnnn)))()")) 65536 ≡ rejected
-    (refusalAt 3 85 1)
+-- past the maximum: stack to the right
+refused-346 : outcome (ofText (bytes
+    "(class c(p))(constrain(c(p))(and(neq r1 r2)(and(neq r1 r2)(and(neq r1 r2)(and(neq r1 r2)(and(neq r1 r2)(neq r1 r2)))))))")) 65536 ≡ rejected
+    (refusalAt 7 12 1)
 unfolding computing
 refused-346 = refl
 
--- reading 23: a class declared again at 32
+-- at the maximum: stack to the right
 refused-347 : outcome (ofText (bytes
+    "(class c(p))(constrain(c(p))(and(neq r1 r2)(and(neq r1 r2)(and(neq r1 r2)(and(neq r1 r2)(neq r1 r2))))))()")) 65536 ≡ rejected (refusalAt 3 104
+    1)
+unfolding computing
+refused-347 = refl
+
+-- past the maximum: stack under not
+refused-348 : outcome (ofText (bytes
+    "(class c(p))(constrain(c(p))(and(or(neq r1 r2)(neq r1 r2))(not(or(neq r1 r2)(or(neq r1 r2)(or(neq r1 r2)(or(neq r1 r2)(n" ++ bytes
+    "eq r1 r2))))))))")) 65536 ≡ rejected (refusalAt 7 12 1)
+unfolding computing
+refused-348 = refl
+
+-- at the maximum: stack under not
+refused-349 : outcome (ofText (bytes
+    "(class c(p))(constrain(c(p))(and(or(neq r1 r2)(neq r1 r2))(not(or(neq r1 r2)(or(neq r1 r2)(or(neq r1 r2)(neq r1 r2))))))" ++ bytes ")()")) 65536
+    ≡ rejected (refusalAt 3 121 1)
+unfolding computing
+refused-349 = refl
+
+-- past the maximum: blocks nested
+refused-350 : outcome (ofText (bytes "(block b(block b(block b(block b(block b(block b(block b(block b(block b(type t))))))))))")) 65536 ≡
+    rejected (refusalAt 6 64 1)
+unfolding computing
+refused-350 = refl
+
+-- at the maximum: blocks nested
+refused-351 : outcome (ofText (bytes "(block b(block b(block b(block b(block b(block b(block b(block b(type t)))))))))()")) 65536 ≡ rejected
+    (refusalAt 3 80 1)
+unfolding computing
+refused-351 = refl
+
+-- past the maximum: name behind a leading dot
+refused-352 : outcome (ofText (bytes
+    "(role nnnnnnnnnnnnnnnnnnnnnnnnnnnnnnnnnnnnnnnnnnnnnnnnnnnnnnnnnnnnnnnn)(roleallow .nnnnnnnnnnnnnnnnnnnnnnnnnnnnnnnnnnnnn" ++ bytes
+    "nnnnnnnnnnnnnnnnnnnnnnnnnnn .nnnnnnnnnnnnnnnnnnnnnnnnnnnnnnnnnnnnnnnnnnnnnnnnnnnnnnnnnnnnnnnnn)")) 65536 ≡ rejected (refusalAt 2 148 1)
+unfolding computing
+refused-352 = refl
+
+-- at the maximum: name behind a leading dot
+refused-353 : outcome (ofText (bytes
+    "(role nnnnnnnnnnnnnnnnnnnnnnnnnnnnnnnnnnnnnnnnnnnnnnnnnnnnnnnnnnnnnnnn)(roleallow .nnnnnnnnnnnnnnnnnnnnnnnnnnnnnnnnnnnnn" ++ bytes
+    "nnnnnnnnnnnnnnnnnnnnnnnnnnn .nnnnnnnnnnnnnnnnnnnnnnnnnnnnnnnnnnnnnnnnnnnnnnnnnnnnnnnnnnnnnnnn)()")) 65536 ≡ rejected (refusalAt 3 214 1)
+unfolding computing
+refused-353 = refl
+
+-- past the maximum: full name of a role
+refused-354 : outcome (ofText (bytes "(block b(block c(role nnnnnnnnnnnnnnnnnnnnnnnnnnnnnnnnnnnnnnnnnnnnnnnnnnnnnnnnnnnnn)))")) 65536 ≡ rejected
+    (refusalAt 6 16 1)
+unfolding computing
+refused-354 = refl
+
+-- at the maximum: full name of a role
+refused-355 : outcome (ofText (bytes "(block b(block c(role nnnnnnnnnnnnnnnnnnnnnnnnnnnnnnnnnnnnnnnnnnnnnnnnnnnnnnnnnnnn)))()")) 65536 ≡ rejected
+    (refusalAt 3 85 1)
+unfolding computing
+refused-355 = refl
+
+-- past the maximum: stack of a validatetrans
+refused-356 : outcome (ofText (bytes
+    "(class c(p))(constrain(c(p))(not(eq u1 u2)))(validatetrans c(and(neq r1 r2)(and(neq r1 r2)(and(neq r1 r2)(and(neq r1 r2)" ++ bytes
+    "(and(neq r1 r2)(neq r1 r2)))))))")) 65536 ≡ rejected (refusalAt 7 44 1)
+unfolding computing
+refused-356 = refl
+
+-- at the maximum: stack of a validatetrans
+refused-357 : outcome (ofText (bytes
+    "(class c(p))(constrain(c(p))(not(eq u1 u2)))(validatetrans c(and(neq r1 r2)(and(neq r1 r2)(and(neq r1 r2)(and(neq r1 r2)" ++ bytes
+    "(neq r1 r2))))))()")) 65536 ≡ rejected (refusalAt 3 136 1)
+unfolding computing
+refused-357 = refl
+
+-- reading 23: a class declared again at 32
+refused-358 : outcome (ofText (bytes
     "(class a0(p))(class a1(p))(class a2(p))(class a3(p))(class a4(p))(class a5(p))(class a6(p))(class a7(p))(class a8(p))(cl" ++ bytes
     "ass a9(p))(class a10(p))(class a11(p))(class a12(p))(class a13(p))(class a14(p))(class a15(p))(class a16(p))(class a17(p" ++ bytes
     "))(class a18(p))(class a19(p))(class a20(p))(class a21(p))(class a22(p))(class a23(p))(class a24(p))(class a25(p))(class" ++ bytes
     " a26(p))(class a27(p))(class a28(p))(class a29(p))(class a30(p))(class a31(p))(class a31(p))")) 65536 ≡ rejected (refusalAt 4 438 1)
 unfolding computing
-refused-347 = refl
+refused-358 = refl
 
 -- reading 23: 33 permissions with a repeat
-refused-348 : outcome (ofText (bytes
+refused-359 : outcome (ofText (bytes
     "(class a0(p))(class a1(p))(class a2(p))(class a3(p))(class a4(p))(class a5(p))(class a6(p))(class a7(p))(class a8(p))(cl" ++ bytes
     "ass a9(p))(class a10(p))(class a11(p))(class a12(p))(class a13(p))(class a14(p))(class a15(p))(class a16(p))(class a17(p" ++ bytes
     "))(class a18(p))(class a19(p))(class a20(p))(class a21(p))(class a22(p))(class a23(p))(class a24(p))(class a25(p))(class" ++ bytes
     " a26(p))(class a27(p))(class a28(p))(class a29(p))(class a30(p))(class a31(p))(class b(p0 p1 p2 p3 p4 p5 p6 p7 p8 p9 p10" ++ bytes
     " p11 p12 p13 p14 p15 p16 p17 p18 p19 p20 p21 p22 p23 p24 p25 p26 p27 p28 p29 p30 p31 p0))")) 65536 ≡ rejected (refusalAt 4 438 1)
-unfolding computing
-refused-348 = refl
-
--- reading 23: 33 permissions in class 33
-refused-349 : outcome (ofText (bytes
-    "(class a0(p))(class a1(p))(class a2(p))(class a3(p))(class a4(p))(class a5(p))(class a6(p))(class a7(p))(class a8(p))(cl" ++ bytes
-    "ass a9(p))(class a10(p))(class a11(p))(class a12(p))(class a13(p))(class a14(p))(class a15(p))(class a16(p))(class a17(p" ++ bytes
-    "))(class a18(p))(class a19(p))(class a20(p))(class a21(p))(class a22(p))(class a23(p))(class a24(p))(class a25(p))(class" ++ bytes
-    " a26(p))(class a27(p))(class a28(p))(class a29(p))(class a30(p))(class a31(p))(class b(p0 p1 p2 p3 p4 p5 p6 p7 p8 p9 p10" ++ bytes
-    " p11 p12 p13 p14 p15 p16 p17 p18 p19 p20 p21 p22 p23 p24 p25 p26 p27 p28 p29 p30 p31 q))")) 65536 ≡ rejected (refusalAt 6 438 1)
-unfolding computing
-refused-349 = refl
-
--- reading 23: a 129th transition with an unknown role
-refused-350 : outcome (ofText (bytes
-    "(role a)(type t)(class c(p))(roletransition a t c a)(roletransition a t c a)(roletransition a t c a)(roletransition a t " ++ bytes
-    "c a)(roletransition a t c a)(roletransition a t c a)(roletransition a t c a)(roletransition a t c a)(roletransition a t " ++ bytes
-    "c a)(roletransition a t c a)(roletransition a t c a)(roletransition a t c a)(roletransition a t c a)(roletransition a t " ++ bytes
-    "c a)(roletransition a t c a)(roletransition a t c a)(roletransition a t c a)(roletransition a t c a)(roletransition a t " ++ bytes
-    "c a)(roletransition a t c a)(roletransition a t c a)(roletransition a t c a)(roletransition a t c a)(roletransition a t " ++ bytes
-    "c a)(roletransition a t c a)(roletransition a t c a)(roletransition a t c a)(roletransition a t c a)(roletransition a t " ++ bytes
-    "c a)(roletransition a t c a)(roletransition a t c a)(roletransition a t c a)(roletransition a t c a)(roletransition a t " ++ bytes
-    "c a)(roletransition a t c a)(roletransition a t c a)(roletransition a t c a)(roletransition a t c a)(roletransition a t " ++ bytes
-    "c a)(roletransition a t c a)(roletransition a t c a)(roletransition a t c a)(roletransition a t c a)(roletransition a t " ++ bytes
-    "c a)(roletransition a t c a)(roletransition a t c a)(roletransition a t c a)(roletransition a t c a)(roletransition a t " ++ bytes
-    "c a)(roletransition a t c a)(roletransition a t c a)(roletransition a t c a)(roletransition a t c a)(roletransition a t " ++ bytes
-    "c a)(roletransition a t c a)(roletransition a t c a)(roletransition a t c a)(roletransition a t c a)(roletransition a t " ++ bytes
-    "c a)(roletransition a t c a)(roletransition a t c a)(roletransition a t c a)(roletransition a t c a)(roletransition a t " ++ bytes
-    "c a)(roletransition a t c a)(roletransition a t c a)(roletransition a t c a)(roletransition a t c a)(roletransition a t " ++ bytes
-    "c a)(roletransition a t c a)(roletransition a t c a)(roletransition a t c a)(roletransition a t c a)(roletransition a t " ++ bytes
-    "c a)(roletransition a t c a)(roletransition a t c a)(roletransition a t c a)(roletransition a t c a)(roletransition a t " ++ bytes
-    "c a)(roletransition a t c a)(roletransition a t c a)(roletransition a t c a)(roletransition a t c a)(roletransition a t " ++ bytes
-    "c a)(roletransition a t c a)(roletransition a t c a)(roletransition a t c a)(roletransition a t c a)(roletransition a t " ++ bytes
-    "c a)(roletransition a t c a)(roletransition a t c a)(roletransition a t c a)(roletransition a t c a)(roletransition a t " ++ bytes
-    "c a)(roletransition a t c a)(roletransition a t c a)(roletransition a t c a)(roletransition a t c a)(roletransition a t " ++ bytes
-    "c a)(roletransition a t c a)(roletransition a t c a)(roletransition a t c a)(roletransition a t c a)(roletransition a t " ++ bytes
-    "c a)(roletransition a t c a)(roletransition a t c a)(roletransition a t c a)(roletransition a t c a)(roletransition a t " ++ bytes
-    "c a)(roletransition a t c a)(roletransition a t c a)(roletransition a t c a)(roletransition a t c a)(roletransition a t " ++ bytes
-    "c a)(roletransition a t c a)(roletransition a t c a)(roletransition a t c a)(roletransition a t c a)(roletransition a t " ++ bytes
-    "c a)(roletransition a t c a)(roletransition a t c a)(roletransition a t c a)(roletransition a t c a)(roletransition a t " ++ bytes
-    "c a)(roletransition a t c a)(roletransition a t c a)(roletransition a t c a)(roletransition a t c a)(roletransition a t " ++ bytes "c b)")) 65536
-    ≡ rejected (refusalAt 5 3100 1)
-unfolding computing
-refused-350 = refl
-
--- a random policy, damaged
-refused-351 : outcome (ofText (bytes
-    "(user b0)(userattribute c5)(role eq1)roleattribute c2)(type d1)(typeattribute eq1)(class d9(e2 c5))(userrole c5 eq1)(rol" ++ bytes
-    "etransition c2 eq1 d9 eq1)")) 65536 ≡ rejected (refusalAt 2 37 1)
-unfolding computing
-refused-351 = refl
-
--- a random policy, damaged
-refused-352 : outcome (ofText (bytes
-    "(user a7)(role process)(type c8)(typeattribute process)(class process(transition f5 f1))(constrain(process(f1 f5 f5 f1))" ++ bytes
-    "c8neq t2 ())(roletransition process c8 process process)")) 65536 ≡ rejected (refusalAt 3 88 1)
-unfolding computing
-refused-352 = refl
-
--- a random policy, damaged
-refused-353 : outcome (ofText (bytes
-    "(user d9)(userattribute b9)(role role a1)(roleattribute a8)(type f6)(class c9(d2 c5 e2))(roleallow a1 a8)(userrole d9 a8" ++ bytes ")")) 65536 ≡
-    rejected (refusalAt 3 27 1)
-unfolding computing
-refused-353 = refl
-
--- a random policy, damaged
-refused-354 : outcome (ofText (bytes "(user f6)(role f4)( c9)(class t(c7))(roletransition f4 c9 t f4)(user d1)")) 65536 ≡ rejected (refusalAt 3 18
-    1)
-unfolding computing
-refused-354 = refl
-
--- a random policy, damaged
-refused-355 : outcome (ofText (bytes
-    "(user f2)(userattribute f7)(role l3)(type e2)(class process(dyntransition e6e2)(roletransition l3 ) process l3)")) 65536 ≡ rejected (refusalAt 3
-    45 1)
-unfolding computing
-refused-355 = refl
-
--- a random policy, damaged
-refused-356 : outcome (ofText (bytes
-    "(user f9)(userattribute e3)(role b9)(type a8)(typeattribute a8)(class c6(transition dyntransition d9 e8))(roletype b9 d7" ++ bytes ")")) 65536 ≡
-    rejected (refusalAt 4 45 1)
-unfolding computing
-refused-356 = refl
-
--- a random policy, damaged
-refused-357 : outcome (ofText (bytes
-    "(user a8)(userattribute f5)(role a5)(roleattribute f2)type( d8)(class d0(transition e6 e4 constrain))(userrole a8 f2)(ro" ++ bytes "le c1)"))
-    65536 ≡ rejected (refusalAt 2 54 1)
-unfolding computing
-refused-357 = refl
-
--- a random policy, damaged
-refused-358 : outcome (ofText (bytes
-    "(user d8)(userattribute d6)(role a2)(type b5)(typeattribute c4)(class process(transition f0 c3 b4))(roletype a2 b5)(cons" ++ bytes
-    "train(process((c3) f0 c3 b4 transition))(or(or(eq t1 t2)(eq t1 t2))(and(neq r2 a2)(neq u1 d8))))")) 65536 ≡ rejected (refusalAt 3 115 1)
-unfolding computing
-refused-358 = refl
-
--- a random policy in blocks, damaged
-refused-359 : outcome (ofText (bytes
-    "(user d1)(userattribute b0)(role c1)(type c5)(typeattribute a0)(class a0(dyntransition a0))(block u4(userrole d1 c1.c1)(" ++ bytes
-    "role b4)(userrole d1 c1)(block b0))")) 65536 ≡ rejected (refusalAt 5 100 1)
 unfolding computing
 refused-359 = refl

@@ -5,10 +5,10 @@ use mathlib.Core.Bool.{false, false≢true}
 use mathlib.Core.List.{List}
 use mathlib.Core.Option.{Option, none, some}
 use Rattle.policy.specs.Meaning.{Context}
-use Rattle.policy.specs.Deciding.{Question, refuses, unconsulted, refused}
+use Rattle.policy.specs.Deciding.{Question, Relabelling, refuses, unconsulted, refused}
 use Rattle.policy.specs.Image.{Image}
 use Rattle.policy.specs.Sound.{imageIn}
-use Rattle.policy.specs.Questions.{asked, valid, validOn, newRole, newRoleOn, changed, changeOn}
+use Rattle.policy.specs.Questions.{asked, valid, validOn, newRole, newRoleOn, decided, change, changeOn, relabel, relabelOn}
 use Rattle.sound_constraints.specs.SoundRows.{isSome}
 use Rattle.soundness.specs.IsSound.{isSound}
 
@@ -31,4 +31,8 @@ module _ (t : List ℕ) (h : isSound t ≡ false) where
 
   pub change-unsound : (q : Question) → unconsulted (refuses 11 0) ≡ changeOn t q
   unfolding changeOn
-  change-unsound q = sym (ap (changed q) nothing-held)
+  change-unsound q = sym (ap (decided (λ i. change i q)) nothing-held)
+
+  pub relabel-unsound : (q : Relabelling) → unconsulted (refuses 11 0) ≡ relabelOn t q
+  unfolding relabelOn
+  relabel-unsound q = sym (ap (decided (λ i. relabel i q)) nothing-held)

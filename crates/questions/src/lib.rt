@@ -1,5 +1,5 @@
-// Valid context, change and new role, asked of any bytes and in any numbers: 11 where the bytes are no sound table,
-// else what the table answers, 12 where a number is not declared. No lent memory is written to.
+// Valid context, change, relabelling and new role, asked of any bytes and in any numbers: 11 where the bytes are no
+// sound table, else what the table answers, 12 where a number is not declared. No lent memory is written to.
 //
 // Each asks first whether the table is sound, which goes over all of it. A caller that knows a table to be sound asks
 // `decisions` instead.
@@ -10,9 +10,9 @@ use policy::Refusal;
 use policy::Validity;
 use sound_names::Counted;
 ghost use mathlib.Core.Path.{_≡_};
-ghost use Rattle.policy.specs.Questions.{validOn, newRoleOn, changeOn};
+ghost use Rattle.policy.specs.Questions.{validOn, newRoleOn, changeOn, relabelOn};
 ghost use Rattle.policy.specs.Answers.{validityOf, newRoleOf, changeOf};
-ghost use Rattle.decisions.specs.Asked.{context, question};
+ghost use Rattle.decisions.specs.Asked.{context, question, relabelling};
 
 // **Valid context**: whether the role is among the user's, and the type, `kind`, among the role's, or the role is
 // named `object_r`.
@@ -46,6 +46,21 @@ pub fn change(
     };
     let has = permission < sound_constraints::permissions_of(&permissions, class);
     decisions::change_in_counted(table, counts, has, source, target, class, permission)
+}
+
+// Whether the process may give something of the class the new context in place of the old one: granted or denied, with
+// the number asked.
+pub fn relabel(table: &[u8], class: usize, old: Context, new: Context, process: Context) -> Change
+    ensures { λ r. ⌜ changeOf r ≡ relabelOn (now (table .entry)) (relabelling class old new process) ⌝ }
+{
+    let mut permissions = [0usize; policy::Class::MAX];
+    let counted = soundness::count(table, &mut permissions);
+    let Counted::Sound(counts) = counted else {
+        return Change::Refused {
+            number: Refusal::NOT_SOUND,
+        };
+    };
+    decisions::relabel_in_counted(table, counts, class, old, new, process)
 }
 
 // **New role**: that of the first matching transition, else the role given.

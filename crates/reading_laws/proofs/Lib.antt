@@ -1,8 +1,8 @@
 pub mod BlockOrStatement
 pub mod FaultOrder
 pub mod FullNames
-pub mod Growing
-pub mod Judging
+pub mod LaterDeclarations
+pub mod JudgedGood
 pub mod LongerText
 pub mod NumberIsPlace
 pub mod OneMore
@@ -10,7 +10,7 @@ pub mod OpensAt
 pub mod Placed
 pub mod ReadAccepted
 pub mod ReadThen
-pub mod Resolving
+pub mod ResolvedNames
 pub mod TextMoved
 pub mod TextThen
 pub mod Written

@@ -11,7 +11,7 @@ use Rattle.lexer.specs.declared.Scanned.{Scanned}
 use Rattle.lexer.specs.Scan.{scan}
 use Rattle.lexer.specs.Forms.{Forms, ended, part, framesAt, formsOf}
 use Rattle.policy.specs.Basics.{Name, eachOf}
-use Rattle.policy.specs.Statements.{Reference, Constraint, constrain, Written, Statement, Policy, declarations}
+use Rattle.policy.specs.Statements.{Reference, Constraint, constrain, validatetrans, Written, Statement, Policy, declarations}
 use Rattle.policy.specs.Reading.{referE, resolved, Judged, reads, opens, fault, judge, policy, readFrom, readAll, afterScan, readPolicy}
 use Rattle.policy.specs.Grammar.{written, blockIn}
 use Rattle.policy.specs.Scopes.{Scoped, scoped, scopedIn}
@@ -19,7 +19,7 @@ use Rattle.policy.specs.Names.{environmentOf, Environment}
 use Rattle.policy.proofs.IfAny.{IfAny, just, whatever}
 use Rattle.policy.proofs.BlockLaws.{no-block, in-no-blocks}
 use Rattle.reading_laws.proofs.BlockOrStatement.{is-block, written-no-block, opens-block}
-use Rattle.reading_laws.proofs.Judging.{judge-resolves}
+use Rattle.reading_laws.proofs.JudgedGood.{judge-resolves}
 use Rattle.reading_laws.proofs.Placed.{placed, written-placed}
 use Rattle.reading_laws.proofs.ReadThen.{scoped-then, scoped-statement, line, judgedAt, read-one, read-on}
 use Rattle.reading_laws.proofs.TextMoved.{text-moved}
@@ -111,3 +111,12 @@ pub resolved-constrain : (env : Environment) (c : Name) (ps : List Name) (e : Co
 resolved-constrain env c ps e =
     whatever (env .class c) _ λ c. whatever (eachOf (λ p. env .permission c p) ps) _ λ ps.
     whatever (referE env e) _ λ e. just (record { class = c; perms = ps; body = e; says = refl })
+
+-- W-205: a validatetrans stays one
+pub record ARelabel (s : Statement) : Type 0 where
+  pub class : ℕ
+  pub body : Constraint Reference
+  pub says : s ≡ validatetrans class body
+
+pub resolved-relabel : (env : Environment) (c : Name) (e : Constraint Name) → IfAny ARelabel (resolved env (validatetrans c e))
+resolved-relabel env c e = whatever (env .class c) _ λ c. whatever (referE env e) _ λ e. just (record { class = c; body = e; says = refl })

@@ -6,7 +6,8 @@ use mathlib.Core.List.{List}
 use mathlib.Core.Option.{Option, none, some}
 use Rattle.lexer.specs.Forms.{Forms, closed, ended, word, part}
 use Rattle.policy.specs.Basics.{Name, _>>=_, more}
-use Rattle.policy.specs.Words.{asName, asPart, Keyword, declareK, classK, setK, relationK, transitionK, constrainK, Connective, keywordOf, expressionWord, opOf, componentOf}
+use Rattle.policy.specs.Words.{asName, asPart, Keyword, declareK, classK, setK, relationK, transitionK, constrainK, relabelK, Connective, keywordOf, expressionWord, opOf, componentOf}
+use Rattle.policy.specs.Words.{Sides, twoSides, threeSides}
 use Rattle.policy.specs.Grammar.{operands, setIn, compared, atClose, wordThen, partThen, twoWords, twoParts, wordAndPart, comparison, connected, expressions}
 use Rattle.policy.specs.Grammar.{expressionIn, rowOf, classIn, formed, written}
 use Rattle.policy.specs.Statements.{Constraint}
@@ -76,32 +77,33 @@ module _ (g : ℕ → ℕ) where
     set-placed (part at i r) = rw (set-placed i, operands-placed r)
 
   -- EXPRESSIONS
-  comparison-placed : (w : Name) (f : Forms) → comparison w (placed g f) ≡ comparison w f
-  comparison-placed w f = go (opOf w)
+  comparison-placed : (n : Sides) (w : Name) (f : Forms) → comparison n w (placed g f) ≡ comparison n w f
+  comparison-placed n w f = go (opOf w)
     where
-      go : (o : Option _) → (o >>= λ o. twoWords (placed g f) (λ v w. componentOf v >>= λ x. compared o x w (componentOf w)))
-          ≡ (o >>= λ o. twoWords f (λ v w. componentOf v >>= λ x. compared o x w (componentOf w)))
+      go : (o : Option _) → (o >>= λ o. twoWords (placed g f) (λ v w. componentOf n v >>= λ x. compared o x w (componentOf n w)))
+          ≡ (o >>= λ o. twoWords f (λ v w. componentOf n v >>= λ x. compared o x w (componentOf n w)))
       go none = refl
       go (some o) = two-words-placed f _
 
-  connected-placed : (w : Name) (f : Forms) (c : Option Connective) (es : Option (List (Constraint Name))) → connected w (placed g f) c es ≡ connected w f c es
-  connected-placed w f none es = comparison-placed w f
-  connected-placed w f (some c) es = refl
+  connected-placed : (n : Sides) (w : Name) (f : Forms) (c : Option Connective) (es : Option (List (Constraint Name)))
+      → connected n w (placed g f) c es ≡ connected n w f c es
+  connected-placed n w f none es = comparison-placed n w f
+  connected-placed n w f (some c) es = refl
 
   mutual
     unfolding expressions
 
-    expressions-placed : (f : Forms) → expressions (placed g f) ≡ expressions f
-    expressions-placed closed = refl
-    expressions-placed ended = refl
-    expressions-placed (word at w r) = refl
-    expressions-placed (part at i r) = rw (expression-placed i, expressions-placed r)
+    expressions-placed : (n : Sides) (f : Forms) → expressions n (placed g f) ≡ expressions n f
+    expressions-placed n closed = refl
+    expressions-placed n ended = refl
+    expressions-placed n (word at w r) = refl
+    expressions-placed n (part at i r) = rw (expression-placed n i, expressions-placed n r)
 
-    expression-placed : (f : Forms) → expressionIn (placed g f) ≡ expressionIn f
-    expression-placed closed = refl
-    expression-placed ended = refl
-    expression-placed (word at w r) = rw (expressions-placed r) (connected-placed w r (expressionWord w) (expressions r))
-    expression-placed (part at i r) = refl
+    expression-placed : (n : Sides) (f : Forms) → expressionIn n (placed g f) ≡ expressionIn n f
+    expression-placed n closed = refl
+    expression-placed n ended = refl
+    expression-placed n (word at w r) = rw (expressions-placed n r) (connected-placed n w r (expressionWord w) (expressions n r))
+    expression-placed n (part at i r) = refl
 
   -- STATEMENTS
   formed-placed : (k : Keyword) (f : Forms) → formed k (placed g f) ≡ formed k f
@@ -110,7 +112,8 @@ module _ (g : ℕ → ℕ) where
   formed-placed (setK a) f = word-and-part-placed f _ λ w i. rw (set-placed i)
   formed-placed (relationK r) f = rw (names-placed asName f)
   formed-placed transitionK f = rw (names-placed asName f)
-  formed-placed constrainK f = two-parts-placed f _ λ i j. rw (expression-placed j) (class-placed asName i _)
+  formed-placed constrainK f = two-parts-placed f _ λ i j. rw (expression-placed twoSides j) (class-placed asName i _)
+  formed-placed relabelK f = word-and-part-placed f _ λ w i. rw (expression-placed threeSides i)
 
   pub written-placed : (f : Forms) → written (placed g f) ≡ written f
   written-placed closed = refl

@@ -13,7 +13,7 @@ use Rattle.lexer.specs.Forms.{Forms, closed, ended, word, part, namesGood, form
 use Rattle.lexer.specs.Class.{isName}
 use Rattle.lexer.proofs.Clean.{clean-names}
 use Rattle.policy.specs.Basics.{Name, gather}
-use Rattle.policy.specs.Statements.{Statement, Policy, declarations, transitions, constrains}
+use Rattle.policy.specs.Statements.{Statement, Policy, declarations, transitions, constrains, relabels}
 use Rattle.policy.specs.Scopes.{Scoped, scoped, scopedIn}
 use Rattle.policy.specs.Reading.{rowCount, reads, judge, Read, policy, refused, readFrom, readAll, afterScan, readPolicy}
 use Rattle.policy.specs.Sound.{goodFrom}
@@ -22,14 +22,22 @@ use Rattle.policy.specs.Outcome.{Input, accept, policyOf}
 use Rattle.policy.specs.Accepted.{Accepted, GoodPath}
 use Rattle.policy.proofs.Lists.{both-true}
 use Rattle.reading_laws.proofs.FullNames.{good-top, good-inner}
-use Rattle.reading_laws.proofs.Judging.{judge-passes}
+use Rattle.reading_laws.proofs.JudgedGood.{judge-passes}
 use Rattle.reading_laws.proofs.OneMore.{one-more}
 use Rattle.reading_laws.proofs.ReadThen.{line, PartRead, first-statement, first-block, part-read}
 
 -- no statements
 pub none-accepted : Accepted []
-unfolding declarations transitions constrains gather goodFrom rowCount
-none-accepted = record { names = refl; statements = tt; few-transitions = omega arith; few-constrains = omega arith; few-rows = omega arith }
+unfolding declarations transitions constrains relabels gather goodFrom rowCount
+none-accepted = record {
+  names = refl;
+  statements = tt;
+  few-transitions = omega arith;
+  few-constrains = omega arith;
+  few-rows = omega arith;
+  few-relabels = omega arith;
+  few-relabel-rows = omega arith;
+}
 
 -- one statement that is judged good in good blocks, after those of p
 pub statement-accepted : (before : List Scoped) (p : Policy) (x : Scoped) (s : Statement) → Accepted p → GoodPath (x .path) → namesGood (x .form) ≡ true

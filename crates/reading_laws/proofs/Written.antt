@@ -1,26 +1,27 @@
 -- What the form of a statement gives of it, where every word of the text is a name: FAULT 3's other side. Names that are declared are good parts,
--- a class and a constrain have a permission at least, operators are those that the forms allow. Each law follows the definition of the
+-- a class and a constrain have a permission at least, operators and sides are those that the forms allow. Each law follows the definition of the
 -- grammar that it speaks of. Assumes nothing.
 use Prim.Native.Nat.{_<_, zero-le, suc-le-suc}
 use native.Mathlib.Nat.{not-suc-le-zero}
 use mathlib.Core.Path.{_≡_, refl}
-use mathlib.Core.Bool.{true, not, _||_}
+use mathlib.Core.Bool.{Bool, true, false, not, _||_, cond}
 use mathlib.Core.List.{List, [], _∷_}
 use mathlib.Core.Option.{Option, none, some}
 use lib.ListN.{length}
 use Rattle.lexer.specs.Class.{isName}
 use Rattle.lexer.specs.Forms.{Forms, closed, ended, word, part, namesGood}
-use Rattle.policy.specs.Basics.{Name, every, All, ofTwo}
-use Rattle.policy.specs.Words.{isReserved, asName, asPart, Keyword, declareK, classK, setK, relationK, transitionK, constrainK, Connective, allC, notC, andC}
-use Rattle.policy.specs.Words.{orC, xorC, keywordOf, expressionWord, opOf, isPlain, Component, componentOf}
+use Rattle.policy.specs.Basics.{Name, same, every, All, ofTwo, Under, lookup}
+use Rattle.policy.specs.Words.{isReserved, asName, asPart, Keyword, declareK, classK, setK, relationK, transitionK, constrainK, relabelK, Connective, allC, notC, andC}
+use Rattle.policy.specs.Words.{orC, xorC, keywordOf, expressionWord, opOf, isPlain, Sides, twoSides, threeSides, Component, components, componentOf}
 use Rattle.policy.specs.Grammar.{setIn, areSides, isRoles, compared, wordThen, partThen, twoWords, wordAndPart, comparison, formE, connected, expressions}
 use Rattle.policy.specs.Grammar.{expressionIn, rowOf, oneOrMore, classIn, ofFour, formed, written}
 use Rattle.policy.specs.Statements.{Op, Constraint, notE, andE, orE, Relation, gives}
 use Rattle.policy.specs.Sound.{isGoodPart, goodPermissions}
+use Rattle.policy.specs.Accepted.{isSide}
 use Rattle.policy.proofs.Lists.{both-true, true-both}
 use Rattle.policy.proofs.IfAny.{IfAny, nothing, just, and-then, whatever, if-given, if-one, if-two, if-more, at-close}
 use Rattle.reading_laws.proofs.FullNames.{part-good}
-use Rattle.reading_laws.proofs.Resolving.{Allowed, WellWritten}
+use Rattle.reading_laws.proofs.ResolvedNames.{Allowed, WellWritten}
 
 abbrev GoodPart : Name → Type 0
 GoodPart w = isGoodPart w ≡ true
@@ -78,38 +79,59 @@ module _ {A : Type 0} {P : A → Type 0} where
       and-then _ _ (t c a) λ c good. and-then _ _ (parts-good i b) λ ps each. and-then _ _ (one-or-more ps each) λ ps both. k c ps good (both .0) (both .1)
 
 -- EXPRESSIONS
-compared-allowed : (o : Op) (x : Component) (w : Name) (c : Option Component) → IfAny Allowed (compared o x w c)
-compared-allowed o x w none = whatever (asName w) _ λ n. if-given (isPlain o) _ λ h. h
-compared-allowed o x w (some y) = if-given _ _ λ h. both-true (areSides x y) (isPlain o || isRoles (x .family)) h .1
+-- what is found under a word
+if-found : {A : Type 0} (P : A → Type 0) (w : Name) (xs : List (Under A)) → All (λ (x : Under A). P (x .value)) xs → IfAny P (lookup w xs)
+unfolding lookup
+if-found P w [] h = nothing
+if-found P w (x ∷ xs) h = go (same w (x .word)) (if-found P w xs (h .1))
+  where
+    go : (b : Bool) → IfAny P (lookup w xs) → IfAny P (cond b (some (x .value)) (lookup w xs))
+    go true k = just (h .0)
+    go false k = k
 
-comparison-allowed : (w : Name) (f : Forms) → IfAny Allowed (comparison w f)
-comparison-allowed w f = whatever (opOf w) _ λ o. two-words f _ λ v w. whatever (componentOf v) _ λ x. compared-allowed o x w (componentOf w)
+-- the sides of the words that stand for components are those that an E may name
+sides-named : (n : Sides) → All (λ (x : Under Component). isSide n (x .value .side) ≡ true) (components n)
+sides-named twoSides = (refl, (refl, (refl, (refl, (refl, (refl, tt))))))
+sides-named threeSides = (refl, (refl, (refl, (refl, (refl, (refl, (refl, (refl, (refl, tt)))))))))
 
-form-allowed : (c : Connective) (xs : List (Constraint Name)) → All Allowed xs → IfAny Allowed (formE c xs)
-form-allowed allC xs h = nothing
-form-allowed notC xs h = if-one notE xs h λ a i. i
-form-allowed andC xs h = if-two andE xs h λ a b i j. (i, j)
-form-allowed orC xs h = if-two orE xs h λ a b i j. (i, j)
-form-allowed xorC xs h = nothing
+module _ (n : Sides) where
+  side-named : (w : Name) → IfAny (λ x. isSide n (x .side) ≡ true) (componentOf n w)
+  unfolding componentOf
+  side-named w = if-found _ w (components n) (sides-named n)
 
-connected-allowed : (w : Name) (f : Forms) (c : Option Connective) (es : Option (List (Constraint Name))) → IfAny (All Allowed) es → IfAny Allowed (connected w f c es)
-connected-allowed w f none es h = comparison-allowed w f
-connected-allowed w f (some c) es h = and-then es _ h (form-allowed c)
+  compared-allowed : (o : Op) (x : Component) (w : Name) (c : Option Component) → isSide n (x .side) ≡ true → IfAny (Allowed n) (compared o x w c)
+  compared-allowed o x w none s = whatever (asName w) _ λ v. if-given (isPlain o) _ λ h. (h, s)
+  compared-allowed o x w (some y) s = if-given _ _ λ h. both-true (areSides x y) (isPlain o || isRoles (x .family)) h .1
 
-mutual
-  unfolding expressions
+  comparison-allowed : (w : Name) (f : Forms) → IfAny (Allowed n) (comparison n w f)
+  comparison-allowed w f = whatever (opOf w) _ λ o. two-words f _ λ v w. and-then _ _ (side-named v) λ x s. compared-allowed o x w (componentOf n w) s
 
-  expressions-allowed : (f : Forms) → IfAny (All Allowed) (expressions f)
-  expressions-allowed closed = just tt
-  expressions-allowed ended = nothing
-  expressions-allowed (word at w r) = nothing
-  expressions-allowed (part p i r) = if-more _ _ (expression-allowed i) (expressions-allowed r)
+  form-allowed : (c : Connective) (xs : List (Constraint Name)) → All (Allowed n) xs → IfAny (Allowed n) (formE c xs)
+  form-allowed allC xs h = nothing
+  form-allowed notC xs h = if-one notE xs h λ a i. i
+  form-allowed andC xs h = if-two andE xs h λ a b i j. (i, j)
+  form-allowed orC xs h = if-two orE xs h λ a b i j. (i, j)
+  form-allowed xorC xs h = nothing
 
-  expression-allowed : (f : Forms) → IfAny Allowed (expressionIn f)
-  expression-allowed closed = nothing
-  expression-allowed ended = nothing
-  expression-allowed (word at w r) = connected-allowed w r (expressionWord w) (expressions r) (expressions-allowed r)
-  expression-allowed (part p i r) = nothing
+  connected-allowed : (w : Name) (f : Forms) (c : Option Connective) (es : Option (List (Constraint Name))) → IfAny (All (Allowed n)) es
+      → IfAny (Allowed n) (connected n w f c es)
+  connected-allowed w f none es h = comparison-allowed w f
+  connected-allowed w f (some c) es h = and-then es _ h (form-allowed c)
+
+  mutual
+    unfolding expressions
+
+    expressions-allowed : (f : Forms) → IfAny (All (Allowed n)) (expressions n f)
+    expressions-allowed closed = just tt
+    expressions-allowed ended = nothing
+    expressions-allowed (word at w r) = nothing
+    expressions-allowed (part p i r) = if-more _ _ (expression-allowed i) (expressions-allowed r)
+
+    expression-allowed : (f : Forms) → IfAny (Allowed n) (expressionIn n f)
+    expression-allowed closed = nothing
+    expression-allowed ended = nothing
+    expression-allowed (word at w r) = connected-allowed w r (expressionWord w) (expressions n r) (expressions-allowed r)
+    expression-allowed (part p i r) = nothing
 
 -- STATEMENTS
 four-well : (ws : List Name) → IfAny WellWritten (ofFour ws)
@@ -138,7 +160,8 @@ formed-well (setK a) f h = word-and-part f _ h λ w i _ _. whatever (asName w) _
 formed-well (relationK r) f h = whatever (rowOf asName f) _ (two-well r)
 formed-well transitionK f h = whatever (rowOf asName f) _ four-well
 formed-well constrainK f h = part-then f _ λ i r a. part-then r _ λ j r _. at-close r _
-    (class-in asName (λ _. Unit {0}) any-name i _ (a h .0) λ c ps _ one _. and-then _ _ (expression-allowed j) λ e ok. just (one, ok))
+    (class-in asName (λ _. Unit {0}) any-name i _ (a h .0) λ c ps _ one _. and-then _ _ (expression-allowed twoSides j) λ e ok. just (one, ok))
+formed-well relabelK f h = word-and-part f _ h λ w i _ _. whatever (asName w) _ λ w. and-then _ _ (expression-allowed threeSides i) λ e ok. just ok
 
 pub written-well : (f : Forms) → namesGood f ≡ true → IfAny WellWritten (written f)
 unfolding namesGood

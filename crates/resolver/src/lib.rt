@@ -13,7 +13,7 @@ ghost use Rattle.policy.specs.Accepted.{Accepted};
 ghost use Rattle.statement_code.specs.Code.{codeOf};
 ghost use Rattle.code_reader.specs.Reading.{foundOf};
 ghost use Rattle.code_reader.specs.AttributeSets.{finalSets};
-ghost use Rattle.resolver.specs.Resolving.{Resolves};
+ghost use Rattle.resolver.specs.LaterFaults.{Resolves};
 
 // The final set of each attribute of a family, and fault 8 in the family. Where no attribute mentions another, one
 // round is all and there is no cycle.

@@ -1,4 +1,4 @@
-pub mod Appending
+pub mod AppendLaws
 pub mod NamesOfThings
 pub mod Lines
 pub mod Rolls

@@ -21,10 +21,10 @@ use Rattle.table_laws.specs.SoundTable.{Bytes}
 use Rattle.table_laws.specs.Shown.{orTwelve, recordsIn}
 use Rattle.table_parts.specs.ShownPart.{shownPart}
 use Rattle.table_parts.proofs.HeldImage.{held}
-use Rattle.text_writer.specs.Writing.{Appends}
+use Rattle.text_writer.specs.WrittenText.{Appends}
 use Rattle.text_writer.proofs.Digits.{few-digits}
-use Rattle.roll_lines.specs.LineWriting.{thingsIn, Printable, PutsLines}
-use Rattle.roll_lines.proofs.Appending.{appends-then, appends-length}
+use Rattle.roll_lines.specs.LineWrites.{thingsIn, Printable, PutsLines}
+use Rattle.roll_lines.proofs.AppendLaws.{appends-then, appends-length}
 use Rattle.roll_lines.proofs.NamesOfThings.{place-within, place-past, some-place, all-place, shown-name, shown-none, shown-set, shown-short, things-few}
 use Rattle.roll_lines.proofs.NamesOfThings.{things-short, thing-shown, record-shown}
 
@@ -76,7 +76,7 @@ module _ (t : List ℕ) (sort body : ℕ) (kind of before : List ℕ) (at : ℕ)
 
   module _ (b : Bytes t) (printable : Printable t sort kind of before at) {now : List ℕ} {end n : ℕ} (so-far : Put t sort body kind of before at now end n) where
     module _ {p : Part} (found : answered p ≡ nameOn t sort n) where
-      name-here : (i : Image) → imageIn t ≡ some i → getElem? (thingsIn i sort) n ≡ some (part t (p .start) (p .long))
+      name-here : (i : Image) → imageIn t ≡ some i → getElem? (thingsIn i sort) n ≡ some (part t (p .start) (p .size))
       name-here i h = shown-name t (nameOn t sort n) (getElem? (thingsIn i sort) n) p (thing-shown t b i h sort n (printable .thing)) found
 
       pub number-few : n < 128
@@ -84,12 +84,12 @@ module _ (t : List ℕ) (sort body : ℕ) (kind of before : List ℕ) (at : ℕ)
           let s = held t b (printable .sound) in
           omega (arith, place-within (thingsIn (s .image) sort) n _ (name-here (s .image) (s .read)), things-few (s .image) (s .formed) sort)
 
-      name-few : length (part t (p .start) (p .long)) ≤ 64
+      name-few : length (part t (p .start) (p .size)) ≤ 64
       name-few =
           let s = held t b (printable .sound) in
           all-place (λ (w : Name). length w ≤ 64) (thingsIn (s .image) sort) n _ (things-short (s .image) (s .formed) sort) (name-here (s .image) (s .read))
 
-      module _ {name set : List ℕ} (named : name ≡ part t (p .start) (p .long)) (its : set ≡ shownPart (entryOn t body n) t) where
+      module _ {name set : List ℕ} (named : name ≡ part t (p .start) (p .size)) (its : set ≡ shownPart (entryOn t body n) t) where
         pub line-room : end + (length kind + (length name + (length of + 21))) ≤ length now
         line-room = omega (arith, so-far .same, so-far .near, number-few, name-few, ap length named, printable .kind-short, printable .of-short, printable .room)
 

@@ -12,20 +12,20 @@ use Rattle.byte_slices.proofs.PartLaws.{length-part-min}
 use Rattle.policy.specs.Basics.{Name, All}
 use Rattle.policy.specs.Statements.{users, roles, Sort, thingOf, Declaration, plain, class, sameSort, ofSort, namesOf, count}
 use Rattle.policy.specs.Image.{Image}
-use Rattle.policy.specs.Sound.{wellFormed, goodNames, goodFrom, imageIn}
+use Rattle.policy.specs.Sound.{editionIn, wellFormed, goodNames, goodFrom, imageIn}
 use Rattle.policy.specs.Deciding.{Reply, answered, refused}
 use Rattle.policy.specs.Questions.{Part, nameOn, entryOn}
 use Rattle.policy.proofs.Good.{good-first, good-rest}
 use Rattle.policy.proofs.Counts.{few-of}
 use Rattle.policy.proofs.Gathered.{OfValue, all-gather}
-use Rattle.table_laws.specs.SoundTable.{Bytes}
+use Rattle.table_laws.specs.SoundTable.{Bytes, Sound}
 use Rattle.table_laws.specs.Shown.{shown, orTwelve, nameIn, recordsIn}
 use Rattle.table_laws.proofs.NamesRoom.{name-short}
 use Rattle.table_laws.proofs.ImageOnly.{table-only}
 use Rattle.table_laws.proofs.WellFormed.{formed}
 use Rattle.table_laws.proofs.QuestionLaws.{name-on, entry-on}
 use Rattle.table_parts.specs.ShownPart.{shownPart}
-use Rattle.roll_lines.specs.LineWriting.{thingsIn}
+use Rattle.roll_lines.specs.LineWrites.{thingsIn}
 
 -- LISTS BY PLACES
 
@@ -53,11 +53,11 @@ module _ {A : Type 0} where
 -- WHAT IS SHOWN
 
 module _ (t : List ℕ) where
-  pub shown-name : (r : Reply Part) (o : Option Name) (p : Part) → shown t r ≡ orTwelve o → answered p ≡ r → o ≡ some (part t (p .start) (p .long))
+  pub shown-name : (r : Reply Part) (o : Option Name) (p : Part) → shown t r ≡ orTwelve o → answered p ≡ r → o ≡ some (part t (p .start) (p .size))
   unfolding part
   shown-name r o p h e = by o (ap (shown t) e ∙ h)
     where
-      by : (o : Option Name) → answered (take (p .long) (drop (p .start) t)) ≡ orTwelve o → o ≡ some (take (p .long) (drop (p .start) t))
+      by : (o : Option Name) → answered (take (p .size) (drop (p .start) t)) ≡ orTwelve o → o ≡ some (take (p .size) (drop (p .start) t))
       by none h = let z : _≡_ {A = ℕ} 0 1 = cc in absurd (omega arith)
       by (some w) h = cc
 
@@ -74,7 +74,7 @@ module _ (t : List ℕ) where
   shown-set (refused n k) s h = let z : _≡_ {A = ℕ} 0 1 = cc in absurd (omega arith)
 
   pub shown-short : (r : Reply Part) → length (shownPart r t) ≤ length t
-  shown-short (answered p) = omega (arith, length-part-min t (p .start) (p .long))
+  shown-short (answered p) = omega (arith, length-part-min t (p .start) (p .size))
   shown-short (refused n k) = omega arith
 
 -- NAMES
@@ -117,9 +117,14 @@ module _ (t : List ℕ) (b : Bytes t) (i : Image) (h : imageIn t ≡ some i) whe
   thing-in (suc zero) n l = refl
   thing-in (suc (suc s)) n l = absurd (omega arith)
 
+  -- a table that is read as the image is sound, and holds it
+  abbrev sound : Sound t
+  sound =
+      let o = table-only t b i h in
+      record { edition = editionIn t; known = o .known; image = i; formed = o .formed; fits = o .fits; rest = o .rest; laid = o .laid }
+
   pub thing-shown : (s n : ℕ) → s < 2 → shown t (nameOn t s n) ≡ orTwelve (getElem? (thingsIn i s) n)
-  thing-shown s n l = let o = table-only t b i h in
-      name-on t (record { image = i; formed = o .0; rest = o .1; laid = o .2 }) s n ∙ ap orTwelve (thing-in s n l)
+  thing-shown s n l = name-on t sound s n ∙ ap orTwelve (thing-in s n l)
 
   pub record-shown : (b n : ℕ) → shown t (entryOn t b n) ≡ orTwelve (getElem? (recordsIn i b) n)
-  record-shown b′ n = let o = table-only t b i h in entry-on t (record { image = i; formed = o .0; rest = o .1; laid = o .2 }) b′ n
+  record-shown b n = entry-on t sound b n

@@ -8,16 +8,16 @@ use Rattle.lexer.specs.Spell.{bytes}
 use Rattle.bitset.specs.Relations.{joined}
 use Rattle.policy.specs.Statements.{count}
 use Rattle.policy.specs.Image.{Image}
-use Rattle.policy.specs.Encode.{encode}
+use Rattle.policy.specs.Encode.{encode, newest}
 use Rattle.policy.specs.Roll.{decimal, rollOf, roll}
 use Rattle.table_laws.specs.SoundTable.{Bytes}
 use Rattle.table_laws.specs.Shown.{recordsIn}
 use Rattle.table_laws.proofs.WellFormedLaid.{well-formed-laid}
 use Rattle.table_laws.proofs.ImageOnly.{image-formed}
-use Rattle.text_writer.specs.Writing.{Appends}
+use Rattle.text_writer.specs.WrittenText.{Appends}
 use Rattle.text_writer.proofs.Digits.{few-digits}
-use Rattle.roll_lines.specs.LineWriting.{acceptance, thingsIn, PutsLines, PutsRoll}
-use Rattle.roll_lines.proofs.Appending.{appends-then, appends-last, appends-length}
+use Rattle.roll_lines.specs.LineWrites.{acceptance, thingsIn, PutsLines, PutsRoll}
+use Rattle.roll_lines.proofs.AppendLaws.{appends-then, appends-last, appends-length}
 
 pub acceptance-short : (n : ℕ) → length (acceptance n) ≤ 36
 unfolding joined
@@ -44,6 +44,6 @@ roll-put {t} {a} {b} {c} {d} {n} {p} {q} {r} small room first users-put roles-pu
 }
 
 -- the first line ends where the lines of users begin
-pub roll-parts : (i : Image) → joined (acceptance (length (encode i)) ∷ rollOf i ∷ []) ≡ roll i
+pub roll-parts : (i : Image) → joined (acceptance (length (encode newest i)) ∷ rollOf i ∷ []) ≡ roll i
 unfolding joined
-roll-parts i = ap (λ (x : List ℕ). bytes "accepted " ++ x) (append-assoc (decimal (length (encode i))) (bytes " bytes\n") (rollOf i ++ []))
+roll-parts i = ap (λ (x : List ℕ). bytes "accepted " ++ x) (append-assoc (decimal (length (encode newest i))) (bytes " bytes\n") (rollOf i ++ []))

@@ -1,1 +1,1 @@
-pub mod LineWriting
+pub mod LineWrites

@@ -12,8 +12,8 @@ ghost use Rattle.policy.specs.Answers.{refusalIn};
 ghost use Rattle.policy.specs.Roll.{rollLine, labelled, refusal};
 ghost use Rattle.soundness.specs.IsSound.{isSound};
 ghost use Rattle.table_parts.specs.ShownPart.{shownPart};
-ghost use Rattle.text_writer.specs.Writing.{Appends};
-ghost use Rattle.roll_lines.specs.LineWriting.{acceptance, Printable, PutsLines, PutsRoll};
+ghost use Rattle.text_writer.specs.WrittenText.{Appends};
+ghost use Rattle.roll_lines.specs.LineWrites.{acceptance, Printable, PutsLines, PutsRoll};
 
 // ---- one line
 

@@ -9,7 +9,7 @@ use lib.ListN.{length, drop}
 use Rattle.policy.specs.Statements.{Policy}
 use Rattle.policy.specs.Reading.{Read, policy, refused}
 use Rattle.policy.specs.Image.{Image, imageOf}
-use Rattle.policy.specs.Encode.{encode}
+use Rattle.policy.specs.Encode.{encode, newest}
 use Rattle.policy.specs.Sound.{imageIn}
 use Rattle.policy.specs.Outcome.{Input, policyOf, Compiled, compiles, refuses, compiled, Refusal, refusalOf, Outcome, accepted, rejected, outcomeOf, afterOf, outcome, after}
 use Rattle.policy.specs.Roll.{refusal, roll, printed}
@@ -20,7 +20,7 @@ use Rattle.demand_laws.proofs.Demand3.{table-read}
 pub record Holds (x : Input) (memory : List ℕ) (n : ℕ) : Type 0 where
   pub image : Image
   pub read : imageIn memory ≡ some image
-  pub long : n ≡ length (encode image)
+  pub long : n ≡ length (encode newest image)
   pub prints : printed x ≡ roll image
 
 -- the refusal of an answer
@@ -63,15 +63,15 @@ module _ (x : Input) where
     unfolding after
     memory-by c e = ap (λ (c : Compiled). afterOf c before) (ap (compiled x) long ∙ e)
 
-    of-policy : (p : Policy) → policyOf x ≡ policy p → (b : Bool) → leb (length (encode (imageOf p))) 65536 ≡ b → Holds x (after x before) n
+    of-policy : (p : Policy) → policyOf x ≡ policy p → (b : Bool) → leb (length (encode newest (imageOf p))) 65536 ≡ b → Holds x (after x before) n
     of-policy p e false f =
-        let c = compiled-by (policy p) e ∙ ap (λ (b : Bool). cond b (compiles (imageOf p)) (refuses 10 (length (encode (imageOf p))))) f in
-        absurd (false≢true (sym (ap isAccepted (h ∙ answered-by (refuses 10 (length (encode (imageOf p)))) c))))
+        let c = compiled-by (policy p) e ∙ ap (λ (b : Bool). cond b (compiles (imageOf p)) (refuses 10 (length (encode newest (imageOf p))))) f in
+        absurd (false≢true (sym (ap isAccepted (h ∙ answered-by (refuses 10 (length (encode newest (imageOf p)))) c))))
     of-policy p e true f =
-        let c = compiled-by (policy p) e ∙ ap (λ (b : Bool). cond b (compiles (imageOf p)) (refuses 10 (length (encode (imageOf p))))) f in
+        let c = compiled-by (policy p) e ∙ ap (λ (b : Bool). cond b (compiles (imageOf p)) (refuses 10 (length (encode newest (imageOf p))))) f in
         record {
           image = imageOf p;
-          read = ap imageIn (memory-by (compiles (imageOf p)) c) ∙ table-read x p e (drop (length (encode (imageOf p))) before);
+          read = ap imageIn (memory-by (compiles (imageOf p)) c) ∙ table-read x p e (drop (length (encode newest (imageOf p))) before);
           long = ap lengthIn (h ∙ answered-by (compiles (imageOf p)) c);
           prints = printed-by (compiles (imageOf p)) c;
         }
@@ -81,4 +81,4 @@ module _ (x : Input) where
       where
         by : (r : Read) → policyOf x ≡ r → Holds x (after x before) n
         by (refused m k) e = absurd (false≢true (sym (ap isAccepted (h ∙ answered-by (refuses m k) (compiled-by (refused m k) e)))))
-        by (policy p) e = of-policy p e (leb (length (encode (imageOf p))) 65536) refl
+        by (policy p) e = of-policy p e (leb (length (encode newest (imageOf p))) 65536) refl

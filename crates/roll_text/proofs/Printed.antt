@@ -16,10 +16,10 @@ use Rattle.policy.specs.Roll.{rollOf, refusal, printed}
 use Rattle.sound_constraints.specs.SoundRows.{isSome}
 use Rattle.soundness.specs.IsSound.{isSound}
 use Rattle.compiler.specs.Promise.{Compiles}
-use Rattle.text_writer.specs.Writing.{Appends}
-use Rattle.roll_lines.specs.LineWriting.{acceptance, PutsRoll}
+use Rattle.text_writer.specs.WrittenText.{Appends}
+use Rattle.roll_lines.specs.LineWrites.{acceptance, PutsRoll}
 use Rattle.roll_lines.proofs.Rolls.{roll-parts}
-use Rattle.roll_text.specs.Printing.{Prints}
+use Rattle.roll_text.specs.PrintedText.{Prints}
 use Rattle.roll_text.proofs.Outcomes.{Holds, refusal-printed, roll-printed}
 
 pub bytes-printed : {x : Input} {table table′ before after bytes : List ℕ} {past : ℕ} → table′ ≡ outcomes.after x table → Appends before 0 bytes after past

@@ -2,7 +2,7 @@
 // each role, or one line for a refusal.
 use policy::Compiling;
 ghost use Rattle.policy.specs.Outcome.{ofText};
-ghost use Rattle.roll_text.specs.Printing.{Prints};
+ghost use Rattle.roll_text.specs.PrintedText.{Prints};
 
 // The memory of the table.
 pub const TABLE_BYTES: usize = 65_536;

@@ -14,7 +14,7 @@ use Rattle.policy.proofs.Counts.{few-of, few-classes, few-permissions-of, few-i
 use Rattle.policy.proofs.Environments.{named-in, class-below, permission-below}
 use Rattle.policy.proofs.Sorts.{max-small}
 use Rattle.symbols.specs.Lookup.{firstNamed}
-use Rattle.symbols.specs.Resolving.{familyCode, foundNamed, foundNumber, foundClass, foundPermission}
+use Rattle.symbols.specs.SearchAnswers.{familyCode, foundNamed, foundNumber, foundClass, foundPermission}
 use Rattle.symbols.specs.declared.Found.{Found}
 use Rattle.symbols.proofs.ReferencesFound.{find-named}
 use Rattle.symbols.proofs.ClassesFound.{find-class, find-permission}

@@ -3,9 +3,9 @@ pub mod GoodParts
 pub mod Dots
 pub mod Unique
 pub mod Memory
-pub mod Open
+pub mod OpenTest
 pub mod Composed
-pub mod Moving
-pub mod Trying
-pub mod Keeping
+pub mod OpenAndClose
+pub mod TryLaws
+pub mod SharedMemory
 pub mod Bounds

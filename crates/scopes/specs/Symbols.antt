@@ -9,7 +9,7 @@ use Rattle.policy.specs.Statements.{Family, Declaration}
 use Rattle.policy.specs.Names.{Named, Environment, environmentOf}
 use Rattle.policy.specs.Encode.{entries}
 use Rattle.policy.specs.Sound.{goodFrom}
-use Rattle.symbols.specs.Resolving.{familyCode, foundNamed, foundClass, foundPermission}
+use Rattle.symbols.specs.SearchAnswers.{familyCode, foundNamed, foundClass, foundPermission}
 use Rattle.symbols.specs.declared.Found.{Found}
 use Rattle.name_chains.specs.Chains.{Chained}
 use Rattle.scopes.specs.Scope.{InScope}

@@ -1,4 +1,4 @@
 pub mod Leaves
 pub mod Nodes
 pub mod Places
-pub mod Running
+pub mod OperandLoop

@@ -13,7 +13,7 @@ use Rattle.set_operators.specs.declared.SetOp.the-variants.{Union, Inter
 use Rattle.bitset.proofs.BitLaws.{bit-and, bit-or, bit-xor, bits-eq, bit-fromBits, fromBits-lt}
 use Rattle.bitset.proofs.SetLaws.{length-setOf, member-at}
 use Rattle.bitset.proofs.Tests.{bit-not}
-use Rattle.bitset.proofs.Turns.{Turned}
+use Rattle.bitset.proofs.LoopSteps.{Turned}
 use Rattle.bitset.proofs.LoopLaws.{byte-turn, turned-bit}
 
 module _ (a b : ℕ) (small-a : a < 256) (small-b : b < 256) where

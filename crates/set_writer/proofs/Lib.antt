@@ -1,5 +1,5 @@
-pub mod Referring
-pub mod Operating
-pub mod Leaving
-pub mod Starting
+pub mod ReferenceLaws
+pub mod OperatorUnits
+pub mod RemainingOperands
+pub mod FirstItems
 pub mod SetOperands

@@ -11,22 +11,22 @@ use Rattle.policy.specs.Statements.{Family, Reference, SetExpr, nameS}
 use Rattle.policy.specs.Grammar.{operands, setIn}
 use Rattle.policy.specs.Names.{refer, Environment}
 use Rattle.policy.specs.Reading.{referS}
-use Rattle.symbols.specs.Resolving.{familyCode}
+use Rattle.symbols.specs.SearchAnswers.{familyCode}
 use Rattle.items.proofs.Frames.{FramesSeen}
 use Rattle.items.specs.declared.Item.{Item}
 use Rattle.items.proofs.Frames.{around-of, closes, by-word, by-part, by-close, by-end, too-deep}
 use Rattle.items.proofs.Items.{word-lent}
 use Rattle.statement_code.specs.Code.{referenceUnit, setCode, endUnit}
-use Rattle.statement_code.specs.Writing.{Wrote, Keeps, Stored}
+use Rattle.statement_code.specs.UnitWrites.{Wrote, Keeps, Stored}
 use Rattle.scopes.specs.Symbols.{Symbols}
-use Rattle.set_writer.specs.Naming.{Refers}
+use Rattle.set_writer.specs.NameLookup.{Refers}
 use Rattle.set_writer.specs.Sets.{Begins, Past, Moves, Answers, WritesSet}
 use Rattle.set_writer.specs.declared.SetStart.{SetStart}
 use Rattle.set_writer.specs.declared.NameUnit.{NameUnit}
 use Rattle.set_writer.specs.declared.SetWritten.{SetWritten}
-use Rattle.statement_code.proofs.Putting.{keeps-then}
-use Rattle.set_writer.proofs.Referring.{known, unknown}
-use Rattle.set_writer.proofs.Leaving.{split-word, split-part, is-name, Left, begun, step, stop, done, cut, undeclared}
+use Rattle.statement_code.proofs.UnitLaws.{keeps-then}
+use Rattle.set_writer.proofs.ReferenceLaws.{known, unknown}
+use Rattle.set_writer.proofs.RemainingOperands.{split-word, split-part, is-name, Left, begun, step, stop, done, cut, undeclared}
 
 -- between two operands: the row at hand is that of S, and what is left of S is in it
 pub record Going (t : List ℕ) (at levels : ℕ) (table : List ℕ) (family : ℕ) (before : List ℕ) (to i : ℕ) (code : List ℕ) (u : ℕ) : Type 0 where

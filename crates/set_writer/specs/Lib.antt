@@ -1,2 +1,2 @@
-pub mod Naming
+pub mod NameLookup
 pub mod Sets

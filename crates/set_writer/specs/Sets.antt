@@ -11,9 +11,9 @@ use Rattle.policy.specs.Statements.{Family, Reference, SetExpr}
 use Rattle.policy.specs.Grammar.{operands, setIn}
 use Rattle.policy.specs.Reading.{referS}
 use Rattle.policy.specs.Names.{Environment}
-use Rattle.symbols.specs.Resolving.{familyCode}
+use Rattle.symbols.specs.SearchAnswers.{familyCode}
 use Rattle.statement_code.specs.Code.{setCode, allUnit, notUnit, andUnit, orUnit, xorUnit, unionUnit, endUnit}
-use Rattle.statement_code.specs.Writing.{Wrote, Keeps}
+use Rattle.statement_code.specs.UnitWrites.{Wrote, Keeps}
 use Rattle.scopes.specs.Symbols.{Symbols}
 use Rattle.set_writer.specs.declared.SetStart.{SetStart}
 use Rattle.set_writer.specs.declared.SetWritten.{SetWritten}

@@ -4,7 +4,7 @@
 ghost use mathlib.Core.Path.{_≡_};
 ghost use Rattle.policy.specs.Words.{setWord};
 ghost use Rattle.words.specs.Numbers.{wordOf};
-ghost use Rattle.set_writer.specs.Naming.{Refers};
+ghost use Rattle.set_writer.specs.NameLookup.{Refers};
 ghost use Rattle.set_writer.specs.Sets.{operatorUnit, Begins, WritesSet};
 use items::Item;
 use policy::Sort;

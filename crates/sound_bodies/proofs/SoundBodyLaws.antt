@@ -3,32 +3,34 @@
 use Prim.Native.Nat.{ℕ, _+_, _-_, _*_, _/_, _≤_}
 use native.Mathlib.Omega.{arith}
 use mathlib.Core.Path.{_≡_, refl, sym, ap, ap₂, _∙_}
-use mathlib.Core.Bool.{Bool, true, false, _&&_, cond, and-assoc, and-comm, and-false}
+use mathlib.Core.Bool.{Bool, true, false, _&&_, _||_, cond, and-assoc, and-comm, and-false}
 use mathlib.Core.List.{List, [], _∷_}
 use mathlib.Core.Option.{Option, none, some}
 use lib.Dec.{eqb, leb}
 use lib.ListN.{length, getD, take, drop, length-append, length-drop, take-append-drop}
 use lib.Seq.{drop-drop, length-take-le}
-use borrow.Author.Tests.{eqb-true, eqb-false, eq-eqb}
+use borrow.Author.Tests.{eqb-true, eqb-false, eq-eqb, leb-true}
 use Rattle.bitset.specs.Sets.{within}
+use Rattle.bitset.specs.Relations.{joined}
 use Rattle.policy.specs.Basics.{_>>=_, each, eachOf, every, All}
 use Rattle.policy.specs.Statements.{Family, users, roles, types, thingOf, attributeOf, Declaration, count}
-use Rattle.policy.specs.Maxima.{maxTransitions, maxConstraints, maxRows}
+use Rattle.policy.specs.Maxima.{maxTransitions, maxConstraints, maxRows, maxRelabels, maxRelabelRows}
 use Rattle.policy.specs.Rows.{Row}
-use Rattle.policy.specs.Image.{ConstraintEntry, width}
-use Rattle.policy.specs.Encode.{ConstraintHead}
-use Rattle.policy.specs.Sound.{goodSet, goodSets, goodTransition, goodConstraint, pieces, transitionAt, headAt, rowAt, assignRows}
-use Rattle.policy.proofs.Lists.{each-length, under}
+use Rattle.policy.specs.Image.{ConstraintEntry, RelabelEntry, width}
+use Rattle.policy.specs.Encode.{ConstraintHead, RelabelHead, relabelHead, sectionsOf}
+use Rattle.policy.specs.Sound.{goodSet, goodSets, goodTransition, goodConstraint, goodRelabel, pieces, transitionAt, headAt, rowAt, assignRows, relabelAt, assignRelabels}
+use Rattle.policy.specs.Sound.{editionIn, bodiesIn}
+use Rattle.policy.proofs.Lists.{both-true, each-length, under}
 use Rattle.table_laws.proofs.Pieces.{Wide, exactly-only}
-use Rattle.table_laws.proofs.Constraints.{rowsIn, assign-only}
+use Rattle.table_laws.proofs.Constraints.{rowsIn, assign-only, relabels-only}
 use Rattle.table_laws.proofs.Lengths.{heads-length}
 use Rattle.table_reader.specs.Records.{startIn, lengthIn}
 use Rattle.sound_constraints.specs.Totals.{totalsOf}
-use Rattle.sound_constraints.specs.SoundRows.{passes, constraintsFit}
+use Rattle.sound_constraints.specs.SoundRows.{passes, relabelsFit}
 use Rattle.sound_constraints.proofs.PieceLaws.{pieces-length, pieces-within, drop-take, every-each}
 use Rattle.sound_constraints.proofs.ConstraintLaws.{each-of-length}
-use Rattle.sound_bodies.specs.SoundBodies.{setsWithin, setsSound, fitsTransition, transitionsSound, constraintsSound, attributesSound}
-use Rattle.sound_bodies.proofs.LayoutTest.{BodyAt}
+use Rattle.sound_bodies.specs.SoundBodies.{setsWithin, setsSound, hasRecords, fitsTransition, transitionsSound, constraintsSound, attributesSound, relabelsSound}
+use Rattle.sound_bodies.proofs.LayoutTest.{BodyAt, relabels-at, relabels-none}
 
 -- TESTS
 
@@ -92,6 +94,60 @@ three-parts x y n b z = by (eqb (length b) (x + y + n)) refl
     by false e =
         not-all (eqb (length (take x b)) x) (eqb (length (take y (drop x b))) y) (eqb (length (drop y (drop x b))) n) refl refl refl (eqb-false (length b) (x + y + n) e)
 
+-- WHERE A BODY STANDS
+
+module _ (t : List ℕ) (bs : List (List ℕ)) (k : ℕ) (at : BodyAt t bs k) where
+  -- the parts of a body are those of the table where it stands
+  pub body-pieces : (n w : ℕ) → n * w ≤ lengthIn t k → pieces n w (getD bs k []) ≡ pieces n w (drop (startIn t k) t)
+  body-pieces n w h = ap (pieces n w) (at .bytes) ∙ pieces-within n w (lengthIn t k) (drop (startIn t k) t) h
+
+-- records are not more than so many
+pub few-records : (k w most : ℕ) (t : List ℕ) → hasRecords k w most t ≡ true → lengthIn t k / w ≤ most
+few-records k w most t h = leb-true (lengthIn t k / w) most (both-true (eqb (lengthIn t k) (lengthIn t k / w * w)) (leb (lengthIn t k / w) most) h .1)
+
+-- STATEMENTS AND THEIR ROWS
+
+-- statements whose heads have w bytes: rows are dealt out to them so that no statement and no row is lost
+module _ {H A : Type 0} (w most mostRows : ℕ) (read : List ℕ → H) (deal : List H → List Row → Option (List A)) (rowsOf : A → List Row) (good : A → Bool)
+    (none-lost : (hs : List H) (rs : List Row) (cs : List A) → deal hs rs ≡ some cs → (length cs ≡ length hs) × (joined (each rowsOf cs) ≡ rs)) where
+  abbrev fewAndGood : List A → Bool
+  fewAndGood cs = leb (length cs) most && every good cs && leb (length (joined (each rowsOf cs))) mostRows
+
+  -- how many statements and rows there are does not hang on how the rows are dealt out
+  dealt-few : (hs : List H) (ts : List (List ℕ)) (o : Option (List Row)) → o ≡ eachOf rowAt ts
+      → passes (o >>= λ rs. deal hs rs) fewAndGood ≡ (leb (length hs) most && leb (length ts) mostRows && passes (o >>= λ rs. deal hs rs) (every good))
+  dealt-few hs ts none e = sym (and-false (leb (length hs) most && leb (length ts) mostRows))
+  dealt-few hs ts (some rs) e = by (deal hs rs) refl
+    where
+      by : (o : Option (List A)) → deal hs rs ≡ o → passes o fewAndGood ≡ (leb (length hs) most && leb (length ts) mostRows && passes o (every good))
+      by none f = sym (and-false (leb (length hs) most && leb (length ts) mostRows))
+      by (some cs) f =
+          let same = none-lost hs rs cs f in
+          let rows : length (joined (each rowsOf cs)) ≡ length ts = ap length (same .1) ∙ each-of-length rowAt ts rs (sym e) in
+          rw (same .0, rows) (last (leb (length hs) most) (every good cs) (leb (length ts) mostRows))
+
+  -- statements in body k, their rows in body j
+  statement-bodies : (t : List ℕ) (bs : List (List ℕ)) (k j : ℕ) → BodyAt t bs k → BodyAt t bs j →
+      let b = getD bs k [] in
+      let d = getD bs j [] in
+      (eqb (length b) (length b / w * w) && (eqb (length d) (length d / 6 * 6)
+      && passes (eachOf rowAt (pieces (length d / 6) 6 d) >>= λ rs. deal (each read (pieces (length b / w) w b)) rs) fewAndGood))
+      ≡ (hasRecords k w most t && hasRecords j 6 mostRows t
+      && passes (eachOf rowAt (pieces (lengthIn t j / 6) 6 (drop (startIn t j) t)) >>= λ rs. deal (each read (pieces (lengthIn t k / w) w (drop (startIn t k) t))) rs) (every good))
+  statement-bodies t bs k j at below =
+      let b = getD bs k [] in
+      let d = getD bs j [] in
+      let n = lengthIn t k / w in
+      let m = lengthIn t j / 6 in
+      rw (at .long, below .long)
+      (under (eqb (lengthIn t k) (n * w)) (λ e. under (eqb (lengthIn t j) (m * 6)) (λ f.
+      let long = eqb-true (lengthIn t k) (n * w) e in
+      let rows = eqb-true (lengthIn t j) (m * 6) f in
+      dealt-few (each read (pieces n w b)) (pieces m 6 d) (eachOf rowAt (pieces m 6 d)) refl
+      ∙ rw (each-length read (pieces n w b), pieces-length n w b, pieces-length m 6 d, body-pieces t bs k at n w (omega arith), body-pieces t bs j below m 6 (omega arith))))
+      ∙ order (eqb (lengthIn t k) (n * w)) (eqb (lengthIn t j) (m * 6)) (leb n most) (leb m mostRows)
+      (passes (eachOf rowAt (pieces m 6 (drop (startIn t j) t)) >>= λ rs. deal (each read (pieces n w (drop (startIn t k) t))) rs) (every good)))
+
 module _ (ds : List Declaration) where
   -- SETS
 
@@ -105,10 +161,6 @@ module _ (ds : List Declaration) where
       (pieces n (width f) b) (pieces-wide n (width f) b e))
 
   module _ (t : List ℕ) (bs : List (List ℕ)) (k : ℕ) (at : BodyAt t bs k) where
-    -- the parts of a body are those of the table where it stands
-    pub body-pieces : (n w : ℕ) → n * w ≤ lengthIn t k → pieces n w (getD bs k []) ≡ pieces n w (drop (startIn t k) t)
-    body-pieces n w h = ap (pieces n w) (at .bytes) ∙ pieces-within n w (lengthIn t k) (drop (startIn t k) t) h
-
     -- a body of sets
     pub set-body : (n : ℕ) (f : Family)
         → (eqb (length (getD bs k [])) (n * width f) && goodSets ds n f (pieces n (width f) (getD bs k []))) ≡ setsSound k n (width f) (count (thingOf f) ds) t
@@ -117,7 +169,7 @@ module _ (ds : List Declaration) where
         (under (eqb (lengthIn t k) (n * width f)) (λ e.
         let long = eqb-true (lengthIn t k) (n * width f) e in
         sets-good n f (getD bs k []) (at .long ∙ long)
-        ∙ ap (every (within (count (thingOf f) ds))) (body-pieces n (width f) (omega arith))))
+        ∙ ap (every (within (count (thingOf f) ds))) (body-pieces t bs k at n (width f) (omega arith))))
 
     -- parts that are in a body from an offset on
     pub inner-pieces : (n w o : ℕ) → o + n * w ≤ lengthIn t k → pieces n w (drop o (getD bs k [])) ≡ pieces n w (drop (startIn t k + o) t)
@@ -158,23 +210,6 @@ module _ (ds : List Declaration) where
 
   -- CONSTRAINTS
 
-  -- how many constraints and rows there are does not hang on how the rows are dealt out
-  dealt-few : (hs : List ConstraintHead) (ts : List (List ℕ)) (o : Option (List Row)) → o ≡ eachOf rowAt ts
-      → passes (o >>= λ rs. assignRows 0 hs rs) (λ cs. leb (length cs) maxConstraints && every (goodConstraint ds) cs && leb (length (rowsIn cs)) maxRows)
-      ≡ (leb (length hs) maxConstraints && leb (length ts) maxRows && passes (o >>= λ rs. assignRows 0 hs rs) (every (goodConstraint ds)))
-  dealt-few hs ts none e = sym (and-false (leb (length hs) maxConstraints && leb (length ts) maxRows))
-  dealt-few hs ts (some rs) e = by (assignRows 0 hs rs) refl
-    where
-      by : (o : Option (List ConstraintEntry)) → assignRows 0 hs rs ≡ o
-          → passes o (λ cs. leb (length cs) maxConstraints && every (goodConstraint ds) cs && leb (length (rowsIn cs)) maxRows)
-          ≡ (leb (length hs) maxConstraints && leb (length ts) maxRows && passes o (every (goodConstraint ds)))
-      by none f = sym (and-false (leb (length hs) maxConstraints && leb (length ts) maxRows))
-      by (some cs) f =
-          let a = assign-only 0 hs rs cs f in
-          let heads : length cs ≡ length hs = sym (heads-length 0 cs) ∙ ap length (a .0) in
-          let rows : length (rowsIn cs) ≡ length ts = ap length (a .1) ∙ each-of-length rowAt ts rs (sym e) in
-          rw (heads, rows) (last (leb (length hs) maxConstraints) (every (goodConstraint ds) cs) (leb (length ts) maxRows))
-
   pub constraint-bodies : (t : List ℕ) (bs : List (List ℕ)) → BodyAt t bs 5 → BodyAt t bs 6 →
       let b = getD bs 5 [] in
       let d = getD bs 6 [] in
@@ -183,19 +218,40 @@ module _ (ds : List Declaration) where
       && passes dealt (λ cs. leb (length cs) maxConstraints && every (goodConstraint ds) cs && leb (length (rowsIn cs)) maxRows)))
       ≡ constraintsSound (totalsOf ds) t
   constraint-bodies t bs at below =
-      let b = getD bs 5 [] in
-      let d = getD bs 6 [] in
-      let n = lengthIn t 5 / 10 in
-      let m = lengthIn t 6 / 6 in
-      let hs = each headAt (pieces n 10 b) in
-      rw (at .long, below .long)
-      (under (eqb (lengthIn t 5) (n * 10)) (λ e. under (eqb (lengthIn t 6) (m * 6)) (λ f.
-      let long = eqb-true (lengthIn t 5) (n * 10) e in
-      let rows = eqb-true (lengthIn t 6) (m * 6) f in
-      dealt-few hs (pieces m 6 d) (eachOf rowAt (pieces m 6 d)) refl
-      ∙ rw (each-length headAt (pieces n 10 b), pieces-length n 10 b, pieces-length m 6 d, body-pieces t bs 5 at n 10 (omega arith), body-pieces t bs 6 below m 6 (omega arith))))
-      ∙ order (eqb (lengthIn t 5) (n * 10)) (eqb (lengthIn t 6) (m * 6)) (leb n maxConstraints) (leb m maxRows)
-      (constraintsFit (totalsOf ds) (each headAt (pieces n 10 (drop (startIn t 5) t))) (pieces m 6 (drop (startIn t 6) t))))
+      statement-bodies 10 maxConstraints maxRows headAt (λ hs rs. assignRows 0 hs rs) (λ c. c .rows) (goodConstraint ds) none-lost t bs 5 6 at below
+    where
+      none-lost : (hs : List ConstraintHead) (rs : List Row) (cs : List ConstraintEntry) → assignRows 0 hs rs ≡ some cs → (length cs ≡ length hs) × (rowsIn cs ≡ rs)
+      none-lost hs rs cs e = let only = assign-only 0 hs rs cs e in (sym (heads-length 0 cs) ∙ ap length (only .0), only .1)
+
+  -- VALIDATETRANS STATEMENTS
+
+  -- what is asked of the bodies 9 and 10
+  abbrev relabelsAsked : List ℕ → List ℕ → Bool
+  relabelsAsked b d =
+      eqb (length b) (length b / 4 * 4) && (eqb (length d) (length d / 6 * 6)
+      && passes (eachOf rowAt (pieces (length d / 6) 6 d) >>= λ rs. assignRelabels (each relabelAt (pieces (length b / 4) 4 b)) rs)
+      (λ vs. leb (length vs) maxRelabels && every (goodRelabel ds) vs && leb (length (joined (each (λ (v : RelabelEntry). v .rows) vs))) maxRelabelRows))
+
+  -- no bytes are no statements
+  empty-asked : relabelsAsked [] [] ≡ true
+  unfolding pieces eachOf each assignRelabels joined every
+  empty-asked = refl
+
+  pub relabel-bodies : (t : List ℕ) (bs : List (List ℕ)) → bodiesIn t ≡ some bs → relabelsAsked (getD bs 8 []) (getD bs 9 []) ≡ relabelsSound (totalsOf ds) t
+  relabel-bodies t bs laid = by (leb (sectionsOf (editionIn t)) 8) refl
+    where
+      none-lost : (hs : List RelabelHead) (rs : List Row) (vs : List RelabelEntry) → assignRelabels hs rs ≡ some vs
+          → (length vs ≡ length hs) × (joined (each (λ (v : RelabelEntry). v .rows) vs) ≡ rs)
+      none-lost hs rs vs e = let only = relabels-only hs rs vs e in (sym (each-length relabelHead vs) ∙ ap length (only .0), only .1)
+
+      by : (n : Bool) → leb (sectionsOf (editionIn t)) 8 ≡ n
+          → relabelsAsked (getD bs 8 []) (getD bs 9 [])
+          ≡ (n || hasRecords 8 4 maxRelabels t && hasRecords 9 6 maxRelabelRows t
+          && relabelsFit (totalsOf ds) (each relabelAt (pieces (lengthIn t 8 / 4) 4 (drop (startIn t 8) t))) (pieces (lengthIn t 9 / 6) 6 (drop (startIn t 9) t)))
+      by true few = let empty = relabels-none t bs laid few in ap₂ relabelsAsked (empty .0) (empty .1) ∙ empty-asked
+      by false more =
+          let at = relabels-at t bs laid more in
+          statement-bodies 4 maxRelabels maxRelabelRows relabelAt assignRelabels (λ v. v .rows) (goodRelabel ds) none-lost t bs 8 9 (at .0) (at .1)
 
   -- ATTRIBUTES
 

@@ -1,7 +1,8 @@
-// Whether the bodies of a table stand where its header says, and whether the bodies 2 to 8 are sound for what the
+// Whether the bodies of a table stand where its header says, and whether those after the first are sound for what the
 // names of body 1 declare. Every function answers for every table, whatever its bytes are.
 use policy::Constraint;
 use policy::NameCounts;
+use policy::Relabel;
 use policy::Role;
 use policy::Row;
 use policy::Section;
@@ -10,6 +11,7 @@ use policy::Transition;
 use policy::Type;
 use policy::User;
 ghost use mathlib.Core.Path.{_≡_};
+ghost use mathlib.Core.List.{[]};
 ghost use Prim.Native.Nat.{_+_, _*_, _<_};
 ghost use lib.ListN.{length, take, drop};
 ghost use Rattle.bitset.specs.Sets.{within};
@@ -18,17 +20,29 @@ ghost use Rattle.policy.specs.Sound.{bodiesIn, transitionAt};
 ghost use Rattle.sound_constraints.specs.Totals.{thingsOf, attributesOf, totalsIn};
 ghost use Rattle.sound_constraints.specs.SoundRows.{isSome};
 ghost use Rattle.sound_bodies.specs.FewSets.{Few};
-ghost use Rattle.sound_bodies.specs.SoundBodies.{follow, setsWithin, setsSound, fitsTransition, transitionsFit, transitionsSound, constraintsSound, attributesSound, bodiesSound};
+ghost use Rattle.sound_bodies.specs.SoundBodies.{headerBytes, follow, setsWithin, setsSound, relationsSound};
+ghost use Rattle.sound_bodies.specs.SoundBodies.{hasRecords, fitsTransition, transitionsFit, transitionsSound};
+ghost use Rattle.sound_bodies.specs.SoundBodies.{constraintsSound, attributesSound, relabelsSound, bodiesSound};
 
 // ---- the layout
 
-// Whether each body starts where the one before it ends, and the last ends within the table.
-fn bodies_follow(table: &[u8]) -> bool
-    ensures { λ r. ⌜ r ≡ follow 8 68 (length (now (table .entry))) (drop 4 (now (table .entry))) ⌝ }
+// Where a header says how many sections there are.
+const SECTIONS_AT: usize = 2;
+
+// Where the first body starts, after a header with so many pairs.
+fn first_body(sections: u8) -> usize
+    ensures { λ r. ⌜ r ≡ headerBytes sections ⌝ }
 {
-    let mut end = Table::HEADER_BYTES;
+    Table::FIRST_PAIR + Table::PAIR_BYTES * (sections as usize)
+}
+
+// Whether each of so many bodies starts where the one before it ends, and the last ends within the table.
+fn bodies_follow(table: &[u8], sections: u8) -> bool
+    ensures { λ r. ⌜ r ≡ follow sections (headerBytes sections) (length (now (table .entry))) (drop 4 (now (table .entry))) ⌝ }
+{
+    let mut end = first_body(sections);
     let mut body = 0;
-    while body < Table::SECTIONS {
+    while body < sections {
         if table_reader::body_start(table, body) as usize != end {
             return false;
         }
@@ -38,20 +52,22 @@ fn bodies_follow(table: &[u8]) -> bool
     end <= table.len()
 }
 
-// Whether the table has a header and eight bodies that are one after the other. Where they stand, the header says.
+// Whether the table has a header of an edition that there is, and the bodies of this edition one after the other.
+// Where they stand, the header says.
 pub fn is_laid_out(table: &[u8]) -> bool
     ensures { λ r. ⌜ r ≡ isSome (bodiesIn (now (table .entry))) ⌝ }
 {
-    if table.len() < Table::HEADER_BYTES {
+    let sections = table_reader::sections_of(table_reader::edition(table));
+    if sections == 0 {
         return false;
     }
-    if table_reader::u16_at(table, 0) != Table::EDITION {
+    if table.len() < first_body(sections) {
         return false;
     }
-    if table_reader::u16_at(table, 2) != Table::SECTIONS as u16 {
+    if table_reader::u16_at(table, SECTIONS_AT) != sections as u16 {
         return false;
     }
-    bodies_follow(table)
+    bodies_follow(table, sections)
 }
 
 // ---- sets
@@ -104,6 +120,53 @@ fn sets_sound(table: &[u8], body: u8, count: usize, width: usize, total: usize) 
     )
 }
 
+// Whether the bodies 2 to 4 are sound.
+fn relations_sound(table: &[u8], counts: NameCounts) -> bool
+    requires { ⌜ Few counts ⌝ }
+    ensures { λ r. ⌜ r ≡ relationsSound (thingsOf counts) (now (table .entry)) ⌝ }
+{
+    if !sets_sound(
+        table,
+        Section::USER_ROLES,
+        counts.users,
+        Role::SET_BYTES,
+        counts.roles,
+    ) {
+        return false;
+    }
+    if !sets_sound(
+        table,
+        Section::ROLE_TYPES,
+        counts.roles,
+        Type::SET_BYTES,
+        counts.types,
+    ) {
+        return false;
+    }
+    sets_sound(
+        table,
+        Section::ROLE_ROLES,
+        counts.roles,
+        Role::SET_BYTES,
+        counts.roles,
+    )
+}
+
+// ---- records
+
+// Whether a body, counted from 0, is records of `width` bytes, and not more than so many.
+fn has_records(table: &[u8], body: u8, width: usize, most: usize) -> bool
+    requires { ⌜ 0 < width ⌝ }
+    ensures { λ r. ⌜ r ≡ hasRecords body width most (now (table .entry)) ⌝ }
+{
+    let length = table_reader::body_length(table, body) as usize;
+    let count = length / width;
+    if length != count * width {
+        return false;
+    }
+    count <= most
+}
+
 // ---- transitions
 
 // Whether the transition of this number, where the transitions of 82 bytes start at `start`, names nothing undeclared.
@@ -146,14 +209,15 @@ fn transitions_fit(table: &[u8], start: u32, count: u32, counts: NameCounts) -> 
 fn transitions_sound(table: &[u8], counts: NameCounts) -> bool
     ensures { λ r. ⌜ r ≡ transitionsSound (thingsOf counts) (counts .classes) (now (table .entry)) ⌝ }
 {
-    let length = table_reader::body_length(table, Section::TRANSITIONS);
-    let count = length / Transition::BYTES as u32;
-    if length != count * Transition::BYTES as u32 {
+    if !has_records(
+        table,
+        Section::TRANSITIONS,
+        Transition::BYTES,
+        Transition::MAX,
+    ) {
         return false;
     }
-    if (Transition::MAX as u32) < count {
-        return false;
-    }
+    let count = table_reader::body_length(table, Section::TRANSITIONS) / Transition::BYTES as u32;
     transitions_fit(
         table,
         table_reader::body_start(table, Section::TRANSITIONS),
@@ -168,25 +232,44 @@ fn transitions_sound(table: &[u8], counts: NameCounts) -> bool
 fn constraints_sound(table: &[u8], counts: NameCounts, permissions: &[usize]) -> bool
     ensures { λ r. ⌜ r ≡ constraintsSound (totalsIn counts (now (permissions .entry))) (now (table .entry)) ⌝ }
 {
-    let constraint_bytes = table_reader::body_length(table, Section::CONSTRAINTS);
-    let count = constraint_bytes / Constraint::BYTES as u32;
-    if constraint_bytes != count * Constraint::BYTES as u32 {
+    if !has_records(
+        table,
+        Section::CONSTRAINTS,
+        Constraint::BYTES,
+        Constraint::MAX,
+    ) {
         return false;
     }
-    if (Constraint::MAX as u32) < count {
+    if !has_records(table, Section::ROWS, Row::BYTES, Row::MAX) {
         return false;
     }
-    let row_bytes = table_reader::body_length(table, Section::ROWS);
-    let rows = row_bytes / Row::BYTES as u32;
-    if row_bytes != rows * Row::BYTES as u32 {
-        return false;
-    }
-    if (Row::MAX as u32) < rows {
-        return false;
-    }
+    let count = table_reader::body_length(table, Section::CONSTRAINTS) / Constraint::BYTES as u32;
+    let rows = table_reader::body_length(table, Section::ROWS) / Row::BYTES as u32;
     let first = table_reader::body_start(table, Section::CONSTRAINTS);
     let start = table_reader::body_start(table, Section::ROWS);
     sound_constraints::constraints_fit(table, first, count, start, rows as u16, counts, permissions)
+}
+
+// ---- validatetrans statements
+
+// Whether the bodies 9 and 10 are sound. A table of an edition that does not have them has no such statements.
+fn relabels_sound(table: &[u8], counts: NameCounts) -> bool
+    ensures { λ r. ⌜ r ≡ relabelsSound (totalsIn counts []) (now (table .entry)) ⌝ }
+{
+    if table_reader::sections_of(table_reader::edition(table)) <= Section::RELABELS {
+        return true;
+    }
+    if !has_records(table, Section::RELABELS, Relabel::BYTES, Relabel::MAX) {
+        return false;
+    }
+    if !has_records(table, Section::RELABEL_ROWS, Row::BYTES, Relabel::MAX_ROWS) {
+        return false;
+    }
+    let count = table_reader::body_length(table, Section::RELABELS) / Relabel::BYTES as u32;
+    let rows = table_reader::body_length(table, Section::RELABEL_ROWS) / Row::BYTES as u32;
+    let first = table_reader::body_start(table, Section::RELABELS);
+    let start = table_reader::body_start(table, Section::RELABEL_ROWS);
+    sound_constraints::relabels_fit(table, first, count, start, rows as u16, counts)
 }
 
 // ---- attributes, and all
@@ -230,37 +313,13 @@ fn attributes_sound(table: &[u8], counts: NameCounts) -> bool
     )
 }
 
-// Whether the bodies 2 to 8 are sound, where body 1 declares so many things of each sort and `permissions` holds how
-// many permissions each class has.
+// Whether the bodies after the first are sound, where it declares so many things of each sort and `permissions` holds
+// how many permissions each class has.
 pub fn bodies_sound(table: &[u8], counts: NameCounts, permissions: &[usize]) -> bool
     requires { ⌜ Few counts ⌝ }
     ensures { λ r. ⌜ r ≡ bodiesSound (totalsIn counts (now (permissions .entry))) (now (table .entry)) ⌝ }
 {
-    if !sets_sound(
-        table,
-        Section::USER_ROLES,
-        counts.users,
-        Role::SET_BYTES,
-        counts.roles,
-    ) {
-        return false;
-    }
-    if !sets_sound(
-        table,
-        Section::ROLE_TYPES,
-        counts.roles,
-        Type::SET_BYTES,
-        counts.types,
-    ) {
-        return false;
-    }
-    if !sets_sound(
-        table,
-        Section::ROLE_ROLES,
-        counts.roles,
-        Role::SET_BYTES,
-        counts.roles,
-    ) {
+    if !relations_sound(table, counts) {
         return false;
     }
     if !transitions_sound(table, counts) {
@@ -269,5 +328,8 @@ pub fn bodies_sound(table: &[u8], counts: NameCounts, permissions: &[usize]) -> 
     if !constraints_sound(table, counts, permissions) {
         return false;
     }
-    attributes_sound(table, counts)
+    if !attributes_sound(table, counts) {
+        return false;
+    }
+    relabels_sound(table, counts)
 }

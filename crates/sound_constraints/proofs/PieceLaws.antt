@@ -11,7 +11,7 @@ use Rattle.byte_slices.specs.Parts.{part}
 use Rattle.byte_slices.proofs.PartLaws.{part-part, getD-part}
 use Rattle.policy.specs.Basics.{each, every, unle}
 use Rattle.policy.specs.Rows.{row}
-use Rattle.policy.specs.Sound.{pieces, transitionAt, headAt}
+use Rattle.policy.specs.Sound.{pieces, transitionAt, headAt, relabelAt}
 use Rattle.table_reader.specs.Records.{rowAt}
 
 -- CUT
@@ -111,6 +111,9 @@ head-front t = λ i. record {
   first = unle (field 10 6 2 t (omega arith) i);
   rows = unle (field 10 8 2 t (omega arith) i);
 }
+
+pub relabel-front : (t : List ℕ) → relabelAt (take 4 t) ≡ relabelAt t
+relabel-front t = λ i. record { class = unle (take-take 2 4 t (omega arith) i); rows = unle (field 4 2 2 t (omega arith) i) }
 
 pub row-front : (t : List ℕ) → rowAt (take 6 t) ≡ rowAt t
 unfolding part

@@ -12,9 +12,9 @@ use Rattle.policy.specs.Basics.{_>>=_, eachOf, every}
 use Rattle.policy.specs.Statements.{Family}
 use Rattle.policy.specs.Maxima.{maxStack}
 use Rattle.policy.specs.Rows.{Row, after, balanced}
-use Rattle.policy.specs.Image.{ConstraintEntry}
-use Rattle.policy.specs.Encode.{ConstraintHead}
-use Rattle.policy.specs.Sound.{ofComp, rowAt, assignRows}
+use Rattle.policy.specs.Image.{ConstraintEntry, RelabelEntry}
+use Rattle.policy.specs.Encode.{ConstraintHead, RelabelHead}
+use Rattle.policy.specs.Sound.{ofComp, rowAt, assignRows, assignRelabels}
 use Rattle.table_reader.specs.Records as records
 use Rattle.sound_constraints.specs.Totals.{Totals}
 
@@ -37,15 +37,16 @@ isBare r = eqb (r .comp) 0 && eqb (r .op) 0 && eqb (r .num) 0
 abbrev pub comparesSides : Row → Bool
 comparesSides r = (eqb (r .comp) 0 || eqb (r .comp) 4) && ltb (r .op) 2 && eqb (r .num) 0 || eqb (r .comp) 2 && ltb (r .op) 5 && eqb (r .num) 0
 
-abbrev pub namesOne : Row → ℕ → Bool
-namesOne r n = ltb (r .comp) 6 && ltb (r .op) 2 && ltb (r .num) n
+-- components are those below k: a constrain's six, a validatetrans's nine
+abbrev pub namesOne : ℕ → Row → ℕ → Bool
+namesOne k r n = ltb (r .comp) k && ltb (r .op) 2 && ltb (r .num) n
 
-abbrev pub fitsRow : (Family → ℕ) → (Family → ℕ) → Row → Bool
-fitsRow things attributes r =
+abbrev pub fitsRow : ℕ → (Family → ℕ) → (Family → ℕ) → Row → Bool
+fitsRow k things attributes r =
     cond (ltb (r .kind) 3) (isBare r)
     (cond (eqb (r .kind) 3) (comparesSides r)
-    (cond (eqb (r .kind) 4) (namesOne r (things (ofComp (r .comp))))
-    (cond (eqb (r .kind) 5) (namesOne r (attributes (ofComp (r .comp))))
+    (cond (eqb (r .kind) 4) (namesOne k r (things (ofComp (r .comp))))
+    (cond (eqb (r .kind) 5) (namesOne k r (attributes (ofComp (r .comp))))
     false)))
 
 -- "masks are not 0", and "no bit .. names something undeclared"
@@ -63,18 +64,34 @@ rowsFit good (t ∷ ts) d =
     let r = records.rowAt t in
     eqb (getD t 3 0) 0 && good r && (leb 1 (after r d) && leb (after r d) maxStack) && rowsFit good ts (after r d)
 
--- constraints take up the rows in these bytes in order, from row r on, with none left
-unfoldable pub takeUp : (ConstraintHead → Bool) → (Row → Bool) → ℕ → List ConstraintHead → List (List ℕ) → Bool
-takeUp head good r [] ts = eqb (length ts) 0
-takeUp head good r (h ∷ hs) ts =
-    eqb (h .first) r && leb (h .rows) (length ts) && head h && rowsFit good (take (h .rows) ts) 0
-    && takeUp head good (r + h .rows) hs (drop (h .rows) ts)
+-- STATEMENTS
+
+-- what is asked of a statement's head: how many rows it takes up, whether it may take them up from a row on, and whether it is good by itself
+pub record Heads (A : Type 0) : Type 0 where
+  pub rows : A → ℕ
+  pub starts : A → ℕ → Bool
+  pub fits : A → Bool
+
+-- statements take up the rows in these bytes in order, from row r on, with none left
+unfoldable pub takeUp : {A : Type 0} → Heads A → (Row → Bool) → ℕ → List A → List (List ℕ) → Bool
+takeUp asks good r [] ts = eqb (length ts) 0
+takeUp asks good r (h ∷ hs) ts =
+    asks .starts h r && leb (asks .rows h) (length ts) && asks .fits h && rowsFit good (take (asks .rows h) ts) 0
+    && takeUp asks good (r + asks .rows h) hs (drop (asks .rows h) ts)
 
 module _ (n : Totals) where
   abbrev pub fitsConstraint : ConstraintEntry → Bool
   fitsConstraint c =
-      fitsMask (n .classes) (n .permissions) (c .class) (c .mask) && every (fitsRow (n .things) (n .attributes)) (c .rows) && balanced (c .rows) 0
+      fitsMask (n .classes) (n .permissions) (c .class) (c .mask) && every (fitsRow 6 (n .things) (n .attributes)) (c .rows) && balanced (c .rows) 0
 
   -- the constraints of these heads, where their rows are in these bytes
   abbrev pub constraintsFit : List ConstraintHead → List (List ℕ) → Bool
   constraintsFit hs ts = passes (eachOf rowAt ts >>= λ rs. assignRows 0 hs rs) (every fitsConstraint)
+
+  -- W-205: "sound as 6 and 7 are"
+  abbrev pub fitsRelabel : RelabelEntry → Bool
+  fitsRelabel c = ltb (c .class) (n .classes) && every (fitsRow 9 (n .things) (n .attributes)) (c .rows) && balanced (c .rows) 0
+
+  -- the validatetrans statements of these heads, where their rows are in these bytes
+  abbrev pub relabelsFit : List RelabelHead → List (List ℕ) → Bool
+  relabelsFit hs ts = passes (eachOf rowAt ts >>= λ rs. assignRelabels hs rs) (every fitsRelabel)

@@ -1,7 +1,9 @@
-// The rows and the constraints of a table: whether they are those that the forms of constraints allow, name nothing
-// undeclared, and run the stack of five as they may. Every function answers for every table, whatever its bytes are.
+// The rows of a table with its constraints and its validatetrans statements: whether they are those that the forms of
+// constraints allow, name nothing undeclared, and run the stack of five as they may. Every function answers for every
+// table, whatever its bytes are.
 use policy::Component;
 use policy::Constraint;
+use policy::Family;
 use policy::NameCounts;
 use policy::Operator;
 use policy::Permission;
@@ -9,14 +11,15 @@ use policy::Row;
 use table_reader::ConstraintRecord;
 use table_reader::RowRecord;
 ghost use mathlib.Core.Path.{_≡_};
+ghost use mathlib.Core.List.{[]};
 ghost use Prim.Native.Nat.{_+_, _*_};
 ghost use lib.ListN.{getD, drop};
 ghost use Rattle.policy.specs.Basics.{each};
 ghost use Rattle.policy.specs.Rows.{after};
-ghost use Rattle.policy.specs.Sound.{ofComp, pieces, headAt};
+ghost use Rattle.policy.specs.Sound.{ofComp, pieces, headAt, relabelAt};
 ghost use Rattle.table_reader.specs.Records.{rowOf};
 ghost use Rattle.sound_constraints.specs.Totals.{thingsOf, attributesOf, totalsIn};
-ghost use Rattle.sound_constraints.specs.SoundRows.{isBare, comparesSides, namesOne, fitsRow, fitsMask, kept, rowsFit, constraintsFit};
+ghost use Rattle.sound_constraints.specs.SoundRows.{isBare, comparesSides, namesOne, fitsRow, fitsMask, kept, rowsFit, constraintsFit, relabelsFit};
 
 // ---- rows
 
@@ -24,26 +27,24 @@ ghost use Rattle.sound_constraints.specs.SoundRows.{isBare, comparesSide
 fn things_of(counts: NameCounts, component: u8) -> usize
     ensures { λ r. ⌜ r ≡ thingsOf counts (ofComp component) ⌝ }
 {
-    if component < Component::R1 {
-        return counts.users;
+    let family = table_reader::family_of(component);
+    match family {
+        Family::Users => counts.users,
+        Family::Roles => counts.roles,
+        Family::Types => counts.types,
     }
-    if component < Component::T1 {
-        return counts.roles;
-    }
-    counts.types
 }
 
 // How many attributes of the component's family there are.
 fn attributes_of(counts: NameCounts, component: u8) -> usize
     ensures { λ r. ⌜ r ≡ attributesOf counts (ofComp component) ⌝ }
 {
-    if component < Component::R1 {
-        return counts.user_attributes;
+    let family = table_reader::family_of(component);
+    match family {
+        Family::Users => counts.user_attributes,
+        Family::Roles => counts.role_attributes,
+        Family::Types => counts.type_attributes,
     }
-    if component < Component::T1 {
-        return counts.role_attributes;
-    }
-    counts.type_attributes
 }
 
 // Whether a row of kind 0, 1 or 2 has all other fields 0.
@@ -78,11 +79,12 @@ fn compares_sides(row: RowRecord) -> bool
     false
 }
 
-// Whether a row of kind 4 or 5 is good, where so many things or attributes are declared.
-fn names_one(row: RowRecord, declared: usize) -> bool
-    ensures { λ r. ⌜ r ≡ namesOne (rowOf row) declared ⌝ }
+// Whether a row of kind 4 or 5 is good, where there are so many components, and so many things or attributes are
+// declared.
+fn names_one(row: RowRecord, components: u8, declared: usize) -> bool
+    ensures { λ r. ⌜ r ≡ namesOne components (rowOf row) declared ⌝ }
 {
-    if Component::COUNT <= row.component {
+    if components <= row.component {
         return false;
     }
     if Operator::COUNT <= row.operator {
@@ -92,8 +94,8 @@ fn names_one(row: RowRecord, declared: usize) -> bool
 }
 
 // Whether a row is one that the forms of constraints allow, and names nothing undeclared.
-fn fits_row(row: RowRecord, counts: NameCounts) -> bool
-    ensures { λ r. ⌜ r ≡ fitsRow (thingsOf counts) (attributesOf counts) (rowOf row) ⌝ }
+fn fits_row(row: RowRecord, components: u8, counts: NameCounts) -> bool
+    ensures { λ r. ⌜ r ≡ fitsRow components (thingsOf counts) (attributesOf counts) (rowOf row) ⌝ }
 {
     let kind = row.kind;
     if kind < Row::TWO_SIDES {
@@ -103,10 +105,10 @@ fn fits_row(row: RowRecord, counts: NameCounts) -> bool
         return compares_sides(row);
     }
     if kind == Row::SIDE_AND_THING {
-        return names_one(row, things_of(counts, row.component));
+        return names_one(row, components, things_of(counts, row.component));
     }
     if kind == Row::SIDE_AND_ATTRIBUTE {
-        return names_one(row, attributes_of(counts, row.component));
+        return names_one(row, components, attributes_of(counts, row.component));
     }
     false
 }
@@ -143,8 +145,15 @@ fn depth_after(row: RowRecord, depth: u8) -> u8
 
 // Whether `count` rows from row `first` on are good and run the stack as they may; the rows of 6 bytes start at
 // `start`.
-fn rows_fit(table: &[u8], start: u32, first: u16, count: u16, counts: NameCounts) -> bool
-    ensures { λ r. ⌜ r ≡ rowsFit (fitsRow (thingsOf counts) (attributesOf counts)) (pieces count 6 (drop (start + 6 * first) (now (table .entry)))) 0 ⌝ }
+fn rows_fit(
+    table: &[u8],
+    start: u32,
+    first: u16,
+    count: u16,
+    components: u8,
+    counts: NameCounts,
+) -> bool
+    ensures { λ r. ⌜ r ≡ rowsFit (fitsRow components (thingsOf counts) (attributesOf counts)) (pieces count 6 (drop (start + 6 * first) (now (table .entry)))) 0 ⌝ }
 {
     let mut depth = 0;
     let mut number = first as u32;
@@ -155,7 +164,7 @@ fn rows_fit(table: &[u8], start: u32, first: u16, count: u16, counts: NameCounts
         if byte_slices::byte(table, place + Row::UNUSED_AT) != 0 {
             return false;
         }
-        if !fits_row(row, counts) {
+        if !fits_row(row, components, counts) {
             return false;
         }
         depth = depth_after(row, depth);
@@ -228,7 +237,48 @@ pub fn constraints_fit(
         if !fits_mask(head, counts, permissions) {
             return false;
         }
-        if !rows_fit(table, start, taken, head.rows, counts) {
+        if !rows_fit(table, start, taken, head.rows, Component::COUNT, counts) {
+            return false;
+        }
+        taken += head.rows;
+        next += 1;
+    }
+    taken == rows
+}
+
+// ---- validatetrans statements
+
+// Whether so many validatetrans statements take up so many rows in order, with none left, and are good. The
+// statements of 4 bytes start at `relabels`, the rows of 6 bytes at `start`. They name no permission.
+pub fn relabels_fit(
+    table: &[u8],
+    relabels: u32,
+    count: u32,
+    start: u32,
+    rows: u16,
+    counts: NameCounts,
+) -> bool
+    ensures { λ r. ⌜ r ≡ relabelsFit (totalsIn counts []) (each relabelAt (pieces count 4 (drop relabels (now (table .entry)))))
+        (pieces rows 6 (drop start (now (table .entry)))) ⌝ }
+{
+    let mut next = 0;
+    let mut taken = 0;
+    while next < count {
+        let head = table_reader::relabel_at(table, relabels, next);
+        if rows - taken < head.rows {
+            return false;
+        }
+        if counts.classes <= head.class as usize {
+            return false;
+        }
+        if !rows_fit(
+            table,
+            start,
+            taken,
+            head.rows,
+            Component::COUNT_OF_THREE,
+            counts,
+        ) {
             return false;
         }
         taken += head.rows;

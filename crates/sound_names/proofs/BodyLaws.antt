@@ -19,8 +19,8 @@ use Rattle.table_laws.proofs.NamesReadBack.{names-back}
 use Rattle.table_laws.proofs.NamesOnly.{names-only}
 use Rattle.table_laws.proofs.NamesFit.{GoodEntry, peopled, entries-fit}
 use Rattle.sound_names.specs.SoundNames.{soundNames}
-use Rattle.sound_names.specs.Declaring.{complete, declared, closes, declaring, finished, declares}
-use Rattle.sound_names.proofs.DeclaringLaws.{closed-good, good-declared, start, declared-good}
+use Rattle.sound_names.specs.EntryOrder.{complete, declared, closes, declaring, finished, declares}
+use Rattle.sound_names.proofs.EntryOrderLaws.{closed-good, good-declared, start, declared-good}
 
 small : (ds : List Declaration) → goodFrom [] ds ≡ true → Small (entries ds)
 unfolding entries

@@ -9,10 +9,10 @@ use lib.ListN.{length}
 use Rattle.policy.specs.Basics.{Name}
 use Rattle.policy.specs.Encode.{NameEntry}
 use Rattle.symbols.specs.Lookup.{familyNumber, isNamed, firstNamed}
-use Rattle.symbols.specs.Resolving.{isFound}
+use Rattle.symbols.specs.SearchAnswers.{isFound}
 use Rattle.symbols.specs.declared.Found.{Found}
-use Rattle.symbols.proofs.Searching.{orFound, first-cons, first-append}
-use Rattle.symbols.proofs.Searching.{named-is}
+use Rattle.symbols.proofs.SearchLaws.{orFound, first-cons, first-append}
+use Rattle.symbols.proofs.SearchLaws.{named-is}
 use Rattle.bloom_filter.specs.Filter.{hashOf, isMarked, marked}
 use Rattle.bloom_filter.proofs.FilterLaws.{marked-long, covers-none, covers-more, unmarked}
 use Rattle.sound_names.specs.Filter.{Knows}

@@ -1,5 +1,5 @@
 pub mod FilterLaws
-pub mod DeclaringLaws
+pub mod EntryOrderLaws
 pub mod BodyLaws
 pub mod TallyLaws
 pub mod WalkLaws

@@ -21,9 +21,9 @@ use Rattle.policy.proofs.Sorts.{code-below, code-sort}
 use Rattle.policy.proofs.Counts.{count-same, count-more}
 use Rattle.symbols.proofs.ClassesFound.{classes-same, classes-more}
 use Rattle.sound_names.specs.SoundNames.{countsOf, permissionCounts}
-use Rattle.sound_names.specs.Declaring.{Kind, ofThing, ofClass, ofPermission, ofNothing, kindOf, Declaring, complete, opened, declared, closes, isPlaced, extended}
+use Rattle.sound_names.specs.EntryOrder.{Kind, ofThing, ofClass, ofPermission, ofNothing, kindOf, Declaring, complete, opened, declared, closes, isPlaced, extended}
 use Rattle.sound_names.specs.Tally.{mostOf, allows, counted, permitted, Zeros, openOf, Tallied, countsIn}
-use Rattle.sound_names.proofs.DeclaringLaws.{KindIs, kind-is, rises}
+use Rattle.sound_names.proofs.EntryOrderLaws.{KindIs, kind-is, rises}
 
 -- ---- which entry the counts allow
 

@@ -20,26 +20,26 @@ use Rattle.policy.proofs.Sorts.{code-below}
 use Rattle.policy.proofs.Counts.{few-in-all}
 use Rattle.symbols.specs.Section.{entry, sectionAt, sectionIn, entriesRead, isExact, exactEntries, entriesAt, exactEntriesAt, between, EntryIs}
 use Rattle.symbols.specs.Lookup.{familyNumber, firstNamed}
-use Rattle.symbols.specs.Resolving.{isFound, FewPermissions}
+use Rattle.symbols.specs.SearchAnswers.{isFound, FewPermissions}
 use Rattle.symbols.specs.declared.Entry.{Entry}
 use Rattle.symbols.proofs.ReadBack.{over, exact-over, entries-over, exact-some}
-use Rattle.symbols.proofs.Walking.{read-from, walk-end, walk-broken, walk-on, walk-start}
+use Rattle.symbols.proofs.WalkLaws.{read-from, walk-end, walk-broken, walk-on, walk-start}
 use Rattle.symbols.proofs.ReferencesFound.{reference-found, code-of}
 use Rattle.symbols.proofs.ClassesFound.{class-found, permission-found}
-use Rattle.symbols.proofs.Declaring.{permissions-last}
+use Rattle.symbols.proofs.DeclaredEntries.{permissions-last}
 use Rattle.table_laws.specs.SoundTable.{Bytes}
 use Rattle.table_laws.proofs.ListLaws.{all-take, all-drop}
 use Rattle.policy.specs.declared.NameCounts.{NameCounts}
 use Rattle.sound_names.specs.declared.Counted.{Counted}
 use Rattle.sound_names.specs.SoundNames.{soundNames, countsOf, countedOf, permissionCounts, permissionsAfter}
-use Rattle.sound_names.specs.Declaring.{Kind, ofThing, ofClass, ofPermission, ofNothing, kindOf, isPlaced, isGoodFor, isUnused, mayFollow}
-use Rattle.sound_names.specs.Declaring.{Declaring, complete, opened, declared, closes, extended, declaring, finished, declares}
+use Rattle.sound_names.specs.EntryOrder.{Kind, ofThing, ofClass, ofPermission, ofNothing, kindOf, isPlaced, isGoodFor, isUnused, mayFollow}
+use Rattle.sound_names.specs.EntryOrder.{Declaring, complete, opened, declared, closes, extended, declaring, finished, declares}
 use Rattle.bloom_filter.specs.Filter.{hashOf, marked}
 use Rattle.name_spelling.specs.Spelling.{isSpelt}
 use Rattle.name_spelling.proofs.SpellingLaws.{spelt-part}
 use Rattle.sound_names.specs.Filter.{Knows}
 use Rattle.sound_names.specs.Tally.{mostParts, allows, isFree, counted, permitted, Zeros, Tallied, Room, sound, unsound, judged, countsIn, judgedOf}
-use Rattle.sound_names.proofs.DeclaringLaws.{KindIs, kind-is, GoodSoFar, SoFar, start as start-good, declared-good, declaring-more}
+use Rattle.sound_names.proofs.EntryOrderLaws.{KindIs, kind-is, GoodSoFar, SoFar, start as start-good, declared-good, declaring-more}
 use Rattle.sound_names.proofs.TallyLaws.{closes-open, allows-placed, FewClasses, tallied-after, tallied-start, tallied-counts, tallied-permissions}
 use Rattle.sound_names.proofs.BodyLaws.{sound-declares}
 use Rattle.sound_names.proofs.FilterLaws.{knows-none, knows-more}

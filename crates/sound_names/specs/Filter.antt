@@ -6,7 +6,7 @@ use lib.ListN.{length}
 use Rattle.policy.specs.Basics.{Name}
 use Rattle.policy.specs.Encode.{NameEntry}
 use Rattle.symbols.specs.Lookup.{firstNamed}
-use Rattle.symbols.specs.Resolving.{isFound}
+use Rattle.symbols.specs.SearchAnswers.{isFound}
 use Rattle.bloom_filter.specs.Filter.{Covers}
 
 -- the filter covers each name of each family among the entries

@@ -1,5 +1,5 @@
 pub mod SoundNames
-pub mod Declaring
+pub mod EntryOrder
 pub mod Filter
 pub mod Tally
 pub mod Worked

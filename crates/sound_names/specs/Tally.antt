@@ -11,11 +11,11 @@ use Rattle.policy.specs.Statements.{users, roles, types, Sort, thingOf, attribu
 use Rattle.policy.specs.Maxima.{maxOf, maxClasses, maxParts}
 use Rattle.policy.specs.Encode.{NameEntry, sortCode}
 use Rattle.symbols.specs.Lookup.{familyNumber, firstNamed}
-use Rattle.symbols.specs.Resolving.{isFound}
+use Rattle.symbols.specs.SearchAnswers.{isFound}
 use Rattle.name_spelling.specs.Spelling.{isSpelt}
 use Rattle.policy.specs.declared.NameCounts.{NameCounts}
 use Rattle.sound_names.specs.SoundNames.{countsOf, permissionCounts}
-use Rattle.sound_names.specs.Declaring.{Declaring, complete, opened, declared}
+use Rattle.sound_names.specs.EntryOrder.{Declaring, complete, opened, declared}
 
 -- "Users 128, roles 128, types 512, attributes 64 per family, classes 32", by the sort's number
 abbrev pub mostOf : ℕ → ℕ

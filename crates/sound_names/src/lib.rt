@@ -14,7 +14,7 @@ ghost use Prim.Native.Nat.{_+_, _≤_};
 ghost use lib.ListN.{length};
 ghost use Rattle.symbols.specs.Section.{between, entriesAt};
 ghost use Rattle.symbols.specs.Lookup.{firstNamed};
-ghost use Rattle.symbols.specs.Resolving.{isFound};
+ghost use Rattle.symbols.specs.SearchAnswers.{isFound};
 ghost use Rattle.sound_names.specs.SoundNames.{soundNames, countedOf, permissionsAfter};
 ghost use Rattle.sound_names.specs.Tally.{mostOf, mostParts, allows, counted, permitted, Room, Zeros, judgedOf, judged};
 

@@ -1,2 +1,2 @@
 -- Laws for the proof of `sound`.
-pub mod Deciding
+pub mod AnswerLaws

@@ -1,5 +1,4 @@
 // Whether bytes are a sound table. The answer is given for every sequence of bytes.
-use policy::Table;
 use sound_names::Counted;
 ghost use mathlib.Core.Path.{_≡_};
 ghost use Rattle.soundness.specs.IsSound.{isSound};
@@ -13,8 +12,9 @@ pub fn count(table: &[u8], permissions: &mut [usize; policy::Class::MAX]) -> Cou
         return Counted::Unsound;
     }
     let mut found = [0usize; policy::Class::MAX];
+    let start = table_names::names_start(table);
     let end = table_names::names_end(table);
-    let counted = sound_names::check_names(table, Table::HEADER_BYTES, end, &mut found);
+    let counted = sound_names::check_names(table, start, end, &mut found);
     let Counted::Sound(counts) = counted else {
         return Counted::Unsound;
     };

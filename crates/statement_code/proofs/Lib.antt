@@ -1,2 +1,2 @@
 pub mod Numbers
-pub mod Putting
+pub mod UnitLaws

@@ -6,7 +6,7 @@ use Rattle.bitset.specs.Relations.{joined}
 use Rattle.policy.specs.Basics.{each}
 use Rattle.policy.specs.Statements.{Family, users, roles, types, thingOf, attributeOf, Declaration, plain, class, Reference, thing, attribute, SetExpr}
 use Rattle.policy.specs.Statements.{nameS, allS, notS, andS, orS, xorS, unionS, emptyS, Relation, userrole, roletype, roleallow, Statement, declare}
-use Rattle.policy.specs.Statements.{attributeset, gives, roletransition, constrain, Line, Policy}
+use Rattle.policy.specs.Statements.{attributeset, gives, roletransition, constrain, validatetrans, Line, Policy}
 
 -- a thing by its number, an attribute by 1024 and its number: no family has more than 512 things and 64 attributes
 abbrev pub referenceUnit : Reference → ℕ
@@ -87,13 +87,14 @@ declarationCode at (plain (thingOf f) w) = []
 declarationCode at (plain (attributeOf f) w) = attributeTag f ∷ at ∷ []
 declarationCode at (class w ps) = []
 
--- tag, place, and what the statement names; nothing for things, classes and constraints
+-- tag, place, and what the statement names; nothing for things and classes, nor for what has an E
 abbrev pub statementCode : ℕ → Statement → List ℕ
 statementCode at (declare d) = declarationCode at d
 statementCode at (attributeset f a s) = setTag f ∷ at ∷ a ∷ setCode s
 statementCode at (gives k x y) = relationTag k ∷ at ∷ referenceUnit x ∷ referenceUnit y ∷ []
 statementCode at (roletransition r t c n) = transitionTag ∷ at ∷ referenceUnit r ∷ referenceUnit t ∷ c ∷ n ∷ []
 statementCode at (constrain c ps e) = []
+statementCode at (validatetrans c e) = []
 
 abbrev pub lineCode : Line → List ℕ
 lineCode l = statementCode (l .place) (l .says)

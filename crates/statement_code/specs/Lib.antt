@@ -1,3 +1,3 @@
 pub mod Code
 pub mod Numbered
-pub mod Writing
+pub mod UnitWrites

@@ -1,7 +1,7 @@
 -- The numbers of things and attributes are small enough for the units of references to tell them apart. Assumes nothing.
 use Prim.Native.Nat.{_<_}
 use Rattle.policy.specs.Statements.{Reference, thing, attribute, SetExpr, nameS, allS, notS, andS, orS, xorS, unionS, emptyS, Statement, declare, attributeset}
-use Rattle.policy.specs.Statements.{gives, roletransition, constrain}
+use Rattle.policy.specs.Statements.{gives, roletransition, constrain, validatetrans}
 
 abbrev pub NumberedR : Reference → Type 0
 NumberedR (thing n) = n < 1024
@@ -24,3 +24,4 @@ StatementNumbered (attributeset f a s) = (a < 1024) × Numbered s
 StatementNumbered (gives k x y) = NumberedR x × NumberedR y
 StatementNumbered (roletransition r t c n) = NumberedR r × NumberedR t × (c < 1024) × (n < 1024)
 StatementNumbered (constrain c ps e) = Unit {0}
+StatementNumbered (validatetrans c e) = Unit {0}

@@ -6,7 +6,7 @@ ghost use mathlib.Core.Path.{_≡_};
 ghost use Prim.Native.Nat.{_≤_};
 ghost use Rattle.policy.specs.Answers.{familyOf, relationOf};
 ghost use Rattle.statement_code.specs.Code.{familyNumber, relationNumber};
-ghost use Rattle.statement_code.specs.Writing.{Stored};
+ghost use Rattle.statement_code.specs.UnitWrites.{Stored};
 
 // A unit of the code.
 pub struct Unit(pub u16);

@@ -5,9 +5,9 @@ use mathlib.Core.List.{List, [], _∷_}
 use mathlib.Core.Option.{Option}
 use Rattle.lexer.specs.Forms.{Forms, closed, ended, word, part}
 use Rattle.policy.specs.Basics.{Name, eachOf, ofOne, ofTwo}
-use Rattle.policy.specs.Words.{asName, asPart, Keyword, declareK, classK, setK, relationK, transitionK, constrainK}
+use Rattle.policy.specs.Words.{asName, asPart, Keyword, declareK, classK, setK, relationK, transitionK, constrainK, relabelK, twoSides, threeSides}
 use Rattle.policy.specs.Statements.{roles, types, thingOf, attributeOf, plain, class, Reference, SetExpr, Constraint, StatementOf, declare, attributeset, gives}
-use Rattle.policy.specs.Statements.{roletransition, constrain, Written, fromOf, toOf}
+use Rattle.policy.specs.Statements.{roletransition, constrain, validatetrans, Written, fromOf, toOf}
 use Rattle.policy.specs.Grammar.{twoParts, setIn, expressionIn, rowOf, ofFour, formed}
 use Rattle.policy.specs.Names.{refer, Environment, numberIn}
 use Rattle.policy.specs.Reading.{referS, referE, resolved}
@@ -23,6 +23,7 @@ module _ {R N : Type 0} where
   IsOf (relationK r) w = (x : R) × (y : R) × (w ≡ gives r x y)
   IsOf transitionK w = (r : R) × (t : R) × (c : N) × (n : N) × (w ≡ roletransition r t c n)
   IsOf constrainK w = (c : N) × (ps : List N) × (e : Constraint R) × (w ≡ constrain c ps e)
+  IsOf relabelK w = (c : N) × (e : Constraint R) × (w ≡ validatetrans c e)
 
 module _ {A : Type 0} {P : A → Type 0} where
   two-parts : (f : Forms) (g : Forms → Forms → Option A) → ((i j : Forms) → IfAny P (g i j)) → IfAny P (twoParts f g)
@@ -63,7 +64,8 @@ formed-of transitionK f = whatever (rowOf asName f) _ four
     four (r ∷ t ∷ c ∷ []) = nothing
     four (r ∷ t ∷ c ∷ n ∷ []) = just (r, t, c, n, refl)
     four (r ∷ t ∷ c ∷ n ∷ x ∷ xs) = nothing
-formed-of constrainK f = two-parts f _ λ i j. class-in asName i _ λ c ps. whatever (expressionIn j) _ λ e. just (c, ps, e, refl)
+formed-of constrainK f = two-parts f _ λ i j. class-in asName i _ λ c ps. whatever (expressionIn twoSides j) _ λ e. just (c, ps, e, refl)
+formed-of relabelK f = word-and-part f _ λ w i _. whatever (asName w) _ λ c. whatever (expressionIn threeSides i) _ λ e. just (c, e, refl)
 
 -- as it is resolved
 pub resolved-of : (env : Environment) (k : Keyword) (w : Written) → IsOf k w → IfAny (IsOf {R = Reference} {N = ℕ} k) (resolved env w)
@@ -80,3 +82,4 @@ resolved-of env constrainK w h =
     rw (h .3)
     (whatever (env .class (h .0)) _ λ c. whatever (eachOf (λ p. env .permission c p) (h .1)) _ λ ps.
     whatever (referE env (h .2)) _ λ e. just (c, ps, e, refl))
+resolved-of env relabelK w h = rw (h .2) (whatever (env .class (h .0)) _ λ c. whatever (referE env (h .1)) _ λ e. just (c, e, refl))

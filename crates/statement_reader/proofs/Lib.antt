@@ -1,5 +1,5 @@
-pub mod Filling
+pub mod MemoryLaws
 pub mod Sections
 pub mod KeywordKinds
-pub mod Stepping
+pub mod StepLaws
 pub mod ByKeyword

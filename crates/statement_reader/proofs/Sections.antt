@@ -8,20 +8,23 @@ use mathlib.Core.Option.{none, some}
 use lib.ListN.{length, length-append}
 use Rattle.bitset.specs.Relations.{joined}
 use Rattle.policy.specs.Basics.{each, gather}
-use Rattle.policy.specs.Statements.{Declaration, Line, Policy, declared, declarations, transition, Transition, transitions, Constrain, constrained, constrains}
+use Rattle.policy.specs.Statements.{Declaration, Line, Policy, declared, declarations, transition, Transition, transitions, Constrain, constrained, constrains, constrainBody}
+use Rattle.policy.specs.Statements.{Relabel, relabelled, relabels, size}
 use Rattle.policy.specs.Reading.{rowCount}
 use Rattle.policy.specs.Rows as rows
 use Rattle.policy.specs.Rows.{Row}
-use Rattle.policy.specs.Image.{maskOf, ConstraintEntry, constraintEntry}
+use Rattle.policy.specs.Image.{maskOf, ConstraintEntry, constraintEntry, RelabelEntry, relabelEntry}
 use Rattle.policy.specs.Encode.{NameEntry, entriesOf, entries, entryBytes, ConstraintHead, headBytes, headsFrom, rowBytes}
+use Rattle.policy.specs.Encode.{RelabelHead, relabelHead, relabelBytes}
 use Rattle.policy.proofs.Lists.{each-append, joined-append, gather-over, gather-last}
 use Rattle.policy.proofs.RowCounts.{rows-count}
-use Rattle.symbols.proofs.Declaring.{entries-more}
+use Rattle.symbols.proofs.DeclaredEntries.{entries-more}
 use Rattle.image_laws.proofs.RowCounts.{rows-in-all}
-use Rattle.declarations.specs.Declaring.{sectionOf}
-use Rattle.constrain_statement.specs.Constraining.{headWith, headOf}
+use Rattle.declarations.specs.Declares.{sectionOf}
+use Rattle.constrain_statement.specs.ConstrainWrites.{headWith, headOf}
+use Rattle.relabel_statement.specs.RelabelWrites as relabelling
 use Rattle.table_laws.proofs.Constraints.{rowsIn}
-use Rattle.statement_reader.specs.Memory.{symbolsOf, constraintsOf, rowsOf}
+use Rattle.statement_reader.specs.Memory.{symbolsOf, constraintsOf, rowsOf, relabelsOf, relabelRowsOf}
 
 -- the records of bodies 6 and 7 that one more constraint adds
 heads-more : (r : ℕ) (cs : List ConstraintEntry) (c : ConstraintEntry)
@@ -46,7 +49,7 @@ module _ (cs : List Constrain) (c : Constrain) where
   entries-last = each-append constraintEntry cs (c ∷ [])
 
   heads-last : joined (each headBytes (headsFrom 0 (each constraintEntry (cs ++ (c ∷ [])))))
-      ≡ joined (each headBytes (headsFrom 0 (each constraintEntry cs))) ++ headBytes (headOf (c .class) (c .perms) (c .body) (rowCount cs))
+      ≡ joined (each headBytes (headsFrom 0 (each constraintEntry cs))) ++ headBytes (headOf (c .class) (c .perms) (c .body) (rowCount constrainBody cs))
   heads-last =
       ap (λ (es : List ConstraintEntry). joined (each headBytes (headsFrom 0 es))) entries-last
       ∙ ap (λ (hs : List ConstraintHead). joined (each headBytes hs)) (heads-more 0 (each constraintEntry cs) (constraintEntry c))
@@ -54,16 +57,33 @@ module _ (cs : List Constrain) (c : Constrain) where
       ∙ ap₂ (λ (first n : ℕ). joined (each headBytes (headsFrom 0 (each constraintEntry cs))) ++ headBytes (headWith (c .class) (maskOf (c .perms)) first n))
       (zero-add _ ∙ rows-in-all cs) (rows-count (c .body))
 
-  rows-last : joined (each rowBytes (rowsIn (each constraintEntry (cs ++ (c ∷ [])))))
-      ≡ joined (each rowBytes (rowsIn (each constraintEntry cs))) ++ joined (each rowBytes (rows.rowsOf (c .body)))
+-- the rows of statements whose entries have them
+module _ {A E : Type 0} (entry : A → E) (rowsFor : E → List Row) where
+  abbrev bytesOf : List A → List ℕ
+  bytesOf cs = joined (each rowBytes (joined (each rowsFor (each entry cs))))
+
+  rows-last : (cs : List A) (c : A) → bytesOf (cs ++ (c ∷ [])) ≡ bytesOf cs ++ joined (each rowBytes (rowsFor (entry c)))
   unfolding joined each
-  rows-last =
-      ap (λ (es : List ConstraintEntry). joined (each rowBytes (rowsIn es))) entries-last
-      ∙ ap (λ (rs : List (List Row)). joined (each rowBytes (joined rs))) (each-append (λ (e : ConstraintEntry). e .rows) (each constraintEntry cs) (constraintEntry c ∷ []))
-      ∙ ap (λ (rs : List Row). joined (each rowBytes rs)) (joined-append (each (λ (e : ConstraintEntry). e .rows) (each constraintEntry cs)) (rows.rowsOf (c .body) ∷ []))
-      ∙ ap (λ (rs : List Row). joined (each rowBytes (rowsIn (each constraintEntry cs) ++ rs))) (append-nil (rows.rowsOf (c .body)))
-      ∙ ap (λ (l : List (List ℕ)). joined l) (each-append rowBytes (rowsIn (each constraintEntry cs)) (rows.rowsOf (c .body)))
-      ∙ joined-append (each rowBytes (rowsIn (each constraintEntry cs))) (each rowBytes (rows.rowsOf (c .body)))
+  rows-last cs c =
+      let before = each rowsFor (each entry cs) in
+      ap (λ (es : List E). joined (each rowBytes (joined (each rowsFor es)))) (each-append entry cs (c ∷ []))
+      ∙ ap (λ (rs : List (List Row)). joined (each rowBytes (joined rs))) (each-append rowsFor (each entry cs) (entry c ∷ []))
+      ∙ ap (λ (rs : List Row). joined (each rowBytes rs)) (joined-append before (rowsFor (entry c) ∷ []))
+      ∙ ap (λ (rs : List Row). joined (each rowBytes (joined before ++ rs))) (append-nil (rowsFor (entry c)))
+      ∙ ap (λ (l : List (List ℕ)). joined l) (each-append rowBytes (joined before) (rowsFor (entry c)))
+      ∙ joined-append (each rowBytes (joined before)) (each rowBytes (rowsFor (entry c)))
+
+-- the record of body 9 that one more validatetrans statement adds
+abbrev relabelRecords : List Relabel → List ℕ
+relabelRecords cs = joined (each relabelBytes (each relabelHead (each relabelEntry cs)))
+
+relabel-last : (cs : List Relabel) (c : Relabel) → relabelRecords (cs ++ (c ∷ [])) ≡ relabelRecords cs ++ relabelBytes (relabelling.headWith (c .class) (size (c .body)))
+unfolding each
+relabel-last cs c =
+    ap (λ (es : List RelabelEntry). joined (each relabelBytes (each relabelHead es))) (each-append relabelEntry cs (c ∷ []))
+    ∙ ap (λ (hs : List RelabelHead). joined (each relabelBytes hs)) (each-append relabelHead (each relabelEntry cs) (relabelEntry c ∷ []))
+    ∙ bytes-more relabelBytes (each relabelHead (each relabelEntry cs)) (relabelHead (relabelEntry c))
+    ∙ ap (λ (n : ℕ). relabelRecords cs ++ relabelBytes (relabelling.headWith (c .class) n)) (rows-count (c .body))
 
 module _ (p : Policy) (l : Line) where
   -- a declaration
@@ -106,7 +126,7 @@ module _ (p : Policy) (l : Line) where
   constrains-same h = gather-over constrained p l h
 
   pub constraints-more : (c : Constrain) → constrained l ≡ some c
-      → constraintsOf (p ++ (l ∷ [])) ≡ constraintsOf p ++ headBytes (headOf (c .class) (c .perms) (c .body) (rowCount (constrains p)))
+      → constraintsOf (p ++ (l ∷ [])) ≡ constraintsOf p ++ headBytes (headOf (c .class) (c .perms) (c .body) (rowCount constrainBody (constrains p)))
   unfolding constraintsOf
   constraints-more c h =
       ap (λ (cs : List Constrain). joined (each headBytes (headsFrom 0 (each constraintEntry cs)))) (constrains-more c h) ∙ heads-last (constrains p) c
@@ -117,8 +137,36 @@ module _ (p : Policy) (l : Line) where
 
   pub rows-more : (c : Constrain) → constrained l ≡ some c → rowsOf (p ++ (l ∷ [])) ≡ rowsOf p ++ joined (each rowBytes (rows.rowsOf (c .body)))
   unfolding rowsOf
-  rows-more c h = ap (λ (cs : List Constrain). joined (each rowBytes (rowsIn (each constraintEntry cs)))) (constrains-more c h) ∙ rows-last (constrains p) c
+  rows-more c h =
+      ap (bytesOf constraintEntry (λ (e : ConstraintEntry). e .rows)) (constrains-more c h) ∙ rows-last constraintEntry (λ (e : ConstraintEntry). e .rows) (constrains p) c
 
   pub rows-same : constrained l ≡ none → rowsOf (p ++ (l ∷ [])) ≡ rowsOf p
   unfolding rowsOf
-  rows-same h = ap (λ (cs : List Constrain). joined (each rowBytes (rowsIn (each constraintEntry cs)))) (constrains-same h)
+  rows-same h = ap (bytesOf constraintEntry (λ (e : ConstraintEntry). e .rows)) (constrains-same h)
+
+  -- a validatetrans statement
+  pub relabels-more : (c : Relabel) → relabelled l ≡ some c → relabels (p ++ (l ∷ [])) ≡ relabels p ++ (c ∷ [])
+  unfolding relabels
+  relabels-more c h = gather-last relabelled p l c h
+
+  pub relabels-same : relabelled l ≡ none → relabels (p ++ (l ∷ [])) ≡ relabels p
+  unfolding relabels
+  relabels-same h = gather-over relabelled p l h
+
+  pub relabel-records-more : (c : Relabel) → relabelled l ≡ some c
+      → relabelsOf (p ++ (l ∷ [])) ≡ relabelsOf p ++ relabelBytes (relabelling.headWith (c .class) (size (c .body)))
+  unfolding relabelsOf
+  relabel-records-more c h = ap relabelRecords (relabels-more c h) ∙ relabel-last (relabels p) c
+
+  pub relabel-records-same : relabelled l ≡ none → relabelsOf (p ++ (l ∷ [])) ≡ relabelsOf p
+  unfolding relabelsOf
+  relabel-records-same h = ap relabelRecords (relabels-same h)
+
+  pub relabel-rows-more : (c : Relabel) → relabelled l ≡ some c → relabelRowsOf (p ++ (l ∷ [])) ≡ relabelRowsOf p ++ joined (each rowBytes (rows.rowsOf (c .body)))
+  unfolding relabelRowsOf
+  relabel-rows-more c h =
+      ap (bytesOf relabelEntry (λ (e : RelabelEntry). e .rows)) (relabels-more c h) ∙ rows-last relabelEntry (λ (e : RelabelEntry). e .rows) (relabels p) c
+
+  pub relabel-rows-same : relabelled l ≡ none → relabelRowsOf (p ++ (l ∷ [])) ≡ relabelRowsOf p
+  unfolding relabelRowsOf
+  relabel-rows-same h = ap (bytesOf relabelEntry (λ (e : RelabelEntry). e .rows)) (relabels-same h)

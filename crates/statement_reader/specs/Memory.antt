@@ -1,4 +1,5 @@
--- What the memory that is lent to the parser holds of the statements as read: the symbols, the statement code, the constraints and their rows.
+-- What the memory that is lent to the parser holds of the statements as read: the symbols, the statement code, the constraints, the validatetrans
+-- statements and the rows of both.
 -- Assumes nothing.
 use Prim.Native.Nat.{ℕ, _+_, _*_, _≤_}
 use mathlib.Core.Path.{_≡_}
@@ -6,15 +7,15 @@ use mathlib.Core.List.{List, _++_}
 use lib.ListN.{length, take, drop}
 use Rattle.bitset.specs.Relations.{joined}
 use Rattle.policy.specs.Basics.{Name, each}
-use Rattle.policy.specs.Statements.{Policy, declarations, transitions, constrains}
+use Rattle.policy.specs.Statements.{Policy, declarations, transitions, constrains, constrainBody, relabels, relabelBody}
 use Rattle.policy.specs.Reading.{rowCount}
 use Rattle.policy.specs.Accepted.{Accepted, GoodPath}
-use Rattle.policy.specs.Image.{ConstraintEntry, constraintEntry}
-use Rattle.policy.specs.Encode.{entries, headBytes, headsFrom, rowBytes}
+use Rattle.policy.specs.Image.{ConstraintEntry, constraintEntry, RelabelEntry, relabelEntry}
+use Rattle.policy.specs.Encode.{entries, headBytes, headsFrom, rowBytes, relabelHead, relabelBytes}
 use Rattle.statement_code.specs.Code.{codeOf}
 use Rattle.name_chains.specs.Chains.{Chained}
 use Rattle.scopes.specs.Scope.{InScope}
-use Rattle.declarations.specs.Declaring.{sectionOf}
+use Rattle.declarations.specs.Declares.{sectionOf}
 use Rattle.statement_reader.specs.declared.Progress.{Progress}
 use Rattle.symbols.specs.Section.{nameBytes}
 
@@ -40,6 +41,21 @@ constraintsOf p = joined (each headBytes (headsFrom 0 (each constraintEntry (con
 unfoldable pub rowsOf : Policy → List ℕ
 rowsOf p = joined (each rowBytes (joined (each (λ (c : ConstraintEntry). c .rows) (each constraintEntry (constrains p)))))
 
+-- body 9: "class and row count, 2 bytes each"
+unfoldable pub relabelsOf : Policy → List ℕ
+relabelsOf p = joined (each relabelBytes (each relabelHead (each relabelEntry (relabels p))))
+
+-- body 10: "the rows"
+unfoldable pub relabelRowsOf : Policy → List ℕ
+relabelRowsOf p = joined (each rowBytes (joined (each (λ (c : RelabelEntry). c .rows) (each relabelEntry (relabels p)))))
+
+-- the bytes of all records and of all rows that constrains may have: those of validatetrans statements come after room for them
+abbrev pub constraintRoom : ℕ
+constraintRoom = 1280
+
+abbrev pub rowRoom : ℕ
+rowRoom = 12288
+
 -- memory with some content in front, which ends at a place, and as it was lent after it
 pub record Starts (lent content now : List ℕ) (end : ℕ) : Type 0 where
   pub is : now ≡ content ++ drop (length content) lent
@@ -55,8 +71,12 @@ pub record Holds (p : Policy) (path : List Name) (lent now : Memory) (s : Progre
   pub chained : Chained (now .symbols) (s .symbols) (entries (declarations p))
   pub scope : InScope (now .symbols) path
   pub code : Starts (lent .code) (codeOf p) (now .code) (s .code)
-  pub constraints : Starts (lent .constraints) (constraintsOf p) (now .constraints) (10 * s .constraints)
-  pub rows : Starts (lent .rows) (rowsOf p) (now .rows) (6 * s .rows)
+  pub constraints : Starts (take constraintRoom (lent .constraints)) (constraintsOf p) (take constraintRoom (now .constraints)) (10 * s .constraints)
+  pub rows : Starts (take rowRoom (lent .rows)) (rowsOf p) (take rowRoom (now .rows)) (6 * s .rows)
+  pub relabel-records : Starts (drop constraintRoom (lent .constraints)) (relabelsOf p) (drop constraintRoom (now .constraints)) (4 * s .relabels)
+  pub relabel-rows : Starts (drop rowRoom (lent .rows)) (relabelRowsOf p) (drop rowRoom (now .rows)) (6 * s .«relabel_rows»)
   pub transition-count : s .transitions ≡ length (transitions p)
   pub constraint-count : s .constraints ≡ length (constrains p)
-  pub row-count : s .rows ≡ rowCount (constrains p)
+  pub row-count : s .rows ≡ rowCount constrainBody (constrains p)
+  pub relabel-count : s .relabels ≡ length (relabels p)
+  pub relabel-row-count : s .«relabel_rows» ≡ rowCount relabelBody (relabels p)

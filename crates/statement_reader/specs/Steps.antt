@@ -1,18 +1,18 @@
 -- What one statement adds to the lent memory, or its fault. The functions for the kinds of statements promise it. Assumes nothing.
 use Prim.Native.Nat.{ℕ, _+_, _-_, _*_, _≤_}
 use mathlib.Core.Path.{_≡_}
-use mathlib.Core.Bool.{true, cond}
+use mathlib.Core.Bool.{Bool, true, cond}
 use mathlib.Core.List.{List, [], _∷_, _++_}
 use mathlib.Core.Option.{Option, some}
 use lib.Dec.{ltb}
-use lib.ListN.{length, take}
+use lib.ListN.{length, take, drop}
 use Rattle.lexer.specs.Forms.{Forms, framesAt, trim, namesGood}
 use Rattle.policy.specs.Basics.{Name}
 use Rattle.lexer.specs.Scan.{maxLevel}
 use Rattle.policy.specs.Words as words
 use Rattle.policy.specs.Words.{setK, relationK, transitionK}
-use Rattle.policy.specs.Statements.{Written, Statement, Policy, declarations, transitions, constrains}
-use Rattle.policy.specs.Maxima.{maxTransitions, maxConstraints}
+use Rattle.policy.specs.Statements.{Written, Statement, Policy, declarations, transitions, constrains, constrainBody, relabels, relabelBody}
+use Rattle.policy.specs.Maxima.{maxTransitions, maxConstraints, maxRelabels}
 use Rattle.policy.specs.Grammar.{formed, written}
 use Rattle.policy.specs.Reading.{Judged, reads, opens, fault, judgeStatement, rowCount}
 use Rattle.policy.specs.Answers.{familyOf, relationOf}
@@ -23,7 +23,7 @@ use Rattle.statement_code.specs.Code.{statementCode, codeOf}
 use Rattle.declarations.specs.declared.Declared.{Declared}
 use Rattle.statement_writer.specs.declared.CodeWritten.{CodeWritten}
 use Rattle.constrain_statement.specs.declared.Constrained.{Constrained}
-use Rattle.statement_reader.specs.Memory.{Memory, symbolsOf, constraintsOf, rowsOf, Starts, Holds}
+use Rattle.statement_reader.specs.Memory.{Memory, symbolsOf, constraintsOf, rowsOf, relabelsOf, relabelRowsOf, constraintRoom, rowRoom, Starts, Holds}
 use Rattle.statement_reader.specs.declared.Progress.{Progress}
 use Rattle.statement_reader.specs.declared.Step.{Step}
 use Rattle.statement_reader.specs.declared.CodedStatement.{CodedStatement}
@@ -41,11 +41,15 @@ pub record Filled (p : Policy) (path : List Name) (lent now : Memory) (s : Progr
   pub chained : Chained (now .symbols) (s .symbols) (entries (declarations p))
   pub scope : InScope (now .symbols) path
   pub code : Starts (lent .code) (codeOf p) (now .code) (s .code)
-  pub constraints : Starts (lent .constraints) (constraintsOf p) (now .constraints) (10 * s .constraints)
-  pub rows : Starts (lent .rows) (rowsOf p) (now .rows) (6 * s .rows)
+  pub constraints : Starts (take constraintRoom (lent .constraints)) (constraintsOf p) (take constraintRoom (now .constraints)) (10 * s .constraints)
+  pub rows : Starts (take rowRoom (lent .rows)) (rowsOf p) (take rowRoom (now .rows)) (6 * s .rows)
+  pub relabel-records : Starts (drop constraintRoom (lent .constraints)) (relabelsOf p) (drop constraintRoom (now .constraints)) (4 * s .relabels)
+  pub relabel-rows : Starts (drop rowRoom (lent .rows)) (relabelRowsOf p) (drop rowRoom (now .rows)) (6 * s .«relabel_rows»)
   pub transition-count : s .transitions ≡ length (transitions p)
   pub constraint-count : s .constraints ≡ length (constrains p)
-  pub row-count : s .rows ≡ rowCount (constrains p)
+  pub row-count : s .rows ≡ rowCount constrainBody (constrains p)
+  pub relabel-count : s .relabels ≡ length (relabels p)
+  pub relabel-row-count : s .«relabel_rows» ≡ rowCount relabelBody (relabels p)
 
 -- one statement after those of p, in the blocks of a path: it is read, and the memory holds it too; or its fault is answered. A block is no statement
 abbrev pub Stepped : Judged → Policy → List Name → ℕ → Memory → Memory → Step → Type 0
@@ -64,8 +68,8 @@ pub record RowIs (row : Forms) (o : Option Written) (w : Written) : Type 0 where
 -- there is room for the code of w, if it has no fault, and for all constraints and rows that the maxima allow
 pub record Room (lent : Memory) (p : Policy) (path : List Name) (place : ℕ) (w : Written) : Type 0 where
   pub code : (s : Statement) → judgeStatement path p (some w) ≡ reads s → length (codeOf p) + length (statementCode place s) ≤ length (lent .code)
-  pub constraints : 1280 ≤ length (lent .constraints)
-  pub rows : 12288 ≤ length (lent .rows)
+  pub constraints : 1536 ≤ length (lent .constraints)
+  pub rows : 18432 ≤ length (lent .rows)
 
 -- the statement after the keyword k at a place of the text
 pub record Steps (t : List ℕ) (at place : ℕ) (k : words.Keyword) (before after : Memory) (s : Progress) (r : Step) : Type 0 where
@@ -79,7 +83,15 @@ pub record StepsAt (t : List ℕ) (at place : ℕ) (before after : Memory) (s : 
 
 -- the step of a declaration without code: fault 4 before 6
 abbrev pub withSymbols : Progress → ℕ → Progress
-withSymbols s past = record { symbols = past; code = s .code; transitions = s .transitions; constraints = s .constraints; rows = s .rows }
+withSymbols s past = record {
+  symbols = past;
+  code = s .code;
+  transitions = s .transitions;
+  constraints = s .constraints;
+  rows = s .rows;
+  relabels = s .relabels;
+  «relabel_rows» = s .«relabel_rows»;
+}
 
 abbrev pub declaredStep : Declared → Progress → Step
 declaredStep (Declared.Next past) s = Step.Read (withSymbols s past)
@@ -88,7 +100,15 @@ declaredStep Declared.MaximumPassed s = Step.Fault 6
 
 -- the step of a statement with code: fault 5 before 6, "transitions 128"
 abbrev pub withCode : Progress → ℕ → ℕ → Progress
-withCode s to n = record { symbols = s .symbols; code = to; transitions = n; constraints = s .constraints; rows = s .rows }
+withCode s to n = record {
+  symbols = s .symbols;
+  code = to;
+  transitions = n;
+  constraints = s .constraints;
+  rows = s .rows;
+  relabels = s .relabels;
+  «relabel_rows» = s .«relabel_rows»;
+}
 
 abbrev pub codedNext : CodedStatement → ℕ → Progress → Step
 codedNext (CodedStatement.Set f) to s = Step.Read (withCode s to (s .transitions))
@@ -99,16 +119,43 @@ abbrev pub codedStep : CodedStatement → CodeWritten → Progress → Step
 codedStep k (CodeWritten.Next to) s = codedNext k to s
 codedStep k CodeWritten.Undeclared s = Step.Fault 5
 
--- the step of a constraint: faults 5, 6, 7 in this order
+-- the step of a statement with rows, by whether there may be one more and the progress past its rows: faults 5, 6, 7 in this order
+abbrev pub rowsStep : Bool → (ℕ → Progress) → Constrained → Step
+rowsStep room past (Constrained.Next next) = cond room (Step.Read (past next)) (Step.Fault 6)
+rowsStep room past Constrained.Undeclared = Step.Fault 5
+rowsStep room past Constrained.MaximumPassed = Step.Fault 6
+rowsStep room past Constrained.StackTooSmall = Step.Fault 7
+
+-- "constraints 128"
 abbrev pub withRows : Progress → ℕ → Progress
-withRows s next = record { symbols = s .symbols; code = s .code; transitions = s .transitions; constraints = s .constraints + 1; rows = next }
+withRows s next = record {
+  symbols = s .symbols;
+  code = s .code;
+  transitions = s .transitions;
+  constraints = s .constraints + 1;
+  rows = next;
+  relabels = s .relabels;
+  «relabel_rows» = s .«relabel_rows»;
+}
 
 abbrev pub constrainedStep : Constrained → Progress → Step
-constrainedStep (Constrained.Next next) s = cond (ltb (s .constraints) maxConstraints) (Step.Read (withRows s next)) (Step.Fault 6)
-constrainedStep Constrained.Undeclared s = Step.Fault 5
-constrainedStep Constrained.MaximumPassed s = Step.Fault 6
-constrainedStep Constrained.StackTooSmall s = Step.Fault 7
+constrainedStep r s = rowsStep (ltb (s .constraints) maxConstraints) (withRows s) r
+
+-- W-205: "At most 64 such statements .. 6 and 7 as for constrain"
+abbrev pub withRelabel : Progress → ℕ → Progress
+withRelabel s next = record {
+  symbols = s .symbols;
+  code = s .code;
+  transitions = s .transitions;
+  constraints = s .constraints;
+  rows = s .rows;
+  relabels = s .relabels + 1;
+  «relabel_rows» = next;
+}
+
+abbrev pub relabelledStep : Constrained → Progress → Step
+relabelledStep r s = rowsStep (ltb (s .relabels) maxRelabels) (withRelabel s) r
 
 -- the progress before the first statement
 abbrev pub nothingRead : Progress
-nothingRead = record { symbols = 0; code = 0; transitions = 0; constraints = 0; rows = 0 }
+nothingRead = record { symbols = 0; code = 0; transitions = 0; constraints = 0; rows = 0; relabels = 0; «relabel_rows» = 0 }

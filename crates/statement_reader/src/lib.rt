@@ -11,32 +11,43 @@ use lexer::Text;
 use policy::Constraint;
 use policy::Family;
 use policy::Refusal;
+use policy::Relabel;
 use policy::Relation;
 use policy::Sort;
 use policy::Transition;
+use relabel_statement::RELABEL_ROWS_BYTES;
+use relabel_statement::RELABELS_BYTES;
 use statement_writer::CodeWritten;
 ghost use mathlib.Core.Path.{_≡_};
 ghost use mathlib.Core.List.{List};
-ghost use Prim.Native.Nat.{ℕ, _+_};
-ghost use Rattle.policy.specs.Words.{declareK, classK, constrainK};
+ghost use Prim.Native.Nat.{ℕ, _+_, _≤_};
+ghost use lib.ListN.{length};
+ghost use Rattle.policy.specs.Words.{declareK, classK, constrainK, relabelK};
 ghost use Rattle.policy.specs.Statements.{thingOf, attributeOf};
 ghost use Rattle.policy.specs.Encode.{sortCode};
 ghost use Rattle.policy.specs.Answers.{familyOf};
 ghost use Rattle.items.specs.Looks.{itemAt};
-ghost use Rattle.statement_writer.specs.Coding.{WritesStatement};
-ghost use Rattle.statement_reader.specs.Memory.{memory};
-ghost use Rattle.statement_reader.specs.Steps.{codedKeyword, Steps, StepsAt, declaredStep, withCode, codedStep, constrainedStep};
+ghost use Rattle.statement_writer.specs.ResolvedUnits.{WritesStatement};
+ghost use Rattle.statement_reader.specs.Memory.{memory, constraintRoom, rowRoom};
+ghost use Rattle.statement_reader.specs.Steps.{codedKeyword, Steps, StepsAt, declaredStep, withCode, codedStep, constrainedStep, relabelledStep};
 
 // Room for the code: no statement has more units than bytes of the text.
 pub const CODE_UNITS: usize = Text::MAX + 1;
 
-// How far the lent memory is filled, and how many transitions and constraints there are.
+// Room for the records of constrains, and after it for those of validatetrans statements; and for their rows likewise.
+pub const RECORD_BYTES: usize = CONSTRAINTS_BYTES + RELABELS_BYTES;
+
+pub const ROW_BYTES: usize = ROWS_BYTES + RELABEL_ROWS_BYTES;
+
+// How far the lent memory is filled, and how many transitions, constraints and validatetrans statements there are.
 pub struct Progress {
     pub symbols: usize,
     pub code: usize,
     pub transitions: usize,
     pub constraints: usize,
     pub rows: usize,
+    pub relabels: usize,
+    pub relabel_rows: usize,
 }
 
 // One statement is read, or the number of its fault.
@@ -85,6 +96,8 @@ fn declared_step(declared: Declared, progress: Progress) -> Step
             transitions: progress.transitions,
             constraints: progress.constraints,
             rows: progress.rows,
+            relabels: progress.relabels,
+            relabel_rows: progress.relabel_rows,
         }),
         Declared::DeclaredAgain => Step::Fault(Refusal::DECLARED_AGAIN),
         Declared::MaximumPassed => Step::Fault(Refusal::MAXIMUM_PASSED),
@@ -179,6 +192,8 @@ fn past_code(progress: Progress, to: usize, transitions: usize) -> Progress
         transitions,
         constraints: progress.constraints,
         rows: progress.rows,
+        relabels: progress.relabels,
+        relabel_rows: progress.relabel_rows,
     }
 }
 
@@ -236,6 +251,8 @@ fn constrained_step(written: Constrained, progress: Progress) -> Step
                 transitions: progress.transitions,
                 constraints: count + 1,
                 rows: row,
+                relabels: progress.relabels,
+                relabel_rows: progress.relabel_rows,
             })
         }
         Constrained::Undeclared => Step::Fault(Refusal::NAME_UNDECLARED),
@@ -244,29 +261,87 @@ fn constrained_step(written: Constrained, progress: Progress) -> Step
     }
 }
 
-// `(constrain (C (P ...)) E)`
+// `(constrain (C (P ...)) E)`, whose record and rows go into the first part of each memory: no other statement writes
+// there.
 fn constrain(
     text: &[u8],
     at: usize,
     symbols: &[u8; SYMBOL_BYTES],
-    constraints: &mut [u8; CONSTRAINTS_BYTES],
-    rows: &mut [u8; ROWS_BYTES],
+    constraints: &mut [u8],
+    rows: &mut [u8],
     progress: Progress,
 ) -> Step
+    requires { ⌜ (constraintRoom ≤ length (now constraints)) × (rowRoom ≤ length (now rows)) ⌝ }
     ensures { λ r. ⌜ ((place : ℕ) (co : List ℕ) → Steps (now (text .entry)) at place constrainK
         (memory (now (symbols .entry)) co (now (constraints .entry)) (now (rows .entry)))
         (memory (now (symbols .entry)) co (now (constraints .exit)) (now (rows .exit))) progress r) ⌝ }
 {
+    let records_end = CONSTRAINTS_BYTES;
+    let rows_end = ROWS_BYTES;
     let written = constrain_statement::write_constrain(
         text,
         at,
         symbols,
-        constraints,
+        &mut constraints[..records_end],
         progress.constraints,
-        rows,
+        &mut rows[..rows_end],
         progress.rows,
     );
     constrained_step(written, progress)
+}
+
+// A validatetrans statement whose record and rows are written, or its fault.
+fn relabelled_step(written: Constrained, progress: Progress) -> Step
+    ensures { λ r. ⌜ r ≡ relabelledStep written progress ⌝ }
+{
+    let count = progress.relabels;
+    match written {
+        Constrained::Next(row) => {
+            if Relabel::MAX <= count {
+                return Step::Fault(Refusal::MAXIMUM_PASSED);
+            }
+            Step::Read(Progress {
+                symbols: progress.symbols,
+                code: progress.code,
+                transitions: progress.transitions,
+                constraints: progress.constraints,
+                rows: progress.rows,
+                relabels: count + 1,
+                relabel_rows: row,
+            })
+        }
+        Constrained::Undeclared => Step::Fault(Refusal::NAME_UNDECLARED),
+        Constrained::MaximumPassed => Step::Fault(Refusal::MAXIMUM_PASSED),
+        Constrained::StackTooSmall => Step::Fault(Refusal::STACK_TOO_SMALL),
+    }
+}
+
+// `(validatetrans C E)`, whose record and rows go into the rest of each memory.
+fn validatetrans(
+    text: &[u8],
+    at: usize,
+    symbols: &[u8; SYMBOL_BYTES],
+    constraints: &mut [u8],
+    rows: &mut [u8],
+    progress: Progress,
+) -> Step
+    requires { ⌜ (constraintRoom ≤ length (now constraints)) × (rowRoom ≤ length (now rows)) ⌝ }
+    ensures { λ r. ⌜ ((place : ℕ) (co : List ℕ) → Steps (now (text .entry)) at place relabelK
+        (memory (now (symbols .entry)) co (now (constraints .entry)) (now (rows .entry)))
+        (memory (now (symbols .entry)) co (now (constraints .exit)) (now (rows .exit))) progress r) ⌝ }
+{
+    let records_start = CONSTRAINTS_BYTES;
+    let rows_start = ROWS_BYTES;
+    let written = relabel_statement::write_relabel(
+        text,
+        at,
+        symbols,
+        &mut constraints[records_start..],
+        progress.relabels,
+        &mut rows[rows_start..],
+        progress.relabel_rows,
+    );
+    relabelled_step(written, progress)
 }
 
 // A statement, by the first item that its parentheses hold. Its form is known to be good where this is called, so
@@ -277,8 +352,8 @@ pub fn statement(
     place: u16,
     symbols: &mut [u8; SYMBOL_BYTES],
     code: &mut [u16; CODE_UNITS],
-    constraints: &mut [u8; CONSTRAINTS_BYTES],
-    rows: &mut [u8; ROWS_BYTES],
+    constraints: &mut [u8; RECORD_BYTES],
+    rows: &mut [u8; ROW_BYTES],
     progress: Progress,
 ) -> Step
     ensures { λ r. ⌜ ((at : ℕ) → first ≡ itemAt (now (text .entry)) at → StepsAt (now (text .entry)) at place
@@ -315,6 +390,7 @@ pub fn statement(
             )
         }
         Keyword::Constrain => constrain(text, next, symbols, constraints, rows, progress),
+        Keyword::Relabel => validatetrans(text, next, symbols, constraints, rows, progress),
         Keyword::Unknown => Step::Fault(Refusal::NO_FORM),
     }
 }

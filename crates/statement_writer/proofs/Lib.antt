@@ -1,5 +1,5 @@
-pub mod Numbering
+pub mod NumberLaws
 pub mod RowNames
 pub mod WholeStatements
-pub mod Finishing
+pub mod StatementUnits
 pub mod SetStatements

@@ -11,10 +11,10 @@ use Rattle.policy.specs.Names.{Environment}
 use Rattle.items.specs.declared.Item.{Item}
 use Rattle.items.proofs.Frames.{FramesSeen, by-word}
 use Rattle.items.proofs.Items.{word-lent}
-use Rattle.statement_code.specs.Writing.{Stored}
+use Rattle.statement_code.specs.UnitWrites.{Stored}
 use Rattle.set_writer.specs.declared.NameUnit.{NameUnit}
-use Rattle.statement_code.proofs.Putting.{wrote-then, keeps-then, keeps-all}
-use Rattle.statement_writer.specs.Naming.{unitIn, referredBy, Names, firstUnit, behindFirst, namesUnits, behindNames, Past, Moves, AnswersNames, WritesNames}
+use Rattle.statement_code.proofs.UnitLaws.{wrote-then, keeps-then, keeps-all}
+use Rattle.statement_writer.specs.NameKinds.{unitIn, referredBy, Names, firstUnit, behindFirst, namesUnits, behindNames, Past, Moves, AnswersNames, WritesNames}
 use Rattle.statement_writer.specs.declared.Kind.{Kind}
 use Rattle.statement_writer.specs.declared.NamesWritten.{NamesWritten}
 

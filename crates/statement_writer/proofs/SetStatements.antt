@@ -21,16 +21,16 @@ use Rattle.items.proofs.Frames.{FramesSeen, by-part}
 use Rattle.set_writer.specs.Sets as sets
 use Rattle.set_writer.specs.Sets.{WritesSet}
 use Rattle.set_writer.specs.declared.SetWritten.{SetWritten}
-use Rattle.statement_code.proofs.Putting.{wrote-then, keeps-then}
-use Rattle.statement_writer.specs.Naming.{firstUnit, behindFirst, AnswersNames, WritesNames}
-use Rattle.statement_writer.specs.Coding.{Stores, Answers, WritesStatement}
+use Rattle.statement_code.proofs.UnitLaws.{wrote-then, keeps-then}
+use Rattle.statement_writer.specs.NameKinds.{firstUnit, behindFirst, AnswersNames, WritesNames}
+use Rattle.statement_writer.specs.ResolvedUnits.{Stores, Answers, WritesStatement}
 use Rattle.statement_writer.specs.declared.Kind.{Kind}
 use Rattle.statement_writer.specs.declared.NamesWritten.{NamesWritten}
 use Rattle.statement_writer.specs.declared.CodeWritten.{CodeWritten}
-use Rattle.statement_writer.proofs.Numbering.{same-number}
+use Rattle.statement_writer.proofs.NumberLaws.{same-number}
 use Rattle.statement_writer.proofs.RowNames.{alone, lacks}
 use Rattle.statement_writer.proofs.WholeStatements.{codeIn, headed, numberAndSet, set-row, set-whole}
-use Rattle.statement_writer.proofs.Finishing.{tagged, uncoded, coded}
+use Rattle.statement_writer.proofs.StatementUnits.{tagged, uncoded, coded}
 
 abbrev pub codedSet : SetWritten → CodeWritten
 codedSet (SetWritten.Next q u) = CodeWritten.Next u

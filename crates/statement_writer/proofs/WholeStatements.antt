@@ -15,7 +15,7 @@ use Rattle.policy.specs.Grammar.{rowOf, setIn, ofFour, formed}
 use Rattle.policy.specs.Names.{refer, Environment, numberIn}
 use Rattle.policy.specs.Reading.{referS, resolved}
 use Rattle.statement_code.specs.Code.{referenceUnit, setCode, setTag, relationTag, transitionTag, statementCode}
-use Rattle.statement_writer.specs.Naming.{unitIn, firstUnit, behindFirst, namesUnits}
+use Rattle.statement_writer.specs.NameKinds.{unitIn, firstUnit, behindFirst, namesUnits}
 use Rattle.statement_writer.specs.declared.Kind.{Kind}
 
 -- the code of a statement, where its names are declared

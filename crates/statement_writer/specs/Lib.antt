@@ -1,2 +1,2 @@
-pub mod Naming
-pub mod Coding
+pub mod NameKinds
+pub mod ResolvedUnits

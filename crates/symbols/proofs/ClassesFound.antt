@@ -10,9 +10,9 @@ use Rattle.policy.specs.Statements.{Sort, Declaration, plain, class, ofClass, c
 use Rattle.policy.specs.Encode.{nameEntry, permissionEntries, entriesFrom, entries}
 use Rattle.policy.proofs.Lists.{gather-over, gather-last}
 use Rattle.symbols.specs.Lookup.{firstNamed}
-use Rattle.symbols.specs.Resolving.{foundNumber, foundClass, foundPermission, isFound, FewPermissions}
+use Rattle.symbols.specs.SearchAnswers.{foundNumber, foundClass, foundPermission, isFound, FewPermissions}
 use Rattle.symbols.specs.declared.Found.{Found}
-use Rattle.symbols.proofs.Searching.{orFound, first-append, own-entry, found-index, found-in, permissions-other, permissions-own, skip-plain, after-class, skip-permissions}
+use Rattle.symbols.proofs.SearchLaws.{orFound, first-append, own-entry, found-index, found-in, permissions-other, permissions-own, skip-plain, after-class, skip-permissions}
 
 -- ---- how many classes are declared before
 

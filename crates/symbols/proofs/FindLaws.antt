@@ -16,7 +16,7 @@ use Rattle.symbols.specs.Section.{entriesRead, entriesAt, between, Entry
 use Rattle.symbols.specs.Lookup.{replyOf}
 use Rattle.symbols.specs.declared.Entry.{Entry}
 use Rattle.symbols.specs.declared.NamePlace.{NamePlace}
-use Rattle.symbols.proofs.LookLaws.{none-past, begins}
+use Rattle.symbols.proofs.EntryLaws.{none-past, begins}
 
 -- where no entry stands, none is left
 pub none-done : {t : List ℕ} {at end : ℕ} → EntryIs t at end Entry.Done → entriesAt t at end ≡ []

@@ -14,9 +14,9 @@ use Rattle.policy.specs.Statements.{familyNames, classNames, count}
 use Rattle.policy.specs.Encode.{nameEntry, sortCode, entriesFrom, entries}
 use Rattle.policy.specs.Names.{Named, firstFrom}
 use Rattle.symbols.specs.Lookup.{familyNumber, firstNamed}
-use Rattle.symbols.specs.Resolving.{familyCode, isFound, foundNamed}
+use Rattle.symbols.specs.SearchAnswers.{familyCode, isFound, foundNamed}
 use Rattle.symbols.specs.declared.Found.{Found}
-use Rattle.symbols.proofs.Searching.{first-cons, permissions-other, skip-permissions}
+use Rattle.symbols.proofs.SearchLaws.{first-cons, permissions-other, skip-permissions}
 
 -- ---- families
 

@@ -27,7 +27,7 @@ firstNamed f w (e ∷ es) = cond (isNamed f w e) (Found.At (e .sort) (e .number)
 
 -- "**Name of** a sort and number: the part of the lent table that holds the name", as policy's question answers it
 abbrev pub replyOf : NamePlace → Reply Part
-replyOf (NamePlace.At start length) = answered (record { start = start; long = length })
+replyOf (NamePlace.At start length) = answered (record { start = start; size = length })
 replyOf NamePlace.Nowhere = refused 12 0
 
 -- "Things are numbered from 0 in text order within their sort": how many entries have a sort

@@ -1,5 +1,5 @@
--- The rows of body 7 are dealt out to the constraints of body 6 as they were taken up, and only so. By induction on the constraints.
--- Assumes nothing.
+-- The rows of body 7 are dealt out to the constraints of body 6 as they were taken up, and only so; and those of body 10 to the
+-- validatetrans statements of body 9. By induction on the constraints and the statements. Assumes nothing.
 use Prim.Native.Nat.{ℕ, _+_}
 use mathlib.Core.Path.{_≡_, refl, sym, ap, _∙_, subst}
 use mathlib.Core.Bool.{_&&_}
@@ -12,9 +12,9 @@ use borrow.Author.Tests.{eq-eqb, le-leb, eqb-true, leb-true}
 use Rattle.bitset.specs.Relations.{joined}
 use Rattle.policy.specs.Basics.{more, each}
 use Rattle.policy.specs.Rows.{Row}
-use Rattle.policy.specs.Image.{ConstraintEntry}
-use Rattle.policy.specs.Encode.{ConstraintHead, headsFrom}
-use Rattle.policy.specs.Sound.{assignRows}
+use Rattle.policy.specs.Image.{ConstraintEntry, RelabelEntry}
+use Rattle.policy.specs.Encode.{ConstraintHead, headsFrom, RelabelHead, relabelHead}
+use Rattle.policy.specs.Sound.{assignRows, assignRelabels}
 use Rattle.policy.proofs.Lists.{both-true}
 use Rattle.policy.proofs.Options.{if-some}
 use Rattle.table_laws.proofs.ListLaws.{more-after}
@@ -54,3 +54,32 @@ assign-only r (h ∷ hs) rs cs e =
     put : (cs : List ConstraintEntry) → h .first ≡ r → length (take (h .rows) rs) ≡ h .rows → headsFrom (r + h .rows) cs ≡ hs
         → record { class = h .class; mask = h .mask; first = r; rows = length (take (h .rows) rs) } ∷ headsFrom (r + length (take (h .rows) rs)) cs ≡ h ∷ hs
     put cs f l e = λ i. record { class = h .class; mask = h .mask; first = sym f i; rows = l i } ∷ (ap (λ (n : ℕ). headsFrom (r + n) cs) l ∙ e) i
+
+abbrev rowsOf : List RelabelEntry → List Row
+rowsOf vs = joined (each (λ (v : RelabelEntry). v .rows) vs)
+
+pub relabels-back : (vs : List RelabelEntry) → assignRelabels (each relabelHead vs) (rowsOf vs) ≡ some vs
+unfolding assignRelabels joined each
+relabels-back [] = refl
+relabels-back (v ∷ vs) =
+    rw (
+      le-leb (length (v .rows)) (length (v .rows ++ rowsOf vs)) (fits (v .rows) (rowsOf vs)),
+      take-append-seam (v .rows) (rowsOf vs),
+      drop-append-seam (v .rows) (rowsOf vs),
+      relabels-back vs,
+    )
+
+pub relabels-only : (hs : List RelabelHead) (rs : List Row) (vs : List RelabelEntry) → assignRelabels hs rs ≡ some vs → (each relabelHead vs ≡ hs) × (rowsOf vs ≡ rs)
+unfolding assignRelabels joined each
+relabels-only [] [] vs e = subst (λ (vs : List RelabelEntry). (each relabelHead vs ≡ []) × (rowsOf vs ≡ [])) (Option·some-injective [] vs e) (refl, refl)
+relabels-only [] (x ∷ xs) vs e = absurd (Option·none-ne-some vs e)
+relabels-only (h ∷ hs) rs vs e =
+    let v : RelabelEntry = record { class = h .class; rows = take (h .rows) rs } in
+    let g = if-some (leb (h .rows) (length rs)) (more (some v) (assignRelabels hs (drop (h .rows) rs))) vs e in
+    let m = more-after v (assignRelabels hs (drop (h .rows) rs)) vs (g .1) in
+    let after = relabels-only hs (drop (h .rows) rs) (m .0) (m .1) in
+    let long = length-take-le (h .rows) rs (leb-true (h .rows) (length rs) (g .0)) in
+    subst (λ (vs : List RelabelEntry). (each relabelHead vs ≡ h ∷ hs) × (rowsOf vs ≡ rs)) (sym (m .2)) (
+      λ i. record { class = h .class; rows = long i } ∷ after .0 i,
+      ap (λ (xs : List Row). take (h .rows) rs ++ xs) (after .1) ∙ take-append-drop (h .rows) rs,
+    )

@@ -1,5 +1,5 @@
--- The question entry shows the entry of the image: a set, a transition, a constraint's head, a row. One law over runs of records, by
--- induction on the runs. Assumes nothing.
+-- The question entry shows the entry of the image: a set, a transition, the head of a constraint or of a validatetrans statement, a row. One
+-- law over runs of records, by induction on the runs. Assumes nothing.
 use Prim.Native.Nat.{ℕ, zero, suc, _+_, _-_, _*_, _/_, _<_}
 use native.Mathlib.Omega.{arith}
 use native.Mathlib.Nat.{suc-mul, zero-mul, zero-add, suc-add}
@@ -8,24 +8,25 @@ use mathlib.Core.Bool.{Bool, true, false, cond}
 use mathlib.Core.List.{List, [], _∷_, _++_, append-assoc, append-nil}
 use mathlib.Core.Option.{some}
 use lib.Dec.{ltb}
-use lib.ListN.{length, getD, getElem?, take, drop, length-append, take-append-drop}
-use lib.Seq.{take-at, drop-at, drop-drop, drop-cons}
+use lib.ListN.{length, getD, getElem?, take, drop}
+use lib.Seq.{take-at, drop-at, drop-drop}
 use borrow.Author.Tests.{ltb-true, ltb-false}
 use Rattle.bitset.specs.Relations.{joined}
-use Rattle.policy.specs.Basics.{each, le}
+use Rattle.policy.specs.Basics.{each}
+use Rattle.policy.specs.Rows.{Row}
 use Rattle.policy.specs.Image.{Image}
-use Rattle.policy.specs.Encode.{transitionBytes, headBytes, headsFrom, rowBytes, bodies, pairs, layout, encode, firstBody}
+use Rattle.policy.specs.Encode.{transitionBytes, headBytes, headsFrom, rowBytes, relabelHead, relabelBytes, bodies, sectionsOf, firstBody, encode}
 use Rattle.policy.specs.Sound.{wellFormed}
 use Rattle.policy.specs.Deciding.{answered}
 use Rattle.policy.specs.Questions.{Records, recordsOf, recordFrom, entryOf}
-use Rattle.policy.proofs.Lists.{joined-append, each-length}
-use Rattle.table_laws.specs.SoundTable.{allRows}
+use Rattle.policy.proofs.Lists.{each-length}
+use Rattle.table_laws.specs.SoundTable.{FitsEdition, allRows, relabelRows}
 use Rattle.table_laws.specs.Shown.{shown, orTwelve, recordsIn}
-use Rattle.table_laws.proofs.LayoutLaws.{pairs-length}
+use Rattle.table_laws.proofs.LayoutLaws.{table-at}
 use Rattle.table_laws.proofs.Pieces.{Wide, wide-length}
-use Rattle.table_laws.proofs.Records.{head-wide, row-wide}
+use Rattle.table_laws.proofs.Records.{head-wide, relabel-wide, row-wide}
 use Rattle.table_laws.proofs.ImageReadBack.{every-wide, transitions-wide}
-use Rattle.table_laws.proofs.Lengths.{heads-length}
+use Rattle.table_laws.proofs.Lengths.{heads-length, rows-length}
 use Rattle.table_laws.proofs.WellFormedLaid.{widths}
 
 -- part k of parts of one width
@@ -77,7 +78,7 @@ record-shown (r ∷ rs) (g ∷ gs) h k o t rest e =
 
     by : (b : Bool) → ltb k (r .number) ≡ b
         → ((j : ℕ) → drop (o + r .number * r .width) t ≡ joined (each joined gs) ++ rest → shown t (recordFrom j (o + r .number * r .width) rs) ≡ orTwelve (getElem? (joined gs) j))
-        → shown t (cond b (answered (record { start = o + k * r .width; long = r .width })) (recordFrom (k - r .number) (o + r .number * r .width) rs)) ≡
+        → shown t (cond b (answered (record { start = o + k * r .width; size = r .width })) (recordFrom (k - r .number) (o + r .number * r .width) rs)) ≡
         orTwelve (getElem? (g ++ joined gs) k)
     by true q after =
         let l = ltb-true k (r .number) q in
@@ -92,42 +93,29 @@ record-shown (r ∷ rs) (g ∷ gs) h k o t rest e =
         let whole : k ≡ length g + (k - r .number) = omega (arith, h .0) in
         after (k - r .number) behind ∙ ap orTwelve (sym (in-right g (joined gs) (k - r .number)) ∙ ap (getElem? (g ++ joined gs)) (sym whole))
 
--- body k is after the 68 bytes and the bodies before it
-pub layout-at : (bs : List (List ℕ)) (rest : List ℕ) (k : ℕ) → length bs ≡ 8 → k < 8
-    → drop (firstBody + length (joined (take k bs))) (layout bs ++ rest) ≡ getD bs k [] ++ (joined (drop (suc k) bs) ++ rest)
-unfolding joined le
-layout-at bs rest k h l =
-    ap (drop (firstBody + length (joined (take k bs)))) whole
-    ∙ drop-at (front ++ joined (take k bs)) (getD bs k [] ++ (joined (drop (suc k) bs) ++ rest)) (firstBody + length (joined (take k bs))) long
-  where
-    front : List ℕ
-    front = le 2 1 ++ (le 2 8 ++ pairs firstBody bs)
-
-    long : length (front ++ joined (take k bs)) ≡ firstBody + length (joined (take k bs))
-    long = omega (arith, h, length-append (pairs firstBody bs) (joined (take k bs)), pairs-length bs firstBody)
-
-    cut : joined bs ≡ joined (take k bs) ++ (getD bs k [] ++ joined (drop (suc k) bs))
-    cut = ap joined (sym (take-append-drop k bs)) ∙ joined-append (take k bs) (drop k bs)
-        ∙ ap (λ (r : List (List ℕ)). joined (take k bs) ++ joined r) (drop-cons bs k [] (omega (arith, h)))
-
-    whole : layout bs ++ rest ≡ (front ++ joined (take k bs)) ++ (getD bs k [] ++ (joined (drop (suc k) bs) ++ rest))
-    whole = ap (λ (r : List ℕ). (le 2 1 ++ (le 2 8 ++ (pairs firstBody bs ++ r))) ++ rest) cut ∙ simp append-assoc
-
-module _ (i : Image) (h : wellFormed i ≡ true) (rest : List ℕ) where
+module _ (e : ℕ) (i : Image) (known : 0 < sectionsOf e) (fits : FitsEdition e i) (h : wellFormed i ≡ true) (rest : List ℕ) where
   -- a body that is the groups' records, one after the other
-  body-shown : (b : ℕ) → b < 8 → (rs : List Records) (gs : List (List (List ℕ))) → Runs rs gs → getD (bodies i) b [] ≡ joined (each joined gs) → (k : ℕ)
-      → shown (encode i ++ rest) (recordFrom k (firstBody + length (joined (take b (bodies i)))) rs) ≡ orTwelve (getElem? (joined gs) k)
-  unfolding encode bodies
-  body-shown b l rs gs r e k =
-      record-shown rs gs r k (firstBody + length (joined (take b (bodies i)))) (encode i ++ rest) (joined (drop (suc b) (bodies i)) ++ rest)
-      (layout-at (bodies i) rest b refl l ∙ ap (λ (x : List ℕ). x ++ (joined (drop (suc b) (bodies i)) ++ rest)) e)
+  body-shown : (b : ℕ) (rs : List Records) (gs : List (List (List ℕ))) → Runs rs gs → getD (bodies i) b [] ≡ joined (each joined gs) → (k : ℕ)
+      → shown (encode e i ++ rest) (recordFrom k (firstBody e + length (joined (take b (bodies i)))) rs) ≡ orTwelve (getElem? (joined gs) k)
+  body-shown b rs gs r same k =
+      record-shown rs gs r k (firstBody e + length (joined (take b (bodies i)))) (encode e i ++ rest) (joined (drop (suc b) (bodies i)) ++ rest)
+      (table-at e i known fits rest b ∙ ap (λ (x : List ℕ). x ++ (joined (drop (suc b) (bodies i)) ++ rest)) same)
 
   -- a body of one run
-  one-run : (b : ℕ) → b < 8 → (n w : ℕ) (g : List (List ℕ)) → n ≡ length g → Wide w g → getD (bodies i) b [] ≡ joined g → (k : ℕ)
-      → shown (encode i ++ rest) (recordFrom k (firstBody + length (joined (take b (bodies i)))) (recordsOf n w ∷ [])) ≡ orTwelve (getElem? g k)
+  one-run : (b n w : ℕ) (g : List (List ℕ)) → n ≡ length g → Wide w g → getD (bodies i) b [] ≡ joined g → (k : ℕ)
+      → shown (encode e i ++ rest) (recordFrom k (firstBody e + length (joined (take b (bodies i)))) (recordsOf n w ∷ [])) ≡ orTwelve (getElem? g k)
   unfolding joined each
-  one-run b l n w g m wide e k =
-      body-shown b l (recordsOf n w ∷ []) (g ∷ []) (m, wide, tt) (e ∙ sym (append-nil (joined g))) k ∙ ap (λ (r : List (List ℕ)). orTwelve (getElem? r k)) (append-nil g)
+  one-run b n w g m wide same k =
+      body-shown b (recordsOf n w ∷ []) (g ∷ []) (m, wide, tt) (same ∙ sym (append-nil (joined g))) k ∙ ap (λ (r : List (List ℕ)). orTwelve (getElem? r k)) (append-nil g)
+
+  -- a body of rows
+  rows-run : (b : ℕ) (rs : List Row) → getD (bodies i) b [] ≡ joined (each rowBytes rs) → (k : ℕ)
+      → shown (encode e i ++ rest) (recordFrom k (firstBody e + length (joined (take b (bodies i)))) (recordsOf (length (getD (bodies i) b []) / 6) 6 ∷ []))
+      ≡ orTwelve (getElem? (each rowBytes rs) k)
+  rows-run b rs same k = one-run b (length (getD (bodies i) b []) / 6) 6 (each rowBytes rs) many (every-wide 6 rowBytes row-wide rs) same k
+    where
+      many : length (getD (bodies i) b []) / 6 ≡ length (each rowBytes rs)
+      many = omega (arith, ap length same, rows-length rs, each-length rowBytes rs)
 
   last-body : joined (i .userSets) ++ (joined (i .roleSets) ++ joined (i .typeSets)) ≡ joined (each joined (i .userSets ∷ i .roleSets ∷ i .typeSets ∷ []))
   unfolding joined each
@@ -137,29 +125,31 @@ module _ (i : Image) (h : wellFormed i ≡ true) (rest : List ℕ) where
   unfolding joined
   last-records = rw (append-nil (i .typeSets))
 
-  row-count : length (joined (each rowBytes (allRows i))) / 6 ≡ length (each rowBytes (allRows i))
-  row-count = let wide = wide-length 6 (each rowBytes (allRows i)) (every-wide 6 rowBytes row-wide (allRows i)) in omega arith
-
   -- THE ENTRY SHOWN IS THE IMAGE'S, whatever is after the table; and where there is none the answer is 12
-  pub entry-shown : (b k : ℕ) → shown (encode i ++ rest) (entryOf i b k) ≡ orTwelve (getElem? (recordsIn i b) k)
+  pub entry-shown : (b k : ℕ) → shown (encode e i ++ rest) (entryOf e i b k) ≡ orTwelve (getElem? (recordsIn i b) k)
   unfolding entryOf recordsIn recordFrom bodies
   entry-shown zero k = refl
   entry-shown (suc zero) k = refl
-  entry-shown (suc (suc zero)) k = one-run 1 (omega arith) (length (i .userRoles)) 16 (i .userRoles) refl (widths i h .userRoles) refl k
-  entry-shown (suc (suc (suc zero))) k = one-run 2 (omega arith) (length (i .roleTypes)) 64 (i .roleTypes) refl (widths i h .roleTypes) refl k
-  entry-shown (suc (suc (suc (suc zero)))) k = one-run 3 (omega arith) (length (i .roleRoles)) 16 (i .roleRoles) refl (widths i h .roleRoles) refl k
+  entry-shown (suc (suc zero)) k = one-run 1 (length (i .userRoles)) 16 (i .userRoles) refl (widths i h .userRoles) refl k
+  entry-shown (suc (suc (suc zero))) k = one-run 2 (length (i .roleTypes)) 64 (i .roleTypes) refl (widths i h .roleTypes) refl k
+  entry-shown (suc (suc (suc (suc zero)))) k = one-run 3 (length (i .roleRoles)) 16 (i .roleRoles) refl (widths i h .roleRoles) refl k
   entry-shown (suc (suc (suc (suc (suc zero))))) k =
-      one-run 4 (omega arith) (length (i .transitions)) 82 (each transitionBytes (i .transitions)) (sym (each-length transitionBytes (i .transitions)))
+      one-run 4 (length (i .transitions)) 82 (each transitionBytes (i .transitions)) (sym (each-length transitionBytes (i .transitions)))
       (transitions-wide (i .transitions) (widths i h .transitions)) refl k
   entry-shown (suc (suc (suc (suc (suc (suc zero)))))) k =
-      one-run 5 (omega arith) (length (i .constraints)) 10 (each headBytes (headsFrom 0 (i .constraints)))
+      one-run 5 (length (i .constraints)) 10 (each headBytes (headsFrom 0 (i .constraints)))
       (sym (each-length headBytes (headsFrom 0 (i .constraints)) ∙ heads-length 0 (i .constraints)))
       (every-wide 10 headBytes head-wide (headsFrom 0 (i .constraints))) refl k
   entry-shown (suc (suc (suc (suc (suc (suc (suc zero))))))) k =
-      one-run 6 (omega arith) (length (joined (each rowBytes (allRows i))) / 6) 6 (each rowBytes (allRows i)) row-count (every-wide 6 rowBytes row-wide (allRows i)) refl k
+      rows-run 6 (allRows i) refl k
   entry-shown (suc (suc (suc (suc (suc (suc (suc (suc zero)))))))) k =
-      body-shown 7 (omega arith) (recordsOf (length (i .userSets)) 16 ∷ recordsOf (length (i .roleSets)) 16 ∷ recordsOf (length (i .typeSets)) 64 ∷ [])
+      body-shown 7 (recordsOf (length (i .userSets)) 16 ∷ recordsOf (length (i .roleSets)) 16 ∷ recordsOf (length (i .typeSets)) 64 ∷ [])
       (i .userSets ∷ i .roleSets ∷ i .typeSets ∷ [])
       (refl, widths i h .userSets, (refl, widths i h .roleSets, (refl, widths i h .typeSets, tt))) last-body k
       ∙ ap (λ (r : List (List ℕ)). orTwelve (getElem? r k)) last-records
-  entry-shown (suc (suc (suc (suc (suc (suc (suc (suc (suc b))))))))) k = refl
+  entry-shown (suc (suc (suc (suc (suc (suc (suc (suc (suc zero))))))))) k =
+      one-run 8 (length (i .relabels)) 4 (each relabelBytes (each relabelHead (i .relabels)))
+      (sym (each-length relabelBytes (each relabelHead (i .relabels)) ∙ each-length relabelHead (i .relabels)))
+      (every-wide 4 relabelBytes relabel-wide (each relabelHead (i .relabels))) refl k
+  entry-shown (suc (suc (suc (suc (suc (suc (suc (suc (suc (suc zero)))))))))) k = rows-run 9 (relabelRows i) refl k
+  entry-shown (suc (suc (suc (suc (suc (suc (suc (suc (suc (suc (suc b))))))))))) k = refl

@@ -44,5 +44,5 @@ image-bytes p = record {
 }
 
 -- so the table of a policy whose image is well formed is bytes
-pub policy-bytes : (p : Policy) → wellFormed (imageOf p) ≡ true → Bytes (encode (imageOf p))
-policy-bytes p h = encode-bytes (imageOf p) h (image-bytes p)
+pub policy-bytes : (e : ℕ) (p : Policy) → wellFormed (imageOf p) ≡ true → Bytes (encode e (imageOf p))
+policy-bytes e p h = encode-bytes (imageOf p) h (image-bytes p) e

@@ -1,35 +1,38 @@
--- Only the table of an image has that image in it: bytes in which `imageIn` finds i are `encode i`, and then anything. Each body is the
--- one that is written by its own law. Assumes nothing.
-use Prim.Native.Nat.{ℕ, _*_, _/_, _<_}
+-- Only the table of an image has that image in it: bytes in which `imageIn` finds i are `encode e i` for their edition e, which i fits, and then
+-- anything. Each body is the one that is written by its own law. Assumes nothing.
+use Prim.Native.Nat.{ℕ, zero, suc, _*_, _/_, _<_, _≤_}
 use native.Mathlib.Omega.{arith}
 use mathlib.Core.Path.{_≡_, refl, sym, ap, ap₂, _∙_, subst}
 use mathlib.Core.Bool.{true}
 use mathlib.Core.List.{List, [], _∷_, _++_}
 use mathlib.Core.Option.{some, Option·some-injective}
-use lib.ListN.{length, getD, take, drop, take-append-drop, drop-of-length-le}
-use lib.Seq.{drop-cons}
+use lib.ListN.{length, getD, take, drop, take-append-drop, List·getD-eq-default}
+use lib.Seq.{ext-getD, getD-take, length-take-le}
 use Rattle.bitset.specs.Relations.{joined}
 use Rattle.policy.specs.Basics.{each, eachOf, le, All}
 use Rattle.policy.specs.Statements.{users, roles, types, thingOf, attributeOf, count}
 use Rattle.policy.specs.Rows.{Row}
 use Rattle.policy.specs.Image.{Image, TransitionEntry}
-use Rattle.policy.specs.Encode.{transitionBytes, ConstraintHead, headBytes, headsFrom, rowBytes, bodies, pairs, layout, encode, firstBody}
-use Rattle.policy.specs.Sound.{exactly, transitionAt, rowAt, headAt, assignRows, imageFrom, bodiesIn, namesAt, wellFormed, imageIn}
+use Rattle.policy.specs.Encode.{transitionBytes, ConstraintHead, headBytes, headsFrom, rowBytes, RelabelHead, relabelHead, relabelBytes, bodies}
+use Rattle.policy.specs.Encode.{pairs, sectionsOf, firstBody, layout, encode}
+use Rattle.policy.specs.Sound.{exactly, transitionAt, rowAt, headAt, assignRows, relabelAt, assignRelabels, imageFrom, editionIn, bodiesIn, namesAt, wellFormed, imageIn}
 use Rattle.policy.proofs.Lists.{all-left, all-right}
-use Rattle.table_laws.specs.SoundTable.{Bytes, allRows}
+use Rattle.table_laws.specs.SoundTable.{Bytes, FitsEdition, allRows, relabelRows}
 use Rattle.table_laws.proofs.ListLaws.{bound-then, all-joined, all-both, each-back}
 use Rattle.policy.proofs.Gathered.{all-getD}
 use Rattle.policy.proofs.Options.{given-some}
+use Rattle.table_laws.proofs.Editions.{edition-known}
 use Rattle.table_laws.proofs.LayoutOnly.{layout-only}
 use Rattle.table_laws.proofs.Pieces.{Wide, exactly-only}
-use Rattle.table_laws.proofs.Records.{transition-only, head-only, rows-only}
+use Rattle.table_laws.proofs.Records.{transition-only, head-only, relabel-only, rows-only}
 use Rattle.table_laws.proofs.NamesOnly.{names-only}
-use Rattle.table_laws.proofs.Constraints.{assign-only}
+use Rattle.table_laws.proofs.Constraints.{assign-only, relabels-only}
 
--- heads are those of their bytes
-heads-written : (ts : List (List ℕ)) → Wide 10 ts → All Bytes ts → each headBytes (each headAt ts) ≡ ts
-heads-written ts w b = each-back (λ (t : List ℕ). (length t ≡ 10) × Bytes t) headAt headBytes (λ t h. head-only t (h .0) (h .1)) ts
-    (all-both (λ (t : List ℕ). length t ≡ 10) Bytes ts w b)
+-- heads of w bytes are those of their bytes
+heads-written : {A : Type 0} (w : ℕ) (read : List ℕ → A) (write : A → List ℕ) → ((t : List ℕ) → length t ≡ w → Bytes t → write (read t) ≡ t)
+    → (ts : List (List ℕ)) → Wide w ts → All Bytes ts → each write (each read ts) ≡ ts
+heads-written w read write only ts wide b = each-back (λ (t : List ℕ). (length t ≡ w) × Bytes t) read write (λ t h. only t (h .0) (h .1)) ts
+    (all-both (λ (t : List ℕ). length t ≡ w) Bytes ts wide b)
 
 module _ (bs : List (List ℕ)) where
   abbrev body : ℕ → List ℕ
@@ -58,6 +61,13 @@ module _ (bs : List (List ℕ)) where
     typeSets :
         exactly (count (attributeOf types) (i .names)) 64 (drop (16 * count (attributeOf roles) (i .names)) (drop (16 * count (attributeOf users) (i .names)) (body 7)))
         ≡ some (i .typeSets)
+    vs : List (List ℕ)
+    statements : exactly (length (body 8) / 4) 4 (body 8) ≡ some vs
+    us : List (List ℕ)
+    relabel-lines : exactly (length (body 9) / 6) 6 (body 9) ≡ some us
+    ws : List Row
+    relabel-rows : eachOf rowAt us ≡ some ws
+    relabels : assignRelabels (each relabelAt vs) ws ≡ some (i .relabels)
 
   found : (i : Image) → imageFrom bs ≡ some i → Found i
   found i h =
@@ -75,6 +85,10 @@ module _ (bs : List (List ℕ)) where
       bound-then (exactly (count (attributeOf users) ds) 16 (take ua (body 7))) _ i h λ us userSets h.
       bound-then (exactly (count (attributeOf roles) ds) 16 (take ra (drop ua (body 7)))) _ i h λ ss roleSets h.
       bound-then (exactly (count (attributeOf types) ds) 64 (drop ra (drop ua (body 7)))) _ i h λ ys typeSets h.
+      bound-then (exactly (length (body 8) / 4) 4 (body 8)) _ i h λ vs statements h.
+      bound-then (exactly (length (body 9) / 6) 6 (body 9)) _ i h λ xs relabel-lines h.
+      bound-then (eachOf rowAt xs) _ i h λ ws relabel-rows h.
+      bound-then (assignRelabels (each relabelAt vs) ws) _ i h λ rel relabels h.
       subst Found (Option·some-injective _ i h)
       (record {
         names = names;
@@ -94,26 +108,23 @@ module _ (bs : List (List ℕ)) where
         userSets = userSets;
         roleSets = roleSets;
         typeSets = typeSets;
+        vs = vs;
+        statements = statements;
+        us = xs;
+        relabel-lines = relabel-lines;
+        ws = ws;
+        relabel-rows = relabel-rows;
+        relabels = relabels;
       })
 
-  -- eight bodies by their places
-  eight : length bs ≡ 8 → body 0 ∷ body 1 ∷ body 2 ∷ body 3 ∷ body 4 ∷ body 5 ∷ body 6 ∷ body 7 ∷ [] ≡ bs
-  eight h = rw (
-    ← drop-of-length-le bs {i = 8} (omega arith),
-    ← drop-cons bs 7 [] (omega arith),
-    ← drop-cons bs 6 [] (omega arith),
-    ← drop-cons bs 5 [] (omega arith),
-    ← drop-cons bs 4 [] (omega arith),
-    ← drop-cons bs 3 [] (omega arith),
-    ← drop-cons bs 2 [] (omega arith),
-    ← drop-cons bs 1 [] (omega arith),
-    ← drop-cons bs 0 [] (omega arith),
-  )
+  -- ten bodies by their places
+  abbrev places : List (List ℕ)
+  places = body 0 ∷ body 1 ∷ body 2 ∷ body 3 ∷ body 4 ∷ body 5 ∷ body 6 ∷ body 7 ∷ body 8 ∷ body 9 ∷ []
 
-  -- eight bodies in which an image is found are that image's
-  from-only : (i : Image) → length bs ≡ 8 → All Bytes bs → Found i → bodies i ≡ bs
+  -- the bodies of an image are those in which it is found, one that is not there being empty
+  from-only : (i : Image) → All Bytes bs → Found i → bodies i ≡ places
   unfolding bodies
-  from-only i long bytes f = (λ j.
+  from-only i bytes f = λ j.
       names-only (body 0) (i .names) (byte 0) (f .names) j
       ∷ exactly-only (count (thingOf users) (i .names)) 16 (body 1) (i .userRoles) (f .userRoles) .whole j
       ∷ exactly-only (count (thingOf roles) (i .names)) 64 (body 2) (i .roleTypes) (f .roleTypes) .whole j
@@ -121,9 +132,10 @@ module _ (bs : List (List ℕ)) where
       ∷ five j
       ∷ six j
       ∷ seven j
-      ∷ last j
-      ∷ [])
-      ∙ eight long
+      ∷ eight j
+      ∷ nine j
+      ∷ ten j
+      ∷ []
     where
       byte : (k : ℕ) → Bytes (body k)
       byte k = all-getD Bytes bs k [] bytes tt
@@ -141,16 +153,21 @@ module _ (bs : List (List ℕ)) where
       six =
           let p = exactly-only (length (body 5) / 10) 10 (body 5) (f .hs) (f .heads) in
           let b = all-joined (λ b. b < 256) (f .hs) (rw (p .whole) (byte 5)) in
-          ap (λ (hs : List ConstraintHead). joined (each headBytes hs)) (dealt .0) ∙ ap joined (heads-written (f .hs) (p .wide) b) ∙ p .whole
+          ap (λ (hs : List ConstraintHead). joined (each headBytes hs)) (dealt .0) ∙ ap joined (heads-written 10 headAt headBytes head-only (f .hs) (p .wide) b) ∙ p .whole
+
+      -- the rows that are read from a body
+      rows-of : (k : ℕ) (ts : List (List ℕ)) (rs rows : List Row) → exactly (length (body k) / 6) 6 (body k) ≡ some ts → eachOf rowAt ts ≡ some rs → rows ≡ rs
+          → joined (each rowBytes rows) ≡ body k
+      rows-of k ts rs rows lines read same =
+          let p = exactly-only (length (body k) / 6) 6 (body k) ts lines in
+          let b = all-joined (λ b. b < 256) ts (rw (p .whole) (byte k)) in
+          ap (λ (rs : List Row). joined (each rowBytes rs)) same ∙ ap joined (rows-only ts rs (p .wide) b read) ∙ p .whole
 
       seven : joined (each rowBytes (allRows i)) ≡ body 6
-      seven =
-          let p = exactly-only (length (body 6) / 6) 6 (body 6) (f .ts) (f .lines) in
-          let b = all-joined (λ b. b < 256) (f .ts) (rw (p .whole) (byte 6)) in
-          ap (λ (rs : List Row). joined (each rowBytes rs)) (dealt .1) ∙ ap joined (rows-only (f .ts) (f .rs) (p .wide) b (f .rows)) ∙ p .whole
+      seven = rows-of 6 (f .ts) (f .rs) (allRows i) (f .lines) (f .rows) (dealt .1)
 
-      last : joined (i .userSets) ++ (joined (i .roleSets) ++ joined (i .typeSets)) ≡ body 7
-      last =
+      eight : joined (i .userSets) ++ (joined (i .roleSets) ++ joined (i .typeSets)) ≡ body 7
+      eight =
           let ua = 16 * count (attributeOf users) (i .names) in
           let ra = 16 * count (attributeOf roles) (i .names) in
           ap₂ _++_ (exactly-only (count (attributeOf users) (i .names)) 16 (take ua (body 7)) (i .userSets) (f .userSets) .whole)
@@ -159,12 +176,48 @@ module _ (bs : List (List ℕ)) where
           ∙ take-append-drop ra (drop ua (body 7)))
           ∙ take-append-drop ua (body 7)
 
-  -- the bodies of a table of bytes are bytes
-  pub bodies-bytes : (rest : List ℕ) → Bytes (layout bs ++ rest) → All Bytes bs
-  bodies-bytes rest b =
-      let p : ℕ → Type 0 = λ n. n < 256 in
-      let after = pairs firstBody bs ++ joined bs in
-      all-joined p bs (all-right p (pairs firstBody bs) (joined bs) (all-right p (le 2 8) after (all-right p (le 2 1) (le 2 8 ++ after) (all-left p (layout bs) rest b))))
+      dealt-out : (each relabelHead (i .relabels) ≡ each relabelAt (f .vs)) × (relabelRows i ≡ f .ws)
+      dealt-out = relabels-only (each relabelAt (f .vs)) (f .ws) (i .relabels) (f .relabels)
+
+      nine : joined (each relabelBytes (each relabelHead (i .relabels))) ≡ body 8
+      nine =
+          let p = exactly-only (length (body 8) / 4) 4 (body 8) (f .vs) (f .statements) in
+          let b = all-joined (λ b. b < 256) (f .vs) (rw (p .whole) (byte 8)) in
+          ap (λ (hs : List RelabelHead). joined (each relabelBytes hs)) (dealt-out .0)
+          ∙ ap joined (heads-written 4 relabelAt relabelBytes relabel-only (f .vs) (p .wide) b) ∙ p .whole
+
+      ten : joined (each rowBytes (relabelRows i)) ≡ body 9
+      ten = rows-of 9 (f .us) (f .ws) (relabelRows i) (f .relabel-lines) (f .relabel-rows) (dealt-out .1)
+
+  module _ (few : length bs ≤ 10) where
+    -- ten places have what the bodies have, at each place
+    place : (k : ℕ) → getD places k [] ≡ body k
+    place zero = refl
+    place (suc zero) = refl
+    place (suc (suc zero)) = refl
+    place (suc (suc (suc zero))) = refl
+    place (suc (suc (suc (suc zero)))) = refl
+    place (suc (suc (suc (suc (suc zero))))) = refl
+    place (suc (suc (suc (suc (suc (suc zero)))))) = refl
+    place (suc (suc (suc (suc (suc (suc (suc zero))))))) = refl
+    place (suc (suc (suc (suc (suc (suc (suc (suc zero)))))))) = refl
+    place (suc (suc (suc (suc (suc (suc (suc (suc (suc zero))))))))) = refl
+    place (suc (suc (suc (suc (suc (suc (suc (suc (suc (suc k)))))))))) =
+        sym (List·getD-eq-default bs [] {n = suc (suc (suc (suc (suc (suc (suc (suc (suc (suc k)))))))))} (omega arith))
+
+    -- so as many of them as there are bodies are those
+    places-take : take (length bs) places ≡ bs
+    places-take =
+        let long = length-take-le (length bs) places few in
+        ext-getD [] (take (length bs) places) bs long (λ k l. getD-take (length bs) places k [] (omega (arith, l, long)) ∙ place k)
+
+-- the bodies of a table of bytes are bytes
+pub bodies-bytes : (e : ℕ) (bs : List (List ℕ)) (rest : List ℕ) → Bytes (layout e bs ++ rest) → All Bytes bs
+bodies-bytes e bs rest b =
+    let p : ℕ → Type 0 = λ n. n < 256 in
+    let after = pairs (firstBody e) bs ++ joined bs in
+    all-joined p bs (all-right p (pairs (firstBody e) bs) (joined bs)
+    (all-right p (le 2 (sectionsOf e)) after (all-right p (le 2 e) (le 2 (sectionsOf e) ++ after) (all-left p (layout e bs) rest b))))
 
 -- what a sound table holds is well-formed
 pub image-formed : (t : List ℕ) (i : Image) → imageIn t ≡ some i → wellFormed i ≡ true
@@ -175,16 +228,36 @@ image-formed t i h =
     let g = given-some (wellFormed im) im i h in
     subst (λ (i : Image). wellFormed i ≡ true) (g .1) (g .0)
 
+-- bytes that are the table of a well-formed image in their own edition, which it fits, and then anything
+pub record TableOf (t : List ℕ) (i : Image) : Type 0 where
+  pub known : 0 < sectionsOf (editionIn t)
+  pub formed : wellFormed i ≡ true
+  pub fits : FitsEdition (editionIn t) i
+  pub rest : List ℕ
+  pub laid : t ≡ encode (editionIn t) i ++ rest
+
+-- bodies in which a well-formed image is found, laid out
+from-laid : (t : List ℕ) → Bytes t → (bs : List (List ℕ)) → bodiesIn t ≡ some bs → (i : Image) → imageFrom bs ≡ some i → wellFormed i ≡ true → TableOf t i
+unfolding encode
+from-laid t b bs cut i read good =
+    let e = editionIn t in
+    let l = layout-only t bs b cut in
+    let few : length bs ≤ 10 = omega (arith, l .many, edition-known e (l .known) .most) in
+    let same = from-only bs i (bodies-bytes e bs (l .rest) (subst Bytes (l .laid) b)) (found bs i read) in
+    let taken : take (sectionsOf e) (bodies i) ≡ bs = ap (take (sectionsOf e)) same ∙ ap (λ (n : ℕ). take n (places bs)) (sym (l .many)) ∙ places-take bs few in
+    record {
+      known = l .known;
+      formed = good;
+      fits = λ k m. ap (λ (cs : List (List ℕ)). getD cs k []) same ∙ place bs few k ∙ List·getD-eq-default bs [] {n = k} (omega (arith, l .many, m));
+      rest = l .rest;
+      laid = l .laid ∙ ap (λ (cs : List (List ℕ)). layout e cs ++ l .rest) (sym taken);
+    }
+
 -- ONLY THE TABLE OF A WELL-FORMED IMAGE IS READ AS THAT IMAGE
-pub table-only : (t : List ℕ) → Bytes t → (i : Image) → imageIn t ≡ some i → (wellFormed i ≡ true) × (rest : List ℕ) × (t ≡ encode i ++ rest)
-unfolding imageIn encode
+pub table-only : (t : List ℕ) → Bytes t → (i : Image) → imageIn t ≡ some i → TableOf t i
+unfolding imageIn
 table-only t b i h =
     bound-then (bodiesIn t) _ i h λ bs cut h.
     bound-then (imageFrom bs) _ i h λ im read h.
     let g = given-some (wellFormed im) im i h in
-    let laid = layout-only t bs b cut in
-    let same = from-only bs im (laid .0) (bodies-bytes bs (laid .1) (subst Bytes (laid .2) b)) (found bs im read) in (
-      subst (λ (i : Image). wellFormed i ≡ true) (g .1) (g .0),
-      laid .1,
-      laid .2 ∙ ap (λ (bs : List (List ℕ)). layout bs ++ laid .1) (sym same ∙ ap bodies (g .1)),
-    )
+    subst (TableOf t) (g .1) (from-laid t b bs cut im read (g .0))

@@ -1,26 +1,29 @@
--- A table is read back: the image in `encode i ++ rest` is i, whatever rest is. Each body is read back by its own law. Assumes nothing.
+-- A table is read back: the image in `encode e i ++ rest` is i, whatever rest is, where i fits the edition e. Each body is read back by its own
+-- law. Assumes nothing.
 use Prim.Native.Nat.{ℕ, _+_, _*_, _^_, _<_}
 use native.Mathlib.Omega.{arith}
 use mathlib.Core.Path.{_≡_, ap, _∙_}
 use mathlib.Core.Bool.{true}
 use mathlib.Core.List.{List, [], _∷_, _++_}
 use mathlib.Core.Option.{some}
-use lib.ListN.{length}
+use lib.ListN.{length, getD, take}
 use lib.Seq.{take-at, drop-at}
 use Rattle.bitset.specs.Relations.{joined}
 use Rattle.policy.specs.Basics.{each, All}
 use Rattle.policy.specs.Statements.{users, roles, types, thingOf, attributeOf, count}
 use Rattle.policy.specs.Rows.{Row}
 use Rattle.policy.specs.Image.{Image, TransitionEntry}
-use Rattle.policy.specs.Encode.{entries, transitionBytes, headBytes, headsFrom, rowBytes, bodies, encode, firstBody}
-use Rattle.policy.specs.Sound.{exactly, transitionAt, headAt, imageFrom, wellFormed, imageIn}
-use Rattle.table_laws.specs.SoundTable.{allRows}
+use Rattle.policy.specs.Encode.{entries, transitionBytes, headBytes, headsFrom, rowBytes, relabelHead, relabelBytes, bodies, sectionsOf, firstBody, encode}
+use Rattle.policy.specs.Sound.{exactly, transitionAt, headAt, relabelAt, imageFrom, wellFormed, imageIn}
+use Rattle.table_laws.specs.SoundTable.{FitsEdition, allRows, relabelRows}
 use Rattle.table_laws.proofs.ListLaws.{all-each, each-back}
+use Rattle.table_laws.proofs.Editions.{section-at, sections-joined}
 use Rattle.table_laws.proofs.LayoutLaws.{bodies-law}
 use Rattle.table_laws.proofs.Pieces.{Wide, wide-length, exactly-back, exactly-all}
 use Rattle.table_laws.proofs.Records.{WideTransition, transition-back, transition-wide, SmallHead, head-back, head-wide, rows-back, row-wide}
+use Rattle.table_laws.proofs.Records.{SmallRelabel, relabel-back, relabel-wide}
 use Rattle.table_laws.proofs.NamesReadBack.{Peopled, SmallNumber, names-back}
-use Rattle.table_laws.proofs.Constraints.{assign-back}
+use Rattle.table_laws.proofs.Constraints.{assign-back, relabels-back}
 
 -- so many sets of one width
 pub record Sets (n w : ℕ) (ss : List (List ℕ)) : Type 0 where
@@ -40,7 +43,8 @@ pub record Laid (i : Image) : Type 0 where
   pub userSets : Sets (count (attributeOf users) (i .names)) 16 (i .userSets)
   pub roleSets : Sets (count (attributeOf roles) (i .names)) 16 (i .roleSets)
   pub typeSets : Sets (count (attributeOf types) (i .names)) 64 (i .typeSets)
-  pub room : firstBody + length (joined (bodies i)) < 256 ^ 4
+  pub relabels : All SmallRelabel (each relabelHead (i .relabels))
+  pub relabel-rows : All (λ (r : Row). r .num < 65536) (relabelRows i)
 
 -- the widths of what is written
 pub every-wide : {A : Type 0} (w : ℕ) (f : A → List ℕ) → ((x : A) → length (f x) ≡ w) → (xs : List A) → Wide w (each f xs)
@@ -61,7 +65,7 @@ sets-length n w ss s = wide-length w ss (s .wide) ∙ ap (λ (k : ℕ). k * w) (
 sets-back : (n w : ℕ) (ss : List (List ℕ)) → Sets n w ss → exactly n w (joined ss) ≡ some ss
 sets-back n w ss s = exactly-back n w ss (s .many) (s .wide)
 
--- the eight bodies are read back
+-- the ten bodies are read back
 from-back : (i : Image) → Laid i → imageFrom (bodies i) ≡ some i
 unfolding bodies
 from-back i ok =
@@ -90,8 +94,25 @@ from-back i ok =
       sets-back (count (attributeOf roles) ds) 16 (i .roleSets) (ok .roleSets),
       sets-back (count (attributeOf types) ds) 64 (i .typeSets) (ok .typeSets),
       each-back WideTransition transitionBytes transitionAt transition-back (i .transitions) (ok .transitions),
+      exactly-all 4 (λ k. omega arith) (each relabelBytes (each relabelHead (i .relabels))) (every-wide 4 relabelBytes relabel-wide (each relabelHead (i .relabels))),
+      exactly-all 6 (λ k. omega arith) (each rowBytes (relabelRows i)) (every-wide 6 rowBytes row-wide (relabelRows i)),
+      rows-back (relabelRows i) (ok .relabel-rows),
+      each-back SmallRelabel relabelBytes relabelAt relabel-back (each relabelHead (i .relabels)) (ok .relabels),
+      relabels-back (i .relabels),
     )
 
-pub image-back : (i : Image) → Laid i → wellFormed i ≡ true → (rest : List ℕ) → imageIn (encode i ++ rest) ≡ some i
+-- bodies that have the same at each place have the same image
+from-same : (bs cs : List (List ℕ)) → ((k : ℕ) → getD bs k [] ≡ getD cs k []) → imageFrom bs ≡ imageFrom cs
+from-same bs cs h = rw (h 0, h 1, h 2, h 3, h 4, h 5, h 6, h 7, h 8, h 9)
+
+pub image-back : (e : ℕ) (i : Image) → 0 < sectionsOf e → FitsEdition e i → Laid i → firstBody e + length (joined (bodies i)) < 256 ^ 4 → wellFormed i ≡ true → (rest : List ℕ)
+    → imageIn (encode e i ++ rest) ≡ some i
 unfolding imageIn
-image-back i ok good rest = rw (bodies-law i rest (ok .room), from-back i ok, good)
+image-back e i known fits ok room good rest =
+    let bs = take (sectionsOf e) (bodies i) in
+    rw (
+      bodies-law e i rest known (rw (sections-joined e i fits) room),
+      from-same bs (bodies i) (section-at e i fits),
+      from-back i ok,
+      good,
+    )

@@ -1,24 +1,25 @@
--- Only what is laid out has eight bodies: bytes that `bodiesIn` cuts apart are the layout of those bodies, and then anything. By
--- induction on the pairs and on the bodies. Assumes nothing.
+-- Only what is laid out has bodies: bytes that `bodiesIn` cuts apart are the layout of those bodies in an edition that there is, and
+-- then anything. By induction on the pairs and on the bodies. Assumes nothing.
 use Prim.Native.Nat.{ℕ, zero, suc, _+_, _*_, _<_, _≤_}
 use native.Mathlib.Omega.{arith}
 use mathlib.Core.Path.{_≡_, refl, sym, ap, ap₂, _∙_, subst}
 use mathlib.Core.Bool.{_&&_, cond}
 use mathlib.Core.List.{List, [], _∷_, _++_, append-assoc, head-eq-of-cons-eq, tail-eq-of-cons-eq, nil≢cons}
 use mathlib.Core.Option.{none, some, Option·some-injective}
-use lib.Dec.{eqb, leb}
+use lib.Dec.{eqb, leb, ltb}
 use lib.ListN.{length, take, drop, length-drop, take-append-drop}
 use lib.Seq.{drop-drop, length-take-le}
-use borrow.Author.Tests.{eqb-true, leb-true}
+use borrow.Author.Tests.{eqb-true, leb-true, ltb-true}
 use Rattle.bitset.specs.Relations.{joined}
 use Rattle.policy.specs.Basics.{more, each, le, unle}
-use Rattle.policy.specs.Encode.{pairs, layout, firstBody}
-use Rattle.policy.specs.Sound.{bodyLengths, splitBodies, bodiesIn}
+use Rattle.policy.specs.Encode.{pairs, sectionsOf, firstBody, layout}
+use Rattle.policy.specs.Sound.{bodyLengths, splitBodies, editionIn, hasHeader, bodiesIn}
 use Rattle.policy.proofs.Lists.{both-true}
 use Rattle.policy.proofs.Options.{if-some}
 use Rattle.table_laws.specs.SoundTable.{Bytes}
 use Rattle.table_laws.proofs.ListLaws.{bound, more-after, all-drop}
 use Rattle.table_laws.proofs.LittleEndian.{le-unle-take}
+use Rattle.table_laws.proofs.LayoutLaws.{layout-front}
 
 -- parts that were cut from t are at its front
 pub split-only : (ns t : List ℕ) (bs : List (List ℕ)) → splitBodies ns t ≡ some bs → (each length bs ≡ ns) × (rest : List ℕ) × (t ≡ joined bs ++ rest)
@@ -76,21 +77,33 @@ lengths-only (suc k) o t bs b l h =
               ),
         )
 
--- only eight bodies laid out are cut apart
-pub layout-only : (t : List ℕ) (bs : List (List ℕ)) → Bytes t → bodiesIn t ≡ some bs → (length bs ≡ 8) × (rest : List ℕ) × (t ≡ layout bs ++ rest)
+-- bytes that are the layout of bodies in their own edition, and then anything
+pub record LaidOut (t : List ℕ) (bs : List (List ℕ)) : Type 0 where
+  pub known : 0 < sectionsOf (editionIn t)
+  pub many : length bs ≡ sectionsOf (editionIn t)
+  pub rest : List ℕ
+  pub laid : t ≡ layout (editionIn t) bs ++ rest
+
+-- only bodies laid out are cut apart
+pub layout-only : (t : List ℕ) (bs : List (List ℕ)) → Bytes t → bodiesIn t ≡ some bs → LaidOut t bs
 unfolding bodiesIn
 layout-only t bs b h =
-    let s = bound (cond (leb firstBody (length t) && eqb (unle (take 2 t)) 1 && eqb (unle (take 2 (drop 2 t))) 8) (bodyLengths 8 firstBody (drop 4 t)) none)
-    (λ ns. splitBodies ns (drop firstBody t)) bs h in
-    let c = if-some (leb firstBody (length t) && eqb (unle (take 2 t)) 1 && eqb (unle (take 2 (drop 2 t))) 8) (bodyLengths 8 firstBody (drop 4 t)) (s .0) (s .1) in
-    let d = both-true (leb firstBody (length t) && eqb (unle (take 2 t)) 1) (eqb (unle (take 2 (drop 2 t))) 8) (c .0) in
-    let e = both-true (leb firstBody (length t)) (eqb (unle (take 2 t)) 1) (d .0) in
-    let long : firstBody ≤ length t = leb-true firstBody (length t) (e .0) in
-    let cuts = split-only (s .0) (drop firstBody t) bs (s .2) in
-    let at = lengths-only 8 firstBody (drop 4 t) bs (all-drop (λ b. b < 256) 4 t b) (omega (arith, length-drop 4 t)) (c .1 ∙ ap some (sym (cuts .0))) in (
-      at .0,
-      cuts .1,
-      two-front 2 t (pairs firstBody bs ++ (joined bs ++ cuts .1)) 1 8 b (omega arith) (eqb-true (unle (take 2 t)) 1 (e .1)) (eqb-true (unle (take 2 (drop 2 t))) 8 (d .1))
-          (at .1 ∙ ap (λ (r : List ℕ). pairs firstBody bs ++ r) (drop-drop 64 4 t ∙ cuts .2))
-          ∙ simp append-assoc,
-    )
+    let e = editionIn t in
+    let first = firstBody e in
+    let s = bound (cond (hasHeader e t) (bodyLengths (sectionsOf e) first (drop 4 t)) none) (λ ns. splitBodies ns (drop first t)) bs h in
+    let c = if-some (hasHeader e t) (bodyLengths (sectionsOf e) first (drop 4 t)) (s .0) (s .1) in
+    let d = both-true (ltb 0 (sectionsOf e) && leb first (length t)) (eqb (unle (take 2 (drop 2 t))) (sectionsOf e)) (c .0) in
+    let f = both-true (ltb 0 (sectionsOf e)) (leb first (length t)) (d .0) in
+    let long : first ≤ length t = leb-true first (length t) (f .1) in
+    let cuts = split-only (s .0) (drop first t) bs (s .2) in
+    let at = lengths-only (sectionsOf e) first (drop 4 t) bs (all-drop (λ b. b < 256) 4 t b) (omega (arith, length-drop 4 t)) (c .1 ∙ ap some (sym (cuts .0))) in
+    record {
+      known = ltb-true 0 (sectionsOf e) (f .0);
+      many = at .0;
+      rest = cuts .1;
+      laid =
+          two-front 2 t (pairs first bs ++ (joined bs ++ cuts .1)) e (sectionsOf e) b (omega arith) refl
+          (eqb-true (unle (take 2 (drop 2 t))) (sectionsOf e) (d .1))
+          (at .1 ∙ ap (λ (r : List ℕ). pairs first bs ++ r) (drop-drop (8 * sectionsOf e) 4 t ∙ cuts .2))
+          ∙ sym (layout-front e bs (cuts .1));
+    }

@@ -1,4 +1,5 @@
 pub mod Constraints
+pub mod Editions
 pub mod EntryShown
 pub mod ImageBytes
 pub mod ImageOnly

@@ -1,11 +1,12 @@
 -- What the laws of the table need of lists and of answers that may be missing. Assumes nothing.
-use Prim.Native.Nat.{ℕ, suc, _<_, zero, _+_, _≤_}
+use Prim.Native.Nat.{ℕ, zero, suc, _+_, _<_, _≤_}
 use native.Mathlib.Omega.{arith}
-use mathlib.Core.Path.{_≡_, refl, sym, ap₂, subst}
+use mathlib.Core.Path.{_≡_, refl, sym, ap, ap₂, _∙_, subst}
 use mathlib.Core.Bool.{Bool, true}
-use mathlib.Core.List.{List, [], _∷_}
+use mathlib.Core.List.{List, [], _∷_, _++_, append-assoc}
 use mathlib.Core.Option.{Option, none, some, Option·none-ne-some, Option·some-injective}
 use lib.ListN.{length, getD, take, drop, take-append-drop, length-append}
+use lib.Seq.{drop-append-add}
 use Rattle.bitset.specs.Relations.{joined}
 use Rattle.policy.specs.Basics.{_>>=_, more, each, every, All}
 use Rattle.policy.proofs.Lists.{both-true, all-left, all-right, all-append}
@@ -82,3 +83,30 @@ joined-room [] zero = omega arith
 joined-room [] (suc k) = omega arith
 joined-room (b ∷ bs) zero = omega (arith, length-append b (joined bs))
 joined-room (b ∷ bs) (suc k) = omega (arith, length-append b (joined bs), length-append b (joined (take k bs)), joined-room bs k)
+
+-- part k of parts that are one after the other, after those before it
+pub joined-place : (bs : List (List ℕ)) (k : ℕ) (rest : List ℕ)
+    → drop (length (joined (take k bs))) (joined bs ++ rest) ≡ getD bs k [] ++ (joined (drop (suc k) bs) ++ rest)
+unfolding joined
+joined-place [] zero rest = refl
+joined-place [] (suc k) rest = refl
+joined-place (b ∷ bs) zero rest = append-assoc b (joined bs) rest
+joined-place (b ∷ bs) (suc k) rest =
+    ap₂ drop (length-append b (joined (take k bs))) (append-assoc b (joined bs) rest)
+    ∙ (drop-append-add b (joined bs ++ rest) (length (joined (take k bs))) ∙ joined-place bs k rest)
+
+-- a list that has nothing but d from place n on has its first n at every place
+pub places-front : {A : Type 0} (n : ℕ) (xs : List A) (d : A) → ((k : ℕ) → n ≤ k → getD xs k d ≡ d) → (k : ℕ) → getD (take n xs) k d ≡ getD xs k d
+places-front zero xs d h k = sym (h k (omega arith))
+places-front (suc n) [] d h k = refl
+places-front (suc n) (x ∷ xs) d h zero = refl
+places-front (suc n) (x ∷ xs) d h (suc k) = places-front n xs d (λ k l. h (suc k) (omega arith)) k
+
+-- and, of lists, its first n one after the other are all of them
+pub joined-front : (n : ℕ) (bs : List (List ℕ)) → ((k : ℕ) → n ≤ k → getD bs k [] ≡ []) → joined (take n bs) ≡ joined bs
+unfolding joined
+joined-front zero [] h = refl
+joined-front zero (b ∷ bs) h =
+    ap₂ {C = List ℕ} (λ x r. x ++ r) (sym (h 0 (omega arith))) (joined-front zero bs (λ k l. h (suc k) (omega arith)))
+joined-front (suc n) [] h = refl
+joined-front (suc n) (b ∷ bs) h = ap (λ (r : List ℕ). b ++ r) (joined-front n bs (λ k l. h (suc k) (omega arith)))

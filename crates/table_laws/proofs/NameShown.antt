@@ -1,5 +1,5 @@
 -- The question name-of shows the name that the declarations give. Assumes nothing.
-use Prim.Native.Nat.{ℕ, zero, suc, _+_, _/_, _%_, _≤_}
+use Prim.Native.Nat.{ℕ, zero, suc, _+_, _/_, _%_, _<_, _≤_}
 use native.Mathlib.Omega.{arith}
 use mathlib.Core.Path.{_≡_, refl, sym, ap, _∙_}
 use mathlib.Core.Bool.{Bool, true, false, _&&_, cond}
@@ -13,15 +13,16 @@ use Rattle.bitset.specs.Relations.{joined}
 use Rattle.policy.specs.Basics.{_>>=_, each, le, All}
 use Rattle.policy.specs.Statements.{users, roles, types, thingOf, attributeOf, Declaration, namesOf, classNames, permissions}
 use Rattle.policy.specs.Image.{Image}
-use Rattle.policy.specs.Encode.{NameEntry, entryBytes, entries, bodies, encode, firstBody}
+use Rattle.policy.specs.Encode.{NameEntry, entryBytes, entries, bodies, sectionsOf, firstBody, encode}
 use Rattle.policy.specs.Sound.{goodFrom, sortOf, wellFormed}
 use Rattle.policy.specs.Deciding.{answered}
 use Rattle.policy.specs.Questions.{nameFrom, nameOf}
+use Rattle.table_laws.specs.SoundTable.{FitsEdition}
 use Rattle.table_laws.specs.Shown.{shown, orTwelve, nameIn}
 use Rattle.policy.proofs.Gathered.{all-map}
 use Rattle.table_laws.proofs.NamesFit.{GoodEntry, entries-fit}
 use Rattle.table_laws.proofs.WellFormed.{formed}
-use Rattle.table_laws.proofs.EntryShown.{layout-at}
+use Rattle.table_laws.proofs.LayoutLaws.{table-bodies}
 use Rattle.table_laws.proofs.Numbered.{named, Other, over, thing-named, class-named}
 use Rattle.table_laws.proofs.PermissionNumbered.{permission-named}
 
@@ -48,7 +49,7 @@ from-shown s n (e ∷ es) o t rest h = by (eqb (e .sort) s && eqb (e .number) n)
         four = unfold le in refl
 
     by : (b : Bool) → shown t (nameFrom s n (o + length (entryBytes e)) es) ≡ orTwelve (named s n es)
-        → shown t (cond b (answered (record { start = o + 4; long = length (e .name) })) (nameFrom s n (o + length (entryBytes e)) es)) ≡ orTwelve
+        → shown t (cond b (answered (record { start = o + 4; size = length (e .name) })) (nameFrom s n (o + length (entryBytes e)) es)) ≡ orTwelve
         (cond b (some (e .name)) (named s n es))
     by true k = ap answered name
     by false k = k
@@ -84,8 +85,10 @@ name-named i h (suc (suc (suc (suc (suc (suc (suc (suc s)))))))) n = beyond (suc
     beyond s l q = rw (ne-eqb s 6 (λ x. omega arith), ne-eqb s 7 (λ x. omega arith), q) (no-sort (i .names) (good (i .names) (formed i h .names)) s n l)
 
 -- THE NAME SHOWN IS THE ONE DECLARED, whatever is after the table; and where there is none the answer is 12
-pub name-shown : (i : Image) → wellFormed i ≡ true → (rest : List ℕ) (s n : ℕ) → shown (encode i ++ rest) (nameOf i s n) ≡ orTwelve (nameIn (i .names) s n)
-unfolding nameOf encode bodies joined
-name-shown i h rest s n =
-    from-shown s n (entries (i .names)) firstBody (encode i ++ rest) (joined (drop 1 (bodies i)) ++ rest) (layout-at (bodies i) rest 0 refl (omega arith))
+pub name-shown : (e : ℕ) (i : Image) → 0 < sectionsOf e → FitsEdition e i → wellFormed i ≡ true → (rest : List ℕ) (s n : ℕ)
+    → shown (encode e i ++ rest) (nameOf e i s n) ≡ orTwelve (nameIn (i .names) s n)
+unfolding nameOf bodies joined
+name-shown e i known fits h rest s n =
+    from-shown s n (entries (i .names)) (firstBody e) (encode e i ++ rest) (joined (drop 1 (bodies i)) ++ rest)
+    (table-bodies e i known fits rest ∙ append-assoc (joined (each entryBytes (entries (i .names)))) (joined (drop 1 (bodies i))) rest)
     ∙ ap orTwelve (name-named i h s n)

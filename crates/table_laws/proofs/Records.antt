@@ -1,4 +1,4 @@
--- Transitions, constraint heads and rows: each is read back from its bytes, and bytes of the right length are those of what is read from
+-- Transitions, constraint and validatetrans heads, and rows: each is read back from its bytes, and bytes of the right length are those of what is read from
 -- them. Assumes nothing.
 use Prim.Native.Nat.{ℕ, suc, _+_, _<_, _≤_}
 use native.Mathlib.Omega.{arith}
@@ -12,8 +12,8 @@ use borrow.Author.Tests.{eqb-true}
 use Rattle.policy.specs.Basics.{more, each, eachOf, le, unle, All}
 use Rattle.policy.specs.Rows.{Row, row}
 use Rattle.policy.specs.Image.{TransitionEntry}
-use Rattle.policy.specs.Encode.{transitionBytes, ConstraintHead, headBytes, rowBytes}
-use Rattle.policy.specs.Sound.{transitionAt, rowAt, headAt}
+use Rattle.policy.specs.Encode.{transitionBytes, ConstraintHead, headBytes, RelabelHead, relabelBytes, rowBytes}
+use Rattle.policy.specs.Sound.{transitionAt, rowAt, headAt, relabelAt}
 use Rattle.policy.proofs.Options.{given-some}
 use Rattle.table_laws.specs.SoundTable.{Bytes}
 use Rattle.table_laws.proofs.ListLaws.{more-some, all-drop}
@@ -96,6 +96,23 @@ head-only t h b = rw (
   cut 4 2 t,
   take-append-drop 2 t,
 )
+
+-- VALIDATETRANS HEADS
+
+pub record SmallRelabel (h : RelabelHead) : Type 0 where
+  pub class : h .class < 65536
+  pub rows : h .rows < 65536
+
+pub relabel-back : (h : RelabelHead) → SmallRelabel h → relabelAt (relabelBytes h) ≡ h
+unfolding le
+relabel-back h s = λ i. record { class = unle-le 2 (h .class) (s .class) i; rows = unle-le 2 (h .rows) (s .rows) i }
+
+pub relabel-wide : (h : RelabelHead) → length (relabelBytes h) ≡ 4
+unfolding le
+relabel-wide h = refl
+
+pub relabel-only : (t : List ℕ) → length t ≡ 4 → Bytes t → relabelBytes (relabelAt t) ≡ t
+relabel-only t h b = rw (field 2 0 t b (omega arith), field 2 2 t b (omega arith), take-all 2 (drop 2 t) (omega (arith, length-drop 2 t)), take-append-drop 2 t)
 
 -- ROWS
 

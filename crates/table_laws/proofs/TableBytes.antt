@@ -1,28 +1,30 @@
 -- The table of a well-formed image whose sets are bytes is bytes; and only such an image's is. Assumes nothing.
 use Prim.Native.Nat.{ℕ, _+_, _<_}
 use native.Mathlib.Omega.{arith}
-use mathlib.Core.Path.{_≡_}
+use mathlib.Core.Path.{_≡_, subst}
 use mathlib.Core.Bool.{true}
 use mathlib.Core.List.{List, [], _∷_, _++_}
-use lib.ListN.{length}
+use lib.ListN.{length, getD, take}
 use Rattle.bitset.specs.Relations.{joined}
 use Rattle.policy.specs.Basics.{each, le, All}
 use Rattle.policy.specs.Statements.{roles, thingOf}
 use Rattle.policy.specs.Rows.{Row}
 use Rattle.policy.specs.Image.{Image, TransitionEntry}
-use Rattle.policy.specs.Encode.{NameEntry, entries, entryBytes, transitionBytes, ConstraintHead, headBytes, headsFrom, rowBytes, bodies, pairs, encode, firstBody}
+use Rattle.policy.specs.Encode.{NameEntry, entries, entryBytes, transitionBytes, ConstraintHead, headBytes, headsFrom, rowBytes}
+use Rattle.policy.specs.Encode.{RelabelHead, relabelHead, relabelBytes, bodies, pairs, sectionsOf, firstBody, encode}
 use Rattle.policy.specs.Sound.{wellFormed}
 use Rattle.policy.proofs.Lists.{all-append, all-left, all-right}
-use Rattle.table_laws.specs.SoundTable.{Bytes, SetsOfBytes, allRows}
-use Rattle.table_laws.proofs.ListLaws.{joined-all, all-joined, all-each, all-both}
+use Rattle.table_laws.specs.SoundTable.{Bytes, SetsOfBytes, allRows, relabelRows}
+use Rattle.table_laws.proofs.ListLaws.{joined-all, all-joined, all-each, all-both, all-take}
 use Rattle.table_laws.proofs.LittleEndian.{le-bytes}
-use Rattle.policy.proofs.Counts.{few-of}
-use Rattle.policy.proofs.Counts.{few-classes}
+use Rattle.policy.proofs.Counts.{few-of, few-classes}
+use Rattle.policy.proofs.Gathered.{all-getD}
+use Rattle.table_laws.proofs.Editions.{section-least}
 use Rattle.table_laws.proofs.NamesFit.{GoodEntry, entries-fit}
 use Rattle.table_laws.proofs.NamesRoom.{name-short}
 use Rattle.table_laws.proofs.NameBytes.{name-bytes}
 use Rattle.table_laws.proofs.WellFormed.{formed, GoodTransition, SmallRow}
-use Rattle.table_laws.proofs.WellFormedLaid.{transitions-good, rows-small}
+use Rattle.table_laws.proofs.WellFormedLaid.{transitions-good, rows-small, relabel-rows-small}
 use Rattle.table_laws.proofs.ImageOnly.{bodies-bytes}
 
 -- two parts that are bytes
@@ -52,6 +54,11 @@ heads-bytes (h ∷ hs) = (
       (number 4 (h .mask) (le 2 (h .first) ++ le 2 (h .rows)) (number 2 (h .first) (le 2 (h .rows)) (le-bytes 2 (h .rows)))),
   heads-bytes hs,
 )
+
+relabels-bytes : (hs : List RelabelHead) → All Bytes (each relabelBytes hs)
+unfolding each
+relabels-bytes [] = tt
+relabels-bytes (h ∷ hs) = (number 2 (h .class) (le 2 (h .rows)) (le-bytes 2 (h .rows)), relabels-bytes hs)
 
 row-bytes : (r : Row) → SmallRow r → Bytes (rowBytes r)
 row-bytes r s = (s .kind, (s .comp, (s .op, (omega arith, le-bytes 2 (r .num)))))
@@ -86,11 +93,14 @@ module _ (i : Image) (h : wellFormed i ≡ true) (b : SetsOfBytes i) where
             (
               all (each headBytes (headsFrom 0 (i .constraints))) (heads-bytes (headsFrom 0 (i .constraints))),
               (
-                all (each rowBytes (allRows i)) (all-each SmallRow Bytes rowBytes row-bytes (allRows i) (rows-small i h)),
+                rows (allRows i) (rows-small i h),
                 (
                   two (joined (i .userSets)) (joined (i .roleSets) ++ joined (i .typeSets)) (all (i .userSets) (b .userSets))
                       (two (joined (i .roleSets)) (joined (i .typeSets)) (all (i .roleSets) (b .roleSets)) (all (i .typeSets) (b .typeSets))),
-                  tt,
+                  (
+                    all (each relabelBytes (each relabelHead (i .relabels))) (relabels-bytes (each relabelHead (i .relabels))),
+                    (rows (relabelRows i) (relabel-rows-small i h), tt),
+                  ),
                 ),
               ),
             ),
@@ -103,13 +113,17 @@ module _ (i : Image) (h : wellFormed i ≡ true) (b : SetsOfBytes i) where
       all : (ss : List (List ℕ)) → All Bytes ss → Bytes (joined ss)
       all ss h = joined-all (λ b. b < 256) ss h
 
-  -- EVERY ELEMENT OF THE TABLE IS A BYTE
-  pub encode-bytes : Bytes (encode i)
+      rows : (rs : List Row) → All SmallRow rs → Bytes (joined (each rowBytes rs))
+      rows rs small = all (each rowBytes rs) (all-each SmallRow Bytes rowBytes row-bytes rs small)
+
+  -- EVERY ELEMENT OF THE TABLE IS A BYTE, in any edition
+  pub encode-bytes : (e : ℕ) → Bytes (encode e i)
   unfolding encode
-  encode-bytes =
-      number 2 1 (le 2 8 ++ (pairs firstBody (bodies i) ++ joined (bodies i)))
-      (number 2 8 (pairs firstBody (bodies i) ++ joined (bodies i))
-      (two (pairs firstBody (bodies i)) (joined (bodies i)) (pairs-bytes firstBody (bodies i)) (joined-all (λ b. b < 256) (bodies i) bodies-all)))
+  encode-bytes e =
+      let bs = take (sectionsOf e) (bodies i) in
+      number 2 e (le 2 (sectionsOf e) ++ (pairs (firstBody e) bs ++ joined bs))
+      (number 2 (sectionsOf e) (pairs (firstBody e) bs ++ joined bs)
+      (two (pairs (firstBody e) bs) (joined bs) (pairs-bytes (firstBody e) bs) (joined-all (λ b. b < 256) bs (all-take Bytes (sectionsOf e) (bodies i) bodies-all))))
 
 -- a transition that was written as bytes
 sets-bytes : (m : TransitionEntry) → Bytes (transitionBytes m) → SetsOf m
@@ -124,21 +138,22 @@ moves-bytes [] h = tt
 moves-bytes (m ∷ ms) h = (sets-bytes m (h .0), moves-bytes ms (h .1))
 
 -- the sets of an image whose table is bytes are bytes
-pub bytes-sets : (i : Image) (rest : List ℕ) → Bytes (encode i ++ rest) → SetsOfBytes i
+pub bytes-sets : (e : ℕ) → 0 < sectionsOf e → (i : Image) (rest : List ℕ) → Bytes (encode e i ++ rest) → SetsOfBytes i
 unfolding encode bodies
-bytes-sets i rest h =
+bytes-sets e known i rest h =
     let p : ℕ → Type 0 = λ b. b < 256 in
-    let b₁ = bodies-bytes (bodies i) rest h in
-    let b₄ = b₁ .1 .1 .1 in
-    let b₈ = b₄ .1 .1 .1 .1 .0 in
+    let bs = take (sectionsOf e) (bodies i) in
+    let body : (k : ℕ) → k < 8 → Bytes (getD (bodies i) k []) =
+    λ k l. subst Bytes (section-least e i known k l) (all-getD Bytes bs k [] (bodies-bytes e bs rest h) tt) in
     let rs = joined (i .roleSets) ++ joined (i .typeSets) in
-    let after = all-right p (joined (i .userSets)) rs b₈ in
+    let sets = body 7 (omega arith) in
+    let after = all-right p (joined (i .userSets)) rs sets in
     record {
-      userRoles = all-joined p (i .userRoles) (b₁ .1 .0);
-      roleTypes = all-joined p (i .roleTypes) (b₁ .1 .1 .0);
-      roleRoles = all-joined p (i .roleRoles) (b₄ .0);
-      transitions = moves-bytes (i .transitions) (all-joined p (each transitionBytes (i .transitions)) (b₄ .1 .0));
-      userSets = all-joined p (i .userSets) (all-left p (joined (i .userSets)) rs b₈);
+      userRoles = all-joined p (i .userRoles) (body 1 (omega arith));
+      roleTypes = all-joined p (i .roleTypes) (body 2 (omega arith));
+      roleRoles = all-joined p (i .roleRoles) (body 3 (omega arith));
+      transitions = moves-bytes (i .transitions) (all-joined p (each transitionBytes (i .transitions)) (body 4 (omega arith)));
+      userSets = all-joined p (i .userSets) (all-left p (joined (i .userSets)) rs sets);
       roleSets = all-joined p (i .roleSets) (all-left p (joined (i .roleSets)) (joined (i .typeSets)) after);
       typeSets = all-joined p (i .typeSets) (all-right p (joined (i .roleSets)) (joined (i .typeSets)) after);
     }

@@ -11,11 +11,11 @@ use borrow.Author.Tests.{eqb-true, leb-true, ltb-true}
 use Rattle.policy.specs.Basics.{every, All}
 use Rattle.policy.specs.Statements.{Family, users, roles, types, Sort, thingOf, attributeOf, Declaration, count, classNames, permissions}
 use Rattle.policy.specs.Rows.{Row, balanced}
-use Rattle.policy.specs.Image.{Image, TransitionEntry, ConstraintEntry, width}
-use Rattle.policy.specs.Sound.{goodFrom, goodSet, goodSets, goodTransition, ofComp, goodRow, goodConstraint, wellFormed}
+use Rattle.policy.specs.Image.{Image, TransitionEntry, ConstraintEntry, RelabelEntry, width}
+use Rattle.policy.specs.Sound.{goodFrom, goodSet, goodSets, goodTransition, ofComp, goodRow, goodConstraint, goodRelabel, wellFormed}
 use Rattle.bitset.specs.Sets.{within}
 use Rattle.policy.proofs.Lists.{both-true, either-true}
-use Rattle.table_laws.specs.SoundTable.{allRows}
+use Rattle.table_laws.specs.SoundTable.{allRows, relabelRows}
 use Rattle.table_laws.proofs.ListLaws.{every-all}
 use Rattle.policy.proofs.Gathered.{all-map}
 use Rattle.table_laws.proofs.Records.{WideTransition}
@@ -35,6 +35,9 @@ pub record Formed (i : Image) : Type 0 where
   pub userSets : goodSets (i .names) (count (attributeOf users) (i .names)) users (i .userSets) ≡ true
   pub roleSets : goodSets (i .names) (count (attributeOf roles) (i .names)) roles (i .roleSets) ≡ true
   pub typeSets : goodSets (i .names) (count (attributeOf types) (i .names)) types (i .typeSets) ≡ true
+  pub few-relabels : length (i .relabels) ≤ 64
+  pub relabels : All (λ (v : RelabelEntry). goodRelabel (i .names) v ≡ true) (i .relabels)
+  pub few-relabel-rows : length (relabelRows i) ≤ 1024
 
 module _ {R : Type 0} (b : Bool) where
   -- the last part of a test, and those before it
@@ -44,6 +47,8 @@ module _ {R : Type 0} (b : Bool) where
 pub formed : (i : Image) → wellFormed i ≡ true → Formed i
 unfolding wellFormed
 formed i h =
+    apart _ _ h λ h few-ws.
+    apart _ _ h λ h vs.
     apart _ _ h λ h ts.
     apart _ _ h λ h rs.
     apart _ _ h λ h us.
@@ -55,6 +60,7 @@ formed i h =
     apart _ _ h λ ns ur.
     apart _ _ cs λ few-cs all-cs.
     apart _ _ ms λ few-ms all-ms.
+    apart _ _ vs λ few-vs all-vs.
     record {
       names = ns;
       userRoles = ur;
@@ -68,6 +74,9 @@ formed i h =
       userSets = us;
       roleSets = rs;
       typeSets = ts;
+      few-relabels = leb-true (length (i .relabels)) 64 few-vs;
+      relabels = every-all (goodRelabel (i .names)) (i .relabels) all-vs;
+      few-relabel-rows = leb-true (length (relabelRows i)) 1024 few-ws;
     }
 
 -- so many sets, each of its family's width
@@ -102,14 +111,14 @@ good-transition ds m h =
 pub record GoodConstraint (ds : List Declaration) (c : ConstraintEntry) : Type 0 where
   pub class : c .class < length (classNames ds)
   pub mask : c .mask < 2 ^ length (permissions ds (c .class))
-  pub rows : All (λ (r : Row). goodRow ds r ≡ true) (c .rows)
+  pub rows : All (λ (r : Row). goodRow 6 ds r ≡ true) (c .rows)
 
 pub good-constraint : (ds : List Declaration) (c : ConstraintEntry) → goodConstraint ds c ≡ true → GoodConstraint ds c
 good-constraint ds c h =
     let class = ltb (c .class) (length (classNames ds)) in
     let some = ltb 0 (c .mask) in
     let mask = ltb (c .mask) (2 ^ length (permissions ds (c .class))) in
-    let rows = every (goodRow ds) (c .rows) in
+    let rows = every (goodRow 6 ds) (c .rows) in
     apart (balanced (c .rows) 0) (class && some && mask && rows) h λ h stack.
     apart rows (class && some && mask) h λ h rows.
     apart mask (class && some) h λ h mask.
@@ -117,8 +126,20 @@ good-constraint ds c h =
     record {
       class = ltb-true (c .class) (length (classNames ds)) class;
       mask = ltb-true (c .mask) (2 ^ length (permissions ds (c .class))) mask;
-      rows = every-all (goodRow ds) (c .rows) rows;
+      rows = every-all (goodRow 6 ds) (c .rows) rows;
     }
+
+pub record GoodRelabel (ds : List Declaration) (v : RelabelEntry) : Type 0 where
+  pub class : v .class < length (classNames ds)
+  pub rows : All (λ (r : Row). goodRow 9 ds r ≡ true) (v .rows)
+
+pub good-relabel : (ds : List Declaration) (v : RelabelEntry) → goodRelabel ds v ≡ true → GoodRelabel ds v
+good-relabel ds v h =
+    let class = ltb (v .class) (length (classNames ds)) in
+    let rows = every (goodRow 9 ds) (v .rows) in
+    apart (balanced (v .rows) 0) (class && rows) h λ h stack.
+    apart rows class h λ class rows.
+    record { class = ltb-true (v .class) (length (classNames ds)) class; rows = every-all (goodRow 9 ds) (v .rows) rows }
 
 -- a row's fields fit their bytes
 pub record SmallRow (r : Row) : Type 0 where
@@ -132,8 +153,9 @@ chosen : {R : Type 0} (t a b : Bool) → cond t a b ≡ true → (t ≡ true →
 chosen true a b h k l = k refl h
 chosen false a b h k l = l h
 
-pub good-row : (ds : List Declaration) (r : Row) → ((s : Sort) → count s ds ≤ 65536) → goodRow ds r ≡ true → SmallRow r
-good-row ds r few h =
+-- whatever components there are, if their numbers fit a byte
+pub good-row : (n : ℕ) → n ≤ 256 → (ds : List Declaration) (r : Row) → ((s : Sort) → count s ds ≤ 65536) → goodRow n ds r ≡ true → SmallRow r
+good-row n byte ds r few h =
     chosen (ltb (r .kind) 3) _ _ h
     (λ k h. apart _ _ h λ h n. apart _ _ h λ c o.
     let kind = ltb-true (r .kind) 3 k in
@@ -171,13 +193,13 @@ good-row ds r few h =
     sides k (inl h) = both-sides (eqb (r .comp) 0 || eqb (r .comp) 4) 2 k (λ c. or-four (either-true (eqb (r .comp) 0) (eqb (r .comp) 4) c)) (omega arith) h
     sides k (inr h) = both-sides (eqb (r .comp) 2) 5 k (λ c. omega (arith, eqb-true (r .comp) 2 c)) (omega arith) h
 
-    named : (s : Sort) → r .kind < 256 → (ltb (r .comp) 6 && ltb (r .op) 2 && ltb (r .num) (count s ds)) ≡ true → SmallRow r
+    named : (s : Sort) → r .kind < 256 → (ltb (r .comp) n && ltb (r .op) 2 && ltb (r .num) (count s ds)) ≡ true → SmallRow r
     named s k h =
-        let n = both-true (ltb (r .comp) 6 && ltb (r .op) 2) (ltb (r .num) (count s ds)) h in
-        let o = both-true (ltb (r .comp) 6) (ltb (r .op) 2) (n .0) in
+        let m = both-true (ltb (r .comp) n && ltb (r .op) 2) (ltb (r .num) (count s ds)) h in
+        let o = both-true (ltb (r .comp) n) (ltb (r .op) 2) (m .0) in
         record {
           kind = k;
-          comp = omega (arith, ltb-true (r .comp) 6 (o .0));
+          comp = omega (arith, byte, ltb-true (r .comp) n (o .0));
           op = omega (arith, ltb-true (r .op) 2 (o .1));
-          num = omega (arith, ltb-true (r .num) (count s ds) (n .1), few s);
+          num = omega (arith, ltb-true (r .num) (count s ds) (m .1), few s);
         }

@@ -1,8 +1,8 @@
 -- A well-formed image fits its bytes: so its table is read back, whatever is after it, and its length is known. Assumes nothing.
-use Prim.Native.Nat.{ℕ, _+_, _<_, _≤_}
+use Prim.Native.Nat.{ℕ, _+_, _*_, _^_, _<_, _≤_}
 use native.Mathlib.Omega.{arith}
 use native.Mathlib.Nat.{pow-le-pow-right}
-use mathlib.Core.Path.{_≡_, _∙_}
+use mathlib.Core.Path.{_≡_, ap, _∙_}
 use mathlib.Core.Bool.{true}
 use mathlib.Core.List.{List, [], _∷_, _++_}
 use mathlib.Core.Option.{some}
@@ -11,15 +11,16 @@ use Rattle.bitset.specs.Relations.{joined}
 use Rattle.policy.specs.Basics.{each, All}
 use Rattle.policy.specs.Statements.{users, roles, types, Sort, thingOf, attributeOf, count}
 use Rattle.policy.specs.Rows.{Row}
-use Rattle.policy.specs.Image.{Image, TransitionEntry, ConstraintEntry}
-use Rattle.policy.specs.Encode.{entries, headsFrom, encode}
-use Rattle.policy.specs.Sound.{goodRow, goodConstraint, goodTransition, wellFormed, imageIn}
-use Rattle.table_laws.specs.SoundTable.{allRows, tableLength}
+use Rattle.policy.specs.Image.{Image, TransitionEntry, ConstraintEntry, RelabelEntry}
+use Rattle.policy.specs.Encode.{entries, headsFrom, relabelHead, bodies, sectionsOf, firstBody, encode}
+use Rattle.policy.specs.Sound.{goodRow, goodConstraint, goodRelabel, goodTransition, wellFormed, imageIn}
+use Rattle.table_laws.specs.SoundTable.{FitsEdition, allRows, relabelRows, tableLength}
 use Rattle.table_laws.proofs.ListLaws.{all-each, joined-all}
 use Rattle.policy.proofs.Gathered.{all-map}
 use Rattle.policy.proofs.Counts.{few-of, few-permissions-of}
-use Rattle.table_laws.proofs.Records.{WideTransition, SmallHead}
+use Rattle.table_laws.proofs.Records.{WideTransition, SmallHead, SmallRelabel}
 use Rattle.table_laws.proofs.Constraints.{rowsIn}
+use Rattle.table_laws.proofs.Editions.{edition-known, without-fits}
 use Rattle.table_laws.proofs.ImageReadBack.{Sets, Laid, image-back}
 use Rattle.table_laws.proofs.NamesReadBack.{SmallNumber}
 use Rattle.policy.proofs.Counts.{few-classes}
@@ -27,7 +28,7 @@ use Rattle.policy.proofs.Sorts.{max-small}
 use Rattle.table_laws.proofs.NamesFit.{GoodEntry, peopled, entries-fit}
 use Rattle.table_laws.proofs.NamesRoom.{names-room}
 use Rattle.table_laws.proofs.Lengths.{Widths, bodies-length, encode-bodies-length}
-use Rattle.table_laws.proofs.WellFormed.{formed, sets-of, GoodTransition, good-transition, GoodConstraint, good-constraint, SmallRow, good-row}
+use Rattle.table_laws.proofs.WellFormed.{formed, sets-of, GoodTransition, good-transition, GoodConstraint, good-constraint, GoodRelabel, good-relabel, SmallRow, good-row}
 
 module _ (i : Image) (h : wellFormed i ≡ true) where
   few : (s : Sort) → count s (i .names) ≤ 512
@@ -59,11 +60,31 @@ module _ (i : Image) (h : wellFormed i ≡ true) where
   transitions-good =
       all-map (λ (m : TransitionEntry). goodTransition (i .names) m ≡ true) (GoodTransition (i .names)) (good-transition (i .names)) (i .transitions) (formed i h .transitions)
 
+  pub relabels-good : All (GoodRelabel (i .names)) (i .relabels)
+  relabels-good =
+      all-map (λ (v : RelabelEntry). goodRelabel (i .names) v ≡ true) (GoodRelabel (i .names)) (good-relabel (i .names)) (i .relabels) (formed i h .relabels)
+
+  -- the rows of all entries of a section, whatever components they may have
+  entry-rows : {A : Type 0} (n : ℕ) → n ≤ 256 → (P : A → Type 0) (rows : A → List Row) → ((x : A) → P x → All (λ (r : Row). goodRow n (i .names) r ≡ true) (rows x))
+      → (xs : List A) → All P xs → All SmallRow (joined (each rows xs))
+  entry-rows n byte P rows good xs all = joined-all SmallRow (each rows xs)
+      (all-each P (All SmallRow) rows
+      (λ x p. all-map (λ (r : Row). goodRow n (i .names) r ≡ true) SmallRow (λ r t. good-row n byte (i .names) r (λ s. omega (arith, few s)) t) (rows x) (good x p)) xs all)
+
   pub rows-small : All SmallRow (allRows i)
-  rows-small = joined-all SmallRow (each (λ c. c .rows) (i .constraints))
-      (all-each (GoodConstraint (i .names)) (All SmallRow) (λ c. c .rows)
-      (λ c g. all-map (λ (r : Row). goodRow (i .names) r ≡ true) SmallRow (λ r t. good-row (i .names) r (λ s. omega (arith, few s)) t) (c .rows) (g .rows))
-      (i .constraints) constraints-good)
+  rows-small = entry-rows 6 (omega arith) (GoodConstraint (i .names)) (λ c. c .rows) (λ c g. g .rows) (i .constraints) constraints-good
+
+  pub relabel-rows-small : All SmallRow (relabelRows i)
+  relabel-rows-small = entry-rows 9 (omega arith) (GoodRelabel (i .names)) (λ v. v .rows) (λ v g. g .rows) (i .relabels) relabels-good
+
+  relabels-small : (vs : List RelabelEntry) → All (GoodRelabel (i .names)) vs → length (joined (each (λ v. v .rows) vs)) ≤ 1024 → All SmallRelabel (each relabelHead vs)
+  unfolding joined each
+  relabels-small [] g l = tt
+  relabels-small (v ∷ vs) g l =
+      let long = length-append (v .rows) (joined (each (λ v. v .rows) vs)) in (
+        record { class = omega (arith, g .0 .class, few-classes (i .names) (formed i h .names)); rows = omega arith },
+        relabels-small vs (g .1) (omega arith),
+      )
 
   -- so many sets of one width
   userRoles : Sets (count (thingOf users) (i .names)) 16 (i .userRoles)
@@ -98,10 +119,10 @@ module _ (i : Image) (h : wellFormed i ≡ true) where
     typeSets = typeSets .wide;
   }
 
-  -- the longest table has 179,652 bytes
-  pub table-short : tableLength i ≤ 179652
+  -- how long a table may be: 179,584 bytes after the header, and what the validatetrans statements take
+  pub table-room : (e : ℕ) → tableLength e i ≤ firstBody e + 179584 + 4 * length (i .relabels) + 6 * length (relabelRows i)
   unfolding tableLength
-  table-short = omega (
+  table-room e = omega (
     arith,
     names-room (i .names) (formed i h .names),
     userRoles .many,
@@ -120,6 +141,21 @@ module _ (i : Image) (h : wellFormed i ≡ true) where
     few-of (attributeOf types) (i .names) (formed i h .names),
   )
 
+  -- the longest table of any edition has 186,068 bytes
+  pub table-short : (e : ℕ) → 0 < sectionsOf e → tableLength e i ≤ 186068
+  table-short e known = omega (arith, table-room e, edition-known e known .most, formed i h .few-relabels, formed i h .few-relabel-rows)
+
+  -- that of an edition of eight sections has 179,652 bytes
+  pub table-short-eight : (e : ℕ) → sectionsOf e ≤ 8 → FitsEdition e i → tableLength e i ≤ 179652
+  unfolding joined each
+  table-short-eight e few fits =
+      let without = without-fits e i few fits in
+      omega (arith, table-room e, ap length without, ap (λ (vs : List RelabelEntry). length (joined (each (λ v. v .rows) vs))) without)
+
+  -- every offset in a table fits four bytes
+  pub offsets-small : (e : ℕ) → 0 < sectionsOf e → firstBody e + length (joined (bodies i)) < 256 ^ 4
+  offsets-small e known = omega (arith, bodies-length e i widths, table-short e known)
+
   -- A WELL-FORMED IMAGE FITS ITS BYTES
   pub well-formed-laid : Laid i
   unfolding entries
@@ -135,13 +171,15 @@ module _ (i : Image) (h : wellFormed i ≡ true) where
     userSets = userSets;
     roleSets = roleSets;
     typeSets = typeSets;
-    room = omega (arith, bodies-length i widths, table-short);
+    relabels = relabels-small (i .relabels) relabels-good (formed i h .few-relabel-rows);
+    relabel-rows = all-map SmallRow (λ (r : Row). r .num < 65536) (λ r s. s .num) (relabelRows i) relabel-rows-small;
   }
 
   -- A TABLE IS READ BACK
-  pub table-back : (rest : List ℕ) → imageIn (encode i ++ rest) ≡ some i
-  table-back rest = image-back i well-formed-laid h rest
+  module _ (e : ℕ) (known : 0 < sectionsOf e) (fits : FitsEdition e i) where
+    pub table-back : (rest : List ℕ) → imageIn (encode e i ++ rest) ≡ some i
+    table-back rest = image-back e i known fits well-formed-laid (offsets-small e known) h rest
 
-  -- the length of a table
-  pub length-encode : length (encode i) ≡ tableLength i
-  length-encode = encode-bodies-length i ∙ bodies-length i widths
+    -- the length of a table
+    pub length-encode : length (encode e i) ≡ tableLength e i
+    length-encode = encode-bodies-length e i known fits ∙ bodies-length e i widths

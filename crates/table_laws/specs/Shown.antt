@@ -9,15 +9,15 @@ use lib.ListN.{getD, getElem?, take, drop}
 use Rattle.policy.specs.Basics.{Name, _>>=_, each}
 use Rattle.policy.specs.Statements.{Declaration, namesOf, classNames, permissions}
 use Rattle.policy.specs.Image.{Image}
-use Rattle.policy.specs.Encode.{transitionBytes, headBytes, headsFrom, rowBytes}
+use Rattle.policy.specs.Encode.{transitionBytes, headBytes, headsFrom, rowBytes, relabelHead, relabelBytes}
 use Rattle.policy.specs.Sound.{sortOf}
 use Rattle.policy.specs.Deciding.{Reply, answered, refused}
 use Rattle.policy.specs.Questions.{Part}
-use Rattle.table_laws.specs.SoundTable.{allRows}
+use Rattle.table_laws.specs.SoundTable.{allRows, relabelRows}
 
 -- "the part of the lent table that holds it": its bytes
 abbrev pub shown : List ℕ → Reply Part → Reply (List ℕ)
-shown t (answered p) = answered (take (p .long) (drop (p .start) t))
+shown t (answered p) = answered (take (p .size) (drop (p .start) t))
 shown t (refused n k) = refused n k
 
 -- "number not declared in the table", "no such body or entry is 12"
@@ -32,7 +32,7 @@ nameIn ds s n =
     (cond (eqb s 7) (getElem? (permissions ds (n / 32)) (n % 32))
     (sortOf s >>= λ s. getElem? (namesOf s ds) n))
 
--- the entries of body b, 2 to 8, each as its bytes
+-- the entries of body b, 2 to 10, each as its bytes
 unfoldable pub recordsIn : Image → ℕ → List (List ℕ)
 recordsIn i b = getD (
     []
@@ -44,4 +44,6 @@ recordsIn i b = getD (
     ∷ each headBytes (headsFrom 0 (i .constraints))
     ∷ each rowBytes (allRows i)
     ∷ (i .userSets ++ (i .roleSets ++ i .typeSets))
+    ∷ each relabelBytes (each relabelHead (i .relabels))
+    ∷ each rowBytes (relabelRows i)
     ∷ []) b []

@@ -8,13 +8,13 @@ use mathlib.Core.List.{List, []}
 use lib.ListN.{length, getD, set, replicate, length-set}
 use lib.Seq.{getD-set-same, getD-set-other}
 use borrow.Author.Tests.{eq-eqb}
-use Rattle.policy.specs.Encode.{NameEntry, firstBody}
+use Rattle.policy.specs.Encode.{NameEntry}
 use Rattle.symbols.specs.Section.{entriesAt, EntryIs}
 use Rattle.symbols.specs.declared.Entry.{Entry}
 use Rattle.symbols.specs.Lookup.{countSort}
 use Rattle.symbols.proofs.FindLaws.{ahead}
 use Rattle.symbols.proofs.CountLaws.{count-passes}
-use Rattle.table_names.specs.TableNames.{namesEnd, countIn, Tallied}
+use Rattle.table_names.specs.TableNames.{namesStart, namesEnd, countIn, Tallied}
 
 -- the counts at a place of the walk: those counted and those that are left are all; and none is above the place
 pub record Tally (t : List ℕ) (end at : ℕ) (c : List ℕ) : Type 0 where
@@ -23,11 +23,11 @@ pub record Tally (t : List ℕ) (end at : ℕ) (c : List ℕ) : Type 0 where
   pub so-far : (s : ℕ) → s < 8 → getD c s 0 + countSort s (entriesAt t at end) ≡ countIn t s
 
 module _ (t : List ℕ) (end : ℕ) where
-  pub tally-begins : (c : List ℕ) → c ≡ replicate 8 0 → end ≡ namesEnd t → Tally t end firstBody c
-  tally-begins c z e = record {
+  pub tally-begins : (at : ℕ) (c : List ℕ) → c ≡ replicate 8 0 → at ≡ namesStart t → end ≡ namesEnd t → Tally t end at c
+  tally-begins at c z b e = record {
     eight = ap length z;
     low = λ s. omega (arith, none s);
-    so-far = λ s h. rw (none s, e) (zero-add (countIn t s));
+    so-far = λ s h. rw (none s, b, e) (zero-add (countIn t s));
   }
     where
       zeros : (n s : ℕ) → _≡_ {A = ℕ} (getD (replicate n 0) s 0) 0

@@ -1,5 +1,5 @@
 -- What the names of a table say, body 1, whatever the bytes are. On a sound table it is what the image says. Assumes nothing.
-use Prim.Native.Nat.{ℕ, _<_, _+_, _*_}
+use Prim.Native.Nat.{ℕ, _+_, _*_, _<_}
 use mathlib.Core.Path.{_≡_}
 use mathlib.Core.Bool.{Bool, true, false, _&&_, cond}
 use mathlib.Core.List.{List}
@@ -7,21 +7,24 @@ use lib.Dec.{ltb}
 use lib.ListN.{getD}
 use Rattle.byte_slices.specs.Parts.{part}
 use Rattle.policy.specs.Basics.{Name, same, any}
-use Rattle.policy.specs.Words.{process, transitionWords}
-use Rattle.policy.specs.Encode.{NameEntry, firstBody}
+use Rattle.policy.specs.Words.{processWord, transitionWords}
+use Rattle.policy.specs.Encode.{NameEntry}
 use Rattle.policy.specs.Deciding.{Reply, answered, refused}
 use Rattle.policy.specs.Questions.{Part, nameFrom}
 use Rattle.symbols.specs.Section.{entriesAt}
 use Rattle.symbols.specs.Lookup.{countSort}
-use Rattle.table_reader.specs.Records.{lengthIn}
+use Rattle.table_reader.specs.Records.{startIn, lengthIn}
 use Rattle.policy.specs.declared.NameCounts.{NameCounts}
 
--- "the bodies follow from byte 68 in order": where body 1 ends, and its entries
+-- where body 1 starts and ends, as the header says, and its entries
+abbrev pub namesStart : List ℕ → ℕ
+namesStart t = startIn t 0
+
 abbrev pub namesEnd : List ℕ → ℕ
-namesEnd t = firstBody + lengthIn t 0
+namesEnd t = namesStart t + lengthIn t 0
 
 abbrev pub namesIn : List ℕ → List NameEntry
-namesIn t = entriesAt t firstBody (namesEnd t)
+namesIn t = entriesAt t (namesStart t) (namesEnd t)
 
 -- "Things are numbered from 0 in text order within their sort": how many names of a sort there are
 abbrev pub countIn : List ℕ → ℕ → ℕ
@@ -44,7 +47,7 @@ countsIn t = record {
 
 -- "**Name of** a sort and number"
 abbrev pub nameAt : List ℕ → ℕ → ℕ → Reply Part
-nameAt t x n = nameFrom x n firstBody (namesIn t)
+nameAt t x n = nameFrom x n (namesStart t) (namesIn t)
 
 -- a permission, "class x 32 + its place", which is below 32 as the class is
 unfoldable pub permissionIn : List ℕ → ℕ → ℕ → Reply Part
@@ -56,7 +59,7 @@ isFoundName (refused n k) = false
 
 -- the part of the table is the word; it is one of the words
 abbrev pub hasName : List ℕ → Reply Part → Name → Bool
-hasName t (answered p) w = same (part t (p .start) (p .long)) w
+hasName t (answered p) w = same (part t (p .start) (p .size)) w
 hasName t (refused n k) w = false
 
 abbrev pub hasOneName : List ℕ → Reply Part → List Name → Bool
@@ -64,4 +67,4 @@ hasOneName t r ws = any (hasName t r) ws
 
 -- "class `process`, permission `transition` or `dyntransition`"; 6 is the sort of classes
 unfoldable pub asksRoleIn : List ℕ → ℕ → ℕ → Bool
-asksRoleIn t c k = hasName t (nameAt t 6 c) process && hasOneName t (permissionIn t c k) transitionWords
+asksRoleIn t c k = hasName t (nameAt t 6 c) processWord && hasOneName t (permissionIn t c k) transitionWords

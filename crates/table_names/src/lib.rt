@@ -5,20 +5,27 @@ use policy::NameCounts;
 use policy::Permission;
 use policy::Section;
 use policy::Sort;
-use policy::Table;
 use symbols::Entry;
 use symbols::NamePlace;
 ghost use mathlib.Core.Path.{_≡_};
 ghost use lib.ListN.{replicate};
 ghost use Rattle.policy.specs.Words.{transitionWords};
 ghost use Rattle.symbols.specs.Lookup.{replyOf};
-ghost use Rattle.table_names.specs.TableNames.{namesEnd, countsIn, Tallied, isFoundName, nameAt, permissionIn, hasName, hasOneName, asksRoleIn};
+ghost use Rattle.table_names.specs.TableNames.{namesStart, namesEnd, countsIn, Tallied, isFoundName, nameAt, permissionIn, hasName, hasOneName, asksRoleIn};
 
-// Where the names end, as the header says.
+// Where the names start, as the header says.
+pub fn names_start(table: &[u8]) -> usize
+    ensures { λ r. ⌜ r ≡ namesStart (now (table .entry)) ⌝ }
+{
+    table_reader::body_start(table, Section::NAMES) as usize
+}
+
+// Where the names end.
 pub fn names_end(table: &[u8]) -> usize
     ensures { λ r. ⌜ r ≡ namesEnd (now (table .entry)) ⌝ }
 {
-    Table::HEADER_BYTES + table_reader::body_length(table, Section::NAMES) as usize
+    let start = table_reader::body_start(table, Section::NAMES) as usize;
+    start + table_reader::body_length(table, Section::NAMES) as usize
 }
 
 // Counts the names of each sort in one walk, with counts that are 0 at first.
@@ -27,7 +34,7 @@ fn tally(table: &[u8], counts: &mut [usize])
     ensures { λ _. ⌜ Tallied (now (table .entry)) (now (counts .exit)) ⌝ }
 {
     let end = names_end(table);
-    let mut at = Table::HEADER_BYTES;
+    let mut at = names_start(table);
     loop {
         let k = symbols::next_entry(table, at, end);
         match k {
@@ -71,7 +78,7 @@ pub fn count_names(table: &[u8]) -> NameCounts
 pub fn name_place(table: &[u8], sort: usize, number: usize) -> NamePlace
     ensures { λ r. ⌜ replyOf r ≡ nameAt (now (table .entry)) sort number ⌝ }
 {
-    symbols::name_of(table, Table::HEADER_BYTES, names_end(table), sort, number)
+    symbols::name_of(table, names_start(table), names_end(table), sort, number)
 }
 
 // Whether a name is a word. Where a table ends within a part, the part is cut there, so that a longer part is

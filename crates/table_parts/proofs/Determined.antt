@@ -5,7 +5,7 @@ use native.Mathlib.Omega.{arith}
 use mathlib.Core.Path.{_≡_, refl, sym, ap, ap₂, _∙_, subst}
 use mathlib.Core.Bool.{Bool, true, false, _&&_, cond}
 use mathlib.Core.List.{List, [], _∷_, _++_}
-use mathlib.Core.Option.{none, some, Option·some-injective}
+use mathlib.Core.Option.{Option, none, some, Option·some-injective}
 use lib.Dec.{eqb}
 use lib.ListN.{length, getElem?, take, drop}
 use lib.Seq.{take-at, drop-at}
@@ -13,9 +13,10 @@ use borrow.Author.Tests.{eqb-true, eq-eqb}
 use Rattle.bitset.specs.Relations.{joined}
 use Rattle.policy.specs.Basics.{Name, _>>=_, each, eachOf, le, All}
 use Rattle.policy.specs.Statements.{Family, users, roles, types, Sort, thingOf, attributeOf, Declaration, namesOf, classNames, permissions, count}
+use Rattle.policy.specs.Rows.{Row}
 use Rattle.policy.specs.Image.{Image}
 use Rattle.policy.specs.Encode.{NameEntry, nameEntry, sortCode, entryBytes, entries, firstBody}
-use Rattle.policy.specs.Sound.{namesAt, transitionAt, headAt, rowAt, assignRows}
+use Rattle.policy.specs.Sound.{editionIn, namesAt, transitionAt, headAt, rowAt, assignRows, relabelAt, assignRelabels}
 use Rattle.policy.specs.Deciding.{Reply, answered, refused}
 use Rattle.policy.specs.Questions.{Part, nameFrom, nameOf, nameOn, asked}
 use Rattle.policy.proofs.Lists.{both-true}
@@ -28,7 +29,7 @@ use Rattle.table_laws.proofs.PermissionNumbered.{permission-named}
 use Rattle.table_laws.proofs.WellFormed.{formed}
 use Rattle.table_laws.proofs.WellFormedLaid.{well-formed-laid}
 use Rattle.table_laws.proofs.SoundLaws.{sound-read}
-use Rattle.table_parts.specs.GivenBack.{listed, entriesOf, GivesBack, SameAnswers}
+use Rattle.table_parts.specs.GivenBack.{listed, entriesOf, withRows, GivesBack, SameAnswers}
 use Rattle.table_parts.proofs.DistinctNames.{Apart, Distinct, distinct}
 use Rattle.table_parts.proofs.GivesBack.{gives-back}
 
@@ -71,9 +72,9 @@ unfolding nameFrom
 placed-behind s n o [] p h = absurd (not-both 12 0 p h)
 placed-behind s n o (e ∷ es) p h = by (isThat s n e) h (placed-behind s n (o + length (entryBytes e)) es p)
   where
-    by : (b : Bool) → cond b (answered (record { start = o + 4; long = length (e .name) })) (nameFrom s n (o + length (entryBytes e)) es) ≡ answered p
+    by : (b : Bool) → cond b (answered (record { start = o + 4; size = length (e .name) })) (nameFrom s n (o + length (entryBytes e)) es) ≡ answered p
         → (nameFrom s n (o + length (entryBytes e)) es ≡ answered p → o + length (entryBytes e) + 4 ≤ p .start) → o + 4 ≤ p .start
-    by true h k = omega (arith, answered-start (record { start = o + 4; long = length (e .name) }) p h)
+    by true h k = omega (arith, answered-start (record { start = o + 4; size = length (e .name) }) p h)
     by false h k = omega (arith, k h)
 
 -- ---- entries with the same places and names are the same
@@ -91,9 +92,9 @@ module _ (e : NameEntry) (es fs : List NameEntry) (o : ℕ) (apart : All (Apart 
           rw (← eqb-true (e .sort) s (k .0), ← eqb-true (e .number) n (k .1))
           (none-placed e es (o + length (entryBytes e)) apart ∙ sym (none-placed e fs (o + length (entryBytes e)) apart′))
       by false q =
-          sym (ap (λ (b : Bool). cond b (answered (record { start = o + 4; long = length (e .name) })) (nameFrom s n (o + length (entryBytes e)) es)) q)
+          sym (ap (λ (b : Bool). cond b (answered (record { start = o + 4; size = length (e .name) })) (nameFrom s n (o + length (entryBytes e)) es)) q)
           ∙ h s n
-          ∙ ap (λ (b : Bool). cond b (answered (record { start = o + 4; long = length (e .name) })) (nameFrom s n (o + length (entryBytes e)) fs)) q
+          ∙ ap (λ (b : Bool). cond b (answered (record { start = o + 4; size = length (e .name) })) (nameFrom s n (o + length (entryBytes e)) fs)) q
 
   names-behind : ((s n : ℕ) → s < 8 → named s n (e ∷ es) ≡ named s n (e ∷ fs)) → (s n : ℕ) → s < 8 → named s n es ≡ named s n fs
   unfolding named
@@ -113,16 +114,16 @@ module _ (e f : NameEntry) (es fs : List NameEntry) (o : ℕ) (places : (s n : �
   unfolding nameFrom le
   found-first = by (isThat (e .sort) (e .number) f) refl
     where
-      here : nameFrom (e .sort) (e .number) o (e ∷ es) ≡ answered (record { start = o + 4; long = length (e .name) })
+      here : nameFrom (e .sort) (e .number) o (e ∷ es) ≡ answered (record { start = o + 4; size = length (e .name) })
       here = rw (itself e)
 
       by : (b : Bool) → isThat (e .sort) (e .number) f ≡ b → isThat (e .sort) (e .number) f ≡ true
       by true q = q
       by false q =
-          let later : nameFrom (e .sort) (e .number) (o + length (entryBytes f)) fs ≡ answered (record { start = o + 4; long = length (e .name) }) =
-          sym (ap (λ (b : Bool). cond b (answered (record { start = o + 4; long = length (f .name) })) (nameFrom (e .sort) (e .number) (o + length (entryBytes f)) fs)) q)
+          let later : nameFrom (e .sort) (e .number) (o + length (entryBytes f)) fs ≡ answered (record { start = o + 4; size = length (e .name) }) =
+          sym (ap (λ (b : Bool). cond b (answered (record { start = o + 4; size = length (f .name) })) (nameFrom (e .sort) (e .number) (o + length (entryBytes f)) fs)) q)
           ∙ sym (places (e .sort) (e .number)) ∙ here in
-          absurd (omega (arith, placed-behind (e .sort) (e .number) (o + length (entryBytes f)) fs (record { start = o + 4; long = length (e .name) }) later))
+          absurd (omega (arith, placed-behind (e .sort) (e .number) (o + length (entryBytes f)) fs (record { start = o + 4; size = length (e .name) }) later))
 
   first-same : e ≡ f
   unfolding named
@@ -141,13 +142,13 @@ same-entries : (es fs : List NameEntry) (o : ℕ) → All (λ (e : NameEntry). e
 unfolding nameFrom
 same-entries [] [] o low d d′ places names = refl
 same-entries [] (f ∷ fs) o low d d′ places names =
-    let z : _≡_ {A = Reply Part} (refused 12 0) (answered (record { start = o + 4; long = length (f .name) })) = places (f .sort) (f .number)
-    ∙ ap (λ (b : Bool). cond b (answered (record { start = o + 4; long = length (f .name) })) (nameFrom (f .sort) (f .number) (o + length (entryBytes f)) fs)) (itself f) in
-    absurd (not-both 12 0 (record { start = o + 4; long = length (f .name) }) z)
+    let z : _≡_ {A = Reply Part} (refused 12 0) (answered (record { start = o + 4; size = length (f .name) })) = places (f .sort) (f .number)
+    ∙ ap (λ (b : Bool). cond b (answered (record { start = o + 4; size = length (f .name) })) (nameFrom (f .sort) (f .number) (o + length (entryBytes f)) fs)) (itself f) in
+    absurd (not-both 12 0 (record { start = o + 4; size = length (f .name) }) z)
 same-entries (e ∷ es) [] o low d d′ places names =
-    let z : _≡_ {A = Reply Part} (refused 12 0) (answered (record { start = o + 4; long = length (e .name) })) = sym (places (e .sort) (e .number))
-    ∙ ap (λ (b : Bool). cond b (answered (record { start = o + 4; long = length (e .name) })) (nameFrom (e .sort) (e .number) (o + length (entryBytes e)) es)) (itself e) in
-    absurd (not-both 12 0 (record { start = o + 4; long = length (e .name) }) z)
+    let z : _≡_ {A = Reply Part} (refused 12 0) (answered (record { start = o + 4; size = length (e .name) })) = sym (places (e .sort) (e .number))
+    ∙ ap (λ (b : Bool). cond b (answered (record { start = o + 4; size = length (e .name) })) (nameFrom (e .sort) (e .number) (o + length (entryBytes e)) es)) (itself e) in
+    absurd (not-both 12 0 (record { start = o + 4; size = length (e .name) }) z)
 same-entries (e ∷ es) (f ∷ fs) o low d d′ places names =
     subst (λ (f : NameEntry). All (Apart f) fs → ((s n : ℕ) → nameFrom s n o (e ∷ es) ≡ nameFrom s n o (f ∷ fs)) →
     ((s n : ℕ) → s < 8 → named s n (e ∷ es) ≡ named s n (f ∷ fs)) → e ∷ es ≡ f ∷ fs)
@@ -155,6 +156,23 @@ same-entries (e ∷ es) (f ∷ fs) o low d d′ places names =
     (λ a p q. ap (λ (r : List NameEntry). e ∷ r)
     (same-entries es fs (o + length (entryBytes e)) (low .1) (d .1) (d′ .1) (places-behind e es fs o (d .0) a p) (names-behind e es fs o (d .0) a q)))
     (d′ .0) places names
+
+-- the same, where the first entry may be at another place: tables of two editions. It is not, since each name has its one place
+first-behind : (e : NameEntry) (es fs : List NameEntry) (o o′ : ℕ) → ((s n : ℕ) → nameFrom s n o (e ∷ es) ≡ nameFrom s n o′ fs) → o′ ≤ o
+unfolding nameFrom
+first-behind e es fs o o′ places =
+    let p : Part = record { start = o + 4; size = length (e .name) } in
+    let here : nameFrom (e .sort) (e .number) o (e ∷ es) ≡ answered p = rw (itself e) in
+    omega (arith, placed-behind (e .sort) (e .number) o′ fs p (sym (places (e .sort) (e .number)) ∙ here))
+
+same-entries-from : (es fs : List NameEntry) (o o′ : ℕ) → All (λ (e : NameEntry). e .sort < 8) es → Distinct es → Distinct fs
+    → ((s n : ℕ) → nameFrom s n o es ≡ nameFrom s n o′ fs) → ((s n : ℕ) → s < 8 → named s n es ≡ named s n fs) → es ≡ fs
+unfolding nameFrom
+same-entries-from [] fs o o′ low d d′ places names = same-entries [] fs o′ low d d′ places names
+same-entries-from (e ∷ es) [] o o′ low d d′ places names = same-entries (e ∷ es) [] o low d d′ places names
+same-entries-from (e ∷ es) (f ∷ fs) o o′ low d d′ places names =
+    let one : o′ ≡ o = omega (arith, first-behind e es (f ∷ fs) o o′ places, first-behind f fs (e ∷ es) o′ o (λ s n. sym (places s n))) in
+    same-entries (e ∷ es) (f ∷ fs) o low d d′ (λ s n. places s n ∙ ap (λ (p : ℕ). nameFrom s n p (f ∷ fs)) one) names
 
 -- ---- tables
 
@@ -208,14 +226,14 @@ module _ (t u : List ℕ) (a : Sound t) (b : Sound u) (same : SameAnswers t u) w
       ∙ sym (permission-named (j .names) (formed j (b .formed) .names) n)
   same-names (suc (suc (suc (suc (suc (suc (suc (suc s)))))))) n l = absurd (omega arith)
 
-  same-places : (s n : ℕ) → nameFrom s n firstBody (entries (i .names)) ≡ nameFrom s n firstBody (entries (j .names))
+  same-places : (s n : ℕ) → nameFrom s n (firstBody (editionIn t)) (entries (i .names)) ≡ nameFrom s n (firstBody (editionIn u)) (entries (j .names))
   unfolding nameOn nameOf
   same-places s n =
-      sym (ap (asked (λ i. nameOf i s n)) (sound-read t a)) ∙ same .places s n ∙ ap (asked (λ i. nameOf i s n)) (sound-read u b)
+      sym (ap (asked (λ i. nameOf (editionIn t) i s n)) (sound-read t a)) ∙ same .places s n ∙ ap (asked (λ i. nameOf (editionIn u) i s n)) (sound-read u b)
 
   all-entries : entries (i .names) ≡ entries (j .names)
   unfolding entries
-  all-entries = same-entries (entries (i .names)) (entries (j .names)) firstBody
+  all-entries = same-entries-from (entries (i .names)) (entries (j .names)) (firstBody (editionIn t)) (firstBody (editionIn u))
       (all-map GoodEntry (λ (e : NameEntry). e .sort < 8) (λ e g. g .sort) (entries (i .names)) (entries-fit [] (i .names) (formed i (a .formed) .names)))
       (distinct (i .names) (formed i (a .formed) .names)) (distinct (j .names) (formed j (b .formed) .names)) same-places same-names
 
@@ -239,11 +257,11 @@ module _ (t u : List ℕ) (a : Sound t) (b : Sound u) (same : SameAnswers t u) w
   last-sets = cut (i .roleSets) (i .typeSets) (j .roleSets) (j .typeSets)
       (as-many roles _ _ (well-formed-laid i (a .formed) .roleSets .many) (well-formed-laid j (b .formed) .roleSets .many)) (first-sets .1)
 
-  same-constraints : i .constraints ≡ j .constraints
-  same-constraints = Option·some-injective (i .constraints) (j .constraints)
-      (sym (back .constraints)
-      ∙ ap₂ (λ (rs hs : List (List ℕ)). eachOf rowAt rs >>= λ rs. assignRows 0 (each headAt hs) rs) (same-body 7) (same-body 6)
-      ∙ back′ .constraints)
+  -- the records of a body, which both give back with their rows
+  same-with-rows : {H C : Type 0} (head : List ℕ → H) (assign : List H → List Row → Option (List C)) (k : ℕ) (cs cs′ : List C)
+      → withRows head assign t k ≡ some cs → withRows head assign u k ≡ some cs′ → cs ≡ cs′
+  same-with-rows head assign k cs cs′ p q = Option·some-injective cs cs′
+      (sym p ∙ ap₂ (λ (rs hs : List (List ℕ)). eachOf rowAt rs >>= λ rs. assign (each head hs) rs) (same-body (k + 1)) (same-body k) ∙ q)
 
   -- TABLES WITH THE SAME ANSWERS HOLD THE SAME IMAGE
   pub answers-determine : i ≡ j
@@ -253,8 +271,9 @@ module _ (t u : List ℕ) (a : Sound t) (b : Sound u) (same : SameAnswers t u) w
     roleTypes = (sym (back .roleTypes) ∙ same-body 3 ∙ back′ .roleTypes) x;
     roleRoles = (sym (back .roleRoles) ∙ same-body 4 ∙ back′ .roleRoles) x;
     transitions = (sym (back .transitions) ∙ ap (each transitionAt) (same-body 5) ∙ back′ .transitions) x;
-    constraints = same-constraints x;
+    constraints = same-with-rows headAt (assignRows 0) 6 (i .constraints) (j .constraints) (back .constraints) (back′ .constraints) x;
     userSets = first-sets .0 x;
     roleSets = last-sets .0 x;
     typeSets = last-sets .1 x;
+    relabels = same-with-rows relabelAt assignRelabels 9 (i .relabels) (j .relabels) (back .relabels) (back′ .relabels) x;
   }

@@ -7,28 +7,28 @@ use mathlib.Core.Bool.{true}
 use mathlib.Core.List.{List, [], _∷_, _++_}
 use mathlib.Core.Option.{Option, some}
 use lib.ListN.{length, getElem?, length-append}
-use Rattle.policy.specs.Basics.{_>>=_, each, eachOf}
+use Rattle.policy.specs.Basics.{_>>=_, each, eachOf, All}
 use Rattle.policy.specs.Statements.{users, roles, types, Sort, thingOf, attributeOf, namesOf, classNames, permissions, count}
 use Rattle.policy.specs.Rows.{Row}
 use Rattle.policy.specs.Image.{Image}
-use Rattle.policy.specs.Encode.{sortCode, transitionBytes, ConstraintHead, headBytes, headsFrom, rowBytes, encode}
-use Rattle.policy.specs.Sound.{wellFormed, transitionAt, headAt, rowAt, assignRows}
+use Rattle.policy.specs.Encode.{sortCode, transitionBytes, headBytes, headsFrom, rowBytes, relabelHead, relabelBytes, sectionsOf, encode}
+use Rattle.policy.specs.Sound.{wellFormed, transitionAt, headAt, rowAt, assignRows, relabelAt, assignRelabels}
 use Rattle.policy.specs.Deciding.{Reply}
 use Rattle.policy.specs.Questions.{nameOn, entryOn}
 use Rattle.policy.proofs.Lists.{each-length}
 use Rattle.policy.proofs.Counts.{few-of, few-classes, few-permissions-of}
 use Rattle.policy.proofs.Sorts.{max-small}
-use Rattle.table_laws.specs.SoundTable.{Sound, allRows}
+use Rattle.table_laws.specs.SoundTable.{FitsEdition, Sound, allRows, relabelRows}
 use Rattle.table_laws.specs.Shown.{shown, orTwelve, nameIn, recordsIn}
 use Rattle.table_laws.proofs.ListLaws.{each-back}
-use Rattle.table_laws.proofs.Records.{WideTransition, transition-back, SmallHead, head-back, rows-back}
-use Rattle.table_laws.proofs.Constraints.{assign-back}
+use Rattle.table_laws.proofs.Records.{WideTransition, transition-back, SmallHead, head-back, SmallRelabel, relabel-back, rows-back}
+use Rattle.table_laws.proofs.Constraints.{assign-back, relabels-back}
 use Rattle.table_laws.proofs.Lengths.{heads-length}
 use Rattle.table_laws.proofs.ImageReadBack.{Laid}
 use Rattle.table_laws.proofs.WellFormed.{Formed, formed}
 use Rattle.table_laws.proofs.WellFormedLaid.{well-formed-laid}
 use Rattle.table_laws.proofs.QuestionLaws.{name-on, entry-on}
-use Rattle.table_parts.specs.GivenBack.{onward, listed, entriesOf, GivesBack}
+use Rattle.table_parts.specs.GivenBack.{onward, listed, entriesOf, withRows, GivesBack}
 
 -- what is asked for one number after the other is the list that it is asked of
 listed-all : (xs : List (List ℕ)) (m : ℕ) (ask : ℕ → Reply (List ℕ)) → length xs ≤ m → ((k : ℕ) → k < m → ask k ≡ orTwelve (getElem? xs k)) → listed m ask ≡ xs
@@ -107,9 +107,20 @@ module _ (t : List ℕ) (s : Sound t) where
       ap (each headAt) (body 6 (omega (arith, each-length headBytes (headsFrom 0 (i .constraints)), heads-length 0 (i .constraints), form .few-constraints)))
       ∙ each-back SmallHead headBytes headAt head-back (headsFrom 0 (i .constraints)) (laid .heads)
 
-  all-rows-back : eachOf rowAt (entriesOf t 7) ≡ some (allRows i)
+  relabel-heads-back : each relabelAt (entriesOf t 9) ≡ each relabelHead (i .relabels)
   unfolding recordsIn
-  all-rows-back = ap (eachOf rowAt) (body 7 (omega (arith, each-length rowBytes (allRows i), form .few-rows))) ∙ rows-back (allRows i) (laid .rows)
+  relabel-heads-back =
+      let heads = each relabelHead (i .relabels) in
+      ap (each relabelAt) (body 9 (omega (arith, each-length relabelBytes heads, each-length relabelHead (i .relabels), form .few-relabels)))
+      ∙ each-back SmallRelabel relabelBytes relabelAt relabel-back heads (laid .relabels)
+
+  -- records and rows that are given back are so together
+  with-rows : {H C : Type 0} (head : List ℕ → H) (assign : List H → List Row → Option (List C)) (b : ℕ) (hs : List H) (rs : List Row) (cs : List C)
+      → each head (entriesOf t b) ≡ hs → recordsIn i (b + 1) ≡ each rowBytes rs → length rs ≤ 2048 → All (λ (r : Row). r .num < 65536) rs → assign hs rs ≡ some cs
+      → withRows head assign t b ≡ some cs
+  with-rows {H} head assign b hs rs cs heads records few small dealt =
+      let rows = body (b + 1) (omega (arith, ap length records, each-length rowBytes rs)) ∙ records in
+      ap₂ (λ (o : Option (List Row)) (hs : List H). o >>= λ rs. assign hs rs) (ap (eachOf rowAt) rows ∙ rows-back rs small) heads ∙ dealt
 
   -- A SOUND TABLE GIVES BACK ITS IMAGE
   pub gives-back : GivesBack t i
@@ -126,10 +137,16 @@ module _ (t : List ℕ) (s : Sound t) where
     roleTypes = body 3 (omega (arith, laid .roleTypes .many, few (thingOf roles)));
     roleRoles = body 4 (omega (arith, laid .roleRoles .many, few (thingOf roles)));
     transitions = transitions-back;
-    constraints = ap₂ (λ (o : Option (List Row)) (hs : List ConstraintHead). o >>= λ rs. assignRows 0 hs rs) all-rows-back heads-back ∙ assign-back 0 (i .constraints);
+    constraints =
+        with-rows headAt (assignRows 0) 6 (headsFrom 0 (i .constraints)) (allRows i) (i .constraints) heads-back refl (form .few-rows) (laid .rows)
+        (assign-back 0 (i .constraints));
     attributes = body 8 few-sets;
+    relabels =
+        with-rows relabelAt assignRelabels 9 (each relabelHead (i .relabels)) (relabelRows i) (i .relabels) relabel-heads-back refl (omega (arith, form .few-relabel-rows))
+        (laid .relabel-rows) (relabels-back (i .relabels));
   }
 
--- WHAT IS WRITTEN FOR A WELL-FORMED IMAGE GIVES IT BACK, whatever is after it
-pub written-gives-back : (i : Image) → wellFormed i ≡ true → (rest : List ℕ) → GivesBack (encode i ++ rest) i
-written-gives-back i h rest = gives-back (encode i ++ rest) (record { image = i; formed = h; rest = rest; laid = refl })
+-- WHAT IS WRITTEN FOR A WELL-FORMED IMAGE GIVES IT BACK, in every edition that it fits and whatever is after it
+pub written-gives-back : (e : ℕ) (i : Image) → 0 < sectionsOf e → FitsEdition e i → wellFormed i ≡ true → (rest : List ℕ) → GivesBack (encode e i ++ rest) i
+written-gives-back e i known fits h rest =
+    gives-back (encode e i ++ rest) (record { edition = e; known = known; image = i; formed = h; fits = fits; rest = rest; laid = refl })

@@ -3,12 +3,13 @@
 use Prim.Native.Nat.{ℕ, zero, suc, _+_, _*_}
 use mathlib.Core.Path.{_≡_}
 use mathlib.Core.List.{List, [], _∷_, _++_}
-use mathlib.Core.Option.{some}
+use mathlib.Core.Option.{Option, some}
 use Rattle.policy.specs.Basics.{Name, _>>=_, each, eachOf}
 use Rattle.policy.specs.Statements.{Sort, namesOf, classNames, permissions}
+use Rattle.policy.specs.Rows.{Row}
 use Rattle.policy.specs.Image.{Image}
 use Rattle.policy.specs.Encode.{sortCode}
-use Rattle.policy.specs.Sound.{transitionAt, headAt, rowAt, assignRows}
+use Rattle.policy.specs.Sound.{transitionAt, headAt, rowAt, assignRows, relabelAt, assignRelabels}
 use Rattle.policy.specs.Deciding.{Reply, answered, refused}
 use Rattle.policy.specs.Questions.{nameOn, entryOn}
 use Rattle.table_laws.specs.Shown as parts
@@ -34,7 +35,12 @@ namesIn t s = listed 2048 (λ n. parts.shown t (nameOn t s n))
 abbrev pub permissionsIn : List ℕ → ℕ → List Name
 permissionsIn t c = listed 32 (λ k. parts.shown t (nameOn t 7 (c * 32 + k)))
 
--- "those sets, rows and names": the names of each sort by their numbers, the sets, the transitions, and the constraints with their rows
+-- the records of a body with the rows that they take up in the body after it: constraints, and validatetrans statements
+abbrev pub withRows : {H C : Type 0} → (List ℕ → H) → (List H → List Row → Option (List C)) → List ℕ → ℕ → Option (List C)
+withRows head assign t b = eachOf rowAt (entriesOf t (b + 1)) >>= λ rs. assign (each head (entriesOf t b)) rs
+
+-- "those sets, rows and names": the names of each sort by their numbers, the sets, the transitions, and the constraints and validatetrans
+-- statements with their rows
 pub record GivesBack (t : List ℕ) (i : Image) : Type 0 where
   pub names : (s : Sort) → namesIn t (sortCode s) ≡ namesOf s (i .names)
   pub classes : namesIn t 6 ≡ classNames (i .names)
@@ -43,8 +49,9 @@ pub record GivesBack (t : List ℕ) (i : Image) : Type 0 where
   pub roleTypes : entriesOf t 3 ≡ i .roleTypes
   pub roleRoles : entriesOf t 4 ≡ i .roleRoles
   pub transitions : each transitionAt (entriesOf t 5) ≡ i .transitions
-  pub constraints : (eachOf rowAt (entriesOf t 7) >>= λ rs. assignRows 0 (each headAt (entriesOf t 6)) rs) ≡ some (i .constraints)
+  pub constraints : withRows headAt (assignRows 0) t 6 ≡ some (i .constraints)
   pub attributes : entriesOf t 8 ≡ i .userSets ++ (i .roleSets ++ i .typeSets)
+  pub relabels : withRows relabelAt assignRelabels t 9 ≡ some (i .relabels)
 
 -- two tables that answer name of with the same places and the same bytes there, and entry with the same bytes
 pub record SameAnswers (t u : List ℕ) : Type 0 where

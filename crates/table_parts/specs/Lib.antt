@@ -1,2 +1,3 @@
 pub mod ShownPart
+pub mod RecordWidths
 pub mod GivenBack

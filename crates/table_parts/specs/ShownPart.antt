@@ -8,5 +8,5 @@ use Rattle.policy.specs.Questions.{Part}
 
 -- "an empty part on refusal": it holds no bytes, and where it points is free
 abbrev pub shownPart : Reply Part → List ℕ → List ℕ
-shownPart (answered p) t = part t (p .start) (p .long)
+shownPart (answered p) t = part t (p .start) (p .size)
 shownPart (refused n k) t = []

@@ -4,6 +4,7 @@
 use policy::Constraint;
 use policy::Place;
 use policy::Refusal;
+use policy::Relabel;
 use policy::Role;
 use policy::Row;
 use policy::Section;
@@ -19,6 +20,7 @@ ghost use Rattle.policy.specs.Answers.{placeOf};
 ghost use Rattle.policy.specs.Questions.{recordsOf, recordFrom, nameOn, entryOn};
 ghost use Rattle.table_reader.specs.Records.{startIn, lengthIn};
 ghost use Rattle.soundness.specs.IsSound.{isSound};
+ghost use Rattle.table_parts.specs.RecordWidths.{widthOf};
 ghost use Rattle.table_parts.specs.ShownPart.{shownPart};
 
 // ---- names
@@ -37,7 +39,7 @@ pub fn name_place_in_sound(table: &[u8], sort: usize, number: usize) -> Place
     }
 }
 
-// ---- entries of the bodies 2 to 7
+// ---- entries of bodies whose records have one width
 
 // The record at a place among so many of one width, the first of which starts at `start`.
 fn record_place(start: usize, count: usize, width: usize, place: usize) -> Place
@@ -107,23 +109,43 @@ fn attribute_place(table: &[u8], place: usize) -> Place
 
 // ---- entries
 
-// Where the entry of a body 2 to 8 and its place there is in a sound table.
+// How many bytes each record of a section has; 0 where they have no one width, and where there is no such section.
+fn record_bytes(section: u8) -> usize
+    ensures { λ r. ⌜ r ≡ widthOf section ⌝ }
+{
+    match section {
+        Section::USER_ROLES => Role::SET_BYTES,
+        Section::ROLE_TYPES => Type::SET_BYTES,
+        Section::ROLE_ROLES => Role::SET_BYTES,
+        Section::TRANSITIONS => Transition::BYTES,
+        Section::CONSTRAINTS => Constraint::BYTES,
+        Section::ROWS => Row::BYTES,
+        Section::RELABELS => Relabel::BYTES,
+        Section::RELABEL_ROWS => Row::BYTES,
+        _ => 0,
+    }
+}
+
+// The body of the names, which name of serves and entry does not. A body's number is its section's, counted from 1.
+const NAMES: usize = Section::NAMES as usize + 1;
+
+// Where the entry of a body from 2 on and its place there is in a sound table. Where the table's edition has no such
+// section, there is no such body.
 pub fn entry_place_in_sound(table: &[u8], body: usize, place: usize) -> Place
     requires { ⌜ isSound (now table) ≡ true ⌝ }
     ensures { λ r. ⌜ placeOf r ≡ entryOn (now (table .entry)) body place ⌝ }
 {
-    match body {
-        2 => run_place(table, Section::USER_ROLES, Role::SET_BYTES, place),
-        3 => run_place(table, Section::ROLE_TYPES, Type::SET_BYTES, place),
-        4 => run_place(table, Section::ROLE_ROLES, Role::SET_BYTES, place),
-        5 => run_place(table, Section::TRANSITIONS, Transition::BYTES, place),
-        6 => run_place(table, Section::CONSTRAINTS, Constraint::BYTES, place),
-        7 => run_place(table, Section::ROWS, Row::BYTES, place),
-        8 => attribute_place(table, place),
-        _ => Place::Refused {
+    let sections = table_reader::sections_of(table_reader::edition(table)) as usize;
+    if body <= NAMES || sections < body {
+        return Place::Refused {
             number: Refusal::NUMBER_UNDECLARED,
-        },
+        };
     }
+    let section = (body - 1) as u8;
+    if section == Section::ATTRIBUTE_SETS {
+        return attribute_place(table, place);
+    }
+    run_place(table, section, record_bytes(section), place)
 }
 
 // ---- every table
@@ -140,7 +162,7 @@ pub fn name_place(table: &[u8], sort: usize, number: usize) -> Place
     name_place_in_sound(table, sort, number)
 }
 
-// Where the entry of a body 2 to 8 and its place there is.
+// Where the entry of a body from 2 on and its place there is.
 pub fn entry_place(table: &[u8], body: usize, place: usize) -> Place
     ensures { λ r. ⌜ placeOf r ≡ entryOn (now (table .entry)) body place ⌝ }
 {
@@ -170,7 +192,7 @@ pub fn name(table: &[u8], sort: usize, number: usize) -> &[u8]
     part_at(table, name_place(table, sort, number))
 }
 
-// The entry of a body 2 to 8 and its place there; an empty part on refusal.
+// The entry of a body from 2 on and its place there; an empty part on refusal.
 pub fn entry(table: &[u8], body: usize, place: usize) -> &[u8]
     ensures { λ r. ⌜ now r ≡ shownPart (entryOn (now (table .entry)) body place) (now (table .entry)) ⌝ }
 {

@@ -3,46 +3,35 @@
 use Prim.Native.Nat.{ℕ, zero, suc, _+_, _*_, _^_, _<_}
 use native.Mathlib.Nat.{add-zero}
 use native.Mathlib.Omega.{arith}
-use mathlib.Core.Path.{_≡_, refl, sym, ap, _∙_, subst}
+use mathlib.Core.Path.{_≡_, sym, ap, ap₂, _∙_, subst}
 use mathlib.Core.Bool.{true}
-use mathlib.Core.List.{List, [], _∷_, _++_, append-assoc}
+use mathlib.Core.List.{List, [], _∷_, _++_}
 use lib.ListN.{length, getD, take, drop, length-append}
-use lib.Seq.{take-at, drop-at, drop-drop}
+use lib.Seq.{take-at, take-take, drop-drop, getD-take}
 use Rattle.bitset.specs.Relations.{joined}
 use Rattle.policy.specs.Basics.{le, unle}
 use Rattle.policy.specs.Image.{Image}
-use Rattle.policy.specs.Encode.{bodies, pairs, firstBody, encode}
+use Rattle.policy.specs.Encode.{bodies, pairs, sectionsOf, firstBody, encode}
 use Rattle.policy.specs.Sound.{wellFormed}
+use Rattle.table_laws.specs.SoundTable.{FitsEdition}
 use Rattle.table_laws.proofs.LittleEndian.{le-length, unle-le}
-use Rattle.table_laws.proofs.LayoutLaws.{pairs-length}
-use Rattle.table_laws.proofs.WellFormedLaid.{well-formed-laid}
+use Rattle.table_laws.proofs.Editions.{sections-many}
+use Rattle.table_laws.proofs.LayoutLaws.{layout-pairs, table-at}
+use Rattle.table_laws.proofs.WellFormedLaid.{offsets-small}
 use Rattle.table_laws.proofs.ListLaws.{joined-room}
 use Rattle.table_reader.specs.Records.{bodyPlace, startIn, lengthIn}
-use Rattle.table_reader.proofs.RecordLaws.{Stands, stands-left, stands-right, stands-joined}
+use Rattle.table_reader.proofs.RecordLaws.{Stands, stands-left, stands-right}
 
--- THE BODIES
-
-eight : (i : Image) → length (bodies i) ≡ 8
-unfolding bodies
-eight i = refl
-
--- the pairs follow four bytes, and the bodies the pairs
-four : (i : Image) (rest : List ℕ) → drop 4 (encode i ++ rest) ≡ pairs firstBody (bodies i) ++ (joined (bodies i) ++ rest)
-unfolding encode le
-four i rest = append-assoc (pairs firstBody (bodies i)) (joined (bodies i)) rest
-
-bodies-stand : (i : Image) (rest : List ℕ) → Stands (encode i ++ rest) firstBody (joined (bodies i))
-bodies-stand i rest = record {
-  rest = rest;
-  here = sym (drop-drop 64 4 (encode i ++ rest))
-      ∙ ap (drop 64) (four i rest)
-      ∙ drop-at (pairs firstBody (bodies i)) (joined (bodies i) ++ rest) 64 (pairs-length (bodies i) firstBody ∙ ap (λ (n : ℕ). 8 * n) (eight i));
-}
-
--- body k, counted from 0, of an image's table is at its place, whatever is after the table
-pub body-stands : (i : Image) (rest : List ℕ) (k : ℕ) → k < 8 → Stands (encode i ++ rest) (bodyPlace i k) (getD (bodies i) k [])
+-- body k, counted from 0, of the table of an image that fits the edition is at its place, whatever is after the table
+pub body-stands : (e : ℕ) (i : Image) → 0 < sectionsOf e → FitsEdition e i → (rest : List ℕ) (k : ℕ)
+    → Stands (encode e i ++ rest) (bodyPlace e i k) (getD (bodies i) k [])
 unfolding bodyPlace
-body-stands i rest k h = stands-joined (bodies i) k (omega (arith, eight i)) (bodies-stand i rest)
+body-stands e i known fits rest k = record { rest = joined (drop (suc k) (bodies i)) ++ rest; here = table-at e i known fits rest k }
+
+-- the first body is right after the header
+pub first-place : (e : ℕ) (i : Image) → bodyPlace e i 0 ≡ firstBody e
+unfolding bodyPlace joined
+first-place e i = add-zero (firstBody e)
 
 -- THE HEADER
 
@@ -71,28 +60,34 @@ pair-front (b ∷ bs) o (suc k) h rest =
           ∙ ap (λ (n : ℕ). (le 4 n ++ le 4 (length (getD bs k []))) ++ next .rest) start;
     }
 
-pair-stands : (i : Image) (rest : List ℕ) (k : ℕ) → k < 8 → Stands (encode i ++ rest) (4 + 8 * k) (le 4 (bodyPlace i k) ++ le 4 (length (getD (bodies i) k [])))
+-- so the pair of a section that the edition has
+pair-stands : (e : ℕ) (i : Image) → 0 < sectionsOf e → (rest : List ℕ) (k : ℕ) → k < sectionsOf e
+    → Stands (encode e i ++ rest) (4 + 8 * k) (le 4 (bodyPlace e i k) ++ le 4 (length (getD (bodies i) k [])))
 unfolding encode bodyPlace
-pair-stands i rest k h =
-    let p = pair-front (bodies i) firstBody k (omega (arith, eight i)) (joined (bodies i) ++ rest) in
+pair-stands e i known rest k h =
+    let bs = take (sectionsOf e) (bodies i) in
+    let p = pair-front bs (firstBody e) k (omega (arith, sections-many e i known)) (joined bs ++ rest) in
     record {
       rest = p .rest;
-      here = sym (drop-drop (8 * k) 4 (encode i ++ rest)) ∙ ap (drop (8 * k)) (four i rest) ∙ p .here;
+      here = sym (drop-drop (8 * k) 4 (encode e i ++ rest)) ∙ ap (drop (8 * k)) (layout-pairs e bs rest) ∙ p .here
+          ∙ ap₂ (λ (l : List (List ℕ)) (b : List ℕ). (le 4 (firstBody e + length (joined l)) ++ le 4 (length b)) ++ p .rest)
+          (take-take k (sectionsOf e) (bodies i) (omega arith)) (getD-take (sectionsOf e) (bodies i) k [] h);
     }
 
-module _ (i : Image) (good : wellFormed i ≡ true) (rest : List ℕ) (k : ℕ) (h : k < 8) where
-  room : bodyPlace i k + length (getD (bodies i) k []) < 256 ^ 4
+module _ (e : ℕ) (i : Image) (known : 0 < sectionsOf e) (good : wellFormed i ≡ true) (rest : List ℕ) (k : ℕ) (h : k < sectionsOf e) where
+  room : bodyPlace e i k + length (getD (bodies i) k []) < 256 ^ 4
   unfolding bodyPlace
-  room = omega (arith, well-formed-laid i good .room, joined-room (bodies i) k)
+  room = omega (arith, offsets-small i good e known, joined-room (bodies i) k)
 
   -- the header of a well-formed image's table says where each body starts
-  pub start-part : startIn (encode i ++ rest) k ≡ bodyPlace i k
-  start-part = number-part 4 (bodyPlace i k) (omega (arith, room)) (stands-left (le 4 (bodyPlace i k)) (le 4 (length (getD (bodies i) k []))) (pair-stands i rest k h))
+  pub start-part : startIn (encode e i ++ rest) k ≡ bodyPlace e i k
+  start-part = number-part 4 (bodyPlace e i k) (omega (arith, room))
+      (stands-left (le 4 (bodyPlace e i k)) (le 4 (length (getD (bodies i) k []))) (pair-stands e i known rest k h))
 
   -- and how long it is
-  pub length-part : lengthIn (encode i ++ rest) k ≡ length (getD (bodies i) k [])
+  pub length-part : lengthIn (encode e i ++ rest) k ≡ length (getD (bodies i) k [])
   length-part =
       let long = length (getD (bodies i) k []) in
-      let place : 4 + 8 * k + length (le 4 (bodyPlace i k)) ≡ 8 + 8 * k = omega (arith, le-length 4 (bodyPlace i k)) in
+      let place : 4 + 8 * k + length (le 4 (bodyPlace e i k)) ≡ 8 + 8 * k = omega (arith, le-length 4 (bodyPlace e i k)) in
       number-part 4 long (omega (arith, room))
-      (subst (λ (n : ℕ). Stands (encode i ++ rest) n (le 4 long)) place (stands-right (le 4 (bodyPlace i k)) (le 4 long) (pair-stands i rest k h)))
+      (subst (λ (n : ℕ). Stands (encode e i ++ rest) n (le 4 long)) place (stands-right (le 4 (bodyPlace e i k)) (le 4 long) (pair-stands e i known rest k h)))

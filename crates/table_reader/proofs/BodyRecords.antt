@@ -8,14 +8,14 @@ use Rattle.bitset.specs.Relations.{joined}
 use Rattle.policy.specs.Basics.{each, le, All}
 use Rattle.policy.specs.Rows.{Row, row}
 use Rattle.policy.specs.Image.{TransitionEntry}
-use Rattle.policy.specs.Encode.{transitionBytes, ConstraintHead, headBytes, rowBytes}
-use Rattle.policy.specs.Sound.{transitionAt, headAt}
+use Rattle.policy.specs.Encode.{transitionBytes, ConstraintHead, headBytes, RelabelHead, relabelBytes, rowBytes}
+use Rattle.policy.specs.Sound.{transitionAt, headAt, relabelAt}
 use Rattle.table_laws.proofs.LittleEndian.{unle-le}
-use Rattle.table_laws.proofs.Records.{WideTransition, transition-wide, SmallHead, head-wide, row-wide}
+use Rattle.table_laws.proofs.Records.{WideTransition, transition-wide, SmallHead, head-wide, SmallRelabel, relabel-wide, row-wide}
 use Rattle.table_reader.specs.Records.{records, rowAt}
 use Rattle.table_reader.proofs.RecordLaws.{Stands, records-part}
 
--- BODY 7
+-- BODIES 7 AND 10
 
 abbrev pub SmallRow : Row → Type 0
 SmallRow r = r .num < 65536
@@ -40,6 +40,16 @@ head-front h s rest = λ i. record {
 
 pub heads-part : {t : List ℕ} {at : ℕ} (l : List ConstraintHead) → All SmallHead l → Stands t at (joined (each headBytes l)) → records 10 headAt (length l) (drop at t) ≡ l
 heads-part = records-part 10 headAt headBytes SmallHead (λ h s. head-wide h) head-front
+
+-- BODY 9
+
+relabel-front : (h : RelabelHead) → SmallRelabel h → (rest : List ℕ) → relabelAt (relabelBytes h ++ rest) ≡ h
+unfolding le
+relabel-front h s rest = λ i. record { class = unle-le 2 (h .class) (s .class) i; rows = unle-le 2 (h .rows) (s .rows) i }
+
+pub relabels-part : {t : List ℕ} {at : ℕ} (l : List RelabelHead) → All SmallRelabel l → Stands t at (joined (each relabelBytes l))
+    → records 4 relabelAt (length l) (drop at t) ≡ l
+relabels-part = records-part 4 relabelAt relabelBytes SmallRelabel (λ h s. relabel-wide h) relabel-front
 
 -- BODY 5
 

@@ -7,7 +7,7 @@ use lib.ListN.{getD, take, drop}
 use lib.Seq.{getD-drop, drop-drop}
 use Rattle.policy.specs.Basics.{unle}
 use Rattle.policy.specs.Rows.{row}
-use Rattle.policy.specs.Sound.{headAt}
+use Rattle.policy.specs.Sound.{headAt, relabelAt}
 use Rattle.table_reader.specs.Records.{rowAt}
 
 number-field : (w k at : ℕ) (t : List ℕ) → unle (take w (drop k (drop at t))) ≡ unle (take w (drop (at + k) t))
@@ -30,3 +30,6 @@ head-fields at t = λ i. record {
   first = number-field 2 6 at t i;
   rows = number-field 2 8 at t i;
 }
+
+pub relabel-fields : (at : ℕ) (t : List ℕ) → relabelAt (drop at t) ≡ record { class = unle (take 2 (drop at t)); rows = unle (take 2 (drop (at + 2) t)) }
+relabel-fields at t = λ i. record { class = unle (take 2 (drop at t)); rows = number-field 2 2 at t i }

@@ -3,3 +3,4 @@ pub mod Fields
 pub mod RecordLaws
 pub mod BodyRecords
 pub mod BodyPlaces
+pub mod SoundPlaces

@@ -2,14 +2,14 @@
 -- the record. Assumes nothing.
 use Prim.Native.Nat.{ℕ, zero, suc, _+_, _*_, _<_}
 use native.Mathlib.Omega.{arith}
-use mathlib.Core.Path.{_≡_, refl, sym, ap, ap₂, _∙_, subst}
+use mathlib.Core.Path.{_≡_, refl, sym, ap, _∙_, subst}
 use mathlib.Core.List.{List, [], _∷_, _++_, append-assoc}
-use lib.ListN.{length, getD, take, drop, length-append}
-use lib.Seq.{drop-drop, drop-at, take-at, drop-append-add, length-take-le}
+use lib.ListN.{length, getD, take, drop}
+use lib.Seq.{drop-drop, drop-at, take-at, length-take-le}
 use Rattle.bitset.specs.Relations.{joined}
 use Rattle.byte_slices.specs.Parts.{part}
 use Rattle.policy.specs.Basics.{each, All}
-use Rattle.table_laws.proofs.ListLaws.{all-take}
+use Rattle.table_laws.proofs.ListLaws.{all-take, joined-place}
 use Rattle.table_laws.proofs.Pieces.{Wide, wide-length}
 use Rattle.table_reader.specs.Records.{records}
 
@@ -45,27 +45,17 @@ module _ {t : List ℕ} {at : ℕ} where
   }
 
 -- part k of parts that are one after the other, after those before it
-joined-place : (ss : List (List ℕ)) (k : ℕ) → k < length ss → (rest : List ℕ)
-    → drop (length (joined (take k ss))) (joined ss ++ rest) ≡ getD ss k [] ++ (joined (drop (suc k) ss) ++ rest)
-unfolding joined
-joined-place [] k h rest = absurd (omega arith)
-joined-place (s ∷ ss) zero h rest = append-assoc s (joined ss) rest
-joined-place (s ∷ ss) (suc k) h rest =
-    ap₂ drop (length-append s (joined (take k ss))) (append-assoc s (joined ss) rest)
-    ∙ (drop-append-add s (joined ss ++ rest) (length (joined (take k ss))) ∙ joined-place ss k (omega arith) rest)
-
-pub stands-joined : {t : List ℕ} {at : ℕ} (ss : List (List ℕ)) (k : ℕ) → k < length ss → Stands t at (joined ss)
-    → Stands t (at + length (joined (take k ss))) (getD ss k [])
-stands-joined {t} {at} ss k h s = record {
+stands-joined : {t : List ℕ} {at : ℕ} (ss : List (List ℕ)) (k : ℕ) → Stands t at (joined ss) → Stands t (at + length (joined (take k ss))) (getD ss k [])
+stands-joined {t} {at} ss k s = record {
   rest = joined (drop (suc k) ss) ++ s .rest;
-  here = sym (drop-drop (length (joined (take k ss))) at t) ∙ ap (drop (length (joined (take k ss)))) (s .here) ∙ joined-place ss k h (s .rest);
+  here = sym (drop-drop (length (joined (take k ss))) at t) ∙ ap (drop (length (joined (take k ss)))) (s .here) ∙ joined-place ss k (s .rest);
 }
 
 -- parts of one width
 pub stands-wide : {t : List ℕ} {at : ℕ} (w : ℕ) (ss : List (List ℕ)) → Wide w ss → (k : ℕ) → k < length ss → Stands t at (joined ss)
     → Stands t (at + w * k) (getD ss k [])
 stands-wide {t} {at} w ss wide k h s =
-    subst (λ (n : ℕ). Stands t (at + n) (getD ss k [])) long (stands-joined ss k h s)
+    subst (λ (n : ℕ). Stands t (at + n) (getD ss k [])) long (stands-joined ss k s)
   where
     swapped : (a b : ℕ) → a * b ≡ b * a
     swapped a b = omega arith

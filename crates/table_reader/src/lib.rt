@@ -1,14 +1,19 @@
 // Numbers and records in the bytes of a table, little endian. Every function answers for every table and every place:
 // past the end all bytes read 0.
+use policy::Component;
 use policy::Constraint;
+use policy::Family;
+use policy::Relabel;
 use policy::Row;
 use policy::Table;
 ghost use mathlib.Core.Path.{_≡_};
 ghost use Prim.Native.Nat.{_+_, _-_, _*_};
 ghost use lib.ListN.{length, take, drop};
 ghost use Rattle.policy.specs.Basics.{unle};
-ghost use Rattle.policy.specs.Sound.{headAt};
-ghost use Rattle.table_reader.specs.Records.{rowAt, rowOf, headOf, startIn, lengthIn};
+ghost use Rattle.policy.specs.Answers.{familyOf};
+ghost use Rattle.policy.specs.Encode.{sectionsOf};
+ghost use Rattle.policy.specs.Sound.{ofComp, headAt, relabelAt, editionIn};
+ghost use Rattle.table_reader.specs.Records.{rowAt, rowOf, headOf, relabelOf, startIn, lengthIn};
 
 // A constraint of body 6: its class, its permission mask, its first row and how many rows it has.
 pub struct ConstraintRecord {
@@ -18,7 +23,13 @@ pub struct ConstraintRecord {
     pub rows: u16,
 }
 
-// A row of body 7.
+// A statement of body 9: its class, and how many rows of body 10 it takes up after those before it.
+pub struct RelabelRecord {
+    pub class: u16,
+    pub rows: u16,
+}
+
+// A row of body 7 or 10.
 pub struct RowRecord {
     pub kind: u8,
     pub component: u8,
@@ -70,6 +81,17 @@ pub fn constraint_at(table: &[u8], start: u32, number: u32) -> ConstraintRecord
     }
 }
 
+// The statement of body 9 of this number, where the statements of 4 bytes start at `start`.
+pub fn relabel_at(table: &[u8], start: u32, number: u32) -> RelabelRecord
+    ensures { λ r. ⌜ relabelOf r ≡ relabelAt (drop (start + 4 * number) (now (table .entry))) ⌝ }
+{
+    let at = start as usize + Relabel::BYTES * (number as usize);
+    RelabelRecord {
+        class: u16_at(table, at),
+        rows: u16_at(table, at + Relabel::ROW_COUNT_AT),
+    }
+}
+
 // The row of this number, where the rows of 6 bytes start at `start`.
 pub fn row_at(table: &[u8], start: u32, number: u32) -> RowRecord
     ensures { λ r. ⌜ rowOf r ≡ rowAt (drop (start + 6 * number) (now (table .entry))) ⌝ }
@@ -81,6 +103,49 @@ pub fn row_at(table: &[u8], start: u32, number: u32) -> RowRecord
         operator: byte_slices::byte(table, at + Row::OPERATOR_AT),
         number: u16_at(table, at + Row::NUMBER_AT),
     }
+}
+
+// The family of a row's component.
+pub fn family_of(component: u8) -> Family
+    ensures { λ r. ⌜ familyOf r ≡ ofComp component ⌝ }
+{
+    if component < Component::R1 {
+        return Family::Users;
+    }
+    if component < Component::T1 {
+        return Family::Roles;
+    }
+    if component < Component::U3 {
+        return Family::Types;
+    }
+    if component < Component::R3 {
+        return Family::Users;
+    }
+    if component < Component::T3 {
+        return Family::Roles;
+    }
+    Family::Types
+}
+
+// The edition that a table says it is of.
+pub fn edition(table: &[u8]) -> u16
+    ensures { λ r. ⌜ r ≡ editionIn (now (table .entry)) ⌝ }
+{
+    u16_at(table, 0)
+}
+
+// How many sections the tables of each edition have, by its number. There is no edition 0.
+const SECTIONS: [u8; 3] = [0, 8, 10];
+
+// How many sections the tables of an edition have; 0 where there is no such edition.
+pub fn sections_of(edition: u16) -> u8
+    ensures { λ r. ⌜ r ≡ sectionsOf edition ⌝ }
+{
+    let number = edition as usize;
+    if number < SECTIONS.len() {
+        return SECTIONS[number];
+    }
+    0
 }
 
 // Where a body starts, as the header says; bodies are counted from 0.

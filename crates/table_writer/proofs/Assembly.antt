@@ -1,11 +1,12 @@
 -- The bodies as their writers leave them, and the table as header and bodies one after the other. Assumes nothing.
-use mathlib.Core.Path.{_≡_, refl, ap, _∙_}
+use mathlib.Core.Path.{_≡_, refl, sym, ap, _∙_}
 use mathlib.Core.List.{List, _++_, append-assoc, append-nil}
 use Prim.Native.Nat.{ℕ, _+_, _*_, _≤_}
 use native.Mathlib.Omega.{arith}
 use native.Mathlib.Nat.{zero-add}
 use lib.ListN.{length, take, drop, length-append, length-take}
-use Rattle.byte_slices.specs.Parts.{put}
+use lib.Seq.{take-all}
+use Rattle.byte_slices.specs.Parts.{part, put}
 use Rattle.bitset.specs.Relations.{joined}
 use Rattle.policy.specs.Basics.{each, le}
 use Rattle.policy.specs.Statements.{Family, users, roles, types, userrole, roletype, roleallow, fromOf, toOf, Policy, transitions}
@@ -14,16 +15,17 @@ use Rattle.policy.specs.Accepted.{Accepted}
 use Rattle.policy.specs.Answers.{relationOf}
 use Rattle.policy.specs.declared.Relation.{Relation}
 use Rattle.policy.specs.Image.{imageOf, width, setsOf, transitionEntry}
-use Rattle.policy.specs.Encode.{transitionBytes, bodies, encode, firstBody}
+use Rattle.policy.specs.Encode.{transitionBytes, bodies, pairs, encode, sectionsOf, firstBody, newest}
 use Rattle.table_laws.proofs.LayoutLaws.{pairs-length}
 use Rattle.statement_code.specs.Code.{codeOf}
 use Rattle.code_reader.specs.AttributeSets.{finalSets}
-use Rattle.body_writer.specs.Writing.{Copies}
+use Rattle.body_writer.specs.WrittenBytes.{Copies}
 use Rattle.body_writer.specs.Bodies.{WritesRelation, WritesTransitions, WritesSets}
 use Rattle.table_writer.specs.declared.Starts.{Starts}
-use Rattle.table_writer.specs.Putting.{Puts}
-use Rattle.table_writer.specs.Sizing.{body, attributesIn, StartsOf, header}
+use Rattle.table_writer.specs.PutBytes.{Puts}
+use Rattle.table_writer.specs.TableSizes.{body, sections, firstSections, laterSections, attributesIn, StartsOf, header}
 use Rattle.table_writer.proofs.BodyLengths.{transitions-long}
+use Rattle.table_writer.proofs.HeaderLaws.{pairs-append}
 
 -- what is copied
 pub copy-puts : {src before after : List ℕ} {len at : ℕ} (n : ℕ) (bytes : List ℕ) → Copies src len before at after → len ≡ n → take n src ≡ bytes → n ≡ length bytes
@@ -32,6 +34,14 @@ copy-puts {src} {before} {after} {len} {at} n bytes f l e h = record {
   written = λ room.
       f .bytes (omega (arith, length-take n src, ap length e)) (omega arith) ∙ ap (put before at) (ap (λ (m : ℕ). take m src) l ∙ e);
 }
+
+-- what is copied from a part of the memory
+pub part-puts : {src before after : List ℕ} {len at : ℕ} (memory : List ℕ) (from n : ℕ) (bytes : List ℕ) → Copies src len before at after → src ≡ part memory from len → len ≡ n
+    → take n (drop from memory) ≡ bytes → n ≡ length bytes → Puts bytes before at after
+unfolding part
+part-puts {src} memory from n bytes f s l e h =
+    let front : src ≡ bytes = s ∙ ap (λ (m : ℕ). take m (drop from memory)) l ∙ e in
+    copy-puts n bytes f l (ap (take n) front ∙ take-all n bytes (omega (arith, h))) h
 
 module _ (p : Policy) where
   pub user-roles-are : (many : ℕ) → many ≡ countIn p users → joined (setsOf many roles (related p userrole)) ≡ body 1 p
@@ -80,17 +90,54 @@ module _ (p : Policy) where
         ∙ ap (λ (n : ℕ). put before at (joined (setsOf n f (final p f)))) e;
   }
 
-  -- "the bodies follow from byte 68 in order, without gaps"
-  pub table-is : header p ++ ((body 0 p ++ (body 1 p ++ (body 2 p ++ body 3 p))) ++ ((body 4 p ++ (body 5 p ++ body 6 p)) ++ body 7 p)) ≡ encode (imageOf p)
+  -- the pairs of the first sections take up 64 bytes, and those of the later ones follow
+  pub first-pairs-long : length (pairs (firstBody newest) (firstSections p)) ≡ 64
+  unfolding bodies
+  first-pairs-long = pairs-length (firstSections p) (firstBody newest)
+
+  pub header-is : (r : Starts) → StartsOf p r
+      → (le 2 newest ++ le 2 (sectionsOf newest)) ++ (pairs (firstBody newest) (firstSections p) ++ pairs (r .relabels) (laterSections p)) ≡ header p
+  unfolding bodies joined
+  header-is r at =
+      ap (λ (ps : List ℕ). (le 2 newest ++ le 2 (sectionsOf newest)) ++ ps) (sym (pairs-append (firstBody newest) (r .relabels) (firstSections p) (laterSections p) ends))
+      ∙ append-assoc (le 2 newest) (le 2 (sectionsOf newest)) (pairs (firstBody newest) (firstSections p ++ laterSections p))
+      ∙ ap (λ (bs : List (List ℕ)). header-of bs) all
+    where
+      header-of : List (List ℕ) → List ℕ
+      header-of bs = le 2 newest ++ (le 2 (sectionsOf newest) ++ pairs (firstBody newest) bs)
+
+      all : firstSections p ++ laterSections p ≡ sections p
+      all = refl
+
+      joined-long : length (joined (firstSections p))
+          ≡ length (body 0 p) + (length (body 1 p) + (length (body 2 p) + (length (body 3 p) + (length (body 4 p) + (length (body 5 p) + (length (body 6 p) + length (body 7 p)))))))
+      joined-long = simp (length-append, append-nil)
+
+      ends : r .relabels ≡ firstBody newest + length (joined (firstSections p))
+      ends = omega (
+        arith,
+        at .user-roles,
+        at .role-types,
+        at .role-roles,
+        at .transitions,
+        at .constraints,
+        at .rows,
+        at .user-sets,
+        at .relabels,
+        joined-long,
+      )
+
+  -- "the bodies follow .. in order, without gaps"
+  pub table-is : header p ++ ((body 0 p ++ (body 1 p ++ (body 2 p ++ body 3 p))) ++ ((body 4 p ++ (body 5 p ++ body 6 p)) ++ (body 7 p ++ (body 8 p ++ body 9 p)))) ≡ encode newest (imageOf p)
   unfolding encode bodies joined
   table-is = simp (append-assoc, append-nil)
 
   -- where the parts of the table end
-  pub header-long : length (header p) ≡ firstBody
+  pub header-long : length (header p) ≡ firstBody newest
   unfolding le bodies
-  header-long = omega (arith, pairs-length (bodies (imageOf p)) firstBody)
+  header-long = omega (arith, pairs-length (sections p) (firstBody newest))
 
-  pub relations-end : (r : Starts) → StartsOf p r → r .transitions ≡ firstBody + length (body 0 p ++ (body 1 p ++ (body 2 p ++ body 3 p)))
+  pub relations-end : (r : Starts) → StartsOf p r → r .transitions ≡ firstBody newest + length (body 0 p ++ (body 1 p ++ (body 2 p ++ body 3 p)))
   relations-end r at = omega (
     arith,
     at .user-roles,

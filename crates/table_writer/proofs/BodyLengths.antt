@@ -7,26 +7,27 @@ use mathlib.Core.List.{_++_}
 use lib.ListN.{length, length-append}
 use Rattle.bitset.specs.Relations.{joined}
 use Rattle.policy.specs.Basics.{each}
-use Rattle.policy.specs.Statements.{Family, users, roles, types, thingOf, attributeOf, Policy, declarations, transitions, constrains}
+use Rattle.policy.specs.Statements.{Family, users, roles, types, thingOf, attributeOf, Policy, declarations, transitions, constrains, constrainBody, relabels, relabelBody}
 use Rattle.policy.specs.Meaning.{countIn, final}
 use Rattle.policy.specs.Reading.{rowCount}
 use Rattle.policy.specs.Accepted.{Accepted}
-use Rattle.policy.specs.Image.{imageOf, setsOf, constraintEntry, transitionEntry}
-use Rattle.policy.specs.Encode.{entries, transitionBytes, headBytes, headsFrom, rowBytes, bodies, encode, firstBody}
+use Rattle.policy.specs.Image.{imageOf, setsOf, constraintEntry, transitionEntry, relabelEntry}
+use Rattle.policy.specs.Encode.{entries, transitionBytes, headBytes, headsFrom, rowBytes, relabelHead, relabelBytes, bodies, encode, firstBody, newest}
 use Rattle.policy.proofs.Lists.{each-length}
 use Rattle.policy.proofs.Counts.{few-of}
-use Rattle.table_laws.specs.SoundTable.{allRows, tableLength}
+use Rattle.table_laws.specs.SoundTable.{allRows, relabelRows, tableLength}
 use Rattle.table_laws.proofs.NamesRoom.{names-length}
 use Rattle.table_laws.proofs.Pieces.{wide-length}
-use Rattle.table_laws.proofs.Records.{head-wide, row-wide}
+use Rattle.table_laws.proofs.Records.{head-wide, row-wide, relabel-wide}
+use Rattle.table_laws.proofs.Editions.{fits-ten}
 use Rattle.table_laws.proofs.Lengths.{heads-length}
 use Rattle.table_laws.proofs.ImageReadBack.{Laid, every-wide, transitions-wide, sets-length}
 use Rattle.table_laws.proofs.WellFormedLaid.{well-formed-laid, table-short, length-encode}
 use Rattle.image_laws.proofs.ImageWellFormed.{image-well-formed}
-use Rattle.image_laws.proofs.RowCounts.{rows-in-all}
+use Rattle.image_laws.proofs.RowCounts.{rows-in-all, relabel-rows-in-all}
 use Rattle.table_writer.specs.declared.Sizes.{Sizes}
 use Rattle.table_writer.specs.declared.Starts.{Starts}
-use Rattle.table_writer.specs.Sizing.{body, attributesIn, SizesOf, Few, Spaced, StartsOf}
+use Rattle.table_writer.specs.TableSizes.{body, attributesIn, SizesOf, Few, Spaced, StartsOf}
 
 module _ (p : Policy) (ok : Accepted p) where
   laid : Laid (imageOf p)
@@ -63,13 +64,33 @@ module _ (p : Policy) (ok : Accepted p) where
       let e = each-length constraintEntry (constrains p) in
       omega (arith, a, b, d, e)
 
-  pub rows-long : length (body 6 p) ≡ 6 * rowCount (constrains p)
+  pub rows-long : length (body 6 p) ≡ 6 * rowCount constrainBody (constrains p)
   unfolding bodies imageOf
   rows-long =
       let rs = allRows (imageOf p) in
       let a = wide-length 6 (each rowBytes rs) (every-wide 6 rowBytes row-wide rs) in
       let b = each-length rowBytes rs in
       let d = rows-in-all (constrains p) in
+      omega (arith, a, b, d)
+
+  pub relabels-long : length (body 8 p) ≡ 4 * length (relabels p)
+  unfolding bodies imageOf
+  relabels-long =
+      let es = each relabelEntry (relabels p) in
+      let hs = each relabelHead es in
+      let a = wide-length 4 (each relabelBytes hs) (every-wide 4 relabelBytes relabel-wide hs) in
+      let b = each-length relabelBytes hs in
+      let d = each-length relabelHead es in
+      let e = each-length relabelEntry (relabels p) in
+      omega (arith, a, b, d, e)
+
+  pub relabel-rows-long : length (body 9 p) ≡ 6 * rowCount relabelBody (relabels p)
+  unfolding bodies imageOf
+  relabel-rows-long =
+      let rs = relabelRows (imageOf p) in
+      let a = wide-length 6 (each rowBytes rs) (every-wide 6 rowBytes row-wide rs) in
+      let b = each-length rowBytes rs in
+      let d = relabel-rows-in-all (relabels p) in
       omega (arith, a, b, d)
 
   pub user-sets-long : length (joined (setsOf (attributesIn p users) users (final p users))) ≡ 16 * attributesIn p users
@@ -104,13 +125,13 @@ module _ (p : Policy) (ok : Accepted p) where
 
   -- sizes of a table
   module _ (s : Sizes) (sizes : SizesOf p s) where
-    total : length (encode (imageOf p))
-        ≡ firstBody + s .names + 16 * s .users + 64 * s .roles + 16 * s .roles + 82 * s .transitions + 10 * s .constraints + 6 * s .rows
-        + 16 * s .«user_attributes» + 16 * s .«role_attributes» + 64 * s .«type_attributes»
+    total : length (encode newest (imageOf p))
+        ≡ firstBody newest + s .names + 16 * s .users + 64 * s .roles + 16 * s .roles + 82 * s .transitions + 10 * s .constraints + 6 * s .rows
+        + 16 * s .«user_attributes» + 16 * s .«role_attributes» + 64 * s .«type_attributes» + 4 * s .relabels + 6 * s .«relabel_rows»
     unfolding tableLength imageOf countIn bodies
     total = omega (
       arith,
-      length-encode (imageOf p) (image-well-formed p ok),
+      length-encode (imageOf p) (image-well-formed p ok) newest (omega arith) (fits-ten newest (imageOf p) (omega arith)),
       names-length (entries (declarations p)),
       laid .userRoles .many,
       laid .roleTypes .many,
@@ -118,6 +139,8 @@ module _ (p : Policy) (ok : Accepted p) where
       each-length (transitionEntry p) (transitions p),
       each-length constraintEntry (constrains p),
       rows-in-all (constrains p),
+      each-length relabelEntry (relabels p),
+      relabel-rows-in-all (relabels p),
       laid .userSets .many,
       laid .roleSets .many,
       laid .typeSets .many,
@@ -130,11 +153,17 @@ module _ (p : Policy) (ok : Accepted p) where
       sizes .user-attributes,
       sizes .role-attributes,
       sizes .type-attributes,
+      sizes .relabels,
+      sizes .relabel-rows,
     )
 
-    -- no table is longer than 179,652 bytes
-    pub short : length (encode (imageOf p)) ≤ 179652
-    short = omega (arith, length-encode (imageOf p) (image-well-formed p ok), table-short (imageOf p) (image-well-formed p ok))
+    -- no table is longer than 186,068 bytes
+    pub short : length (encode newest (imageOf p)) ≤ 186068
+    short = omega (
+      arith,
+      length-encode (imageOf p) (image-well-formed p ok) newest (omega arith) (fits-ten newest (imageOf p) (omega arith)),
+      table-short (imageOf p) (image-well-formed p ok) newest (omega arith),
+    )
 
     pub few : Few s
     few = record {
@@ -147,11 +176,13 @@ module _ (p : Policy) (ok : Accepted p) where
       user-attributes = omega (arith, total, short);
       role-attributes = omega (arith, total, short);
       type-attributes = omega (arith, total, short);
+      relabels = omega (arith, total, short);
+      relabel-rows = omega (arith, total, short);
     }
 
     -- bodies that are spaced by these sizes
     module _ (r : Starts) (spaced : Spaced s r) where
-      pub ends : r .end ≡ length (encode (imageOf p))
+      pub ends : r .end ≡ length (encode newest (imageOf p))
       ends = omega (
         arith,
         total,
@@ -164,6 +195,8 @@ module _ (p : Policy) (ok : Accepted p) where
         spaced .user-sets,
         spaced .role-sets,
         spaced .type-sets,
+        spaced .relabels,
+        spaced .relabel-rows,
         spaced .end,
       )
 
@@ -178,14 +211,16 @@ module _ (p : Policy) (ok : Accepted p) where
         user-sets = omega (arith, spaced .user-sets, sizes .rows, rows-long);
         role-sets = omega (arith, spaced .role-sets, sizes .user-attributes);
         type-sets = omega (arith, spaced .type-sets, sizes .role-attributes);
-        end = omega (
+        relabels = omega (
           arith,
           spaced .role-sets,
           spaced .type-sets,
-          spaced .end,
+          spaced .relabels,
           sizes .user-attributes,
           sizes .role-attributes,
           sizes .type-attributes,
           sets-long,
         );
+        relabel-rows = omega (arith, spaced .relabel-rows, sizes .relabels, relabels-long);
+        end = omega (arith, spaced .end, sizes .relabel-rows, relabel-rows-long);
       }

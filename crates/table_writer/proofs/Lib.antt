@@ -1,3 +1,3 @@
 pub mod BodyLengths
-pub mod Laying
+pub mod HeaderLaws
 pub mod Assembly

@@ -1,3 +1,3 @@
-pub mod Putting
-pub mod Sizing
-pub mod Assembling
+pub mod PutBytes
+pub mod TableSizes
+pub mod TableBodies

@@ -1,15 +1,17 @@
-// Puts a table together: its length, its header, and its eight bodies one after the other.
+// Puts a table together: its length, its header, and its bodies one after the other.
 ghost use mathlib.Core.Path.{_≡_};
 ghost use Prim.Native.Nat.{_+_, _*_, _≤_};
 ghost use Rattle.policy.specs.Basics.{le};
-ghost use Rattle.table_writer.specs.Putting.{Puts, pair};
-ghost use Rattle.table_writer.specs.Sizing.{Few, Spaced, Needs, WritesPairs, WritesHeader};
-ghost use Rattle.table_writer.specs.Assembling.{WritesRoleRelations, WritesRelations, WritesRules, WritesAttributes, WritesTable};
+ghost use Rattle.table_writer.specs.PutBytes.{Puts, pair};
+ghost use Rattle.table_writer.specs.TableSizes.{Few, Spaced, Needs, WritesPairs, WritesLaterPairs, WritesHeader};
+ghost use Rattle.table_writer.specs.TableBodies.{WritesRoleRelations, WritesRelations, WritesRules, WritesAttributes, WritesRelabels, WritesTable};
 use code_reader::FAMILY_BYTES;
 use policy::Constraint;
+use policy::Relabel;
 use policy::Relation;
 use policy::Role;
 use policy::Row;
+use policy::Section;
 use policy::Table;
 use policy::Transition;
 use policy::Type;
@@ -26,9 +28,11 @@ pub struct Sizes {
     pub user_attributes: usize,
     pub role_attributes: usize,
     pub type_attributes: usize,
+    pub relabels: usize,
+    pub relabel_rows: usize,
 }
 
-// Where the bodies after the first start, and where the last ends. The last body has three parts.
+// Where the bodies after the first start, and where the last ends. The sets of attributes are one body of three parts.
 struct Starts {
     user_roles: usize,
     role_types: usize,
@@ -39,11 +43,19 @@ struct Starts {
     user_sets: usize,
     role_sets: usize,
     type_sets: usize,
+    relabels: usize,
+    relabel_rows: usize,
     end: usize,
 }
 
 // The edition and the number of sections, two bytes each, as one number.
 const EDITION_AND_SECTIONS: usize = Table::EDITION as usize + 65_536 * (Table::SECTIONS as usize);
+
+// Where the records of validatetrans statements start in the memory that holds those of constrains too, and where
+// their rows start likewise: after room for all that there may be of constrains.
+const FIRST_RELABEL: usize = Constraint::MAX * Constraint::BYTES;
+
+const FIRST_RELABEL_ROW: usize = Row::MAX * Row::BYTES;
 
 // No place of a table and no number of its entries comes near this.
 const FAR: usize = 100_000_000;
@@ -79,7 +91,9 @@ fn body_starts(sizes: Sizes) -> Starts
     let user_sets = past(rows, sizes.rows, Row::BYTES);
     let role_sets = past(user_sets, sizes.user_attributes, User::SET_BYTES);
     let type_sets = past(role_sets, sizes.role_attributes, Role::SET_BYTES);
-    let end = past(type_sets, sizes.type_attributes, Type::SET_BYTES);
+    let relabels = past(type_sets, sizes.type_attributes, Type::SET_BYTES);
+    let relabel_rows = past(relabels, sizes.relabels, Relabel::BYTES);
+    let end = past(relabel_rows, sizes.relabel_rows, Row::BYTES);
     Starts {
         user_roles,
         role_types,
@@ -90,6 +104,8 @@ fn body_starts(sizes: Sizes) -> Starts
         user_sets,
         role_sets,
         type_sets,
+        relabels,
+        relabel_rows,
         end,
     }
 }
@@ -117,10 +133,11 @@ fn put_u32(table: &mut [u8], at: usize, n: usize)
     little_endian::put4(table, at, n);
 }
 
-// Writes the offset and the length of a body.
-fn put_pair(table: &mut [u8], at: usize, start: usize, end: usize)
-    ensures { λ _. ⌜ (start ≤ end → Puts (pair start end) (now (table .entry)) at (now (table .exit))) ⌝ }
+// Writes the offset and the length of a section's body, at the section's place in the header.
+fn put_pair(table: &mut [u8], section: u8, start: usize, end: usize)
+    ensures { λ _. ⌜ (start ≤ end → Puts (pair start end) (now (table .entry)) (4 + 8 * section) (now (table .exit))) ⌝ }
 {
+    let at = Table::FIRST_PAIR + Table::PAIR_BYTES * (section as usize);
     if table.len() <= at {
         return;
     }
@@ -131,18 +148,66 @@ fn put_pair(table: &mut [u8], at: usize, start: usize, end: usize)
     put_u32(table, at + 4, end - start);
 }
 
-// Writes the pairs of the eight bodies.
+// Writes the pairs of the sections that every edition has.
 fn write_pairs(places: Starts, table: &mut [u8])
     ensures { λ _. ⌜ WritesPairs places (now (table .entry)) (now (table .exit)) ⌝ }
 {
-    put_pair(table, 4, Table::HEADER_BYTES, places.user_roles);
-    put_pair(table, 12, places.user_roles, places.role_types);
-    put_pair(table, 20, places.role_types, places.role_roles);
-    put_pair(table, 28, places.role_roles, places.transitions);
-    put_pair(table, 36, places.transitions, places.constraints);
-    put_pair(table, 44, places.constraints, places.rows);
-    put_pair(table, 52, places.rows, places.user_sets);
-    put_pair(table, 60, places.user_sets, places.end);
+    put_pair(
+        table,
+        Section::NAMES,
+        Table::HEADER_BYTES,
+        places.user_roles,
+    );
+    put_pair(
+        table,
+        Section::USER_ROLES,
+        places.user_roles,
+        places.role_types,
+    );
+    put_pair(
+        table,
+        Section::ROLE_TYPES,
+        places.role_types,
+        places.role_roles,
+    );
+    put_pair(
+        table,
+        Section::ROLE_ROLES,
+        places.role_roles,
+        places.transitions,
+    );
+    put_pair(
+        table,
+        Section::TRANSITIONS,
+        places.transitions,
+        places.constraints,
+    );
+    put_pair(table, Section::CONSTRAINTS, places.constraints, places.rows);
+    put_pair(table, Section::ROWS, places.rows, places.user_sets);
+    put_pair(
+        table,
+        Section::ATTRIBUTE_SETS,
+        places.user_sets,
+        places.relabels,
+    );
+}
+
+// Writes the pairs of the sections that edition 2 has besides.
+fn write_later_pairs(places: Starts, table: &mut [u8])
+    ensures { λ _. ⌜ WritesLaterPairs places (now (table .entry)) (now (table .exit)) ⌝ }
+{
+    put_pair(
+        table,
+        Section::RELABELS,
+        places.relabels,
+        places.relabel_rows,
+    );
+    put_pair(
+        table,
+        Section::RELABEL_ROWS,
+        places.relabel_rows,
+        places.end,
+    );
 }
 
 // Writes all that is before the first body.
@@ -151,6 +216,7 @@ fn write_header(places: Starts, table: &mut [u8])
 {
     put_u32(table, 0, EDITION_AND_SECTIONS);
     write_pairs(places, table);
+    write_later_pairs(places, table);
 }
 
 // ---- the bodies
@@ -272,6 +338,18 @@ fn write_attributes(
     );
 }
 
+// Bodies 9 and 10: the validatetrans statements and their rows, which are in the memory after those of constrains.
+fn write_relabels(places: Starts, sizes: Sizes, constraints: &[u8], rows: &[u8], table: &mut [u8])
+    ensures { λ _. ⌜ WritesRelabels places sizes (now (constraints .entry)) (now (rows .entry)) (now (table .entry)) (now (table .exit)) ⌝ }
+{
+    let relabel_bytes = past(0, sizes.relabels, Relabel::BYTES);
+    let relabels = byte_slices::part(constraints, FIRST_RELABEL, relabel_bytes);
+    body_writer::copy(relabels, relabel_bytes, table, places.relabels);
+    let row_bytes = past(0, sizes.relabel_rows, Row::BYTES);
+    let relabel_rows = byte_slices::part(rows, FIRST_RELABEL_ROW, row_bytes);
+    body_writer::copy(relabel_rows, row_bytes, table, places.relabel_rows);
+}
+
 // Writes the table of these sizes. Names, constraints and rows are copied; the rest is made from the code and the
 // final sets.
 pub fn write_table(
@@ -311,4 +389,5 @@ pub fn write_table(
         table,
     );
     write_attributes(places, sizes, user_sets, role_sets, type_sets, table);
+    write_relabels(places, sizes, constraints, rows, table);
 }

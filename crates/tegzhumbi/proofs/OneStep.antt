@@ -14,15 +14,15 @@ use Rattle.policy.specs.Deciding.{Question}
 use Rattle.policy.specs.Answer.{answer}
 use Rattle.policy.specs.Answers.{refusalIn, changeOf}
 use Rattle.policy.specs.Image.{imageOf}
-use Rattle.policy.specs.Encode.{encode}
+use Rattle.policy.specs.Encode.{encode, newest}
 use Rattle.policy.specs.Questions.{changeOn}
 use Rattle.policy.specs.Outcome as outcomes
 use Rattle.policy.specs.Outcome.{Input, policyOf, compiled, fitted, Refusal, refusalOf, Outcome, accepted, rejected, outcomeOf, outcome}
 use Rattle.policy.proofs.Outcomes.{isAccepted}
 use Rattle.compiler.specs.Promise.{Compiles}
 use Rattle.tegzhumbi.specs.declared.Decision as theDecision
-use Rattle.tegzhumbi.specs.Deciding as deciding
-use Rattle.tegzhumbi.specs.Deciding.{Decided, answered, answeredBy, decided, Decides}
+use Rattle.tegzhumbi.specs.DecisionByText as deciding
+use Rattle.tegzhumbi.specs.DecisionByText.{Decided, answered, answeredBy, decided, Decides}
 
 -- an outcome that refuses, as a decision
 abbrev refusedAs : Outcome → Decided → Decided
@@ -46,8 +46,8 @@ module _ (x : Input) (lent : ℕ) (q : Question) where
   decided-by r e = ap decidedBy e
 
   -- a policy that has no room is refused by the same refusal
-  no-room : (p : Policy) (r′ : Refusal) (b : Bool) → outcomeOf x (cond b (outcomes.compiles (imageOf p)) (outcomes.refuses 10 (length (encode (imageOf p))))) ≡ rejected r′
-      → cond b (answered (answer p q)) (deciding.rejected (refusalOf x 10 (length (encode (imageOf p))))) ≡ deciding.rejected r′
+  no-room : (p : Policy) (r′ : Refusal) (b : Bool) → outcomeOf x (cond b (outcomes.compiles (imageOf p)) (outcomes.refuses 10 (length (encode newest (imageOf p))))) ≡ rejected r′
+      → cond b (answered (answer p q)) (deciding.rejected (refusalOf x 10 (length (encode newest (imageOf p))))) ≡ deciding.rejected r′
   no-room p r′ true e = absurd (false≢true (sym (ap isAccepted e)))
   no-room p r′ false e = ap (λ (o : Outcome). refusedAs o (deciding.rejected r′)) e
 
@@ -57,17 +57,17 @@ module _ (x : Input) (lent : ℕ) (q : Question) where
     where
       by : (r : Read) → policyOf x ≡ r → decided x lent q ≡ deciding.rejected r′
       by (refused m b) h = decided-by (refused m b) h ∙ ap (λ (o : Outcome). refusedAs o (deciding.rejected r′)) (sym (outcome-by (refused m b) h) ∙ e)
-      by (policy p) h = decided-by (policy p) h ∙ no-room p r′ (leb (length (encode (imageOf p))) lent) (sym (outcome-by (policy p) h) ∙ e)
+      by (policy p) h = decided-by (policy p) h ∙ no-room p r′ (leb (length (encode newest (imageOf p))) lent) (sym (outcome-by (policy p) h) ∙ e)
 
   -- a policy that has room is answered
-  has-room : (p : Policy) (n : ℕ) (b : Bool) → outcomeOf x (cond b (outcomes.compiles (imageOf p)) (outcomes.refuses 10 (length (encode (imageOf p))))) ≡ accepted n
-      → cond b (answered (answer p q)) (deciding.rejected (refusalOf x 10 (length (encode (imageOf p))))) ≡ answered (answer p q)
+  has-room : (p : Policy) (n : ℕ) (b : Bool) → outcomeOf x (cond b (outcomes.compiles (imageOf p)) (outcomes.refuses 10 (length (encode newest (imageOf p))))) ≡ accepted n
+      → cond b (answered (answer p q)) (deciding.rejected (refusalOf x 10 (length (encode newest (imageOf p))))) ≡ answered (answer p q)
   has-room p n true e = refl
   has-room p n false e = absurd (false≢true (ap isAccepted e))
 
   pub decided-answered : (p : Policy) (n : ℕ) → policyOf x ≡ policy p → outcome x lent ≡ accepted n → decided x lent q ≡ answered (answer p q)
   unfolding outcomeBy decidedBy
-  decided-answered p n h e = decided-by (policy p) h ∙ has-room p n (leb (length (encode (imageOf p))) lent) (sym (outcome-by (policy p) h) ∙ e)
+  decided-answered p n h e = decided-by (policy p) h ∙ has-room p n (leb (length (encode newest (imageOf p))) lent) (sym (outcome-by (policy p) h) ∙ e)
 
 module _ {x : Input} {before now : List ℕ} {q : Question} where
   pub refuses : {r : theRefusal.Refusal} → Compiles x before now (Compiling.Refused r) → Decides x before now q (theDecision.Decision.Refused r)

@@ -1,7 +1,7 @@
 // The library: a policy's text is compiled into a table, and questions are answered from a table alone.
 //
 // Memory is the caller's. `compile` writes the table to the start of the slice that it is lent, and nothing else; the
-// questions write nothing. No table is longer than 179,652 bytes. Every function takes every text, all bytes as a
+// questions write nothing. No table is longer than 186,068 bytes. Every function takes every text, all bytes as a
 // table and all numbers. A promise (`ensures`) equates the answer, refusals included, and each lent byte afterwards
 // with a definition of `policy/specs`.
 //
@@ -16,14 +16,14 @@
 //     // Change::Granted { consulted }, or a denial with its number, or a refusal, 11 or 12
 ghost use mathlib.Core.Path.{_≡_};
 ghost use Rattle.policy.specs.Outcome.{ofText};
-ghost use Rattle.policy.specs.Questions.{validOn, newRoleOn, changeOn, nameOn, entryOn};
+ghost use Rattle.policy.specs.Questions.{validOn, newRoleOn, changeOn, relabelOn, nameOn, entryOn};
 ghost use Rattle.policy.specs.Answers.{validityOf, newRoleOf, changeOf, placeOf};
 ghost use Rattle.compiler.specs.Promise.{Compiles};
 ghost use Rattle.decisions.specs.Asked as decisions;
 ghost use Rattle.soundness.specs.IsSound.{isSound};
 ghost use Rattle.table_parts.specs.ShownPart.{shownPart};
-ghost use Rattle.tegzhumbi.specs.Asked.{contextOf, question};
-ghost use Rattle.tegzhumbi.specs.Deciding.{Decides};
+ghost use Rattle.tegzhumbi.specs.Asked.{contextOf, question, relabelling};
+ghost use Rattle.tegzhumbi.specs.DecisionByText.{Decides};
 pub use policy::Change;
 pub use policy::Class;
 pub use policy::Compiling;
@@ -47,8 +47,8 @@ pub struct Context {
 // fault in the text and the memory is long enough; the table is byte for byte the one that is defined from the
 // statements, and what stood after it is kept. A refusal has the number, 1 to 10, and the place that document 01
 // fixes, and the line of its place (0 for 10, whose place is a length), and leaves the memory as it was. And demand 3
-// (`answers`): asked of the written table, whatever is after it later, every change question is answered as the
-// statements answer it.
+// (`answers`): asked of the written table, whatever is after it later, every change and every relabelling is answered
+// as the statements answer it.
 pub fn compile(text: &[u8], table: &mut [u8]) -> Compiling
     ensures { λ r. ⌜ Compiles (ofText (now (text .entry))) (now (table .entry)) (now (table .exit)) r ⌝ }
 {
@@ -90,7 +90,7 @@ pub fn valid(table: &[u8], context: Context) -> Validity
 // constraint that fails first. With the answer goes the number of constraints consulted.
 //
 //     tegzhumbi::change(&table, source, target, Class(0), Permission(2))
-//     // Granted { consulted: 3 }, Failed { constraint: 7, consulted: 2 }, ..
+//     // Granted { consulted: 3 }, Failed { number: 4, constraint: 7, consulted: 2 }, ..
 pub fn change(
     table: &[u8],
     source: Context,
@@ -106,6 +106,24 @@ pub fn change(
         asked(target),
         class.0 as usize,
         permission.0 as usize,
+    )
+}
+
+// Relabelling: whether the process may relabel a file of the class from the old context to the new one. Denials in
+// order: 1 the old context is not valid, 2 the new one is not, 5 the process is not, 6 the validatetrans statement
+// that fails first, by its number among all of them. With the answer goes the number of statements consulted.
+//
+//     tegzhumbi::relabel(&table, Class(1), old, new, process)
+//     // Granted { consulted: 3 }, Denied { number: 5 }, Failed { number: 6, constraint: 1, consulted: 2 }, ..
+pub fn relabel(table: &[u8], class: Class, old: Context, new: Context, process: Context) -> Change
+    ensures { λ r. ⌜ changeOf r ≡ relabelOn (now (table .entry)) (relabelling class old new process) ⌝ }
+{
+    questions::relabel(
+        table,
+        class.0 as usize,
+        asked(old),
+        asked(new),
+        asked(process),
     )
 }
 
@@ -132,15 +150,15 @@ pub fn name_of(table: &[u8], sort: usize, number: usize) -> &[u8]
 
 // The same by its place and length, or the number of the refusal.
 //
-//     tegzhumbi::name_place(&table, 1, 0)   // Part { start: 72, length: 5 }, or Refused { number: 12 }
+//     tegzhumbi::name_place(&table, 1, 0)   // Part { start: 88, length: 5 }, or Refused { number: 12 }
 pub fn name_place(table: &[u8], sort: usize, number: usize) -> Place
     ensures { λ r. ⌜ placeOf r ≡ nameOn (now (table .entry)) sort number ⌝ }
 {
     table_parts::name_place(table, sort, number)
 }
 
-// Entry of a body 2 to 8 and its place there, from 0: the part of the lent table that holds it, an empty part where
-// there is none.
+// Entry of a body from 2 on (to 8 in a table of edition 1, to 10 in one of edition 2) and its place there, from 0: the
+// part of the lent table that holds it, an empty part where there is none.
 //
 //     tegzhumbi::entry(&table, 2, 0)   // the 16 bytes of the first user's roles
 pub fn entry(table: &[u8], body: usize, place: usize) -> &[u8]
@@ -151,7 +169,7 @@ pub fn entry(table: &[u8], body: usize, place: usize) -> &[u8]
 
 // The same by its place and length, or the number of the refusal.
 //
-//     tegzhumbi::entry_place(&table, 9, 0)   // Refused { number: 12 }: there is no body 9
+//     tegzhumbi::entry_place(&table, 11, 0)   // Refused { number: 12 }: there is no body 11
 pub fn entry_place(table: &[u8], body: usize, place: usize) -> Place
     ensures { λ r. ⌜ placeOf r ≡ entryOn (now (table .entry)) body place ⌝ }
 {

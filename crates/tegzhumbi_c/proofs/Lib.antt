@@ -1,2 +1,2 @@
-pub mod Fitting
-pub mod Accepting
+pub mod FourBytes
+pub mod AcceptedIsZero

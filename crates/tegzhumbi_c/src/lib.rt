@@ -6,11 +6,11 @@ use answer_numbers::Part;
 use decisions::Context;
 ghost use mathlib.Core.Path.{_≡_};
 ghost use Rattle.policy.specs.Outcome.{ofText};
-ghost use Rattle.policy.specs.Questions.{validOn, newRoleOn, changeOn, nameOn, entryOn};
+ghost use Rattle.policy.specs.Questions.{validOn, newRoleOn, changeOn, relabelOn, nameOn, entryOn};
 ghost use Rattle.soundness.specs.IsSound.{isSound};
-ghost use Rattle.decisions.specs.Asked.{context};
+ghost use Rattle.decisions.specs.Asked.{context, contextOf};
 ghost use Rattle.tegzhumbi_c.specs.Compiles.{Compiles};
-ghost use Rattle.answer_numbers.specs.Numbers.{asking, soundNumber, validNumbers, changeNumbers, newRoleNumbers, partNumbers};
+ghost use Rattle.answer_numbers.specs.Numbers.{asking, relabelling, soundNumber, validNumbers, changeNumbers, newRoleNumbers, partNumbers};
 
 // Compiles a text: its table is at the start of the lent memory, or a refusal 1 to 10 is answered and the lent memory
 // is as it was.
@@ -46,6 +46,17 @@ pub extern "C" fn tegzhumbi_valid(table: &[u8], user: u64, role: u64, kind: u64)
     ))
 }
 
+// A context by the numbers of its user, its role and its type.
+fn context_of(user: u64, role: u64, kind: u64) -> Context
+    ensures { λ r. ⌜ contextOf r ≡ context user role kind ⌝ }
+{
+    Context {
+        user: user as usize,
+        role: role as usize,
+        kind: kind as usize,
+    }
+}
+
 // **Change**: granted or denied, with the number consulted.
 #[no_mangle]
 pub extern "C" fn tegzhumbi_change(
@@ -62,22 +73,45 @@ pub extern "C" fn tegzhumbi_change(
     ensures { λ r. ⌜ r ≡ changeNumbers (changeOn (now (table .entry))
         (asking (context «source_user» «source_role» «source_type») (context «target_user» «target_role» «target_type») «class_number» permission)) ⌝ }
 {
-    let source = Context {
-        user: source_user as usize,
-        role: source_role as usize,
-        kind: source_type as usize,
-    };
-    let target = Context {
-        user: target_user as usize,
-        role: target_role as usize,
-        kind: target_type as usize,
-    };
+    let source = context_of(source_user, source_role, source_type);
+    let target = context_of(target_user, target_role, target_type);
     answer_numbers::change_numbers(questions::change(
         table,
         source,
         target,
         class_number as usize,
         permission as usize,
+    ))
+}
+
+// Relabelling: whether the process may relabel a file from the old context to the new one; granted or denied, with the
+// number consulted.
+#[no_mangle]
+pub extern "C" fn tegzhumbi_relabel(
+    table: &[u8],
+    class_number: u64,
+    old_user: u64,
+    old_role: u64,
+    old_type: u64,
+    new_user: u64,
+    new_role: u64,
+    new_type: u64,
+    process_user: u64,
+    process_role: u64,
+    process_type: u64,
+) -> Answer
+    ensures { λ r. ⌜ r ≡ changeNumbers (relabelOn (now (table .entry)) (relabelling «class_number» (context «old_user» «old_role» «old_type»)
+        (context «new_user» «new_role» «new_type») (context «process_user» «process_role» «process_type»))) ⌝ }
+{
+    let old = context_of(old_user, old_role, old_type);
+    let new = context_of(new_user, new_role, new_type);
+    let process = context_of(process_user, process_role, process_type);
+    answer_numbers::change_numbers(questions::relabel(
+        table,
+        class_number as usize,
+        old,
+        new,
+        process,
     ))
 }
 
@@ -107,7 +141,7 @@ pub extern "C" fn tegzhumbi_name(table: &[u8], sort: u64, number: u64) -> Part
     answer_numbers::part_numbers(table_parts::name_place(table, sort as usize, number as usize))
 }
 
-// **Entry** of a body 2 to 8 and its place there: the part of the table that holds it.
+// **Entry** of a body from 2 on and its place there: the part of the table that holds it.
 #[no_mangle]
 pub extern "C" fn tegzhumbi_entry(table: &[u8], body: u64, place: u64) -> Part
     ensures { λ r. ⌜ r ≡ partNumbers (entryOn (now (table .entry)) body place) ⌝ }

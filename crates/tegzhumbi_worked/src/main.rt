@@ -13,7 +13,7 @@ const LENT: usize = 1_024;
 // Users u v; roles a b c; types s t; classes process (transition fork) and file (read). The attribute x is used
 // before its set is given: it stands for a and b. So u has the roles a and b, v has b; a has the types s and t, b has
 // t. From a to b a role may change, not back.
-fn policy() -> [u8; 436] {
+fn policy() -> [u8; 514] {
     *b"(class process (transition fork)) (class file (read))
 (user u) (user v) (role a) (role b) (role c) (type s) (type t)
 (roleattribute x)
@@ -25,6 +25,8 @@ fn policy() -> [u8; 436] {
 (constrain (file (read)) (eq u1 u2))
 (constrain (process (transition)) (or (eq u1 u2) (eq r1 x)))
 (constrain (file (read)) (and (neq r2 b) (eq t1 t2)))
+(validatetrans file (eq u3 v))
+(validatetrans file (or (eq t1 t2) (eq r3 a)))
 "
 }
 
@@ -72,6 +74,75 @@ fn processes(table: &[u8]) {
     change(table, context(0, 0, 1), context(0, 1, 1), 0, 2);
 }
 
+fn relabel(table: &[u8], class: u64, old: Context, new: Context, process: Context) {
+    answer_show::show_change(tegzhumbi::relabel(table, Class(class), old, new, process));
+}
+
+// Files are relabelled by processes of user v, and their type changes only by a process in role a.
+fn relabels(table: &[u8]) {
+    // u a t to u b t by v b t: the process is v's, and the types are the same
+    relabel(
+        table,
+        1,
+        context(0, 0, 1),
+        context(0, 1, 1),
+        context(1, 1, 1),
+    );
+    // u a s to u a t by v b t: the types differ, and the process is not in role a
+    relabel(
+        table,
+        1,
+        context(0, 0, 0),
+        context(0, 0, 1),
+        context(1, 1, 1),
+    );
+    // the same by u a t: the process is not v's
+    relabel(
+        table,
+        1,
+        context(0, 0, 0),
+        context(0, 0, 1),
+        context(0, 0, 1),
+    );
+    // v has not the role a: as the process, as the new context, as the old one
+    relabel(
+        table,
+        1,
+        context(0, 0, 0),
+        context(0, 0, 1),
+        context(1, 0, 1),
+    );
+    relabel(
+        table,
+        1,
+        context(0, 0, 0),
+        context(1, 0, 1),
+        context(1, 0, 1),
+    );
+    relabel(
+        table,
+        1,
+        context(1, 0, 1),
+        context(1, 0, 1),
+        context(1, 0, 1),
+    );
+    // nothing is said of processes, and there is no third class
+    relabel(
+        table,
+        0,
+        context(0, 0, 0),
+        context(0, 0, 1),
+        context(0, 0, 1),
+    );
+    relabel(
+        table,
+        2,
+        context(0, 0, 0),
+        context(0, 0, 1),
+        context(0, 0, 1),
+    );
+}
+
 // The other questions.
 fn others(table: &[u8]) {
     // in role a with type t a new process is proposed b; in role c it stays c
@@ -80,14 +151,17 @@ fn others(table: &[u8]) {
     // u b t is valid, v b s is not, since b has not the type s
     answer_show::show_validity(tegzhumbi::valid(table, context(0, 1, 1)));
     answer_show::show_validity(tegzhumbi::valid(table, context(1, 1, 0)));
-    // role 1 is b; the set of x is the last entry of the table
+    // role 1 is b; after the set of x come the two validatetrans statements, 4 bytes each, and their four rows
     answer_show::show_name(tegzhumbi::name_of(table, 1, 1));
     answer_show::show_place(tegzhumbi::entry_place(table, 8, 0));
+    answer_show::show_place(tegzhumbi::entry_place(table, 9, 1));
+    answer_show::show_place(tegzhumbi::entry_place(table, 10, 3));
 }
 
 fn ask(table: &[u8]) {
     files(table);
     processes(table);
+    relabels(table);
     others(table);
 }
 
@@ -97,11 +171,11 @@ fn main() {
     let compiled = tegzhumbi::compile(&text, &mut table);
     answer_show::show_compiling(compiled);
     ask(&table);
-    // the table has 599 bytes; what is after it does not matter
-    table[599] = 255;
+    // the table has 647 bytes; what is after it does not matter
+    table[647] = 255;
     table[LENT - 1] = 0;
     ask(&table);
-    // edition 2 is no table
-    table[0] = 2;
+    // there is no edition 3
+    table[0] = 3;
     files(&table);
 }

@@ -12,7 +12,7 @@ use borrow.Author.Tests.{lt-ltb, le-ltb}
 use Rattle.byte_slices.specs.Parts.{part, put}
 use Rattle.byte_slices.proofs.PartLaws.{sets-put, sets-append}
 use Rattle.policy.specs.Roll.{digits}
-use Rattle.text_writer.specs.Writing.{Appends}
+use Rattle.text_writer.specs.WrittenText.{Appends}
 
 -- a number has as many digits as it may have, at most
 pub few-digits : (k n : ℕ) → length (digits k n) ≤ k

@@ -2,7 +2,7 @@
 ghost use Prim.Native.Nat.{_+_, _≤_};
 ghost use lib.ListN.{length};
 ghost use Rattle.policy.specs.Roll.{digits, decimal};
-ghost use Rattle.text_writer.specs.Writing.{Appends};
+ghost use Rattle.text_writer.specs.WrittenText.{Appends};
 
 // The most decimal digits of a usize.
 pub const MAX_DIGITS: usize = 20;

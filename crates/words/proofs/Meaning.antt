@@ -13,12 +13,13 @@ use lib.Dec.{eqb, ltb, leb}
 use lib.ListN.{length, getD, take, drop, replicate, getD-replicate, List·getD-map, List·getD-eq-default}
 use lib.Seq.{getD-take, getD-drop}
 use Rattle.policy.specs.Basics.{Name, same, any, every, isIn, Under, lookup}
-use Rattle.policy.specs.Words.{reserved, blockWord, keywordOf, setWord, expressionWord, opOf, componentOf}
+use Rattle.lexer.specs.Class.{classOf, parts}
+use Rattle.policy.specs.Words.{reserved, isReserved, blockWord, keywordOf, setWord, expressionWord, opOf, Sides, twoSides, threeSides, componentOf}
 use Rattle.policy.proofs.Lists.{both-true, neither, any-append, same-is}
 use Rattle.words.specs.Numbers.{keywords, words, numberIn, numberOf, wordOf}
 
 -- how many there are
-counted : length words ≡ 39
+counted : length words ≡ 40
 unfolding reserved keywords words
 counted = refl
 
@@ -90,9 +91,16 @@ module _ (w : Name) where
   unfolding same any every isIn reserved keywords words opOf
   op-number = by-list _ refl w
 
-  pub component-number : componentOf w ≡ componentOf (wordOf (numberOf w))
+  pub component-number : (n : Sides) → componentOf n w ≡ componentOf n (wordOf (numberOf w))
   unfolding same any every isIn reserved keywords words componentOf
-  component-number = by-list _ refl w
+  component-number twoSides = by-list _ refl w
+  component-number threeSides = by-list _ refl w
+
+-- a name is no component
+pub name-no-component : (n : Sides) (w : Name) → isReserved w ≡ false → componentOf n w ≡ none
+unfolding same any every isIn classOf parts reserved isReserved componentOf
+name-no-component twoSides w e = missing isReserved w _ refl e
+name-no-component threeSides w e = missing isReserved w _ refl e
 
 -- ---- from a number to its word
 
@@ -118,8 +126,8 @@ module _ {B : Type 0} (meaning : Name → B) (lo : ℕ) where
       ∙ getD-replicate size (n - lo) b (meaning []) (omega arith)
 
   -- where the words from a number on all mean what the empty word does, so does the word of every number from there on
-  pub from-on : meanings ≡ replicate (40 - lo) (meaning []) → (n : ℕ) → lo ≤ n → meaning (wordOf n) ≡ meaning []
-  from-on e n h = meant n h ∙ ap (λ (l : List B). getD l (n - lo) (meaning [])) e ∙ all-same (40 - lo) (n - lo)
+  pub from-on : meanings ≡ replicate (41 - lo) (meaning []) → (n : ℕ) → lo ≤ n → meaning (wordOf n) ≡ meaning []
+  from-on e n h = meant n h ∙ ap (λ (l : List B). getD l (n - lo) (meaning [])) e ∙ all-same (41 - lo) (n - lo)
     where
       all-same : (k i : ℕ) → getD (replicate k (meaning [])) i (meaning []) ≡ meaning []
       all-same zero i = refl
@@ -148,17 +156,17 @@ agreed test f (w ∷ ws) n (suc k) e h =
     ap f d ∙ agreed test f ws (n + 1) k (both-true (alike (f n) (test w)) (agreeing test f ws (n + 1)) e .1) (le-of-suc-le-suc h)
 
 -- so they agree at every number and its word, if they do past the last
-pub agree : (test : Name → Bool) (f : ℕ → Bool) → agreeing test f numbered 0 ≡ true → ((n : ℕ) → 39 < n → f n ≡ test []) → (n : ℕ) → f n ≡ test (wordOf n)
+pub agree : (test : Name → Bool) (f : ℕ → Bool) → agreeing test f numbered 0 ≡ true → ((n : ℕ) → 40 < n → f n ≡ test []) → (n : ℕ) → f n ≡ test (wordOf n)
 unfolding wordOf
-agree test f e beyond n = go (ltb 39 n) refl
+agree test f e beyond n = go (ltb 40 n) refl
   where
-    go : (q : Bool) → ltb 39 n ≡ q → f n ≡ test (getD numbered n [])
+    go : (q : Bool) → ltb 40 n ≡ q → f n ≡ test (getD numbered n [])
     go true h =
-        let g = ltb-true 39 n h in
+        let g = ltb-true 40 n h in
         beyond n g ∙ ap test (sym (List·getD-eq-default numbered [] {n = n} (rw counted g)))
     go false h =
         let d : 0 + n ≡ n = zero-add n in
-        sym (ap f d) ∙ agreed test f numbered 0 n e (rw counted (let g = ltb-false 39 n h in omega arith))
+        sym (ap f d) ∙ agreed test f numbered 0 n e (rw counted (let g = ltb-false 40 n h in omega arith))
 
 -- ---- the reserved words
 
@@ -178,12 +186,12 @@ reserved-number w =
 -- ---- the word `block`
 
 -- has the last number
-pub block-number : (w : Name) → same w blockWord ≡ eqb (numberOf w) 39
+pub block-number : (w : Name) → same w blockWord ≡ eqb (numberOf w) 40
 unfolding same any isIn reserved keywords words numberOf agreeing
 block-number w =
-    by-cases (λ n. same w blockWord ≡ eqb n 39) words w 1
-    (λ h. last (take 38 words) blockWord h)
-    (λ j l h. ap (λ (v : Name). same v blockWord) h ∙ sym (agreed (λ v. same v blockWord) (λ n. eqb n 39) words 1 j refl l))
+    by-cases (λ n. same w blockWord ≡ eqb n 40) words w 1
+    (λ h. last (take 39 words) blockWord h)
+    (λ j l h. ap (λ (v : Name). same v blockWord) h ∙ sym (agreed (λ v. same v blockWord) (λ n. eqb n 40) words 1 j refl l))
   where
     last : (xs : List Name) (x : Name) → any (same w) (xs ++ (x ∷ [])) ≡ false → same w x ≡ false
     last xs x h = neither (same w x) false (neither (any (same w) xs) (any (same w) (x ∷ [])) (sym (any-append (same w) xs (x ∷ [])) ∙ h) .1) .0

@@ -18,7 +18,7 @@ keywords =
     ∷ bytes "class"
     ∷ bytes "userattributeset" ∷ bytes "roleattributeset" ∷ bytes "typeattributeset"
     ∷ bytes "userrole" ∷ bytes "roletype" ∷ bytes "roleallow"
-    ∷ bytes "roletransition" ∷ bytes "constrain"
+    ∷ bytes "roletransition" ∷ bytes "constrain" ∷ bytes "validatetrans"
     ∷ blockWord ∷ []
 
 -- in the order of their numbers, from 1

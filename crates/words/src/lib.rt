@@ -96,7 +96,9 @@ impl Word {
 
     pub const CONSTRAIN: usize = 38;
 
-    pub const BLOCK: usize = 39;
+    pub const VALIDATETRANS: usize = 39;
+
+    pub const BLOCK: usize = 40;
 
     // The last of the reserved words, which come first.
     pub const LAST_RESERVED: usize = 23;
@@ -201,6 +203,12 @@ impl Letters {
     const ESET: usize = b'e' as usize
         + 256 * (b's' as usize + 256 * (b'e' as usize + 256 * (b't' as usize)));
 
+    const VALI: usize = b'v' as usize
+        + 256 * (b'a' as usize + 256 * (b'l' as usize + 256 * (b'i' as usize)));
+
+    const DATE: usize = b'd' as usize
+        + 256 * (b'a' as usize + 256 * (b't' as usize + 256 * (b'e' as usize)));
+
     // More letters: four, and those after them.
     const DOMBY: usize = Letters::DOMB + FOUR_ON * (b'y' as usize);
 
@@ -225,6 +233,10 @@ impl Letters {
     const TYPEATTR: usize = Letters::TYPE + FOUR_ON * Letters::ATTR;
 
     const ROLETRAN: usize = Letters::ROLE + FOUR_ON * Letters::TRAN;
+
+    const VALIDATE: usize = Letters::VALI + FOUR_ON * Letters::DATE;
+
+    const TRANS: usize = Letters::TRAN + FOUR_ON * (b's' as usize);
 
     const IBUTE: usize = Letters::IBUT + FOUR_ON * (b'e' as usize);
 
@@ -357,6 +369,12 @@ fn of_nine(low: usize, last: u8) -> usize
 fn of_thirteen(low: usize, high: usize) -> usize
     ensures { λ r. ⌜ r ≡ numberBy 13 low high ⌝ }
 {
+    if high == Letters::TRANS {
+        if low == Letters::VALIDATE {
+            return Word::VALIDATETRANS;
+        }
+        return Word::OTHER;
+    }
     if high != Letters::IBUTE {
         return Word::OTHER;
     }

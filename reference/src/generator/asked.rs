@@ -1,7 +1,7 @@
 //! Small policies listed by hand, each with a few questions: every denial with its constraint and the number consulted,
 //! grants, refusals, new roles and parts.
 
-use crate::generator::questions::Question;
+use crate::generator::questions::{self, Question};
 
 pub struct Asked {
     pub text: String,
@@ -20,6 +20,7 @@ pub fn asked() -> Vec<Asked> {
     list.extend(undeclared());
     list.extend(objects());
     list.extend(apart_in_blocks());
+    list.extend(few_relabels());
     list
 }
 
@@ -28,7 +29,7 @@ fn of(rule: &'static str, text: &str, questions: &[Question]) -> Asked {
 }
 
 fn valid(user: u64, role: u64, kind: u64) -> Question {
-    [0, user, role, kind, 0, 0, 0, 0, 0]
+    questions::of([0, user, role, kind])
 }
 
 /// From one context to another, in class 0 if nothing else is said.
@@ -39,19 +40,25 @@ fn change(source: [u64; 3], target: [u64; 3], permission: u64) -> Question {
 fn change_in(source: [u64; 3], target: [u64; 3], class: u64, permission: u64) -> Question {
     let [u1, r1, t1] = source;
     let [u2, r2, t2] = target;
-    [1, u1, r1, t1, u2, r2, t2, class, permission]
+    questions::of([1, u1, r1, t1, u2, r2, t2, class, permission])
 }
 
 fn new_role(role: u64, kind: u64, class: u64) -> Question {
-    [2, role, kind, class, 0, 0, 0, 0, 0]
+    questions::of([2, role, kind, class])
 }
 
 fn name(sort: u64, number: u64) -> Question {
-    [3, sort, number, 0, 0, 0, 0, 0, 0]
+    questions::of([3, sort, number])
 }
 
 fn entry(body: u64, place: u64) -> Question {
-    [4, body, place, 0, 0, 0, 0, 0, 0]
+    questions::of([4, body, place])
+}
+
+/// From the old context to the new one, by the process.
+fn relabel(class: u64, old: [u64; 3], new: [u64; 3], process: [u64; 3]) -> Question {
+    let ([u1, r1, t1], [u2, r2, t2], [u3, r3, t3]) = (old, new, process);
+    questions::of([5, class, u1, r1, t1, u2, r2, t2, u3, r3, t3])
 }
 
 /// One user in the roles a and b, either with the type t.
@@ -261,7 +268,9 @@ fn parts() -> Vec<Asked> {
                    (userattribute w)(roletransition a t c b)(roletransition b t c b)(constrain(c(p))(not(eq u1 u2)))\
                    (constrain(c(p))(eq t1 t2))";
     let there = [(2, 1), (3, 0), (3, 1), (4, 1), (5, 1), (6, 1), (7, 2), (8, 1), (8, 2), (8, 3)];
-    let missing = [(2, 2), (4, 2), (5, 2), (6, 2), (7, 3), (8, 4), (0, 0), (1, 0), (9, 0), (u64::MAX, 0), (8, u64::MAX)];
+    let missing = [
+        (2, 2), (4, 2), (5, 2), (6, 2), (7, 3), (8, 4), (0, 0), (1, 0), (9, 0), (10, 0), (11, 0), (u64::MAX, 0), (8, u64::MAX),
+    ];
     let ask = |question: fn(u64, u64) -> Question, pairs: &[(u64, u64)]| -> Vec<Question> {
         pairs.iter().map(|(a, b)| question(*a, *b)).collect()
     };
@@ -414,4 +423,182 @@ pub fn objects() -> Vec<Asked> {
             &[valid(0, 0, 0), valid(0, 1, 0), change([0, 0, 0], [0, 1, 0], 0)],
         ),
     ]
+}
+
+/// Document 02, W-205: readings 71 to 74 and 76.
+pub fn relabels() -> Vec<Asked> {
+    let mut list = few_relabels();
+    list.extend(more_relabels());
+    list
+}
+
+/// One role and one type for each of two users; the third role is nobody's. In it `OLD` and `NEW` are valid, `BAD` is not.
+const CLERKS: &str = "(user u)(user v)(role a)(role b)(role n)(type s)(type t)(userrole u a)(userrole v b)(roletype a s)\
+                      (roletype b t)(class file(read))(class d(p))";
+const OLD: [u64; 3] = [0, 0, 0];
+const NEW: [u64; 3] = [1, 1, 1];
+const BAD: [u64; 3] = [0, 2, 0];
+
+/// Those of W-205 that become theorems as well.
+fn few_relabels() -> Vec<Asked> {
+    let order = "(user u)(role a)(role b)(type t)(userrole u a)(roletype a t)(class process(transition))";
+    let numbers = format!(
+        "{CLERKS}(validatetrans d(eq u3 v))(validatetrans file(eq u1 u))(constrain(file(read))(neq u1 u))\
+         (validatetrans file(neq t3 s))"
+    );
+    let object = "(user u)(role object_r)(role a)(type t)(class file(read))(validatetrans file(eq r3 object_r))";
+    let entries = "(class c(p))(user u)(validatetrans c(eq u3 u))(validatetrans c(not(eq u1 u2)))";
+    vec![
+        of(
+            "W-205, readings 72 and 76: denials 1, 2, 5 in this order, 12 before, and no role allow",
+            order,
+            &[
+                relabel(0, A, A, A),
+                relabel(0, B, B, B),
+                relabel(0, A, B, B),
+                relabel(0, A, A, B),
+                relabel(0, B, B, [0, 0, 1]),
+                relabel(1, A, A, A),
+            ],
+        ),
+        of(
+            "W-205, readings 73 and 74: the number among all validatetrans, consulted those of the class, each side",
+            &numbers,
+            &[
+                relabel(0, OLD, NEW, NEW),
+                relabel(0, NEW, OLD, NEW),
+                relabel(0, OLD, NEW, OLD),
+                relabel(1, OLD, NEW, OLD),
+                change_in(OLD, OLD, 0, 0),
+            ],
+        ),
+        of("W-205, reading 74: object_r is valid on each side", object, &[relabel(0, A, A, A), relabel(0, A, A, B)]),
+        of(
+            "W-205, reading 71: entries of bodies 9 and 10",
+            entries,
+            &[entry(9, 1), entry(9, 2), entry(10, 0), entry(10, 2), entry(10, 3), entry(11, 0)],
+        ),
+    ]
+}
+
+/// Those that go into the corpus alone.
+fn more_relabels() -> Vec<Asked> {
+    let far = [2, 3, 255, 256, 65_536, 1 << 32, u64::MAX];
+    let mut undeclared: Vec<Question> = far.iter().map(|class| relabel(*class, BAD, BAD, BAD)).collect();
+    for place in 0..9 {
+        for number in [3, 256, 1 << 32] {
+            let mut numbers = [0, 2, 0, 0, 2, 0, 0, 2, 0];
+            numbers[place] = number;
+            let [u1, r1, t1, u2, r2, t2, u3, r3, t3] = numbers;
+            undeclared.push(relabel(0, [u1, r1, t1], [u2, r2, t2], [u3, r3, t3]));
+        }
+    }
+    let consulted = format!(
+        "{CLERKS}(validatetrans d(neq u3 v))(validatetrans file(eq u1 u))(validatetrans file(neq t1 t2))\
+         (validatetrans file(eq u3 v))(validatetrans d(eq u1 u2))(constrain(file(read))(eq u1 v))"
+    );
+    let process = format!("{TWO_ROLES}(class process(transition dyntransition))(validatetrans process(neq r3 b))");
+    let object = "(user u)(user v)(role object_r)(role a)(type t)(class file(read))(class d(p))\
+                  (validatetrans file(or(eq r1 object_r)(neq r3 object_r)))(validatetrans d(neq r2 object_r))";
+    let blocks = "(user u)(role a)(type t)(block b(user u)(role object_r)(role a)(userrole u a)(roletype a t)(class c(p))\
+                  (validatetrans c(eq u3 u)))(class c(p))(userrole u a)(roletype a t)(validatetrans c(neq u3 b.u))\
+                  (block c(validatetrans c(eq r1 .b.a)))";
+    let attributes = "(user u)(user v)(role a)(role b)(type s)(type t)(userrole u a)(userrole v b)(roletype a s)(roletype b t)\
+                      (userattribute x)(class c(p))(validatetrans c(eq u3 x))(class d(p))(roleattribute y)\
+                      (validatetrans d(neq r3 y))(typeattribute z)(userattributeset x(not u))(roleattributeset y(b))\
+                      (typeattributeset z(s))(class e(p))(validatetrans e(eq t3 z))";
+    let inner = [1, 2, 0];
+    let outer = [0, 0, 0];
+    let by_each = |class: u64| [OLD, NEW].map(|process| relabel(class, OLD, NEW, process));
+    let every: Vec<Question> = (0..3).flat_map(by_each).collect();
+    let mut list = vec![
+        of(
+            "W-205, reading 72: denials 1, 2, 5 in this order",
+            CLERKS,
+            &[
+                relabel(0, OLD, NEW, NEW),
+                relabel(0, BAD, BAD, BAD),
+                relabel(0, OLD, BAD, BAD),
+                relabel(0, OLD, NEW, BAD),
+                relabel(0, BAD, NEW, BAD),
+                relabel(0, BAD, BAD, NEW),
+                relabel(0, OLD, BAD, NEW),
+                relabel(0, [0, 0, 1], NEW, NEW),
+                relabel(1, OLD, OLD, [1, 0, 0]),
+            ],
+        ),
+        of("W-205, reading 72: 12 before any denial", CLERKS, &undeclared),
+        of(
+            "W-205, reading 73: the place among all validatetrans, consulted those of the class",
+            &consulted,
+            &[
+                relabel(0, OLD, NEW, NEW),
+                relabel(0, NEW, OLD, NEW),
+                relabel(0, OLD, OLD, NEW),
+                relabel(0, OLD, NEW, OLD),
+                relabel(1, OLD, OLD, NEW),
+                relabel(1, OLD, NEW, OLD),
+                relabel(1, OLD, OLD, OLD),
+                change_in(OLD, OLD, 0, 0),
+            ],
+        ),
+        of(
+            "W-205, readings 72 and 76: no role allow is asked, whatever the class",
+            &process,
+            &[relabel(0, A, B, A), relabel(0, A, B, B), change(A, B, 0), change(A, B, 1), relabel(0, B, A, A)],
+        ),
+        of(
+            "W-205, reading 74: object_r on each side, where rules apply to it as to any role",
+            object,
+            &[
+                relabel(0, A, A, A),
+                relabel(0, A, A, B),
+                relabel(0, A, B, A),
+                relabel(0, B, A, A),
+                relabel(1, A, A, A),
+                relabel(0, A, [1, 0, 0], [1, 0, 0]),
+                relabel(0, A, [2, 0, 0], A),
+            ],
+        ),
+        of(
+            "W-205, readings 65 and 74: names within blocks",
+            blocks,
+            &[
+                relabel(0, inner, inner, inner),
+                relabel(0, inner, outer, outer),
+                relabel(1, inner, outer, outer),
+                relabel(1, inner, outer, inner),
+                relabel(1, outer, outer, outer),
+                relabel(0, [0, 1, 0], outer, outer),
+            ],
+        ),
+        of("W-205, reading 74: final sets on side 3", attributes, &every),
+    ];
+    list.push(each_side());
+    list
+}
+
+/// Every component and operator, each in a class of its own; asked with three different contexts in two orders, and with the
+/// same one on all sides.
+fn each_side() -> Asked {
+    let mut text = "(user u)(user v)(user w)(role a)(role b)(role c)(type r)(type s)(type t)(userrole u a)(userrole v b)\
+                    (userrole w c)(roletype a r)(roletype b s)(roletype c t)(roleattribute x)(roleattributeset x(c))"
+        .to_string();
+    let each = [
+        "(eq u1 u)", "(eq u2 v)", "(eq u3 w)", "(eq r1 a)", "(eq r2 b)", "(eq r3 c)", "(eq t1 r)", "(eq t2 s)", "(eq t3 t)",
+        "(neq u3 u)", "(neq r3 b)", "(eq r3 x)", "(neq r1 x)", "(eq r2 x)", "(neq t3 r)", "(neq u1 u2)", "(eq r1 r2)",
+        "(neq r1 r2)", "(incomp r1 r2)", "(dom r1 r2)", "(domby r1 r2)", "(neq t1 t2)", "(eq t1 t2)",
+    ];
+    let (first, second, third) = ([0, 0, 0], [1, 1, 1], [2, 2, 2]);
+    let mut questions = Vec::new();
+    for (number, expression) in each.iter().enumerate() {
+        text.push_str(&format!("(class c{number}(p))(validatetrans c{number} {expression})"));
+        let class = number as u64;
+        questions.extend([
+            relabel(class, first, second, third),
+            relabel(class, third, first, second),
+            relabel(class, third, third, third),
+        ]);
+    }
+    of("W-205, reading 74: each component and operator on its side", &text, &questions)
 }

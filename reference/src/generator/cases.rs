@@ -1,9 +1,9 @@
 //! Texts listed by hand, one for each cause that document 01 or a reading names. The place of a fault is marked with `@`,
 //! which is taken out of the text; an accepted text has none and the number 0. The line is counted from the place, but for
-//! the texts about lines (document 02, W-202) and blocks (W-203): theirs is said beside them.
+//! the texts about lines (document 02, W-202), blocks (W-203) and validatetrans (W-205): theirs is said beside them.
 
 use crate::fault::Fault;
-use crate::generator::blocks;
+use crate::generator::{blocks, relabels};
 
 pub struct Case {
     pub text: Vec<u8>,
@@ -14,7 +14,8 @@ pub struct Case {
 /// Every listed case.
 pub fn cases() -> Vec<Case> {
     let mut list = cases_for_theorems();
-    for (number, line, marked, rule) in [blocks::SCAN, blocks::FORM, blocks::NAMES].into_iter().flatten() {
+    let listed = [blocks::SCAN, blocks::FORM, blocks::NAMES, relabels::FORM, relabels::NAMES];
+    for (number, line, marked, rule) in listed.into_iter().flatten() {
         list.push(case_on_line(*number, *line, marked, rule));
     }
     for (number, line, marked, rule) in blocks::built() {
@@ -23,7 +24,7 @@ pub fn cases() -> Vec<Case> {
     list
 }
 
-/// The listed cases that may become theorems as well: those without blocks and dots, and a few with them.
+/// The listed cases that may become theorems as well: those without blocks, dots and validatetrans, and a few with them.
 pub fn cases_for_theorems() -> Vec<Case> {
     let mut list: Vec<Case> = Vec::new();
     let tables = [PAPER, SCAN, FORM, SETS, EXPRESSIONS, FREE_WORDS, NAMES, CYCLES, CLASHES, TABLES];
@@ -33,7 +34,7 @@ pub fn cases_for_theorems() -> Vec<Case> {
     for (number, marked, rule) in built() {
         list.push(case(number, &marked, rule));
     }
-    for (number, line, marked, rule) in [LINES, blocks::FEW].into_iter().flatten() {
+    for (number, line, marked, rule) in [LINES, blocks::FEW, relabels::FEW].into_iter().flatten() {
         list.push(case_on_line(*number, *line, marked, rule));
     }
     for (number, line, marked, rule) in built_of_lines() {
@@ -172,7 +173,6 @@ const FORM: &[Listed] = &[
     (3, "@(rolebounds a a)", "reading 20: left out"),
     (3, "@(sensitivity s)", "reading 20: left out"),
     (3, "(class c (p))@(mlsconstrain (c (p)) (eq u1 u2))", "reading 20: left out"),
-    (3, "(class c (p))@(validatetrans c (eq u1 u2))", "reading 20: left out"),
     (3, "(type t)(class c (p))@(allow t t (c (p)))", "reading 20: left out"),
     (3, "@(foo a)", "reading 20: unknown keyword"),
     (3, "@(Role a)", "reading 20: unknown keyword"),

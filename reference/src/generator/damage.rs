@@ -1,5 +1,5 @@
 //! Damaged texts: bytes flipped, dropped, repeated; tokens swapped; statements repeated; dots and blocks put in, taken out and
-//! moved.
+//! moved; sides of constrain and validatetrans mixed up.
 
 use crate::pieces::{join, pieces, spans, statements, Piece, PieceKind, Span};
 use crate::random::Random;
@@ -8,9 +8,9 @@ use crate::random::Random;
 const SHARP_BYTES: &[u8] = b"(); \n\t\r!.\"-0_a\x00\x0b\x0c\x7f\x80\xff";
 /// Words that fit one place and not another.
 const SHARP_WORDS: &[&str] = &[
-    "all", "and", "or", "xor", "not", "eq", "neq", "dom", "domby", "incomp", "u1", "u2", "u3", "r1", "r2", "t1", "t2",
-    "l1", "h2", "nope", "role", "user", "class", "constrain", "userrole", "roletype", "u", "r0", "x", "block", ".a0", "a0.b0",
-    "x.all", ".u1", "b0.process",
+    "all", "and", "or", "xor", "not", "eq", "neq", "dom", "domby", "incomp", "u1", "u2", "u3", "r1", "r2", "r3", "t1", "t2",
+    "t3", "l1", "h2", "nope", "role", "user", "class", "constrain", "validatetrans", "userrole", "roletype", "u", "r0", "x",
+    "block", ".a0", "a0.b0", "x.all", ".u1", ".u3", "b0.process",
 ];
 
 pub fn damage(random: &mut Random, text: &[u8]) -> Vec<u8> {
@@ -19,11 +19,53 @@ pub fn damage(random: &mut Random, text: &[u8]) -> Vec<u8> {
     if random.chance(if has_blocks { 50 } else { 8 }) {
         return if random.chance(50) { damage_dots(random, text) } else { damage_blocks(random, text) };
     }
+    // Document 02, W-205: the same for validatetrans.
+    let has_relabels = text.windows(14).any(|bytes| bytes == b"(validatetrans");
+    if random.chance(if has_relabels { 30 } else { 4 }) {
+        return damage_sides(random, text);
+    }
     match random.below(10) {
         0..=1 => damage_bytes(random, text),
         2..=5 => damage_tokens(random, text),
         _ => damage_statements(random, text),
     }
+}
+
+const SIDES: [&str; 9] = ["u1", "u2", "u3", "r1", "r2", "r3", "t1", "t2", "t3"];
+
+/// One side for another, or a constrain made a validatetrans and the other way round: the keyword alone, or with its head.
+pub fn damage_sides(random: &mut Random, text: &[u8]) -> Vec<u8> {
+    let mut list = pieces(text);
+    let words: Vec<usize> = (0..list.len()).filter(|&i| list[i].kind == PieceKind::Word).collect();
+    let is_side = |i: &&usize| SIDES.iter().any(|side| side.as_bytes() == list[**i].bytes);
+    let is_keyword = |i: &&usize| [b"constrain".as_slice(), b"validatetrans"].contains(&list[**i].bytes.as_slice());
+    let sides: Vec<usize> = words.iter().filter(is_side).copied().collect();
+    let keywords: Vec<usize> = words.iter().filter(is_keyword).copied().collect();
+    if !sides.is_empty() && (keywords.is_empty() || random.chance(70)) {
+        let place = *random.pick(&sides);
+        // In most cases a side of the same family, so that it may still be of the form.
+        let family = list[place].bytes[0] as char;
+        let side = if random.chance(75) { format!("{family}{}", random.between(1, 3)) } else { random.pick(&SIDES).to_string() };
+        list[place].bytes = side.into_bytes();
+    } else if !keywords.is_empty() {
+        let place = *random.pick(&keywords);
+        let was_constrain = list[place].bytes == b"constrain";
+        let class = words.iter().copied().find(|&word| word > place);
+        let other: &[u8] = if was_constrain { b"validatetrans" } else { b"constrain" };
+        match (random.below(4), class) {
+            // `(validatetrans c E)` to `(constrain (c (x)) E)`.
+            (0, Some(class)) if !was_constrain => {
+                list[place].bytes = other.to_vec();
+                list[class].bytes = [b"(", list[class].bytes.as_slice(), b" (x))"].concat();
+            }
+            (1, Some(class)) => list[class].bytes = [b"(", list[class].bytes.as_slice(), b")"].concat(),
+            (2, Some(class)) => list[class].bytes = list[*random.pick(&words)].bytes.clone(),
+            _ => list[place].bytes = other.to_vec(),
+        }
+    } else {
+        return [text, b"(validatetrans c (eq u3 u))"].concat();
+    }
+    join(&list)
 }
 
 pub fn damage_bytes(random: &mut Random, text: &[u8]) -> Vec<u8> {

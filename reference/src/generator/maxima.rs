@@ -42,6 +42,7 @@ pub fn bounds() -> Vec<Bound> {
     list.extend(texts());
     list.extend(stacks());
     list.extend(blocks());
+    list.extend(validations());
     list.into_iter().map(|bound| Bound { fault: bound.fault.in_text(&bound.past), ..bound }).collect()
 }
 
@@ -188,6 +189,40 @@ fn blocks() -> Vec<Bound> {
     list
 }
 
+/// A validatetrans of `rows` rows.
+fn validating_nots(rows: usize) -> String {
+    format!("(validatetrans c{}(eq u1 u2){})", "(not".repeat(rows - 1), ")".repeat(rows - 1))
+}
+
+/// Document 02, W-205: "At most 64 such statements and 1,024 rows", counted apart from the constrains (reading 66 of document
+/// 02); stack need as for a constrain.
+fn validations() -> Vec<Bound> {
+    let before = format!("(class c(p)){}", nots(2));
+    let rows = format!("{before}{}", validating_nots(30).repeat(34));
+    let both = format!("{before}{}", validating_nots(16).repeat(63));
+    let right = |count: usize| {
+        let open = "(and(neq r1 r2)".repeat(count - 1);
+        format!("{before}(validatetrans c{open}(neq r1 r2){})", ")".repeat(count - 1)).into_bytes()
+    };
+    let bound = |name, before: &str, at: usize, past: usize| Bound {
+        name,
+        at: format!("{before}{}", validating_nots(at)).into_bytes(),
+        past: format!("{before}{}", validating_nots(past)).into_bytes(),
+        fault: Fault::new(6, before.len()),
+    };
+    // Those of one kind at their maximum leave room for the other.
+    let constrains = format!("(class c(p)){}", nots(16).repeat(128));
+    let full = format!("(class c(p)){}", validating_nots(16).repeat(64));
+    vec![
+        counted("validatetrans", &before, 64, &|_| "(validatetrans c(eq u1 u2))".to_string()),
+        bound("validatetrans rows", &rows, 4, 5),
+        bound("validatetrans and their rows", &both, 16, 17),
+        counted("validatetrans behind all constrains", &constrains, 64, &|_| "(validatetrans c(eq u1 u2))".to_string()),
+        counted("constraints behind all validatetrans", &full, 128, &|_| "(constrain(c(p))(eq u1 u2))".to_string()),
+        Bound { name: "stack of a validatetrans", at: right(5), past: right(6), fault: Fault::new(7, before.len()) },
+    ]
+}
+
 /// Reading 23: the order 4, 5, 6, 7 within a statement, at the maxima.
 pub fn orders() -> Vec<(&'static str, Vec<u8>, Fault)> {
     let find = |name: &str| bounds().into_iter().find(|b| b.name == name).expect("a bound of that name");
@@ -209,6 +244,12 @@ pub fn orders() -> Vec<(&'static str, Vec<u8>, Fault)> {
         ("rows past 2,048 with need 6", 6, "rows", format!("(constrain(c(p)){six})")),
         ("rows past 2,048 with an unknown permission", 5, "rows", "(constrain(c(q))(eq u1 u2))".to_string()),
         ("a 129th transition with an unknown role", 5, "transitions", "(roletransition a t c b)".to_string()),
+        ("a 65th validatetrans with an unknown name", 5, "validatetrans", "(validatetrans c(eq u3 nope))".to_string()),
+        ("a 65th validatetrans with need 6", 6, "validatetrans", format!("(validatetrans c{six})")),
+        ("a 65th validatetrans of a wrong form", 3, "validatetrans", "(validatetrans c(eq u3 u1))".to_string()),
+        ("a 65th validatetrans with an unknown class", 5, "validatetrans", "(validatetrans d(eq u1 u2))".to_string()),
+        ("rows past 1,024 with need 6", 6, "validatetrans rows", format!("(validatetrans c{six})")),
+        ("rows past 1,024 with an unknown name", 5, "validatetrans rows", "(validatetrans c(eq t3 nope))".to_string()),
         ("a 129th role of a wrong form", 3, "roles", "(role a0 a0)".to_string()),
     ];
     let finish = |(label, number, bound, last): (&'static str, u8, &str, String)| {
@@ -327,6 +368,10 @@ pub fn everything() -> Vec<u8> {
     for n in 0..128 {
         text.push_str(&format!("(roletransition r-{n} t-{n} c{} r-{})", n % 32, 127 - n));
         text.push_str(&constrain_of_sixteen_rows(n));
+    }
+    for n in 0..64 {
+        let nots = ("(not".repeat(13), ")".repeat(13));
+        text.push_str(&format!("(validatetrans c{}{}(or(eq u3 x{n})(neq r3 r-{n})){})", n % 32, nots.0, nots.1));
     }
     text.push_str("(userrole x0 y0)(roletype y0 z0)(roletype r-64 t-511)(roleallow y60 y0)(userrole u-127 r-65)");
     text.into_bytes()

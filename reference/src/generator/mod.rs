@@ -9,6 +9,7 @@ pub mod layout;
 pub mod maxima;
 pub mod policies;
 pub mod questions;
+pub mod relabels;
 pub mod scans;
 pub mod tables;
 pub mod tries;

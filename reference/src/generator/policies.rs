@@ -22,6 +22,8 @@ pub struct Shape {
     pub objects: bool,
     /// Document 02, W-203: blocks, nested to 8, and uses written in every way that finds what is meant.
     pub blocks: bool,
+    /// Document 02, W-205: validatetrans statements, with sides 1 to 3.
+    pub relabels: bool,
 }
 
 impl Shape {
@@ -35,6 +37,7 @@ impl Shape {
             small: false,
             objects: false,
             blocks: false,
+            relabels: false,
         }
     }
 
@@ -64,6 +67,8 @@ struct Writer<'a> {
     /// The names of the blocks that are open, the outermost first, and the full names of all that ever were.
     open: Vec<String>,
     opened: Vec<String>,
+    /// How many sides the statement that is written has.
+    sides: usize,
 }
 
 /// The statements of a random policy. A block is two of them: its header without the closing parenthesis, and that.
@@ -91,6 +96,7 @@ fn raw_policy(random: &mut Random, shape: Shape) -> Vec<String> {
         new_roles: BTreeMap::new(),
         open: Vec::new(),
         opened: Vec::new(),
+        sides: 2,
     };
     for family in FAMILIES {
         writer.declare_thing(family);
@@ -155,9 +161,9 @@ fn letter(family: Family) -> &'static str {
 }
 
 /// Names that a careless reader may take for something else.
-const ODD_NAMES: [&str; 24] = [
+const ODD_NAMES: [&str; 25] = [
     "role", "user", "type", "class", "constrain", "roleattributeset", "u", "r", "t", "l", "h", "u0", "u4", "u10", "l3",
-    "h3", "All", "U1", "_", "__-", "and-", "not_", "eq1", "process",
+    "h3", "All", "U1", "_", "__-", "and-", "not_", "eq1", "process", "validatetrans",
 ];
 
 impl Writer<'_> {
@@ -300,6 +306,7 @@ impl Writer<'_> {
         match self.random.below(100) {
             _ if self.shape.blocks && self.random.chance(14) => self.open_block(),
             _ if self.shape.blocks && self.random.chance(9) => self.close_block(),
+            _ if self.shape.relabels && self.random.chance(15) => self.validatetrans(),
             _ if self.shape.clashes && self.random.chance(30) => self.transition(),
             0..=11 if family != Family::Role || !crowded => self.declare_thing(family),
             0..=11 => self.declare_thing(Family::Type),
@@ -378,17 +385,30 @@ impl Writer<'_> {
         let (class, permissions) = self.random.pick(&self.classes).clone();
         let count = self.random.between(1, permissions.len() + 1);
         let asked: Vec<String> = (0..count).map(|_| self.random.pick(&permissions).clone()).collect();
+        let expression = self.some_expression();
+        let class = self.used_class(&class);
+        self.statements.push(format!("(constrain ({class} ({})) {expression})", asked.join(" ")));
+    }
+
+    fn validatetrans(&mut self) {
+        let class = self.random.pick(&self.classes).0.clone();
+        self.sides = 3;
+        let expression = self.some_expression();
+        self.sides = 2;
+        let class = self.used_class(&class);
+        self.statements.push(format!("(validatetrans {class} {expression})"));
+    }
+
+    fn some_expression(&mut self) -> String {
         let most = if self.shape.deep { 7 } else { 5 };
-        let expression = match self.random.below(if self.shape.deep { 3 } else { 10 }) {
+        match self.random.below(if self.shape.deep { 3 } else { 10 }) {
             0 => self.chain_to_the_right(most),
             1 => self.chain_to_the_left(7),
             _ => {
                 let levels = self.random.below(most);
                 self.expression(levels)
             }
-        };
-        let class = self.used_class(&class);
-        self.statements.push(format!("(constrain ({class} ({})) {expression})", asked.join(" ")));
+        }
     }
 
     /// `most` comparisons to the right need a stack of `most`.
@@ -434,7 +454,7 @@ impl Writer<'_> {
             let operator = if family == Family::Role { role_operator } else { operator };
             return format!("({operator} {x}1 {x}2)");
         }
-        let side = self.random.between(1, 2);
+        let side = self.random.between(1, self.sides);
         let name = self.some_name(family);
         format!("({operator} {x}{side} {name})")
     }

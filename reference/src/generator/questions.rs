@@ -3,8 +3,20 @@
 use crate::random::Random;
 use crate::sound::Decoded;
 
-/// Kind (0 valid, 1 change, 2 new role, 3 name, 4 entry) and eight arguments.
-pub type Question = [u64; 9];
+/// Kind (0 valid, 1 change, 2 new role, 3 name, 4 entry, 5 relabel) and up to ten arguments, those not used 0.
+pub type Question = [u64; 11];
+
+/// A question from its kind and its arguments.
+pub fn of<const N: usize>(numbers: [u64; N]) -> Question {
+    let mut question = [0; 11];
+    question[..N].copy_from_slice(&numbers);
+    question
+}
+
+/// How many numbers of a question stand in a corpus: nine, and for the relabel question eleven.
+pub fn written_length(kind: u64) -> usize {
+    if kind == 5 { 11 } else { 9 }
+}
 
 /// A number that is declared, or rarely one that is not: just past the count, or one that a narrower number would fold
 /// back onto a declared one.
@@ -62,16 +74,17 @@ fn context(random: &mut Random, table: &Decoded) -> [u64; 3] {
 
 pub fn ask(random: &mut Random, table: &Decoded) -> Question {
     let counts = &table.counts;
-    match random.below(20) {
+    match random.below(24) {
+        20..=23 => relabel(random, table),
         0..=2 => {
             let [user, role, kind] = context(random, table);
-            [0, user, role, kind, 0, 0, 0, 0, 0]
+            of([0, user, role, kind])
         }
         3..=13 => change(random, table),
         14..=15 => {
             let role = number(random, counts.roles());
             let kind = number(random, counts.types());
-            [2, role, kind, number(random, counts.classes()), 0, 0, 0, 0, 0]
+            of([2, role, kind, number(random, counts.classes())])
         }
         16..=17 => name(random, table),
         _ => entry(random, table),
@@ -83,12 +96,26 @@ fn change(random: &mut Random, table: &Decoded) -> Question {
     let [u2, r2, t2] = context(random, table);
     if random.chance(35) {
         if let Some((class, permission)) = role_change(random, table) {
-            return [1, u1, r1, t1, u2, r2, t2, class, permission];
+            return of([1, u1, r1, t1, u2, r2, t2, class, permission]);
         }
     }
     let class = number(random, table.counts.classes());
     let permissions = table.counts.permissions.get(class as usize).copied().unwrap_or(1);
-    [1, u1, r1, t1, u2, r2, t2, class, number(random, permissions)]
+    of([1, u1, r1, t1, u2, r2, t2, class, number(random, permissions)])
+}
+
+/// A relabel question, for a class that has a validatetrans where there is one.
+fn relabel(random: &mut Random, table: &Decoded) -> Question {
+    let [u1, r1, t1] = context(random, table);
+    let [u2, r2, t2] = context(random, table);
+    let [u3, r3, t3] = context(random, table);
+    let validations = &table.contents.validations;
+    let class = if !validations.is_empty() && random.chance(80) {
+        random.pick(validations).class as u64
+    } else {
+        number(random, table.counts.classes())
+    };
+    of([5, class, u1, r1, t1, u2, r2, t2, u3, r3, t3])
 }
 
 /// A class and permission where a change of role may have to be allowed, or that only look so.
@@ -109,12 +136,12 @@ fn name(random: &mut Random, table: &Decoded) -> Question {
         let sort = if random.chance(40) { 7 } else { number(random, 8) };
         let near = *random.pick(&[1, 2, 3, 31, 32, 33, 63, 64, 1_023, 1_024]);
         let number = if random.chance(60) { near } else { undeclared(random, 1) };
-        return [3, sort, number, 0, 0, 0, 0, 0, 0];
+        return of([3, sort, number]);
     }
     let entry = random.pick(&table.contents.names);
     let (sort, number) = (entry.sort as u64, entry.number as u64);
     let sort = if random.chance(5) { sort + 256 } else { sort };
-    [3, sort, number, 0, 0, 0, 0, 0, 0]
+    of([3, sort, number])
 }
 
 fn entry(random: &mut Random, table: &Decoded) -> Question {
@@ -128,11 +155,13 @@ fn entry(random: &mut Random, table: &Decoded) -> Question {
         contents.constraints.len(),
         contents.rows.len(),
         users + roles + types,
+        contents.validations.len(),
+        contents.validation_rows.len(),
     ];
     if random.chance(10) {
-        let body = *random.pick(&[0, 1, 9, 10, 258, u64::MAX]);
-        return [4, body, 0, 0, 0, 0, 0, 0, 0];
+        let body = *random.pick(&[0, 1, 9, 11, 12, 13, 258, u64::MAX]);
+        return of([4, body]);
     }
-    let body = random.below(7);
-    [4, body as u64 + 2, number(random, lengths[body]), 0, 0, 0, 0, 0, 0]
+    let body = random.below(lengths.len());
+    of([4, body as u64 + 2, number(random, lengths[body])])
 }

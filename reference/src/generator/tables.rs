@@ -3,9 +3,10 @@
 
 use crate::meaning::Numbers;
 use crate::random::Random;
-use crate::sound::decode;
+use crate::sound::{decode, family_of_component};
 use crate::table::{
-    assemble, bodies, ConstraintRecord, Contents, NameEntry, Row, TransitionRecord, CLASS, HEADER, PERMISSION,
+    assemble, bodies, header, ConstraintRecord, Contents, NameEntry, Row, TransitionRecord, ValidationRecord, CLASS,
+    PERMISSION,
 };
 
 /// A way to damage a table, on the level at which it is easiest said. It gives false where the table has nothing to
@@ -19,15 +20,18 @@ pub enum Way {
 
 pub type Named = (&'static str, Way);
 
-/// Applies a way of damage to the bytes of a sound table.
+/// Applies a way of damage to the bytes of a sound table, in its own edition.
 pub fn apply(way: Way, table: &[u8], random: &mut Random) -> Option<Vec<u8>> {
     let mut contents = decode(table).expect("damage starts from a sound table").contents;
-    let mut parts = bodies(&contents);
+    let sections = sections_of(table);
+    let mut parts = bodies(&contents)[..sections].to_vec();
     let mut bytes = table.to_vec();
     match way {
         Way::Contents(damage) => {
             let done = damage(&mut contents, random);
-            done.then(|| assemble(&bodies(&contents)))
+            // Damage to what edition 1 does not have is none.
+            let damaged = assemble(&bodies(&contents)[..sections]);
+            (done && damaged != table).then_some(damaged)
         }
         Way::Bodies(damage) => {
             let done = damage(&mut parts, random);
@@ -38,6 +42,15 @@ pub fn apply(way: Way, table: &[u8], random: &mut Random) -> Option<Vec<u8>> {
             done.then_some(bytes)
         }
     }
+}
+
+fn sections_of(table: &[u8]) -> usize {
+    table[2] as usize
+}
+
+/// The same table in edition 1, without what that edition does not have.
+pub fn in_edition_1(table: &[u8]) -> Vec<u8> {
+    assemble(&bodies(&decode(table).expect("a sound table").contents)[..8])
 }
 
 /// Every way; each of them leaves a table that is not sound.
@@ -58,6 +71,8 @@ pub fn ways() -> Vec<Named> {
         row_ways(),
         comparison_ways(),
         stack_ways(),
+        validation_ways(),
+        validation_row_ways(),
     ];
     groups.concat()
 }
@@ -70,12 +85,24 @@ fn add_to_four(bytes: &mut [u8], at: usize, add: u32) {
 fn header_ways() -> Vec<Named> {
     vec![
         ("cut within the header", Way::Bytes(|b, r| {
-            b.truncate(r.below(HEADER));
+            b.truncate(r.below(header(sections_of(b))));
             true
         })),
         ("edition", Way::Bytes(|b, r| {
             let at = r.below(2);
             b[at] = b[at].wrapping_add(r.between(1, 255) as u8);
+            true
+        })),
+        ("another edition's count", Way::Bytes(|b, _| {
+            b[2] = 18 - b[2];
+            true
+        })),
+        ("another edition", Way::Bytes(|b, _| {
+            b[0] = 3 - b[0];
+            true
+        })),
+        ("an edition not known", Way::Bytes(|b, r| {
+            (b[0], b[2]) = *r.pick(&[(0, 8), (0, 10), (3, 8), (3, 10), (3, 11), (4, 12), (5, 13)]);
             true
         })),
         ("count of bodies", Way::Bytes(|b, r| {
@@ -89,28 +116,30 @@ fn header_ways() -> Vec<Named> {
 fn layout_ways() -> Vec<Named> {
     vec![
         ("offset", Way::Bytes(|b, r| {
-            add_to_four(b, 4 + 8 * r.below(8), *r.pick(&[1, 255, 256, u32::MAX, 1 << 31]));
+            let body = r.below(sections_of(b));
+            add_to_four(b, 4 + 8 * body, *r.pick(&[1, 255, 256, u32::MAX, 1 << 31]));
             true
         })),
         ("length", Way::Bytes(|b, r| {
-            add_to_four(b, 8 + 8 * r.below(8), *r.pick(&[1, 16, 64, u32::MAX, 1 << 31]));
+            let body = r.below(sections_of(b));
+            add_to_four(b, 8 + 8 * body, *r.pick(&[1, 16, 64, u32::MAX, 1 << 31]));
             true
         })),
         ("cut at the end", Way::Bytes(|b, r| {
-            let keep = b.len() - 1 - r.below(3.min(b.len() - HEADER).max(1));
+            let keep = b.len() - 1 - r.below(3.min(b.len() - header(sections_of(b))).max(1));
             b.truncate(keep);
             true
         })),
         ("gap between bodies", Way::Bytes(|b, r| {
-            let body = r.between(1, 7);
+            let body = r.between(1, sections_of(b) - 1);
             let at = u32::from_le_bytes([b[4 + body * 8], b[5 + body * 8], b[6 + body * 8], b[7 + body * 8]]) as usize;
             b.insert(at, 0);
-            (body..8).for_each(|later| add_to_four(b, 4 + later * 8, 1));
+            (body..sections_of(b)).for_each(|later| add_to_four(b, 4 + later * 8, 1));
             true
         })),
-        ("all offsets from 69", Way::Bytes(|b, _| {
-            b.insert(HEADER, 0);
-            (0..8).for_each(|body| add_to_four(b, 4 + body * 8, 1));
+        ("all offsets a byte later", Way::Bytes(|b, _| {
+            b.insert(header(sections_of(b)), 0);
+            (0..sections_of(b)).for_each(|body| add_to_four(b, 4 + body * 8, 1));
             true
         })),
     ]
@@ -330,10 +359,14 @@ fn count_ways() -> Vec<Named> {
             shorter
         })),
         ("a byte too many", Way::Bodies(|b, r| {
-            b[r.between(1, 7)].push(0);
+            let body = r.between(1, b.len() - 1);
+            b[body].push(0);
             true
         })),
-        ("a byte too few", Way::Bodies(|b, r| b[r.between(1, 7)].pop().is_some())),
+        ("a byte too few", Way::Bodies(|b, r| {
+            let body = r.between(1, b.len() - 1);
+            b[body].pop().is_some()
+        })),
         ("a name too many", Way::Contents(|c, r| {
             // Of every sort but the type, which no count of records follows.
             let sort = *r.pick(&[0, 1, 3, 4, 5]);
@@ -534,12 +567,12 @@ fn comparison_ways() -> Vec<Named> {
         ("first undeclared thing", Way::Contents(|c, _| {
             let counts: Vec<u16> = (0..3).map(|s| c.names.iter().filter(|e| e.sort == s).count() as u16).collect();
             let rows = c.rows.iter_mut().filter(|row| row.kind == 4);
-            rows.map(|row| row.number = counts[row.component as usize / 2]).count() > 0
+            rows.map(|row| row.number = counts[family_of_component(row.component)]).count() > 0
         })),
         ("first undeclared attribute", Way::Contents(|c, _| {
             let counts: Vec<u16> = (3..6).map(|s| c.names.iter().filter(|e| e.sort == s).count() as u16).collect();
             let rows = c.rows.iter_mut().filter(|row| row.kind == 5);
-            rows.map(|row| row.number = counts[row.component as usize / 2]).count() > 0
+            rows.map(|row| row.number = counts[family_of_component(row.component)]).count() > 0
         })),
     ]
 }
@@ -572,12 +605,118 @@ fn stack_ways() -> Vec<Named> {
     ]
 }
 
+/// Document 02, W-205: section 9, "sound as 6 and 7 are".
+fn validation_ways() -> Vec<Named> {
+    fn some<'a>(c: &'a mut Contents, r: &mut Random) -> Option<&'a mut ValidationRecord> {
+        let count = c.validations.len();
+        if count == 0 { None } else { c.validations.get_mut(r.below(count)) }
+    }
+    vec![
+        ("class of a validatetrans", Way::Contents(|c, r| {
+            let class = *r.pick(&[class_places(c).len() as u16, 32, 256]);
+            some(c, r).map(|v| v.class = class).is_some()
+        })),
+        ("row count 0 of a validatetrans", Way::Contents(|c, r| some(c, r).map(|v| v.row_count = 0).is_some())),
+        ("row count of a validatetrans", Way::Contents(|c, r| {
+            let add = *r.pick(&[1, 256, u16::MAX]);
+            some(c, r).map(|v| v.row_count = v.row_count.wrapping_add(add)).is_some()
+        })),
+        ("validatetrans of no rows", Way::Contents(|c, r| {
+            let class = some(c, r).map(|v| v.class);
+            class.map(|class| c.validations.push(ValidationRecord { class, row_count: 0 })).is_some()
+        })),
+        ("a row of the next validatetrans", Way::Contents(|c, _| {
+            let Some(place) = (1..c.validations.len()).find(|&place| c.validations[place].row_count > 1) else { return false };
+            c.validations[place - 1].row_count += 1;
+            c.validations[place].row_count -= 1;
+            true
+        })),
+        ("validatetrans dropped", Way::Contents(|c, _| c.validations.pop().is_some())),
+        ("validatetrans twice, rows once", Way::Contents(|c, r| {
+            let copy = some(c, r).copied();
+            copy.map(|v| c.validations.push(v)).is_some()
+        })),
+        ("rows of a validatetrans left", Way::Contents(|c, _| {
+            c.validation_rows.push(Row { kind: 3, ..Row::default() });
+            true
+        })),
+        ("rows of a validatetrans missing", Way::Contents(|c, _| c.validation_rows.pop().is_some())),
+    ]
+}
+
+/// Changes a random row of section 10 of one of the kinds.
+fn validation_row_of(c: &mut Contents, r: &mut Random, kinds: &[u8], change: fn(&mut Row, &mut Random)) -> bool {
+    let places: Vec<usize> = (0..c.validation_rows.len()).filter(|&i| kinds.contains(&c.validation_rows[i].kind)).collect();
+    if places.is_empty() {
+        return false;
+    }
+    let place = *r.pick(&places);
+    change(&mut c.validation_rows[place], r);
+    true
+}
+
+/// The rows of a single validatetrans put in the place of all others.
+fn only_validation_rows(c: &mut Contents, kinds: &[u8]) -> bool {
+    let Some(first) = c.validations.first().copied() else { return false };
+    c.validation_rows = kinds.iter().map(|&kind| Row { kind, ..Row::default() }).collect();
+    c.validations = vec![ValidationRecord { row_count: kinds.len() as u16, ..first }];
+    true
+}
+
+/// Document 02, W-205: section 10; reading 69: components 6 to 8 only there, and only for kinds 4 and 5.
+fn validation_row_ways() -> Vec<Named> {
+    const ANY: &[u8] = &[0, 1, 2, 3, 4, 5];
+    vec![
+        ("side 3 in section 7", Way::Contents(|c, r| {
+            row_of(c, r, &[4, 5], |row, r| {
+                row.component = r.between(6, 8) as u8;
+                row.number = 0;
+            })
+        })),
+        ("kind in section 10", Way::Contents(|c, r| {
+            validation_row_of(c, r, ANY, |row, r| row.kind = r.between(6, 255) as u8)
+        })),
+        ("fourth byte in section 10", Way::Contents(|c, r| {
+            validation_row_of(c, r, ANY, |row, r| row.zero = r.between(1, 255) as u8)
+        })),
+        ("unused field in section 10", Way::Contents(|c, r| validation_row_of(c, r, &[0, 1, 2], |row, r| match r.below(3) {
+            0 => row.component = r.between(1, 8) as u8,
+            1 => row.operator = r.between(1, 4) as u8,
+            _ => row.number = *r.pick(&[1, 256]),
+        }))),
+        ("a pair with side 3", Way::Contents(|c, r| {
+            validation_row_of(c, r, &[3], |row, r| row.component = *r.pick(&[1, 3, 5, 6, 7, 8, 9]))
+        })),
+        ("dom of users or types in section 10", Way::Contents(|c, r| validation_row_of(c, r, &[3], |row, r| {
+            row.component = *r.pick(&[0, 4]);
+            row.operator = r.between(2, 4) as u8;
+        }))),
+        ("component over 8", Way::Contents(|c, r| {
+            validation_row_of(c, r, &[4, 5], |row, r| row.component = r.between(9, 255) as u8)
+        })),
+        ("operator of a named row in section 10", Way::Contents(|c, r| {
+            validation_row_of(c, r, &[4, 5], |row, r| row.operator = r.between(2, 5) as u8)
+        })),
+        ("undeclared number in section 10", Way::Contents(|c, _| {
+            let count = |sort: usize| c.names.iter().filter(|e| e.sort as usize == sort).count() as u16;
+            let counts: Vec<u16> = (0..6).map(count).collect();
+            let Some(row) = c.validation_rows.iter_mut().rfind(|row| row.kind > 3) else { return false };
+            row.number = counts[family_of_component(row.component) + 3 * (row.kind as usize - 4)];
+            true
+        })),
+        ("stack in section 10: not alone", Way::Contents(|c, _| only_validation_rows(c, &[0]))),
+        ("stack in section 10: two left", Way::Contents(|c, _| only_validation_rows(c, &[3, 3]))),
+        ("stack in section 10: underflow", Way::Contents(|c, _| only_validation_rows(c, &[3, 1, 3]))),
+        ("stack in section 10: six", Way::Contents(|c, _| only_validation_rows(c, &[3, 3, 3, 3, 3, 3, 1, 1, 1, 1, 1]))),
+    ]
+}
+
 /// Random bytes changed anywhere in the table, or one in its names; what comes of it may still be sound.
 pub fn flip(random: &mut Random, table: &[u8]) -> Vec<u8> {
     let mut bytes = table.to_vec();
     let names = u32::from_le_bytes([table[8], table[9], table[10], table[11]]) as usize;
     if names > 0 && random.chance(15) {
-        bytes[HEADER + random.below(names)] = *random.pick(b"..ab_-1\x01\x40\x41");
+        bytes[header(sections_of(table)) + random.below(names)] = *random.pick(b"..ab_-1\x01\x40\x41");
         return bytes;
     }
     for _ in 0..random.between(1, 2) {
@@ -620,7 +759,7 @@ fn one_class(permissions: usize) -> Vec<NameEntry> {
 /// A table exactly at each maximum and one past it. Only the writer of a table could pass it: no text does.
 pub fn bounds() -> Vec<(&'static str, Vec<u8>, Vec<u8>)> {
     type Build = fn(usize) -> Contents;
-    let list: [(&'static str, usize, Build); 14] = [
+    let list: [(&'static str, usize, Build); 16] = [
         ("users", 128, |n| Contents { names: names_of(0, n), roles_of_user: vec![Numbers::new(); n], ..empty() }),
         ("roles", 128, |n| {
             let sets = vec![Numbers::new(); n];
@@ -635,6 +774,9 @@ pub fn bounds() -> Vec<(&'static str, Vec<u8>, Vec<u8>)> {
         ("transitions", 128, many_transitions),
         ("constraints", 128, |n| constraints_of(n, 1)),
         ("rows", 2_048, |n| constraints_of(1, n)),
+        // Document 02, W-205: "At most 64 such statements and 1,024 rows."
+        ("validatetrans", 64, |n| validations_of(n, 1)),
+        ("validatetrans rows", 1_024, |n| validations_of(1, n)),
         // Document 02, W-203: "at most 64 bytes and nine parts, a permission's one".
         ("parts of a name", 9, |n| one_type(&vec!["a"; n].join("."))),
         ("bytes of a dotted name", 64, |n| one_type(&format!("a.{}", "n".repeat(n - 2)))),
@@ -685,7 +827,47 @@ fn constraints_of(count: usize, rows: usize) -> Contents {
     contents
 }
 
-/// Tables that no text gives and that are sound all the same (reading 34; document 02, reading 53).
+/// `count` validatetrans of a comparison and nots.
+fn validations_of(count: usize, rows: usize) -> Contents {
+    let mut contents = Contents { names: one_class(1), ..empty() };
+    for _ in 0..count {
+        contents.validations.push(ValidationRecord { class: 0, row_count: rows as u16 });
+        contents.validation_rows.push(Row { kind: 3, ..Row::default() });
+        contents.validation_rows.extend(vec![Row::default(); rows - 1]);
+    }
+    contents
+}
+
+/// The largest sound table of the newest edition (reading 8 of document 02): everything at its maximum, each name of 64 bytes.
+pub fn largest() -> Vec<u8> {
+    let long = |sort: u8, number: usize| {
+        let name = format!("{}{:n>63}", (b'a' + sort) as char, format!("-{number}")).into_bytes();
+        NameEntry { sort, number: number as u16, name }
+    };
+    let mut contents = constraints_of(128, 16);
+    let validations = validations_of(64, 16);
+    contents.names = (0..6).flat_map(|sort| (0..[128, 128, 512, 64, 64, 64][sort]).map(move |n| long(sort as u8, n))).collect();
+    for class in 0..32 {
+        contents.names.push(long(CLASS, class));
+        contents.names.extend((0..32).map(|place| long(PERMISSION, class * 32 + place)));
+    }
+    let all = |count: usize| (0..count).collect::<Numbers>();
+    let transition = TransitionRecord { roles: all(128), types: all(512), class: 31, new_role: 127 };
+    assemble(&bodies(&Contents {
+        roles_of_user: vec![all(128); 128],
+        types_of_role: vec![all(512); 128],
+        becomes: vec![all(128); 128],
+        transitions: vec![transition; 128],
+        userattributes: vec![all(128); 64],
+        roleattributes: vec![all(128); 64],
+        typeattributes: vec![all(512); 64],
+        validations: validations.validations,
+        validation_rows: validations.validation_rows,
+        ..contents
+    }))
+}
+
+/// Tables that no text gives and that are sound all the same (reading 34; document 02, readings 53 and 70).
 pub fn odd_and_sound() -> Vec<(&'static str, Vec<u8>)> {
     let table = |contents: &Contents| assemble(&bodies(contents));
     let mut clashing = many_transitions(1);
@@ -723,17 +905,22 @@ pub fn odd_and_sound() -> Vec<(&'static str, Vec<u8>)> {
         ("sorts mixed", table(&mixed)),
         ("names longer in all than a text", table(&long_names)),
         ("dotted names without blocks", table(&dotted)),
+        ("validatetrans rows deeper than 32 levels", table(&validations_of(2, 40))),
+        ("edition 1 with dotted names", in_edition_1(&table(&dotted))),
+        ("edition 1 with rows deeper than 32 levels", in_edition_1(&table(&constraints_of(2, 40)))),
     ]
 }
 
-/// Small policies whose tables have something in every body.
+/// Small policies whose tables have something in every body; the last has no validatetrans.
 pub const BASES: [&str; 3] = [
     "(user u)(role a)(userattribute x)(class c(p q))(type t)(roleattribute y)(role b)(typeattribute z)(type s)\
      (userattributeset x(all))(roleattributeset y(not a))(typeattributeset z(s))(userrole x y)(roletype b z)(roleallow a b)\
+     (validatetrans c(or(eq u3 x)(not(and(neq t3 s)(incomp r1 r2)))))\
      (roletransition y z c a)(constrain(c(q))(or(eq u1 x)(not(neq t2 s))))(constrain(c(p q))(and(dom r1 r2)(eq r1 y)))",
     "(class process(transition dyntransition))(class d(p))(user u)(user v)(role a)(type t)(userrole u a)(roletype a t)\
      (constrain(process(transition))(or(eq u1 u)(and(neq r2 a)(eq t1 t2))))(constrain(d(p))(not(eq u1 u2)))\
-     (userattribute w)(userattributeset w(v))(constrain(d(p))(eq u2 w))(roletransition a t d a)",
+     (userattribute w)(userattributeset w(v))(constrain(d(p))(eq u2 w))(roletransition a t d a)\
+     (validatetrans d(neq r3 a))(validatetrans process(eq u1 u2))(validatetrans d(and(eq u3 w)(eq t2 t)))",
     "(type t)(block b(class c(p))(role a)(roletype a t)(constrain(c(p))(incomp r1 r2))(constrain(c(p))(eq t1 t))\
      (typeattribute k))(constrain(b.c(p))(and(neq t1 b.k)(and(eq t2 .b.k)(and(eq u1 u2)(or(eq r1 b.a)(neq r2 b.a))))))",
 ];

@@ -4,7 +4,7 @@ use borrow.Author.Needs.{needs}
 use lib.ListN.{length}
 use Rattle.bitset.proofs.LoopLaws.{clear-turn}
 use Rattle.bitset.proofs.SetLaws.{length-emptied}
-use Rattle.bitset.proofs.Turns.{Turned, turned-none, turned-all}
+use Rattle.bitset.proofs.LoopSteps.{Turned, turned-none, turned-all}
 use Rattle.bitset.specs.Sets.{emptied}
 use Rattle.bitset.proofs.clear.Statement.{statement}
 use Rattle.bitset.proofs.clear.Tie as tie

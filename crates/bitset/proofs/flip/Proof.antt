@@ -4,7 +4,7 @@ use borrow.Author.Needs.{needs}
 use lib.ListN.{length}
 use Rattle.bitset.proofs.LoopLaws.{flip-turn}
 use Rattle.bitset.proofs.SetLaws.{length-setOf}
-use Rattle.bitset.proofs.Turns.{Turned, turned-none, turned-all}
+use Rattle.bitset.proofs.LoopSteps.{Turned, turned-none, turned-all}
 use Rattle.bitset.specs.Complements.{flipped}
 use Rattle.bitset.proofs.flip.Statement.{statement}
 use Rattle.bitset.proofs.flip.Tie as tie

@@ -2,7 +2,7 @@
 use native.Mathlib.Omega.{arith}
 use borrow.Author.Needs.{needs}
 use borrow.Author.Tests.{not-true, not-false}
-use Rattle.block_reader.proofs.Opening.{opened-before, too-deep, too-long, opened-now}
+use Rattle.block_reader.proofs.OpenedBlocks.{opened-before, too-deep, too-long, opened-now}
 use Rattle.block_reader.proofs.open_block.Statement.{statement}
 use Rattle.block_reader.proofs.open_block.Tie as tie
 
@@ -10,14 +10,14 @@ returns : tie.Need-returns
 returns c =
     let at-add = c .before in
     let s = at-add .before .before .before .before in
-    opened-before (s .args .text .now) (s .args .start) (s .args .len) (s .args .stand) (omega (arith, at-add .before .before .add-arg .given))
+    opened-before (s .args .text .now) (s .args .start) (s .args .len) (s .args .state) (omega (arith, at-add .before .before .add-arg .given))
     (at-add .add .ensures) (not-true _ (c .if1 .taken))
 
 returns-2 : tie.Need-returns-2
 returns-2 c =
     let at-add = c .before .before .before in
     let s = at-add .before .before .before .before in
-    too-deep (s .args .text .now) (s .args .start) (s .args .len) (s .args .stand) (omega (arith, at-add .before .before .add-arg .given))
+    too-deep (s .args .text .now) (s .args .start) (s .args .len) (s .args .state) (omega (arith, at-add .before .before .add-arg .given))
     (at-add .add .ensures) (not-false _ (c .before .before .if1 .left)) (omega (arith, c .if2 .taken))
 
 returns-3 : tie.Need-returns-3
@@ -25,7 +25,7 @@ returns-3 c =
     let at-if1 = c .before .before .before .before .before in
     let at-add = at-if1 .before in
     let s = at-add .before .before .before .before in
-    too-long (s .args .text .now) (s .args .start) (s .args .len) (s .args .stand) (omega (arith, at-add .before .before .add-arg .given))
+    too-long (s .args .text .now) (s .args .start) (s .args .len) (s .args .state) (omega (arith, at-add .before .before .add-arg .given))
     (at-add .add .ensures) (not-false _ (at-if1 .if1 .left)) (c .before .enter-block .ensures) (not-true _ (c .if3 .taken))
 
 add-t16 : tie.Need-add-t16
@@ -49,7 +49,7 @@ returns-4 c =
     let at-if1 = at-if2 .before .before in
     let at-add = at-if1 .before in
     let s = at-add .before .before .before .before in
-    opened-now (s .args .text .now) (s .args .start) (s .args .len) (s .args .stand) (omega (arith, at-add .before .before .add-arg .given))
+    opened-now (s .args .text .now) (s .args .start) (s .args .len) (s .args .state) (omega (arith, at-add .before .before .add-arg .given))
     (at-add .add .ensures) (not-false _ (at-if1 .if1 .left)) (at-if3 .before .enter-block .ensures)
     (omega (arith, at-if2 .if2 .left)) (not-false _ (at-if3 .if3 .left))
 

@@ -1,7 +1,7 @@
 -- `blocks::add` meets its contract. Assumes nothing.
 use native.Mathlib.Omega.{arith}
 use borrow.Author.Needs.{needs}
-use Rattle.blocks.proofs.Adding.{no-room, again, added}
+use Rattle.blocks.proofs.BlockLists.{no-room, again, added}
 use Rattle.blocks.proofs.add.Statement.{statement}
 use Rattle.blocks.proofs.add.Tie as tie
 

@@ -5,7 +5,7 @@ use native.Mathlib.Omega.{arith}
 use borrow.Author.Needs.{needs}
 use lib.ListN.{length, drop}
 use Rattle.bloom_filter.specs.Filter.{hashFrom}
-use Rattle.blocks.proofs.Filtering.{hash-next, hash-end}
+use Rattle.blocks.proofs.BlockFilter.{hash-next, hash-end}
 use Rattle.blocks.proofs.hash_of.Statement.{statement}
 use Rattle.blocks.proofs.hash_of.Tie as tie
 

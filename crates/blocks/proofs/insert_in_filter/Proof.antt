@@ -1,7 +1,7 @@
 -- `blocks::insert_in_filter` meets its contract. Assumes nothing.
 use native.Mathlib.Omega.{arith}
 use borrow.Author.Needs.{needs}
-use Rattle.blocks.proofs.Filtering.{no-words, some-words}
+use Rattle.blocks.proofs.BlockFilter.{no-words, some-words}
 use Rattle.blocks.proofs.insert_in_filter.Statement.{statement}
 use Rattle.blocks.proofs.insert_in_filter.Tie as tie
 

@@ -1,6 +1,6 @@
 -- `blocks::is_block` meets its contract: the block around, then the name. Assumes nothing.
 use borrow.Author.Needs.{needs}
-use Rattle.blocks.proofs.Adding.{other-parent, same-parent}
+use Rattle.blocks.proofs.BlockLists.{other-parent, same-parent}
 use Rattle.blocks.proofs.is_block.Statement.{statement}
 use Rattle.blocks.proofs.is_block.Tie as tie
 

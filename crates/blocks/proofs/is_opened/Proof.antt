@@ -5,7 +5,7 @@ use mathlib.Core.Bool.{false}
 use native.Mathlib.Omega.{arith}
 use borrow.Author.Needs.{needs}
 use Rattle.blocks.specs.Opened.{openedIn, isOpened}
-use Rattle.blocks.proofs.Adding.{none-opened, not-this, this-one, all-seen}
+use Rattle.blocks.proofs.BlockLists.{none-opened, not-this, this-one, all-seen}
 use Rattle.blocks.proofs.is_opened.Statement.{statement}
 use Rattle.blocks.proofs.is_opened.Tie as tie
 

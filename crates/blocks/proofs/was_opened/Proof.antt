@@ -1,7 +1,7 @@
 -- `blocks::was_opened` meets its contract: the filter first, then the walk. Assumes nothing.
 use borrow.Author.Needs.{needs}
 use borrow.Author.Tests.{not-true}
-use Rattle.blocks.proofs.Filtering.{asked-filter, asked-walk}
+use Rattle.blocks.proofs.BlockFilter.{asked-filter, asked-walk}
 use Rattle.blocks.proofs.was_opened.Statement.{statement}
 use Rattle.blocks.proofs.was_opened.Tie as tie
 

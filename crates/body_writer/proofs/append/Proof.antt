@@ -2,7 +2,7 @@
 use mathlib.Core.Path.{refl}
 use native.Mathlib.Omega.{arith}
 use borrow.Author.Needs.{needs}
-use Rattle.body_writer.proofs.Putting.{append-all, append-none}
+use Rattle.body_writer.proofs.PutLaws.{append-all, append-none}
 use Rattle.body_writer.proofs.append.Statement.{statement}
 use Rattle.body_writer.proofs.append.Tie as tie
 

@@ -1,6 +1,6 @@
 -- `body_writer::append_byte` meets its contract: a store, or no room. Assumes nothing.
 use borrow.Author.Needs.{needs}
-use Rattle.body_writer.proofs.Putting.{byte-stored, byte-unstored}
+use Rattle.body_writer.proofs.PutLaws.{byte-stored, byte-unstored}
 use Rattle.body_writer.proofs.append_byte.Statement.{statement}
 use Rattle.body_writer.proofs.append_byte.Tie as tie
 

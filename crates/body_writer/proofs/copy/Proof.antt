@@ -1,6 +1,6 @@
 -- `body_writer::copy` meets its contract, which is `copy_at`'s where there is room. Assumes nothing.
 use borrow.Author.Needs.{needs}
-use Rattle.body_writer.proofs.Putting.{copied}
+use Rattle.body_writer.proofs.PutLaws.{copied}
 use Rattle.body_writer.proofs.copy.Statement.{statement}
 use Rattle.body_writer.proofs.copy.Tie as tie
 

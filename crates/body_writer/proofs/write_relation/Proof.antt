@@ -12,8 +12,8 @@ use Rattle.statement_code.specs.Code.{relationNumber}
 use Rattle.code_reader.proofs.Items.{items}
 use Rattle.policy.specs.Statements.{Relation, toOf, Policy}
 use Rattle.code_reader.proofs.Passes.{Through}
-use Rattle.body_writer.proofs.Relating.{Asked, bodyOf, line-more, line-over, lines-all}
-use Rattle.body_writer.proofs.Filling.{narrow}
+use Rattle.body_writer.proofs.RelationBodies.{Asked, bodyOf, line-more, line-over, lines-all}
+use Rattle.body_writer.proofs.SetRows.{narrow}
 use Rattle.body_writer.proofs.write_relation.Statement.{statement}
 use Rattle.body_writer.proofs.write_relation.Tie as tie
 

@@ -9,8 +9,8 @@ use Rattle.bitset.specs.Relations.{relation}
 use Rattle.policy.specs.Meaning.{final}
 use Rattle.policy.specs.Statements.{Family, Policy}
 use Rattle.policy.specs.Image as image
-use Rattle.body_writer.specs.Writing.{Appended}
-use Rattle.body_writer.proofs.Filling.{no-set, next-set, all-sets}
+use Rattle.body_writer.specs.WrittenBytes.{Appended}
+use Rattle.body_writer.proofs.SetRows.{no-set, next-set, all-sets}
 use Rattle.body_writer.proofs.write_sets.Statement.{statement}
 use Rattle.body_writer.proofs.write_sets.Tie as tie
 

@@ -3,7 +3,7 @@ use mathlib.Core.Path.{sym, ap, _∙_}
 use lib.ListN.{length}
 use borrow.Author.Needs.{needs}
 use Rattle.bitset.proofs.SetLaws.{length-setOf}
-use Rattle.body_writer.proofs.Moving.{entry-written}
+use Rattle.body_writer.proofs.TransitionRecords.{entry-written}
 use Rattle.body_writer.proofs.write_transition.Statement.{statement}
 use Rattle.body_writer.proofs.write_transition.Tie as tie
 

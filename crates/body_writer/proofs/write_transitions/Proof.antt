@@ -11,8 +11,8 @@ use Rattle.code_reader.proofs.Passes.{Through, finish}
 use Rattle.policy.specs.Statements.{roles, types, Policy}
 use Rattle.code_reader.proofs.Items.{items, moveIn}
 use Rattle.code_reader.specs.AttributeSets.{finalSets}
-use Rattle.body_writer.proofs.Moving.{bytesOf, bytes-none, bytes-all, move-more, move-over}
-use Rattle.body_writer.specs.Writing.{Appended}
+use Rattle.body_writer.proofs.TransitionRecords.{bytesOf, bytes-none, bytes-all, move-more, move-over}
+use Rattle.body_writer.specs.WrittenBytes.{Appended}
 use Rattle.body_writer.proofs.write_transitions.Statement.{statement}
 use Rattle.body_writer.proofs.write_transitions.Tie as tie
 

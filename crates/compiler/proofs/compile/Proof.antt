@@ -2,7 +2,7 @@
 use mathlib.Core.Path.{subst}
 use borrow.Author.Needs.{needs}
 use Rattle.compiler.specs.Passes.{Gives}
-use Rattle.compiler.proofs.Giving.{written, not-written}
+use Rattle.compiler.proofs.OutcomeLaws.{written, not-written}
 use Rattle.compiler.proofs.compile.Statement.{statement}
 use Rattle.compiler.proofs.compile.Tie as tie
 

@@ -1,6 +1,6 @@
 -- `compiler::compile_clean` meets its contract: a fault 3 to 7, or what the statements give. Assumes nothing.
 use borrow.Author.Needs.{needs}
-use Rattle.compiler.proofs.Giving.{accepted-read, accepted-gives, refused-read, refused-gives}
+use Rattle.compiler.proofs.OutcomeLaws.{accepted-read, accepted-gives, refused-read, refused-gives}
 use Rattle.compiler.proofs.compile_clean.Statement.{statement}
 use Rattle.compiler.proofs.compile_clean.Tie as tie
 

@@ -2,7 +2,7 @@
 use mathlib.Core.Path.{refl, _∙_}
 use borrow.Author.Needs.{needs}
 use Rattle.policy.specs.Statements.{types}
-use Rattle.compiler.proofs.Held.{symbols-held, things-counted, names-taken, code-taken, constraints-taken, rows-taken}
+use Rattle.compiler.proofs.ParserOutput.{symbols-held, things-counted, code-taken, copied}
 use Rattle.compiler.proofs.compile_statements.Statement.{statement}
 use Rattle.compiler.proofs.compile_statements.Tie as tie
 
@@ -15,7 +15,7 @@ returns c =
       says = λ p lent h.
           let sizes = at-sizes-of .sizes-of .ensures .says p lent _ refl h in
           c .before .before .resolve-and-write .ensures .says p (h .accepted) (at-units .units .ensures ∙ code-taken h) sizes
-          (things-counted p types (symbols-held h) (at-count .count .ensures) refl) (names-taken h sizes) (constraints-taken h sizes) (rows-taken h sizes);
+          (things-counted p types (symbols-held h) (at-count .count .ensures) refl) (copied h sizes);
     }
 
 pub compile-statements-spec : {M : Type 1} → statement M

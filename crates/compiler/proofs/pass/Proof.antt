@@ -1,7 +1,7 @@
 -- `compiler::pass` meets its contract: 1, 2, or what a clean text gives. Assumes nothing.
 use mathlib.Core.Path.{sym, _∙_}
 use borrow.Author.Needs.{needs}
-use Rattle.compiler.proofs.Giving.{read-scanned, refused-gives}
+use Rattle.compiler.proofs.OutcomeLaws.{read-scanned, refused-gives}
 use Rattle.compiler.proofs.pass.Statement.{statement}
 use Rattle.compiler.proofs.pass.Tie as tie
 

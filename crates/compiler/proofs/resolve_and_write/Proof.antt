@@ -1,6 +1,6 @@
 -- `compiler::resolve_and_write` meets its contract: 8, 9, or what is fitted. Assumes nothing.
 use borrow.Author.Needs.{needs}
-use Rattle.compiler.proofs.Giving.{refused-8, refused-9, passes}
+use Rattle.compiler.proofs.OutcomeLaws.{refused-8, refused-9, passes}
 use Rattle.compiler.proofs.resolve_and_write.Statement.{statement}
 use Rattle.compiler.proofs.resolve_and_write.Tie as tie
 
@@ -9,7 +9,7 @@ returns c =
     let at-resolve = c .before .before .before .before in
     record {
       says =
-          λ p ok code sizes ts names cs rs. refused-8 (at-resolve .resolve .ensures p ok code (sizes .users) (sizes .roles) ts) _
+          λ p ok code sizes ts copied. refused-8 (at-resolve .resolve .ensures p ok code (sizes .users) (sizes .roles) ts) _
           (c .before .before .resolved .given .1) (c .stop .ensures);
     }
 
@@ -18,7 +18,7 @@ returns-2 c =
     let at-resolve = c .before .before .before .before in
     record {
       says =
-          λ p ok code sizes ts names cs rs. refused-9 (at-resolve .resolve .ensures p ok code (sizes .users) (sizes .roles) ts) _
+          λ p ok code sizes ts copied. refused-9 (at-resolve .resolve .ensures p ok code (sizes .users) (sizes .roles) ts) _
           (c .before .before .resolved2 .given .1) (c .stop2 .ensures);
     }
 
@@ -27,11 +27,11 @@ returns-3 c =
     let at-enum-told = c .before .before .before .before .before .before .before in
     let at-resolve = at-enum-told .before .before in
     record {
-      says = λ p ok code sizes ts names cs rs.
+      says = λ p ok code sizes ts copied.
           let resolves = at-resolve .resolve .ensures p ok code (sizes .users) (sizes .roles) ts in
           passes resolves (at-enum-told .enum-told .given .1)
           (c .before .before .write-fitting .ensures .says p
-          (record { accepted = ok; code = code; user-sets = resolves .user-sets; role-sets = resolves .role-sets; type-sets = resolves .type-sets }) sizes names cs rs);
+          (record { accepted = ok; code = code; user-sets = resolves .user-sets; role-sets = resolves .role-sets; type-sets = resolves .type-sets }) sizes copied);
     }
 
 pub resolve-and-write-spec : {M : Type 1} → statement M

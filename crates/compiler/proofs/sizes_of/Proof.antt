@@ -2,7 +2,7 @@
 use mathlib.Core.Path.{refl}
 use borrow.Author.Needs.{needs}
 use Rattle.policy.specs.Statements.{users, roles, types}
-use Rattle.compiler.proofs.Held.{symbols-in, names-long, things-counted, attributes-counted}
+use Rattle.compiler.proofs.ParserOutput.{symbols-in, names-long, things-counted, attributes-counted}
 use Rattle.compiler.proofs.sizes_of.Statement.{statement}
 use Rattle.compiler.proofs.sizes_of.Tie as tie
 
@@ -20,6 +20,8 @@ returns c = record {
         user-attributes = attributes-counted p users s (c .before .before .count3 .ensures) refl;
         role-attributes = attributes-counted p roles s (c .before .count4 .ensures) refl;
         type-attributes = attributes-counted p types s (c .count5 .ensures) refl;
+        relabels = h .relabel-count;
+        relabel-rows = h .relabel-row-count;
       };
 }
 

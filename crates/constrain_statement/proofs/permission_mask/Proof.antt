@@ -1,7 +1,7 @@
 -- `constrain_statement::permission_mask` meets its contract: what is left of the row adds to the mask so far. Assumes nothing.
 use Prim.Native.Nat.{_-_}
 use Rattle.items.proofs.Items.{sees}
-use Rattle.constrain_statement.proofs.Masking.{Going, begun, one-more, not-of-class, finished, no-names}
+use Rattle.constrain_statement.proofs.Masks.{Going, begun, one-more, not-of-class, finished, no-names}
 use borrow.Author.Needs.{needs}
 use native.Mathlib.Omega.{arith}
 use lib.ListN.{length}

@@ -1,5 +1,5 @@
 -- `constrain_statement::with_permission` meets its contract. Assumes nothing.
-use Rattle.constrain_statement.proofs.Bits.{with-bit}
+use Rattle.constrain_statement.proofs.MaskBits.{with-bit}
 use borrow.Author.Needs.{needs}
 use Rattle.constrain_statement.proofs.with_permission.Statement.{statement}
 use Rattle.constrain_statement.proofs.with_permission.Tie as tie

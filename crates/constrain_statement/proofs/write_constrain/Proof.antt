@@ -1,8 +1,9 @@
 -- `constrain_statement::write_constrain` meets its contract: 5 by the class, its permissions and the names of the expression; then what `admit` says.
 -- Assumes nothing.
+use Rattle.policy.specs.Words.{twoSides}
 use Rattle.items.proofs.Items.{sees}
-use Rattle.constraint_writer.proofs.Resolving.{told}
-use Rattle.constrain_statement.proofs.Answering.{past-rows, scope-missing, scope-undeclared, expression-missing, name-undeclared, answered}
+use Rattle.constraint_writer.proofs.WrittenRows.{told}
+use Rattle.constrain_statement.proofs.Answers.{past-rows, scope-missing, scope-undeclared, expression-missing, name-undeclared, answered}
 use native.Mathlib.Omega.{arith}
 use borrow.Author.Needs.{needs}
 use Rattle.constrain_statement.proofs.write_constrain.Statement.{statement}
@@ -13,9 +14,6 @@ returns c = past-rows (c .if1 .taken)
 
 returns-2 : tie.Need-returns-2
 returns-2 c = scope-missing (c .before .next-item .ensures) (c .match .keys2)
-
-enum-told : tie.Need-enum-told
-enum-told c = search needs
 
 returns-3 : tie.Need-returns-3
 returns-3 c =
@@ -33,31 +31,37 @@ returns-4 c =
 
 returns-5 : tie.Need-returns-5
 returns-5 c =
-    let at-second = c .before .before .before .before .before in
+    let at-write = c .before .before .before .before in
+    let at-second = at-write .before .before .before in
     let at-next-item2 = at-second .before .before in
     let at-scope = at-next-item2 .before .before in
     let at-class-and-permissions = at-scope .before .before in
     let at-first = at-class-and-permissions .before .before in
     let at-next-item = at-first .before .before in
     name-undeclared (sees (at-next-item .next-item .ensures) (at-first .first .given .1)) (at-class-and-permissions .class-and-permissions .ensures)
-    (at-scope .scope .given .1) (sees (at-next-item2 .next-item2 .ensures) (at-second .second .given .1)) (c .before .before .write-constraint .ensures) (c .enum-told2 .given .1)
+    (at-scope .scope .given .1) (sees (at-next-item2 .next-item2 .ensures) (at-second .second .given .1)) (at-write .write-constraint .ensures twoSides)
+    (c .enum-told2 .given .1)
 
 admit-requires : tie.Need-admit-requires
-admit-requires c κs = let w = told (c .before .before .before .before .write-constraint .ensures) (c .before .before .written .given .1) in omega (arith, w .reads .some-row)
+admit-requires c κs =
+    let at-written = c .before .before in
+    let w = told (at-written .before .before .before .before .write-constraint .ensures twoSides) (at-written .written .given .1) in
+    omega (arith, w .reads .some-row)
 
 returns-6 : tie.Need-returns-6
 returns-6 c =
-    let at-write-constraint = c .before .before .before .before .before in
-    let at-write-constraint-arg = at-write-constraint .before in
-    let at-second = at-write-constraint-arg .before .before in
+    let at-admit = c .before .before in
+    let at-written = at-admit .before .before .before in
+    let at-write = at-written .before .before .before .before in
+    let at-second = at-write .before .before .before in
     let at-next-item2 = at-second .before .before in
     let at-scope = at-next-item2 .before .before in
     let at-class-and-permissions = at-scope .before .before in
     let at-first = at-class-and-permissions .before .before in
     let at-next-item = at-first .before .before in
     answered (sees (at-next-item .next-item .ensures) (at-first .first .given .1)) (at-class-and-permissions .class-and-permissions .ensures)
-    (at-scope .scope .given .1) (sees (at-next-item2 .next-item2 .ensures) (at-second .second .given .1)) (at-write-constraint .write-constraint .ensures)
-    (c .before .before .before .written .given .1) (at-write-constraint-arg .write-constraint-arg .given .0 .1) (c .admit .ensures)
+    (at-scope .scope .given .1) (sees (at-next-item2 .next-item2 .ensures) (at-second .second .given .1)) (at-write .write-constraint .ensures twoSides)
+    (at-written .written .given .1) (at-admit .admit .ensures)
 
 pub write-constrain-spec : {M : Type 1} → statement M
 write-constrain-spec =
@@ -69,7 +73,7 @@ write-constrain-spec =
     returns-2
     (λ c κs. search needs)
     (λ c. search needs)
-    enum-told
+    (λ c. search needs)
     returns-3
     (λ c κs. search needs)
     (λ c. search needs)
@@ -77,6 +81,9 @@ write-constrain-spec =
     (λ c κs. search needs)
     (λ c. search needs)
     (λ c. search needs)
+    (λ c. search needs)
     returns-5
     admit-requires
+    (λ c. search needs)
+    (λ c. search needs)
     returns-6)

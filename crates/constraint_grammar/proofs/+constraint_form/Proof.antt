@@ -10,6 +10,8 @@ use borrow.Fn.Kinds.{In}
 use borrow.Fn.PlainCycle.{Measures, is, falls, and}
 use lib.ListN.{length}
 use Rattle.lexer.specs.Forms.{Forms, framesAt, trim}
+use Rattle.policy.specs.Words.{Sides}
+use Rattle.policy.specs.Answers.{sidesOf}
 use Rattle.policy.specs.Grammar.{expressions, expressionIn}
 use Rattle.items.specs.Looks.{rowEnd}
 use Rattle.items.specs.Reads.{isSome, counted}
@@ -51,17 +53,17 @@ claims t = (
 )
 
 -- what is left of w operands, after n of them
-abbrev left : ℕ → ℕ → Forms → Bool
-left w n f = counted (Wanted.Exactly w) n (expressions f)
+abbrev left : Sides → ℕ → ℕ → Forms → Bool
+left sides w n f = counted (Wanted.Exactly w) n (expressions sides f)
 
 abbrev Inv-loop : lts.InvT-loop
-Inv-loop text at levels head i₀ count₀ i count =
+Inv-loop text at levels sides head i₀ count₀ i count =
     (at + count ≤ i)
     × (rowEnd text i ≡ rowEnd text at)
-    × (left (head .wanted) count (trim (framesAt text i .here) levels) ≡ isSome (expressionIn (trim (framesAt text at .here) levels)))
+    × (left (sidesOf sides) (head .wanted) count (trim (framesAt text i .here) levels) ≡ isSome (expressionIn (sidesOf sides) (trim (framesAt text at .here) levels)))
 
 abbrev μ-loop : lts.MeasureT-loop
-μ-loop text at levels head i₀ count₀ i count = length text - i
+μ-loop text at levels sides head i₀ count₀ i count = length text - i
 
 module _ (t : ℕ) where
   head-of-requires : lts.Need-head-of-requires (claims t) (at-level t) constraint-form.Post Inv-loop μ-loop
@@ -71,11 +73,11 @@ module _ (t : ℕ) where
   both-sides-requires c κs = search needs
 
   returns : lts.Need-returns (claims t) (at-level t) constraint-form.Post Inv-loop μ-loop
-  returns c = both-read _ _ (heads (c .before .before .before .head-of .ensures)) (c .before .if1 .taken) (c .both-sides .ensures)
+  returns c = both-read _ _ _ (heads _ (c .before .before .before .head-of .ensures)) (c .before .if1 .taken) (c .both-sides .ensures)
 
   loop-holds : lts.Need-loop-holds (claims t) (at-level t) constraint-form.Post Inv-loop μ-loop
   loop-holds c =
-      let h = heads (c .before .before .head-of .ensures) in
+      let h = heads _ (c .before .before .head-of .ensures) in
       (omega (arith, h .ahead), h .end, h .joins (c .if1 .left) _)
 
   next-item-requires : lts.Need-next-item-requires (claims t) (at-level t) constraint-form.Post Inv-loop μ-loop
@@ -87,7 +89,7 @@ module _ (t : ℕ) where
   returns-2 : lts.Need-returns-2 (claims t) (at-level t) constraint-form.Post Inv-loop μ-loop
   returns-2 c =
       let l = sees (c .before .before .before .before .next-item .ensures) (c .before .before .item .given .1) in
-      refuse (sym (c .before .before .before .before .before .loop .inv .2) ∙ too-deep (left _ _) _ l (c .if2 .taken) ∙ end-operand _ _)
+      refuse (sym (c .before .before .before .before .before .loop .inv .2) ∙ too-deep (left _ _ _) _ l (c .if2 .taken) ∙ end-operand _ _ _)
 
   sub-constraint-form : lts.Need-sub-constraint-form (claims t) (at-level t) constraint-form.Post Inv-loop μ-loop
   sub-constraint-form c = search needs
@@ -120,7 +122,7 @@ module _ (t : ℕ) where
       let g = told (c .before .before .before .constraint-form .ensures) (c .before .operand .given .1) in (
         omega (arith, at-loop .loop .inv .0, l .ahead .0, g .less),
         sym (beyond _ l (g .end)) ∙ at-loop .loop .inv .1,
-        sym (by-part (left _ _) _ _ l (g .end) (c .before .before .before .before .if2 .left) ∙ part-operand _ _ _ _ _ true (g .good)) ∙ at-loop .loop .inv .2,
+        sym (by-part (left _ _ _) _ _ l (g .end) (c .before .before .before .before .if2 .left) ∙ part-operand _ _ _ _ _ _ true (g .good)) ∙ at-loop .loop .inv .2,
       )
 
   enum-told : lts.Need-enum-told (claims t) (at-level t) constraint-form.Post Inv-loop μ-loop
@@ -132,8 +134,8 @@ module _ (t : ℕ) where
       let l = sees (at-item .before .before .next-item .ensures) (at-item .item .given .1) in
       refuse
       (sym (at-item .before .before .before .loop .inv .2)
-      ∙ by-part (left _ _) _ _ l refl (c .before .before .before .if2 .left)
-      ∙ part-operand _ _ _ _ _ false (told (c .before .before .constraint-form .ensures) (c .enum-told .given .1)))
+      ∙ by-part (left _ _ _) _ _ l refl (c .before .before .before .if2 .left)
+      ∙ part-operand _ _ _ _ _ _ false (told (c .before .before .constraint-form .ensures) (c .enum-told .given .1)))
 
   enum-known-item-2 : lts.Need-enum-known-item-2 (claims t) (at-level t) constraint-form.Post Inv-loop μ-loop
   enum-known-item-2 c = search needs
@@ -145,14 +147,14 @@ module _ (t : ℕ) where
   returns-4 c =
       let l = sees (c .before .before .before .before .next-item .ensures) (c .before .before .item2 .given .1) in
       let at-loop = c .before .before .before .before .before in
-      at-close _ _ (c .ended .ensures) (sym (at-loop .loop .inv .2) ∙ by-close (left _ _) _ l ∙ close-operand _ _) (sym (at-loop .loop .inv .1) ∙ l .end)
+      at-close _ _ (c .ended .ensures) (sym (at-loop .loop .inv .2) ∙ by-close (left _ _ _) _ l ∙ close-operand _ _ _) (sym (at-loop .loop .inv .1) ∙ l .end)
       (omega (arith, at-loop .loop .inv .0, l .ahead .0)) (l .ahead .1)
 
   returns-5 : lts.Need-returns-5 (claims t) (at-level t) constraint-form.Post Inv-loop μ-loop
   returns-5 c =
       refuse
       (sym (c .before .before .loop .inv .2)
-      ∙ alike (left _ _) (λ f. false) _ _ _ (0 ∷ 3 ∷ []) _ (word-operand _ _, tt, tt, end-operand _ _) (c .before .next-item .ensures) (c .match .keys3))
+      ∙ alike (left _ _ _) (λ f. false) _ _ _ (0 ∷ 3 ∷ []) _ (word-operand _ _ _, tt, tt, end-operand _ _ _) (c .before .next-item .ensures) (c .match .keys3))
 
 pub +constraint-form-spec : {M : Type 1} → statement M
 +constraint-form-spec =

@@ -14,10 +14,10 @@ use Rattle.constraint_grammar.proofs.both_sides.Lts as lts
 returns : tie.Need-returns
 returns c =
     let l = sees (c .before .before .before .before .next-item .ensures) (c .before .before .item .given .1) in
-    after-word l (ap (bothSides _) (l .here) ∙ rw (l .ahead .2)) (c .second-side .ensures)
+    after-word l (ap (bothSides _ _) (l .here) ∙ rw (l .ahead .2)) (c .second-side .ensures)
 
 returns-2 : tie.Need-returns-2
-returns-2 c = refuse (alike-here (bothSides _) (λ f. false) _ _ _ (1 ∷ 2 ∷ 3 ∷ []) (tt, λ x f g. refl, refl, refl) (c .before .next-item .ensures) (c .match .keys2))
+returns-2 c = refuse (alike-here (bothSides _ _) (λ f. false) _ _ _ (1 ∷ 2 ∷ 3 ∷ []) (tt, λ x f g. refl, refl, refl) (c .before .next-item .ensures) (c .match .keys2))
 
 pub both-sides-spec : {M : Type 1} → statement M
 both-sides-spec =

@@ -1,5 +1,5 @@
 -- `constraint_grammar::is_operator` meets its contract: eq neq dom domby incomp have the numbers 6 to 10. Assumes nothing.
-use Rattle.constraint_grammar.proofs.Comparing.{above-operator, up-to-operator}
+use Rattle.constraint_grammar.proofs.ComparisonLaws.{above-operator, up-to-operator}
 use Rattle.constraint_grammar.proofs.is_operator.Statement.{statement}
 use Rattle.constraint_grammar.proofs.is_operator.Tie as tie
 

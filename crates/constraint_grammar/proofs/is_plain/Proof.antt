@@ -1,5 +1,5 @@
 -- `constraint_grammar::is_plain` meets its contract: eq and neq have the numbers 6 and 7. Assumes nothing.
-use Rattle.constraint_grammar.proofs.Comparing.{above-plain, up-to-plain}
+use Rattle.constraint_grammar.proofs.ComparisonLaws.{above-plain, up-to-plain}
 use Rattle.constraint_grammar.proofs.is_plain.Statement.{statement}
 use Rattle.constraint_grammar.proofs.is_plain.Tie as tie
 

@@ -18,7 +18,7 @@ returns c =
     let item = compared .before .before .before in
     let l = sees (item .before .before .next-item .ensures) (item .item .given .1) in
     let good = sym (compared .compares .ensures _ (l .ahead .2) (compared .before .is-name .ensures)) ∙ c .before .if1 .taken in
-    after-word l (ap (secondSide _ _) (l .here) ∙ rw good) (c .close-form .ensures)
+    after-word l (ap (secondSide _ _ _) (l .here) ∙ rw good) (c .close-form .ensures)
 
 returns-2 : tie.Need-returns-2
 returns-2 c =
@@ -26,10 +26,10 @@ returns-2 c =
     let item = compared .before .before .before in
     let l = sees (item .before .before .next-item .ensures) (item .item .given .1) in
     let bad = sym (compared .compares .ensures _ (l .ahead .2) (compared .before .is-name .ensures)) ∙ c .if1 .left in
-    refuse (ap (secondSide _ _) (l .here) ∙ rw bad)
+    refuse (ap (secondSide _ _ _) (l .here) ∙ rw bad)
 
 returns-3 : tie.Need-returns-3
-returns-3 c = refuse (alike-here (secondSide _ _) (λ f. false) _ _ _ (1 ∷ 2 ∷ 3 ∷ []) (tt, λ x f g. refl, refl, refl) (c .before .next-item .ensures) (c .match .keys2))
+returns-3 c = refuse (alike-here (secondSide _ _ _) (λ f. false) _ _ _ (1 ∷ 2 ∷ 3 ∷ []) (tt, λ x f g. refl, refl, refl) (c .before .next-item .ensures) (c .match .keys2))
 
 pub second-side-spec : {M : Type 1} → statement M
 second-side-spec =

@@ -1,16 +1,18 @@
 -- `constraint_writer::write_constraint` meets its contract. It calls itself with one level less. Before each operand and before the close the rows of
--- the operands so far are written (Joining's Loop); each row has a byte of the text of its own, so that no count passes what a usize holds.
+-- the operands so far are written (OperandRows's Loop); each row has a byte of the text of its own, so that no count passes what a usize holds.
 -- Assumes nothing.
 use mathlib.Core.List.{[], _∷_}
 use mathlib.Core.Option.{none}
 use Prim.Native.Nat.{_-_}
+use Rattle.policy.specs.Words.{threeSides}
 use Rattle.policy.specs.Grammar.{expressions, expressionIn}
 use Rattle.items.proofs.Frames.{sees, around-of, too-deep}
 use Rattle.items.proofs.Items.{alike}
-use Rattle.constraint_writer.proofs.Putting.{all-kept}
-use Rattle.constraint_writer.proofs.Resolving.{told, no-form, moved}
-use Rattle.constraint_writer.proofs.Joining.{Loop, no-word, begun, compares, end-none, word-none}
-use Rattle.constraint_writer.proofs.Joining.{no-operand, operand-done, operand-undeclared, finished}
+use Rattle.constraint_writer.proofs.RowBytes.{all-kept}
+use Rattle.constraint_writer.proofs.WrittenRows.{told, no-form, moved}
+use Rattle.constraint_writer.proofs.ThreeSides.{of-any}
+use Rattle.constraint_writer.proofs.OperandRows.{Loop, no-word, begun, compares, end-none, word-none}
+use Rattle.constraint_writer.proofs.OperandRows.{no-operand, operand-done, operand-undeclared, finished}
 use borrow.Author.Needs.{needs}
 use native.Mathlib.Omega.{arith}
 use lib.ListN.{length}
@@ -69,8 +71,8 @@ module _ (t : ℕ) where
   enum-known-first c = search needs
 
   returns : lts.Need-returns (claims t) (at-level t) write-constraint.Post Inv-loop μ-loop
-  returns c =
-      no-form (all-kept _ _) (alike expressionIn (λ f. none) _ _ _ (1 ∷ 2 ∷ 3 ∷ []) _ no-word (c .before .next-item .ensures) (c .match .keys2))
+  returns c n =
+      of-any _ n (no-form (all-kept _ _) (alike (expressionIn threeSides) (λ f. none) _ _ _ (1 ∷ 2 ∷ 3 ∷ []) _ no-word (c .before .next-item .ensures) (c .match .keys2)))
 
   kind-of-requires : lts.Need-kind-of-requires (claims t) (at-level t) write-constraint.Post Inv-loop μ-loop
   kind-of-requires c κs = search needs
@@ -85,11 +87,11 @@ module _ (t : ℕ) where
   same-length c = search needs
 
   returns-2 : lts.Need-returns-2 (claims t) (at-level t) write-constraint.Post Inv-loop μ-loop
-  returns-2 c =
+  returns-2 c n =
       let at-first = c .before .before .before .before .before .before .before in
       let l = sees (at-first .before .before .next-item .ensures) (at-first .first .given .1) in
       let at-test = c .before .before .before .before in
-      moved (sym (around-of l)) (l .ahead .0) (compares l (at-test .before .kind-of .ensures) _ (at-test .if1 .taken)) (c .before .before .comparison .ensures)
+      of-any _ n (moved (sym (around-of l)) (l .ahead .0) (compares l (at-test .before .kind-of .ensures) _ (at-test .if1 .taken)) (c .before .before .comparison .ensures))
 
   loop-holds : lts.Need-loop-holds (claims t) (at-level t) write-constraint.Post Inv-loop μ-loop
   loop-holds c =
@@ -106,9 +108,9 @@ module _ (t : ℕ) where
   same-length-2 c = c .before .before .before .before .before .loop .inv .kept .long
 
   returns-3 : lts.Need-returns-3 (claims t) (at-level t) write-constraint.Post Inv-loop μ-loop
-  returns-3 c =
+  returns-3 c n =
       let l = sees (c .before .before .before .before .next-item2 .ensures) (c .before .before .item .given .1) in
-      no-operand (c .before .before .before .before .before .loop .inv) (too-deep expressions _ l (c .if2 .taken) ∙ end-none)
+      of-any _ n (no-operand (c .before .before .before .before .before .loop .inv) (too-deep (expressions threeSides) _ l (c .if2 .taken) ∙ end-none))
 
   sub-write-constraint : lts.Need-sub-write-constraint (claims t) (at-level t) write-constraint.Post Inv-loop μ-loop
   sub-write-constraint c = search needs
@@ -128,22 +130,22 @@ module _ (t : ℕ) where
 
   same-length-3 : lts.Need-same-length-3 (claims t) (at-level t) write-constraint.Post Inv-loop μ-loop
   same-length-3 c =
-      c .before .before .before .before .write-constraint .ensures .kept .long
+      c .before .before .before .before .write-constraint .ensures threeSides .kept .long
       ∙ c .before .before .before .before .before .before .before .before .before .before .before .loop .inv .kept .long
 
   returns-4 : lts.Need-returns-4 (claims t) (at-level t) write-constraint.Post Inv-loop μ-loop
-  returns-4 c =
+  returns-4 c n =
       let at-item = c .before .before .before .before .before .before .before .before in
       let l = sees (at-item .before .before .next-item2 .ensures) (at-item .item .given .1) in
-      operand-undeclared (at-item .before .before .before .loop .inv) l (c .before .before .before .before .before .before .if2 .left)
-      (told (c .before .before .before .before .write-constraint .ensures) (c .enum-told .given .1))
+      of-any _ n (operand-undeclared (at-item .before .before .before .loop .inv) l (c .before .before .before .before .before .before .if2 .left)
+      (told (c .before .before .before .before .write-constraint .ensures threeSides) (c .enum-told .given .1)))
 
   add-larger : lts.Need-add-larger (claims t) (at-level t) write-constraint.Post Inv-loop μ-loop
   add-larger c =
       let at-operand = c .before in
       let at-item = at-operand .before .before .before .before .before .before .before .before in
       let l = sees (at-item .before .before .next-item2 .ensures) (at-item .item .given .1) in
-      let w = told (at-operand .before .before .before .before .write-constraint .ensures) (at-operand .operand .given .1) in
+      let w = told (at-operand .before .before .before .before .write-constraint .ensures threeSides) (at-operand .operand .given .1) in
       omega (arith, at-item .before .before .before .loop .inv .few-operands, l .ahead .0, w .reads .few-values, w .reads .fits)
 
   larger-requires : lts.Need-larger-requires (claims t) (at-level t) write-constraint.Post Inv-loop μ-loop
@@ -154,7 +156,7 @@ module _ (t : ℕ) where
       let at-operand = c .before .before in
       let at-item = at-operand .before .before .before .before .before .before .before .before in
       let l = sees (at-item .before .before .next-item2 .ensures) (at-item .item .given .1) in
-      let w = told (at-operand .before .before .before .before .write-constraint .ensures) (at-operand .operand .given .1) in
+      let w = told (at-operand .before .before .before .before .write-constraint .ensures threeSides) (at-operand .operand .given .1) in
       omega (arith, at-item .before .before .before .loop .inv .few-operands, l .ahead .0, w .reads .less, w .reads .fits)
 
   loop-less : lts.Need-loop-less (claims t) (at-level t) write-constraint.Post Inv-loop μ-loop
@@ -162,7 +164,7 @@ module _ (t : ℕ) where
       let at-operand = c .before .before in
       let at-item = at-operand .before .before .before .before .before .before .before .before in
       let l = sees (at-item .before .before .next-item2 .ensures) (at-item .item .given .1) in
-      let w = told (at-operand .before .before .before .before .write-constraint .ensures) (at-operand .operand .given .1) in
+      let w = told (at-operand .before .before .before .before .write-constraint .ensures threeSides) (at-operand .operand .given .1) in
       omega (arith, l .ahead .0, w .reads .less, w .reads .fits)
 
   loop-again : lts.Need-loop-again (claims t) (at-level t) write-constraint.Post Inv-loop μ-loop
@@ -170,7 +172,7 @@ module _ (t : ℕ) where
       let at-operand = c .before .before in
       let at-item = at-operand .before .before .before .before .before .before .before .before in
       let l = sees (at-item .before .before .next-item2 .ensures) (at-item .item .given .1) in
-      let w = told (at-operand .before .before .before .before .write-constraint .ensures) (at-operand .operand .given .1) in
+      let w = told (at-operand .before .before .before .before .write-constraint .ensures threeSides) (at-operand .operand .given .1) in
       operand-done (at-item .before .before .before .loop .inv) l (at-operand .before .before .before .before .before .before .if2 .left) w
       (c .larger .ensures)
 
@@ -192,18 +194,18 @@ module _ (t : ℕ) where
   same-length-4 c = c .before .before .put-row .ensures .kept .long ∙ c .before .before .before .before .before .before .before .before .loop .inv .kept .long
 
   returns-5 : lts.Need-returns-5 (claims t) (at-level t) write-constraint.Post Inv-loop μ-loop
-  returns-5 c =
+  returns-5 c n =
       let at-item = c .before .before .before .before .before in
       let l = sees (at-item .before .before .next-item2 .ensures) (at-item .item2 .given .1) in
-      finished (at-item .before .before .before .loop .inv) l (c .before .before .put-row .ensures)
+      of-any _ n (finished (at-item .before .before .before .loop .inv) l (c .before .before .put-row .ensures))
 
   same-length-5 : lts.Need-same-length-5 (claims t) (at-level t) write-constraint.Post Inv-loop μ-loop
   same-length-5 c = c .before .before .loop .inv .kept .long
 
   returns-6 : lts.Need-returns-6 (claims t) (at-level t) write-constraint.Post Inv-loop μ-loop
-  returns-6 c =
-      no-operand (c .before .before .loop .inv)
-      (alike expressions (λ f. none) _ _ _ (0 ∷ 3 ∷ []) _ (word-none, tt, tt, end-none) (c .before .next-item2 .ensures) (c .match2 .keys3))
+  returns-6 c n =
+      of-any _ n (no-operand (c .before .before .loop .inv)
+      (alike (expressions threeSides) (λ f. none) _ _ _ (0 ∷ 3 ∷ []) _ (word-none, tt, tt, end-none) (c .before .next-item2 .ensures) (c .match2 .keys3)))
 
 pub +write-constraint-spec : {M : Type 1} → statement M
 +write-constraint-spec =

@@ -2,9 +2,9 @@
 use native.Mathlib.Omega.{arith}
 use borrow.Author.Needs.{needs}
 use Rattle.items.proofs.Frames.{sees}
-use Rattle.constraint_writer.proofs.Putting.{all-kept}
+use Rattle.constraint_writer.proofs.RowBytes.{all-kept}
 use Rattle.constraint_writer.proofs.Operands.{compares-told}
-use Rattle.constraint_writer.proofs.Resolving.{no-form}
+use Rattle.constraint_writer.proofs.WrittenRows.{no-form}
 use Rattle.constraint_writer.proofs.Comparisons.{first-missing, second-missing, close-missing, not-declared, compared-row}
 use Rattle.constraint_writer.proofs.comparison.Statement.{statement}
 use Rattle.constraint_writer.proofs.comparison.Tie as tie

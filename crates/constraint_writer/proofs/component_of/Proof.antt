@@ -1,12 +1,12 @@
--- `constraint_writer::component_of` meets its contract: u1 u2 r1 r2 t1 t2 have the numbers 11 12 14 15 17 18. Assumes nothing.
+-- `constraint_writer::component_of` meets its contract: the components have the numbers 11 to 19. Assumes nothing.
 use mathlib.Core.Path.{refl, sym, ap}
 use mathlib.Core.List.{[], _∷_}
 use borrow.Author.Tests.{ne-eqb}
 use Rattle.policy.specs.Basics.{same, any, every, isAmong, lookup}
-use Rattle.policy.specs.Words.{reserved, componentOf}
+use Rattle.policy.specs.Words.{reserved, threeSides, componentOf}
 use Rattle.words.specs.Numbers.{keywords, words, wordOf}
 use Rattle.words.proofs.Meaning.{agreeing}
-use Rattle.constraint_writer.specs.Comparing.{codeOf}
+use Rattle.constraint_writer.specs.RowFields.{codeOf}
 use Rattle.constraint_writer.proofs.WordNumbers.{other-words}
 use Rattle.constraint_writer.proofs.component_of.Statement.{statement}
 use Rattle.constraint_writer.proofs.component_of.Tie as tie
@@ -36,21 +36,36 @@ unfolding same lookup reserved keywords words wordOf componentOf
 returns-6 c = rw (c .if6 .taken)
 
 returns-7 : tie.Need-returns-7
+unfolding same lookup reserved keywords words wordOf componentOf
+returns-7 c = rw (c .if7 .taken)
+
+returns-8 : tie.Need-returns-8
+unfolding same lookup reserved keywords words wordOf componentOf
+returns-8 c = rw (c .if8 .taken)
+
+returns-9 : tie.Need-returns-9
+unfolding same lookup reserved keywords words wordOf componentOf
+returns-9 c = rw (c .if9 .taken)
+
+returns-10 : tie.Need-returns-10
 unfolding same lookup reserved keywords words componentOf agreeing every isAmong any
-returns-7 c =
-    let at-if2 = c .before .before .before .before in
+returns-10 c =
+    let at-if5 = c .before .before .before .before in
+    let at-if2 = at-if5 .before .before .before in
     let at-if1 = at-if2 .before in
-    let at-args = at-if1 .before in
-    sym (ap codeOf (other-words componentOf (11 ∷ 12 ∷ 14 ∷ 15 ∷ 17 ∷ 18 ∷ []) refl refl refl (at-args .args .number)
+    sym (ap codeOf (other-words (componentOf threeSides) (11 ∷ 12 ∷ 14 ∷ 15 ∷ 17 ∷ 18 ∷ 13 ∷ 16 ∷ 19 ∷ []) refl refl refl (at-if1 .before .args .number)
     (rw (
       ne-eqb _ _ (at-if1 .if1 .left),
       ne-eqb _ _ (at-if2 .if2 .left),
-      ne-eqb _ _ (c .before .before .before .if3 .left),
-      ne-eqb _ _
-          (c .before .before .if4 .left),
-      ne-eqb _ _ (c .before .if5 .left),
-      ne-eqb _ _ (c .if6 .left),
+      ne-eqb _ _ (at-if5 .before .before .if3 .left),
+      ne-eqb _ _ (at-if5 .before .if4 .left),
+      ne-eqb _ _ (at-if5 .if5 .left),
+      ne-eqb _ _ (c .before .before .before .if6 .left),
+      ne-eqb _ _ (c .before .before .if7 .left),
+      ne-eqb _ _ (c .before .if8 .left),
+      ne-eqb _ _ (c .if9 .left),
     ))))
 
 pub component-of-spec : {M : Type 1} → statement M
-component-of-spec = tie.close (tie.spec returns returns-2 returns-3 returns-4 returns-5 returns-6 returns-7)
+component-of-spec =
+    tie.close (tie.spec returns returns-2 returns-3 returns-4 returns-5 returns-6 returns-7 returns-8 returns-9 returns-10)

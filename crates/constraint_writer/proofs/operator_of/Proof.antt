@@ -6,7 +6,7 @@ use Rattle.policy.specs.Basics.{same, any, every, isAmong, lookup}
 use Rattle.policy.specs.Words.{reserved, opOf}
 use Rattle.words.specs.Numbers.{keywords, words, wordOf}
 use Rattle.words.proofs.Meaning.{agreeing}
-use Rattle.constraint_writer.specs.Comparing.{operatorOf}
+use Rattle.constraint_writer.specs.RowFields.{operatorOf}
 use Rattle.constraint_writer.proofs.WordNumbers.{other-words}
 use Rattle.constraint_writer.proofs.operator_of.Statement.{statement}
 use Rattle.constraint_writer.proofs.operator_of.Tie as tie

@@ -1,8 +1,8 @@
--- `constraint_writer::put_row` meets its contract: four stores and the number's bytes are one `put` of a row's bytes (Putting). Assumes nothing.
+-- `constraint_writer::put_row` meets its contract: four stores and the number's bytes are one `put` of a row's bytes (RowBytes). Assumes nothing.
 use lib.ListN.{length-set}
 use native.Mathlib.Omega.{arith}
 use borrow.Author.Needs.{needs}
-use Rattle.constraint_writer.proofs.Putting.{stored, no-room}
+use Rattle.constraint_writer.proofs.RowBytes.{stored, no-room}
 use Rattle.constraint_writer.proofs.put_row.Statement.{statement}
 use Rattle.constraint_writer.proofs.put_row.Tie as tie
 

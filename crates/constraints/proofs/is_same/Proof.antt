@@ -12,15 +12,16 @@ returns-2 c = rw (ne-eqb _ _ (c .before .if1 .left), eq-eqb _ _ (c .if2 .taken),
 
 returns-3 : tie.Need-returns-3
 returns-3 c =
-    let at-if1 = c .before .before .before .before in
-    let at-side = at-if1 .before in
+    let at-family-of = c .before .before .before in
+    let at-if1 = at-family-of .before .before in
     rw (
       ne-eqb _ _ (at-if1 .if1 .left),
-      ne-eqb _ _ (c .before .before .before .if2 .left),
+      ne-eqb _ _ (at-family-of .before .if2 .left),
       c .contains-at .ensures,
       c .before .set-width .ensures,
       c .before .before .set-start .ensures,
-      at-side .side .ensures,
+      at-family-of .family-of .ensures,
+      at-if1 .before .side .ensures,
     )
 
 pub is-same-spec : {M : Type 1} → statement M
@@ -34,6 +35,7 @@ is-same-spec =
     returns
     (λ c. search needs)
     returns-2
+    (λ c κs. search needs)
     (λ c κs. search needs)
     (λ c κs. search needs)
     (λ c κs. search needs)

@@ -1,14 +1,10 @@
 -- `constraints::locate` meets its contract: each number is read where the header has it. Assumes nothing.
-use Rattle.constraints.proofs.ImageAnswers.{located}
 use borrow.Author.Needs.{needs}
 use Rattle.constraints.proofs.locate.Statement.{statement}
 use Rattle.constraints.proofs.locate.Tie as tie
 
 returns : tie.Need-returns
-returns c =
-    let at-args = c .before .before .before .before .before in
-    located (at-args .args .table .now) (at-args .args .userattributes) (at-args .args .roleattributes) _
-    (rw (c .body-start3 .ensures, c .before .body-start2 .ensures, c .before .before .body-length .ensures, c .before .before .before .body-start .ensures))
+returns c = rw (c .body-start3 .ensures, c .before .body-start2 .ensures, c .before .before .body-length .ensures, c .before .before .before .body-start .ensures)
 
 pub locate-spec : {M : Type 1} → statement M
 locate-spec =

@@ -1,17 +1,16 @@
--- `constraints::set_start` meets its contract: the family of a component by its two tests. Assumes nothing.
-use borrow.Author.Tests.{lt-ltb, le-ltb}
+-- `constraints::set_start` meets its contract: family by family. Assumes nothing.
 use borrow.Author.Needs.{needs}
 use Rattle.constraints.proofs.set_start.Statement.{statement}
 use Rattle.constraints.proofs.set_start.Tie as tie
 
 returns : tie.Need-returns
-returns c = rw (lt-ltb _ _ (c .if1 .taken))
+returns c = rw (c .enum-told .given .1)
 
 returns-2 : tie.Need-returns-2
-returns-2 c = rw (le-ltb _ _ (c .before .if1 .left), lt-ltb _ _ (c .if2 .taken))
+returns-2 c = rw (c .enum-told2 .given .1)
 
 returns-3 : tie.Need-returns-3
-returns-3 c = rw (le-ltb _ _ (c .before .if1 .left), le-ltb _ _ (c .if2 .left))
+returns-3 c = rw (c .enum-told3 .given .1)
 
 pub set-start-spec : {M : Type 1} → statement M
 set-start-spec =
@@ -22,14 +21,17 @@ set-start-spec =
     (λ c. search needs)
     (λ c. search needs)
     (λ c. search needs)
+    (λ c. search needs)
+    (λ c. search needs)
+    (λ c. search needs)
+    (λ c. search needs)
+    (λ c. search needs)
+    (λ c. search needs)
+    (λ c. search needs)
+    (λ c. search needs)
+    (λ c. search needs)
+    (λ c. search needs)
+    (λ c. search needs)
     returns
-    (λ c. search needs)
-    (λ c. search needs)
-    (λ c. search needs)
     returns-2
-    (λ c. search needs)
-    (λ c. search needs)
-    (λ c. search needs)
-    (λ c. search needs)
-    (λ c. search needs)
     returns-3)

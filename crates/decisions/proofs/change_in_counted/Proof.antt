@@ -4,7 +4,9 @@ use Rattle.table_laws.proofs.ListLaws.{all-places}
 use mathlib.Core.Path.{sym, _∙_}
 use borrow.Author.Tests.{not-true, not-false}
 use Rattle.policy.specs.Deciding.{decide}
+use Rattle.decisions.specs.Asked.{contextOf}
 use Rattle.decisions.proofs.SoundLaws.{sound-table}
+use Rattle.decisions.proofs.ContextLaws.{both-valid, denied-change}
 use Rattle.decisions.proofs.ChangeLaws.{change-of}
 use borrow.Author.Needs.{needs}
 use Rattle.decisions.proofs.change_in_counted.Statement.{statement}
@@ -19,77 +21,52 @@ returns c =
     sym (change-of t s _ ∙ rw (← start .pre .1, sym (c .before .declares-question .ensures t (start .args .permission) (start .pre .2)) ∙ not-true _ (c .if1 .taken)))
 
 returns-2 : tie.Need-returns-2
-unfolding decide
 returns-2 c =
-    let at-before = c .before .before .before .before in
-    let start = at-before .before in
+    let at-if1 = c .before .before in
+    let at-slice = at-if1 .before .before in
+    let start = at-slice .before in
     let t = start .args .table .now in
-    let s = sound-table t (all-places (λ k. k < 256) t 0 (λ i l. at-before .shared-slice-known .given i .fits)) (start .pre .0) in
+    let s = sound-table t (all-places (λ k. k < 256) t 0 (λ i l. at-slice .shared-slice-known .given i .fits)) (start .pre .0) in
     sym (change-of t s _ ∙ rw (
       ← start .pre .1,
-      sym (c .before .before .before .declares-question .ensures t (start .args .permission) (start .pre .2)) ∙ not-false _
-          (c .before .before .if1 .left),
-      sym (c .before .is-valid .ensures) ∙ not-true _ (c .if2 .taken),
-    ))
+      sym (at-if1 .before .declares-question .ensures t (start .args .permission) (start .pre .2)) ∙ not-false _ (at-if1 .if1 .left),
+    ) (sym (denied-change t (contextOf (start .args .source)) (contextOf (start .args .target)) (c .before .context-denial .ensures) (c .if2 .taken) _ _)))
 
 returns-3 : tie.Need-returns-3
 unfolding decide
 returns-3 c =
-    let at-if1 = c .before .before .before .before in
-    let at-declares-question = at-if1 .before in
-    let at-before = at-declares-question .before in
-    let start = at-before .before in
+    let at-if2 = c .before .before in
+    let at-if1 = at-if2 .before .before in
+    let at-slice = at-if1 .before .before in
+    let start = at-slice .before in
     let t = start .args .table .now in
-    let s = sound-table t (all-places (λ k. k < 256) t 0 (λ i l. at-before .shared-slice-known .given i .fits)) (start .pre .0) in
+    let s = sound-table t (all-places (λ k. k < 256) t 0 (λ i l. at-slice .shared-slice-known .given i .fits)) (start .pre .0) in
+    let valid = both-valid t (contextOf (start .args .source)) (contextOf (start .args .target)) (at-if2 .before .context-denial .ensures) (at-if2 .if2 .left) in
     sym (change-of t s _ ∙ rw (
       ← start .pre .1,
-      sym (at-declares-question .declares-question .ensures t (start .args .permission) (start .pre .2)) ∙ not-false _ (at-if1 .if1 .left),
-      sym
-          (c .before .before .before .is-valid .ensures) ∙ not-false _ (c .before .before .if2 .left),
-      sym (c .before .is-valid2 .ensures) ∙ not-true _ (c .if3 .taken),
+      sym (at-if1 .before .declares-question .ensures t (start .args .permission) (start .pre .2)) ∙ not-false _ (at-if1 .if1 .left),
+      valid .0,
+      valid .1,
+      sym (c .before .role-may .ensures) ∙ not-true _ (c .if3 .taken),
     ))
 
 returns-4 : tie.Need-returns-4
 unfolding decide
 returns-4 c =
-    let at-if2 = c .before .before .before .before in
-    let at-is-valid = at-if2 .before in
-    let at-if1 = at-is-valid .before in
-    let at-declares-question = at-if1 .before in
-    let at-before = at-declares-question .before in
-    let start = at-before .before in
+    let at-if3 = c .before in
+    let at-if2 = at-if3 .before .before in
+    let at-if1 = at-if2 .before .before in
+    let at-slice = at-if1 .before .before in
+    let start = at-slice .before in
     let t = start .args .table .now in
-    let s = sound-table t (all-places (λ k. k < 256) t 0 (λ i l. at-before .shared-slice-known .given i .fits)) (start .pre .0) in
+    let s = sound-table t (all-places (λ k. k < 256) t 0 (λ i l. at-slice .shared-slice-known .given i .fits)) (start .pre .0) in
+    let valid = both-valid t (contextOf (start .args .source)) (contextOf (start .args .target)) (at-if2 .before .context-denial .ensures) (at-if2 .if2 .left) in
     sym (change-of t s _ ∙ rw (
       ← start .pre .1,
-      sym (at-declares-question .declares-question .ensures t (start .args .permission) (start .pre .2)) ∙ not-false _ (at-if1 .if1 .left),
-      sym
-          (at-is-valid .is-valid .ensures) ∙ not-false _ (at-if2 .if2 .left),
-      sym (c .before .before .before .is-valid2 .ensures) ∙ not-false _
-          (c .before .before .if3 .left),
-      sym (c .before .role-may .ensures) ∙ not-true _ (c .if4 .taken),
-    ))
-
-returns-5 : tie.Need-returns-5
-unfolding decide
-returns-5 c =
-    let at-is-valid2 = c .before .before .before .before in
-    let at-if2 = at-is-valid2 .before in
-    let at-is-valid = at-if2 .before in
-    let at-if1 = at-is-valid .before in
-    let at-declares-question = at-if1 .before in
-    let at-before = at-declares-question .before in
-    let start = at-before .before in
-    let t = start .args .table .now in
-    let s = sound-table t (all-places (λ k. k < 256) t 0 (λ i l. at-before .shared-slice-known .given i .fits)) (start .pre .0) in
-    sym (change-of t s _ ∙ rw (
-      ← start .pre .1,
-      sym (at-declares-question .declares-question .ensures t (start .args .permission) (start .pre .2)) ∙ not-false _ (at-if1 .if1 .left),
-      sym
-          (at-is-valid .is-valid .ensures) ∙ not-false _ (at-if2 .if2 .left),
-      sym (at-is-valid2 .is-valid2 .ensures) ∙ not-false _
-          (c .before .before .before .if3 .left),
-      sym (c .before .before .role-may .ensures) ∙ not-false _ (c .before .if4 .left),
+      sym (at-if1 .before .declares-question .ensures t (start .args .permission) (start .pre .2)) ∙ not-false _ (at-if1 .if1 .left),
+      valid .0,
+      valid .1,
+      sym (at-if3 .before .role-may .ensures) ∙ not-false _ (at-if3 .if3 .left),
     ) (sym (c .ask-constraints .ensures s (start .pre .1))))
 
 pub change-in-counted-spec : {M : Type 1} → statement M
@@ -103,6 +80,4 @@ change-in-counted-spec =
     (λ c κs. search needs)
     returns-3
     (λ c κs. search needs)
-    returns-4
-    (λ c κs. search needs)
-    returns-5)
+    returns-4)

@@ -1,7 +1,7 @@
 -- `declarations::add` meets its contract: an entry that fits is entered. Assumes nothing.
 use native.Mathlib.Omega.{arith}
 use borrow.Author.Needs.{needs}
-use Rattle.declarations.proofs.EnteringLaws.{too-long, past-end, no-room, appended}
+use Rattle.declarations.proofs.NewEntryLaws.{too-long, past-end, no-room, appended}
 use Rattle.declarations.proofs.add.Statement.{statement}
 use Rattle.declarations.proofs.add.Tie as tie
 

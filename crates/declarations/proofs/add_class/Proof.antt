@@ -1,8 +1,8 @@
 -- `declarations::add_class` meets its contract: each answer by what was found out before it. Assumes nothing.
 use native.Mathlib.Omega.{arith}
 use borrow.Author.Needs.{needs}
-use Rattle.declarations.proofs.Standings.{stands-told}
-use Rattle.declarations.proofs.EnteringLaws.{enters-told}
+use Rattle.declarations.proofs.StatusLaws.{stands-told}
+use Rattle.declarations.proofs.NewEntryLaws.{enters-told}
 use Rattle.declarations.proofs.ClassAnswers.{class-taken, class-full, class-too-many, class-no-room, class-added}
 use Rattle.declarations.proofs.add_class.Statement.{statement}
 use Rattle.declarations.proofs.add_class.Tie as tie

@@ -1,7 +1,7 @@
 -- `declarations::add_name` meets its contract: each answer by what the symbols said of the name. Assumes nothing.
 use native.Mathlib.Omega.{arith}
 use borrow.Author.Needs.{needs}
-use Rattle.declarations.proofs.Standings.{stands-told}
+use Rattle.declarations.proofs.StatusLaws.{stands-told}
 use Rattle.declarations.proofs.NameAnswers.{name-taken, name-full, name-added}
 use Rattle.declarations.proofs.add_name.Statement.{statement}
 use Rattle.declarations.proofs.add_name.Tie as tie

@@ -8,7 +8,7 @@ use lib.ListN.{length}
 use Rattle.lexer.specs.Forms.{framesAt}
 use Rattle.name_rows.specs.WordRows.{wordsIn}
 use Rattle.name_rows.proofs.Rows.{told, words-here}
-use Rattle.declarations.proofs.EnteringLaws.{SoFar, so-far-none, so-far-long, all-written, one-left, next-no-room, next-written, enters-told, enters-named}
+use Rattle.declarations.proofs.NewEntryLaws.{SoFar, so-far-none, so-far-long, all-written, one-left, next-no-room, next-written, enters-told, enters-named}
 use Rattle.declarations.proofs.add_permissions.Statement.{statement}
 use Rattle.declarations.proofs.add_permissions.Tie as tie
 

@@ -1,5 +1,5 @@
 -- `declarations::count` meets its contract: the word of the sort counts its entries. Assumes nothing.
-use Rattle.declarations.proofs.Standings.{counts, no-index, no-sort}
+use Rattle.declarations.proofs.StatusLaws.{counts, no-index, no-sort}
 use native.Mathlib.Omega.{arith}
 use borrow.Author.Needs.{needs}
 use Rattle.declarations.proofs.count.Statement.{statement}

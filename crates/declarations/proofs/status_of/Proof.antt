@@ -1,5 +1,5 @@
 -- `declarations::status_of` meets its contract: what was looked up, and the count of the sort. Assumes nothing.
-use Rattle.declarations.proofs.Standings.{is-taken, is-free}
+use Rattle.declarations.proofs.StatusLaws.{is-taken, is-free}
 use borrow.Author.Needs.{needs}
 use Rattle.declarations.proofs.status_of.Statement.{statement}
 use Rattle.declarations.proofs.status_of.Tie as tie

@@ -14,7 +14,7 @@ returns-2 : tie.Need-returns-2
 returns-2 c = rw (c .before .enum-told2 .given .1) (c .set-form .ensures)
 
 returns-3 : tie.Need-returns-3
-returns-3 c = rw (c .before .enum-told3 .given .1) (c .constraint-form .ensures)
+returns-3 c = rw (c .before .before .content .given .1) (c .constraint-form .ensures)
 
 pub content-form-spec : {M : Type 1} → statement M
 content-form-spec =

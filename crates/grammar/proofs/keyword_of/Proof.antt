@@ -1,4 +1,4 @@
--- `grammar::keyword_of` meets its contract: the keywords have the numbers 24 to 38. Assumes nothing.
+-- `grammar::keyword_of` meets its contract: the keywords have the numbers 24 to 39. Assumes nothing.
 use mathlib.Core.Path.{_≡_, refl}
 use mathlib.Core.Option.{none}
 use Prim.Native.Nat.{ℕ, _+_, _≤_, _<_}
@@ -14,9 +14,9 @@ below : (n : ℕ) → n ≤ 23 → keywordOf (wordOf n) ≡ none
 unfolding same lookup reserved keywords words keywordOf
 below n h = stretch keywordOf 0 24 none refl n (omega arith) (omega arith)
 
-beyond : (n : ℕ) → 38 < n → keywordOf (wordOf n) ≡ none
+beyond : (n : ℕ) → 39 < n → keywordOf (wordOf n) ≡ none
 unfolding same lookup reserved keywords words keywordOf
-beyond n h = from-on keywordOf 39 refl n h
+beyond n h = from-on keywordOf 40 refl n h
 
 -- a number from k on that is not k is from the next on
 another : (n k : ℕ) → k ≤ n → (n ≡ k → ⊥) → k + 1 ≤ n
@@ -86,28 +86,33 @@ unfolding same lookup reserved keywords words wordOf keywordOf
 returns-16 c = rw (c .match .keys15)
 
 returns-17 : tie.Need-returns-17
-returns-17 c =
+unfolding same lookup reserved keywords words wordOf keywordOf
+returns-17 c = rw (c .match .keys16)
+
+returns-18 : tie.Need-returns-18
+returns-18 c =
     let n = c .before .before .args .number in
     let other = c .match .rest in
-    let past-24 = another n 24 (c .before .if1 .left) (other .0 .0 .0 .0 .0 .0 .0 .0 .0 .0 .0 .0 .0 .0 .1) in
-    let past-25 = another n 25 past-24 (other .0 .0 .0 .0 .0 .0 .0 .0 .0 .0 .0 .0 .0 .1) in
-    let past-26 = another n 26 past-25 (other .0 .0 .0 .0 .0 .0 .0 .0 .0 .0 .0 .0 .1) in
-    let past-27 = another n 27 past-26 (other .0 .0 .0 .0 .0 .0 .0 .0 .0 .0 .0 .1) in
-    let past-28 = another n 28 past-27 (other .0 .0 .0 .0 .0 .0 .0 .0 .0 .0 .1) in
-    let past-29 = another n 29 past-28 (other .0 .0 .0 .0 .0 .0 .0 .0 .0 .1) in
-    let past-30 = another n 30 past-29 (other .0 .0 .0 .0 .0 .0 .0 .0 .1) in
-    let past-31 = another n 31 past-30 (other .0 .0 .0 .0 .0 .0 .0 .1) in
-    let past-32 = another n 32 past-31 (other .0 .0 .0 .0 .0 .0 .1) in
-    let past-33 = another n 33 past-32 (other .0 .0 .0 .0 .0 .1) in
-    let past-34 = another n 34 past-33 (other .0 .0 .0 .0 .1) in
-    let past-35 = another n 35 past-34 (other .0 .0 .0 .1) in
-    let past-36 = another n 36 past-35 (other .0 .0 .1) in
-    let past-37 = another n 37 past-36 (other .0 .1) in
-    let past-38 = another n 38 past-37 (other .1) in
-    beyond n past-38
+    let past-24 = another n 24 (c .before .if1 .left) (other .0 .0 .0 .0 .0 .0 .0 .0 .0 .0 .0 .0 .0 .0 .0 .1) in
+    let past-25 = another n 25 past-24 (other .0 .0 .0 .0 .0 .0 .0 .0 .0 .0 .0 .0 .0 .0 .1) in
+    let past-26 = another n 26 past-25 (other .0 .0 .0 .0 .0 .0 .0 .0 .0 .0 .0 .0 .0 .1) in
+    let past-27 = another n 27 past-26 (other .0 .0 .0 .0 .0 .0 .0 .0 .0 .0 .0 .0 .1) in
+    let past-28 = another n 28 past-27 (other .0 .0 .0 .0 .0 .0 .0 .0 .0 .0 .0 .1) in
+    let past-29 = another n 29 past-28 (other .0 .0 .0 .0 .0 .0 .0 .0 .0 .0 .1) in
+    let past-30 = another n 30 past-29 (other .0 .0 .0 .0 .0 .0 .0 .0 .0 .1) in
+    let past-31 = another n 31 past-30 (other .0 .0 .0 .0 .0 .0 .0 .0 .1) in
+    let past-32 = another n 32 past-31 (other .0 .0 .0 .0 .0 .0 .0 .1) in
+    let past-33 = another n 33 past-32 (other .0 .0 .0 .0 .0 .0 .1) in
+    let past-34 = another n 34 past-33 (other .0 .0 .0 .0 .0 .1) in
+    let past-35 = another n 35 past-34 (other .0 .0 .0 .0 .1) in
+    let past-36 = another n 36 past-35 (other .0 .0 .0 .1) in
+    let past-37 = another n 37 past-36 (other .0 .0 .1) in
+    let past-38 = another n 38 past-37 (other .0 .1) in
+    let past-39 = another n 39 past-38 (other .1) in
+    beyond n past-39
 
 pub keyword-of-spec : {M : Type 1} → statement M
 keyword-of-spec =
     tie.close
     (tie.spec returns returns-2 returns-3 returns-4 returns-5 returns-6 returns-7 returns-8 returns-9 returns-10 returns-11 returns-12 returns-13
-    returns-14 returns-15 returns-16 returns-17)
+    returns-14 returns-15 returns-16 returns-17 returns-18)

@@ -22,7 +22,10 @@ returns-4 : tie.Need-returns-4
 returns-4 c = rw (c .before .enum-told3 .given .1) (c .constrain-form .ensures)
 
 returns-5 : tie.Need-returns-5
-returns-5 c = rw (c .enum-told4 .given .1) (refuse refl)
+returns-5 c = rw (c .before .enum-told4 .given .1) (c .name-and-part3 .ensures)
+
+returns-6 : tie.Need-returns-6
+returns-6 c = rw (c .enum-told5 .given .1) (refuse refl)
 
 pub shape-form-spec : {M : Type 1} → statement M
 shape-form-spec =
@@ -37,8 +40,11 @@ shape-form-spec =
     (λ c. search needs)
     (λ c κs. search needs)
     (λ c. search needs)
+    (λ c κs. search needs)
+    (λ c. search needs)
     returns
     returns-2
     returns-3
     returns-4
-    returns-5)
+    returns-5
+    returns-6)

@@ -27,11 +27,13 @@ shape-of-spec =
     (λ c. search needs)
     (λ c. search needs)
     (λ c. search needs)
+    (λ c. search needs)
     returns
     returns-2
     (λ c. search needs)
     (λ c. search needs)
     returns-5
     returns-6
+    (λ c. search needs)
     (λ c. search needs)
     (λ c. search needs))

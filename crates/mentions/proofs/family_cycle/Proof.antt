@@ -6,7 +6,7 @@ use Rattle.mentions.specs.Closure.{closedOf}
 use Rattle.mentions.proofs.ClosureLaws.{own-row, no-own-row}
 use Rattle.mentions.proofs.family_cycle.Statement.{statement}
 use Rattle.mentions.proofs.family_cycle.Tie as tie
-use Rattle.mentions.proofs.Seeking.{seeks-nothing}
+use Rattle.mentions.proofs.CycleSearch.{seeks-nothing}
 
 returns : tie.Need-returns
 returns c =

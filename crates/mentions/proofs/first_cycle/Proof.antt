@@ -17,7 +17,7 @@ use Rattle.code_reader.proofs.SetPasses.{start}
 use Rattle.code_reader.proofs.Passes.{Through, finish}
 use Rattle.mentions.proofs.first_cycle.Statement.{statement}
 use Rattle.mentions.proofs.first_cycle.Tie as tie
-use Rattle.mentions.proofs.Seeking.{Seeks, seeks-first, seeks-none, found-here, seeks-on, seeks-over}
+use Rattle.mentions.proofs.CycleSearch.{Seeks, seeks-first, seeks-none, found-here, seeks-on, seeks-over}
 
 abbrev Inv-loop : tie.InvT-loop
 Inv-loop code rows tag a₀ at₀ a at =

@@ -6,7 +6,7 @@ use borrow.Author.Needs.{needs}
 use Rattle.code_reader.proofs.OperandLaws.{operands-tag, operands-past}
 use Rattle.mentions.proofs.mentioned.Statement.{statement}
 use Rattle.mentions.proofs.mentioned.Tie as tie
-use Rattle.mentions.proofs.Collecting.{Collected, collected-none, collected-over, collected-more, collected-all}
+use Rattle.mentions.proofs.OperandAttributes.{Collected, collected-none, collected-over, collected-more, collected-all}
 
 abbrev Inv-loop : tie.InvT-loop
 Inv-loop code from out₀ at₀ out at = Collected code from out at

@@ -15,7 +15,7 @@ use Rattle.code_reader.proofs.RowLaws.{rowsOf, rows-none}
 use Rattle.code_reader.proofs.SetPasses.{start, add-step, over-step}
 use Rattle.mentions.proofs.mentions.Statement.{statement}
 use Rattle.mentions.proofs.mentions.Tie as tie
-use Rattle.mentions.proofs.Seeking.{named, mentioned-set, mentions-items}
+use Rattle.mentions.proofs.CycleSearch.{named, mentioned-set, mentions-items}
 
 abbrev Inv-loop : tie.InvT-loop
 Inv-loop code rows₀ tag at₀ rows at =

@@ -1,6 +1,6 @@
--- `name_chains::clear` meets its contract (Starting). Assumes nothing.
+-- `name_chains::clear` meets its contract (EmptyChains). Assumes nothing.
 use borrow.Author.Needs.{needs}
-use Rattle.name_chains.proofs.Starting.{cleared}
+use Rattle.name_chains.proofs.EmptyChains.{cleared}
 use Rattle.name_chains.proofs.clear.Statement.{statement}
 use Rattle.name_chains.proofs.clear.Tie as tie
 

@@ -1,4 +1,4 @@
--- `name_chains::enter` meets its contract: the entry is appended, put at the end of its chain and counted (Entering). Assumes nothing.
+-- `name_chains::enter` meets its contract: the entry is appended, put at the end of its chain and counted (NewEntry). Assumes nothing.
 use Prim.Native.Nat.{ℕ}
 use mathlib.Core.Path.{ap, _∙_}
 use mathlib.Core.List.{List}
@@ -10,7 +10,7 @@ use Rattle.byte_slices.proofs.PartLaws.{length-part-le}
 use Rattle.policy.specs.Basics.{unle}
 use Rattle.policy.specs.Encode.{nameEntry}
 use Rattle.symbols.proofs.AppendLaws.{entry-length}
-use Rattle.name_chains.proofs.Entering.{entered-from}
+use Rattle.name_chains.proofs.NewEntry.{entered-from}
 use Rattle.name_chains.proofs.enter.Statement.{statement}
 use Rattle.name_chains.proofs.enter.Tie as tie
 

@@ -6,7 +6,7 @@ use native.Mathlib.Omega.{arith}
 use borrow.Author.Needs.{needs}
 use Rattle.symbols.specs.Section.{entriesAt}
 use Rattle.symbols.specs.Lookup.{firstNamed}
-use Rattle.symbols.proofs.LookLaws.{met, less-left}
+use Rattle.symbols.proofs.EntryLaws.{met, less-left}
 use Rattle.symbols.proofs.FindLaws.{none-done, none-broken}
 use Rattle.name_chains.specs.Compared.{comparedIn}
 use Rattle.name_chains.proofs.TryLaws.{past-first, past-compared}

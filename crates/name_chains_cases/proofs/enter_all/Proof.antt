@@ -1,7 +1,7 @@
 -- `name_chains_cases::enter_all` is safe and ends: the entries have room, and less of the section is left behind each. Assumes nothing.
 use Prim.Native.Nat.{_-_, _≤_}
 use borrow.Author.Needs.{needs}
-use Rattle.symbols.proofs.LookLaws.{met}
+use Rattle.symbols.proofs.EntryLaws.{met}
 use Rattle.symbols.specs.Section.{nameBytes}
 use native.Mathlib.Omega.{arith}
 use lib.ListN.{length}

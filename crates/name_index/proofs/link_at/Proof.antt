@@ -3,7 +3,7 @@ use mathlib.Core.Path.{ap, _∙_}
 use native.Mathlib.Omega.{arith}
 use borrow.Author.Needs.{needs}
 use Rattle.name_index.specs.Index.{linkIn}
-use Rattle.name_index.proofs.Chaining.{link-fits}
+use Rattle.name_index.proofs.ChainLaws.{link-fits}
 use Rattle.name_index.proofs.link_at.Statement.{statement}
 use Rattle.name_index.proofs.link_at.Tie as tie
 

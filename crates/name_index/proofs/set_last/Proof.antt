@@ -1,11 +1,11 @@
--- `name_index::set_last` meets its contract: the entry is the first of its chain, or the last before it gets it as the next (Chaining). Assumes nothing.
+-- `name_index::set_last` meets its contract: the entry is the first of its chain, or the last before it gets it as the next (ChainLaws). Assumes nothing.
 use Prim.Native.Nat.{ℕ}
 use mathlib.Core.Path.{ap, ap₂, _∙_}
 use mathlib.Core.List.{List}
 use native.Mathlib.Omega.{arith}
 use borrow.Author.Needs.{needs}
 use Rattle.name_index.specs.Index.{putWord}
-use Rattle.name_index.proofs.Chaining.{chain-cut, longer-fits, empty-last, longer-last}
+use Rattle.name_index.proofs.ChainLaws.{chain-cut, longer-fits, empty-last, longer-last}
 use Rattle.name_index.proofs.set_last.Statement.{statement}
 use Rattle.name_index.proofs.set_last.Tie as tie
 

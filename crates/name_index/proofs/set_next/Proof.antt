@@ -1,9 +1,9 @@
--- `name_index::set_next` meets its contract (Chaining). Assumes nothing.
+-- `name_index::set_next` meets its contract (ChainLaws). Assumes nothing.
 use Prim.Native.Nat.{_+_}
 use mathlib.Core.Path.{ap, _∙_}
 use borrow.Author.Needs.{needs}
 use Rattle.name_index.specs.Index.{putWord}
-use Rattle.name_index.proofs.Chaining.{next-put}
+use Rattle.name_index.proofs.ChainLaws.{next-put}
 use Rattle.name_index.proofs.set_next.Statement.{statement}
 use Rattle.name_index.proofs.set_next.Tie as tie
 

@@ -1,4 +1,4 @@
--- `name_rows::repeats` meets its contract. The loop's invariant is that of proofs/Repeating: the names passed differ, and their first eight bytes are
+-- `name_rows::repeats` meets its contract. The loop's invariant is that of proofs/RepeatLaws: the names passed differ, and their first eight bytes are
 -- kept. Assumes nothing.
 use Prim.Native.Nat.{_-_}
 use native.Mathlib.Omega.{arith}
@@ -7,7 +7,7 @@ use borrow.Author.Needs.{needs}
 use lib.ListN.{length}
 use Rattle.name_index.specs.Index.{frontOf}
 use Rattle.name_rows.proofs.Rows.{told}
-use Rattle.name_rows.proofs.Repeating.{Passed, passed-none, passed-more, none-twice, stands-twice, not-passed}
+use Rattle.name_rows.proofs.RepeatLaws.{Passed, passed-none, passed-more, none-twice, stands-twice, not-passed}
 use Rattle.name_rows.proofs.repeats.Statement.{statement}
 use Rattle.name_rows.proofs.repeats.Tie as tie
 

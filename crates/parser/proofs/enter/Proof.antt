@@ -2,7 +2,7 @@
 use mathlib.Core.Path.{sym, ap}
 use native.Mathlib.Omega.{arith}
 use borrow.Author.Needs.{needs}
-use Rattle.parser.proofs.Entering.{no-header, answerOf, inside-text, entered}
+use Rattle.parser.proofs.BlockHeaders.{no-header, answerOf, inside-text, entered}
 use Rattle.parser.proofs.enter.Statement.{statement}
 use Rattle.parser.proofs.enter.Tie as tie
 

@@ -1,7 +1,7 @@
 -- `parser::parse` meets its contract: the chains are cleared, no block is open, and then the text is read. Assumes nothing.
 use native.Mathlib.Omega.{arith}
 use borrow.Author.Needs.{needs}
-use Rattle.parser.proofs.Turning.{parses}
+use Rattle.parser.proofs.LoopInvariant.{parses}
 use Rattle.parser.proofs.parse.Statement.{statement}
 use Rattle.parser.proofs.parse.Tie as tie
 

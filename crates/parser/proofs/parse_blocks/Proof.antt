@@ -9,7 +9,7 @@ use Rattle.block_reader.specs.Within.{noneOpen}
 use Rattle.statement_reader.specs.Memory.{Memory, memory}
 use Rattle.parser.specs.Parts.{EnteredAhead}
 use Rattle.parser.specs.Runs.{RunBy}
-use Rattle.parser.proofs.Running.{block-entered, block-refused, block-closed, leftAfter, falls-inside, falls-behind}
+use Rattle.parser.proofs.StatementRuns.{block-entered, block-refused, block-closed, leftAfter, falls-inside, falls-behind}
 use Rattle.parser.proofs.parse_blocks.Statement.{statement}
 use Rattle.parser.proofs.parse_blocks.Tie as tie
 

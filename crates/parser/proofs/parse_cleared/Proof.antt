@@ -2,7 +2,7 @@
 use mathlib.Core.Path.{subst}
 use borrow.Author.Needs.{needs}
 use Rattle.parser.specs.Runs.{RunBy}
-use Rattle.parser.proofs.Running.{first-run}
+use Rattle.parser.proofs.StatementRuns.{first-run}
 use Rattle.parser.proofs.parse_cleared.Statement.{statement}
 use Rattle.parser.proofs.parse_cleared.Tie as tie
 

@@ -3,8 +3,8 @@ use mathlib.Core.Path.{sym, ap, _∙_}
 use mathlib.Core.Bool.{not, false≢true}
 use native.Mathlib.Omega.{arith}
 use borrow.Author.Needs.{needs}
-use Rattle.parser.proofs.Turning.{roomy}
-use Rattle.parser.proofs.Stating.{formless, answerOf, stated}
+use Rattle.parser.proofs.LoopInvariant.{roomy}
+use Rattle.parser.proofs.OneStatement.{formless, answerOf, stated}
 use Rattle.parser.proofs.read.Statement.{statement}
 use Rattle.parser.proofs.read.Tie as tie
 

@@ -11,9 +11,9 @@ use Rattle.lexer.specs.Scan.{scan}
 use Rattle.block_reader.specs.declared.OpenBlocks.{OpenBlocks}
 use Rattle.statement_reader.specs.Memory.{Memory, memory}
 use Rattle.items.proofs.Frames.{sees}
-use Rattle.parser.specs.Left.{Rest}
-use Rattle.parser.proofs.Turning.{finishes, opens-at, no-block-word, statement-on, statement-stops, past-statement}
-use Rattle.parser.proofs.Running.{block-ahead}
+use Rattle.parser.specs.Remaining.{Rest}
+use Rattle.parser.proofs.LoopInvariant.{finishes, opens-at, no-block-word, statement-on, statement-stops, past-statement}
+use Rattle.parser.proofs.StatementRuns.{block-ahead}
 use Rattle.parser.proofs.read_statements.Statement.{statement}
 use Rattle.parser.proofs.read_statements.Tie as tie
 

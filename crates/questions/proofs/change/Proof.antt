@@ -4,7 +4,7 @@ use mathlib.Core.Path.{sym, ap, _∙_}
 use lib.Dec.{ltb}
 use borrow.Author.Needs.{needs}
 use Rattle.table_laws.proofs.ListLaws.{all-places}
-use Rattle.soundness.proofs.Deciding.{unsound-by}
+use Rattle.soundness.proofs.AnswerLaws.{unsound-by}
 use Rattle.decisions.proofs.CountedLaws.{is-sound, counts-are, permissions-length, has-permission}
 use Rattle.questions.proofs.Unsound.{change-unsound}
 use Rattle.questions.proofs.change.Statement.{statement}

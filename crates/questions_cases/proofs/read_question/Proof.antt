@@ -8,7 +8,7 @@ abbrev Inv-loop : tie.InvT-loop
 Inv-loop numbers₀ i₀ numbers i = Unit {0}
 
 abbrev μ-loop : tie.MeasureT-loop
-μ-loop numbers₀ i₀ numbers i = 9 - i
+μ-loop numbers₀ i₀ numbers i = 11 - i
 
 pub read-question-spec : {M : Type 1} → statement M
 read-question-spec =
@@ -16,6 +16,8 @@ read-question-spec =
     (tie.spec
     Inv-loop
     μ-loop
+    (λ c. search needs)
+    (λ c. search needs)
     (λ c. search needs)
     (λ c κs. search needs)
     (λ c. search needs)

@@ -2,7 +2,7 @@
 use mathlib.Core.Path.{sym, ap, _∙_}
 use borrow.Author.Needs.{needs}
 use Rattle.code_reader.specs.Reading.{foundOf}
-use Rattle.resolver.proofs.Judging.{cycle-found, cycle-first, clash-next, sound-last}
+use Rattle.resolver.proofs.FaultLaws.{cycle-found, cycle-first, clash-next, sound-last}
 use Rattle.resolver.proofs.resolve.Statement.{statement}
 use Rattle.resolver.proofs.resolve.Tie as tie
 

@@ -3,7 +3,7 @@ use mathlib.Core.Path.{sym, _∙_}
 use borrow.Author.Needs.{needs}
 use Rattle.policy.specs.Answers.{familyOf}
 use Rattle.final_sets.proofs.FinalLaws.{first-rows, none-mentioned, one-round, off-cycle}
-use Rattle.mentions.proofs.Seeking.{seeks-nothing}
+use Rattle.mentions.proofs.CycleSearch.{seeks-nothing}
 use Rattle.resolver.proofs.resolve_family.Statement.{statement}
 use Rattle.resolver.proofs.resolve_family.Tie as tie
 

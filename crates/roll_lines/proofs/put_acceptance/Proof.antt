@@ -1,7 +1,7 @@
 -- `roll_lines::put_acceptance` meets its contract: the parts are one after the other. Assumes nothing.
 use native.Mathlib.Omega.{arith}
 use Rattle.text_writer.proofs.Digits.{few-digits}
-use Rattle.roll_lines.proofs.Appending.{three-parts}
+use Rattle.roll_lines.proofs.AppendLaws.{three-parts}
 use borrow.Author.Needs.{needs}
 use Rattle.roll_lines.proofs.put_acceptance.Statement.{statement}
 use Rattle.roll_lines.proofs.put_acceptance.Tie as tie

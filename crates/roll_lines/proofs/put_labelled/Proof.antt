@@ -1,7 +1,7 @@
 -- `roll_lines::put_labelled` meets its contract: the number is after the word. Assumes nothing.
 use native.Mathlib.Omega.{arith}
 use Rattle.text_writer.proofs.Digits.{few-digits}
-use Rattle.roll_lines.proofs.Appending.{appends-then}
+use Rattle.roll_lines.proofs.AppendLaws.{appends-then}
 use borrow.Author.Needs.{needs}
 use Rattle.roll_lines.proofs.put_labelled.Statement.{statement}
 use Rattle.roll_lines.proofs.put_labelled.Tie as tie

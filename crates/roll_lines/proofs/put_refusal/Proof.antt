@@ -1,6 +1,6 @@
 -- `roll_lines::put_refusal` meets its contract: the parts are one after the other. Assumes nothing.
 use native.Mathlib.Omega.{arith}
-use Rattle.roll_lines.proofs.Appending.{four-parts}
+use Rattle.roll_lines.proofs.AppendLaws.{four-parts}
 use borrow.Author.Needs.{needs}
 use Rattle.roll_lines.proofs.put_refusal.Statement.{statement}
 use Rattle.roll_lines.proofs.put_refusal.Tie as tie

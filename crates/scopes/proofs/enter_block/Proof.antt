@@ -3,7 +3,7 @@ use native.Mathlib.Omega.{arith}
 use borrow.Author.Needs.{needs}
 use mathlib.Core.Path.{refl}
 use Rattle.byte_slices.specs.Parts.{part}
-use Rattle.scopes.proofs.Moving.{not-entered, short, lent-all, entered}
+use Rattle.scopes.proofs.OpenAndClose.{not-entered, short, lent-all, entered}
 use Rattle.scopes.proofs.enter_block.Statement.{statement}
 use Rattle.scopes.proofs.enter_block.Tie as tie
 

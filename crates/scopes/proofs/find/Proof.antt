@@ -1,12 +1,12 @@
 -- `scopes::find` meets its contract. The loop's invariant: the first n bytes of the scope are that of the blocks that are left, and the tries that are left
--- decide as all do (Trying). The measure is n: each cut leaves less. Assumes nothing.
+-- decide as all do (TryLaws). The measure is n: each cut leaves less. Assumes nothing.
 use Prim.Native.Nat.{_≤_}
 use mathlib.Core.Path.{sym, _∙_}
 use native.Mathlib.Omega.{arith}
 use borrow.Author.Needs.{needs}
 use borrow.Author.Tests.{not-true, not-false}
 use Rattle.scopes.proofs.Dots.{dot-some}
-use Rattle.scopes.proofs.Trying.{Outward, walk-starts, hit-resolves, turn, last-resolves, dot-resolves}
+use Rattle.scopes.proofs.TryLaws.{Outward, walk-starts, hit-resolves, turn, last-resolves, dot-resolves}
 use Rattle.scopes.proofs.find.Statement.{statement}
 use Rattle.scopes.proofs.find.Tie as tie
 

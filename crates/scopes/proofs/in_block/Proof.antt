@@ -2,7 +2,7 @@
 use native.Mathlib.Omega.{arith}
 use borrow.Author.Needs.{needs}
 use Rattle.scopes.specs.Scope.{scopeLength}
-use Rattle.scopes.proofs.Open.{open-by-length}
+use Rattle.scopes.proofs.OpenTest.{open-by-length}
 use Rattle.scopes.proofs.in_block.Statement.{statement}
 use Rattle.scopes.proofs.in_block.Tie as tie
 

@@ -1,6 +1,6 @@
 -- `scopes::is_plain` meets its contract: outside of blocks, by the dot in front. Assumes nothing.
 use borrow.Author.Needs.{needs}
-use Rattle.scopes.proofs.Open.{block-tries, whole-tries}
+use Rattle.scopes.proofs.OpenTest.{block-tries, whole-tries}
 use Rattle.scopes.proofs.is_plain.Statement.{statement}
 use Rattle.scopes.proofs.is_plain.Tie as tie
 

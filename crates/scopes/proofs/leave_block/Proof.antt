@@ -1,6 +1,6 @@
 -- `scopes::leave_block` meets its contract: the scope is cut at its last dot. Assumes nothing.
 use borrow.Author.Needs.{needs}
-use Rattle.scopes.proofs.Moving.{left}
+use Rattle.scopes.proofs.OpenAndClose.{left}
 use Rattle.scopes.proofs.leave_block.Statement.{statement}
 use Rattle.scopes.proofs.leave_block.Tie as tie
 

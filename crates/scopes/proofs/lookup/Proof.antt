@@ -1,7 +1,7 @@
 -- `scopes::lookup` meets its contract: at once where one try decides, and else by all tries. Assumes nothing.
 use borrow.Author.Needs.{needs}
 use Rattle.scopes.proofs.Bounds.{looks}
-use Rattle.scopes.proofs.Trying.{once-resolves}
+use Rattle.scopes.proofs.TryLaws.{once-resolves}
 use Rattle.scopes.proofs.lookup.Statement.{statement}
 use Rattle.scopes.proofs.lookup.Tie as tie
 

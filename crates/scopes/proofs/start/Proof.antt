@@ -1,6 +1,6 @@
 -- `scopes::start` meets its contract. Assumes nothing.
 use borrow.Author.Needs.{needs}
-use Rattle.scopes.proofs.Moving.{started}
+use Rattle.scopes.proofs.OpenAndClose.{started}
 use Rattle.scopes.proofs.start.Statement.{statement}
 use Rattle.scopes.proofs.start.Tie as tie
 

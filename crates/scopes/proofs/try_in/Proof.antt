@@ -3,7 +3,7 @@ use borrow.Author.Needs.{needs}
 use mathlib.Core.Path.{_∙_}
 use Rattle.name_chains.proofs.FindLaws.{tries-as}
 use Rattle.scopes.proofs.Composed.{composed-is, composed-long}
-use Rattle.scopes.proofs.Trying.{too-long-tries}
+use Rattle.scopes.proofs.TryLaws.{too-long-tries}
 use Rattle.scopes.proofs.try_in.Statement.{statement}
 use Rattle.scopes.proofs.try_in.Tie as tie
 

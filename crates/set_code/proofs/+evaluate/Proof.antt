@@ -11,7 +11,7 @@ use borrow.Fn.PlainCycle.{Measures, is, falls, and}
 use Rattle.policy.specs.Statements.{Reference, SetExpr}
 use Rattle.statement_code.specs.Code.{setCode}
 use Rattle.statement_code.specs.Numbered.{Numbered}
-use Rattle.set_code.proofs.Running.{Ahead, none-past, evaluates-reference, started, not-past, ended, further, further-reference}
+use Rattle.set_code.proofs.OperandLoop.{Ahead, none-past, evaluates-reference, started, not-past, ended, further, further-reference}
 use Rattle.set_code.proofs.+evaluate.{statement}
 use Rattle.set_code.proofs.+evaluate.Tie.{close}
 use Rattle.set_code.proofs.evaluate.Reads as evaluate

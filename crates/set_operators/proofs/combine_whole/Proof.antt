@@ -3,7 +3,7 @@ use Prim.Native.Nat.{_-_}
 use borrow.Author.Needs.{needs}
 use lib.ListN.{length}
 use Rattle.set_operators.proofs.OperatorLaws.{length-combined, combine-turn}
-use Rattle.bitset.proofs.Turns.{Turned, turned-none, turned-all}
+use Rattle.bitset.proofs.LoopSteps.{Turned, turned-none, turned-all}
 use Rattle.set_operators.specs.Operators.{combined}
 use Rattle.set_operators.proofs.combine_whole.Statement.{statement}
 use Rattle.set_operators.proofs.combine_whole.Tie as tie

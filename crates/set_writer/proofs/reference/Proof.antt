@@ -1,6 +1,6 @@
 -- `set_writer::reference` meets its contract: what the search finds is what `refer` says, and its unit goes by its sort. Assumes nothing.
 use borrow.Author.Needs.{needs}
-use Rattle.set_writer.proofs.Referring.{refers, too-large, a-thing, an-attribute}
+use Rattle.set_writer.proofs.ReferenceLaws.{refers, too-large, a-thing, an-attribute}
 use Rattle.set_writer.proofs.reference.Statement.{statement}
 use Rattle.set_writer.proofs.reference.Tie as tie
 

@@ -6,7 +6,7 @@ use borrow.Author.Needs.{needs}
 use Rattle.policy.specs.Grammar.{setIn}
 use Rattle.items.proofs.Frames.{sees}
 use Rattle.items.proofs.Items.{alike}
-use Rattle.set_writer.proofs.Starting.{starts-operator, starts-name, unworded, starts-other}
+use Rattle.set_writer.proofs.FirstItems.{starts-operator, starts-name, unworded, starts-other}
 use Rattle.set_writer.proofs.set_start.Statement.{statement}
 use Rattle.set_writer.proofs.set_start.Tie as tie
 

@@ -8,15 +8,15 @@ use Rattle.sound_bodies.proofs.bodies_sound.Tie as tie
 
 returns : tie.Need-returns
 unfolding bodiesSound
-returns c = rw (sym (c .before .sets-sound .ensures) ∙ not-true _ (c .if1 .taken))
+returns c = rw (sym (c .before .relations-sound .ensures) ∙ not-true _ (c .if1 .taken))
 
 returns-2 : tie.Need-returns-2
 unfolding bodiesSound
 returns-2 c =
     let at-if1 = c .before .before in
     rw (
-      sym (at-if1 .before .sets-sound .ensures) ∙ not-false _ (at-if1 .if1 .left),
-      sym (c .before .sets-sound2 .ensures) ∙ not-true _ (c .if2 .taken),
+      sym (at-if1 .before .relations-sound .ensures) ∙ not-false _ (at-if1 .if1 .left),
+      sym (c .before .transitions-sound .ensures) ∙ not-true _ (c .if2 .taken),
     )
 
 returns-3 : tie.Need-returns-3
@@ -25,9 +25,9 @@ returns-3 c =
     let at-if2 = c .before .before in
     let at-if1 = at-if2 .before .before in
     rw (
-      sym (at-if1 .before .sets-sound .ensures) ∙ not-false _ (at-if1 .if1 .left),
-      sym (at-if2 .before .sets-sound2 .ensures) ∙ not-false _ (at-if2 .if2 .left),
-      sym (c .before .sets-sound3 .ensures) ∙ not-true _ (c .if3 .taken),
+      sym (at-if1 .before .relations-sound .ensures) ∙ not-false _ (at-if1 .if1 .left),
+      sym (at-if2 .before .transitions-sound .ensures) ∙ not-false _ (at-if2 .if2 .left),
+      sym (c .before .constraints-sound .ensures) ∙ not-true _ (c .if3 .taken),
     )
 
 returns-4 : tie.Need-returns-4
@@ -37,42 +37,25 @@ returns-4 c =
     let at-if2 = at-if3 .before .before in
     let at-if1 = at-if2 .before .before in
     rw (
-      sym (at-if1 .before .sets-sound .ensures) ∙ not-false _ (at-if1 .if1 .left),
-      sym (at-if2 .before .sets-sound2 .ensures) ∙ not-false _ (at-if2 .if2 .left),
-      sym (at-if3 .before .sets-sound3 .ensures) ∙ not-false _ (at-if3 .if3 .left),
-      sym (c .before .transitions-sound .ensures) ∙ not-true _ (c .if4 .taken),
+      sym (at-if1 .before .relations-sound .ensures) ∙ not-false _ (at-if1 .if1 .left),
+      sym (at-if2 .before .transitions-sound .ensures) ∙ not-false _ (at-if2 .if2 .left),
+      sym (at-if3 .before .constraints-sound .ensures) ∙ not-false _ (at-if3 .if3 .left),
+      sym (c .before .attributes-sound .ensures) ∙ not-true _ (c .if4 .taken),
     )
 
 returns-5 : tie.Need-returns-5
 unfolding bodiesSound
 returns-5 c =
-    let at-if4 = c .before .before in
+    let at-if4 = c .before in
     let at-if3 = at-if4 .before .before in
     let at-if2 = at-if3 .before .before in
     let at-if1 = at-if2 .before .before in
     rw (
-      sym (at-if1 .before .sets-sound .ensures) ∙ not-false _ (at-if1 .if1 .left),
-      sym (at-if2 .before .sets-sound2 .ensures) ∙ not-false _ (at-if2 .if2 .left),
-      sym (at-if3 .before .sets-sound3 .ensures) ∙ not-false _ (at-if3 .if3 .left),
-      sym (at-if4 .before .transitions-sound .ensures) ∙ not-false _ (at-if4 .if4 .left),
-      sym (c .before .constraints-sound .ensures) ∙ not-true _ (c .if5 .taken),
-    )
-
-returns-6 : tie.Need-returns-6
-unfolding bodiesSound
-returns-6 c =
-    let at-if5 = c .before in
-    let at-if4 = at-if5 .before .before in
-    let at-if3 = at-if4 .before .before in
-    let at-if2 = at-if3 .before .before in
-    let at-if1 = at-if2 .before .before in
-    rw (
-      sym (at-if1 .before .sets-sound .ensures) ∙ not-false _ (at-if1 .if1 .left),
-      sym (at-if2 .before .sets-sound2 .ensures) ∙ not-false _ (at-if2 .if2 .left),
-      sym (at-if3 .before .sets-sound3 .ensures) ∙ not-false _ (at-if3 .if3 .left),
-      sym (at-if4 .before .transitions-sound .ensures) ∙ not-false _ (at-if4 .if4 .left),
-      sym (at-if5 .before .constraints-sound .ensures) ∙ not-false _ (at-if5 .if5 .left),
-    ) (c .attributes-sound .ensures)
+      sym (at-if1 .before .relations-sound .ensures) ∙ not-false _ (at-if1 .if1 .left),
+      sym (at-if2 .before .transitions-sound .ensures) ∙ not-false _ (at-if2 .if2 .left),
+      sym (at-if3 .before .constraints-sound .ensures) ∙ not-false _ (at-if3 .if3 .left),
+      sym (at-if4 .before .attributes-sound .ensures) ∙ not-false _ (at-if4 .if4 .left),
+    ) (c .relabels-sound .ensures)
 
 pub bodies-sound-spec : {M : Type 1} → statement M
 bodies-sound-spec =
@@ -87,6 +70,4 @@ bodies-sound-spec =
     (λ c κs. search needs)
     returns-4
     (λ c κs. search needs)
-    returns-5
-    (λ c κs. search needs)
-    returns-6)
+    returns-5)

@@ -1,46 +1,45 @@
--- `sound_bodies::constraints_sound` meets its contract: the lengths, how many, and then all of them. Assumes nothing.
-use borrow.Author.Tests.{eq-eqb, ne-eqb, le-leb, lt-leb}
+-- `sound_bodies::constraints_sound` meets its contract: how many constraints and rows there are, and then all of them. Assumes nothing.
+use mathlib.Core.Path.{sym, _∙_}
+use borrow.Author.Tests.{not-true, not-false}
 use borrow.Author.Needs.{needs}
 use native.Mathlib.Omega.{arith}
+use Rattle.policy.specs.Maxima.{maxRows}
+use Rattle.sound_bodies.proofs.SoundBodyLaws.{few-records}
 use Rattle.sound_bodies.proofs.constraints_sound.Statement.{statement}
 use Rattle.sound_bodies.proofs.constraints_sound.Tie as tie
 
 returns : tie.Need-returns
-returns c = rw (← c .before .body-length .ensures, ne-eqb _ _ (c .if1 .taken))
+returns c = rw (sym (c .before .has-records .ensures) ∙ not-true _ (c .if1 .taken))
 
 returns-2 : tie.Need-returns-2
-returns-2 c = rw (← c .before .before .body-length .ensures, eq-eqb _ _ (c .before .if1 .left), lt-leb _ _ (c .if2 .taken))
+returns-2 c =
+    let at-if1 = c .before .before in
+    rw (
+      sym (at-if1 .before .has-records .ensures) ∙ not-false _ (at-if1 .if1 .left),
+      sym (c .before .has-records2 .ensures) ∙ not-true _ (c .if2 .taken),
+    )
+
+cast-constraints-fit : tie.Need-cast-constraints-fit
+cast-constraints-fit c =
+    let at-length2 = c .before .before in
+    let at-if2 = at-length2 .before .before in
+    let t = at-if2 .before .before .before .before .before .before .args .table .now in
+    omega (
+      arith,
+      at-length2 .body-length2 .ensures,
+      few-records 6 6 maxRows t (sym (at-if2 .before .has-records2 .ensures) ∙ not-false _ (at-if2 .if2 .left)),
+    )
 
 returns-3 : tie.Need-returns-3
 returns-3 c =
+    let at-length = c .before .before .before .before in
+    let at-if2 = at-length .before in
+    let at-if1 = at-if2 .before .before in
     rw (
-      ← c .before .before .before .before .body-length .ensures,
-      eq-eqb _ _ (c .before .before .before .if1 .left),
-      le-leb _ _ (c .before .before .if2 .left),
-      ← c .before .body-length2 .ensures,
-      ne-eqb _ _ (c .if3 .taken),
-    )
-
-returns-4 : tie.Need-returns-4
-returns-4 c =
-    rw (
-      ← c .before .before .before .before .before .body-length .ensures,
-      eq-eqb _ _ (c .before .before .before .before .if1 .left),
-      le-leb _ _ (c .before .before .before .if2 .left),
-      ← c .before .before .body-length2 .ensures,
-      eq-eqb _ _ (c .before .if3 .left),
-      lt-leb _ _ (c .if4 .taken),
-    )
-
-returns-5 : tie.Need-returns-5
-returns-5 c =
-    rw (
-      ← c .before .before .before .before .before .before .before .before .body-length .ensures,
-      eq-eqb _ _ (c .before .before .before .before .before .before .before .if1 .left),
-      le-leb _ _ (c .before .before .before .before .before .before .if2 .left),
-      ← c .before .before .before .before .before .body-length2 .ensures,
-      eq-eqb _ _ (c .before .before .before .before .if3 .left),
-      le-leb _ _ (c .before .before .before .if4 .left),
+      sym (at-if1 .before .has-records .ensures) ∙ not-false _ (at-if1 .if1 .left),
+      sym (at-if2 .before .has-records2 .ensures) ∙ not-false _ (at-if2 .if2 .left),
+      ← at-length .body-length .ensures,
+      ← c .before .before .before .body-length2 .ensures,
       ← c .before .before .body-start .ensures,
       ← c .before .body-start2 .ensures,
     ) (c .constraints-fit .ensures)
@@ -50,23 +49,17 @@ constraints-sound-spec =
     tie.close
     (tie.spec
     (λ c κs. search needs)
-    (λ c. search needs)
-    (λ c. search needs)
-    (λ c. search needs)
-    (λ c. search needs)
     returns
-    (λ c. search needs)
+    (λ c κs. search needs)
     returns-2
     (λ c κs. search needs)
     (λ c. search needs)
     (λ c. search needs)
+    (λ c κs. search needs)
     (λ c. search needs)
     (λ c. search needs)
-    returns-3
-    (λ c. search needs)
-    returns-4
     (λ c κs. search needs)
     (λ c κs. search needs)
-    (λ c. omega arith)
+    cast-constraints-fit
     (λ c κs. search needs)
-    returns-5)
+    returns-3)

@@ -3,7 +3,7 @@
 use Prim.Native.Nat.{_+_, _-_, _*_, _≤_}
 use native.Mathlib.Nat.{add-zero, sub-zero}
 use mathlib.Core.Path.{_≡_, sym, _∙_}
-use borrow.Author.Tests.{not-true, not-false}
+use borrow.Author.Tests.{eq-eqb, ne-eqb, not-true, not-false}
 use denote.Ref.{now}
 use lib.ListN.{drop}
 use Rattle.policy.specs.Basics.{each}
@@ -11,7 +11,8 @@ use Rattle.policy.specs.Sound.{headAt, pieces}
 use Rattle.table_reader.specs.Records.{headOf}
 use Rattle.sound_constraints.specs.Totals.{totalsIn}
 use Rattle.sound_constraints.specs.SoundRows.{takeUp, constraintsFit}
-use Rattle.sound_constraints.proofs.ConstraintLaws.{fitsHead, good, take-up-law, HeadTurn, head-turn, take-end, take-first, take-many, take-mask, take-rows, take-next}
+use Rattle.sound_constraints.proofs.PieceLaws.{head-front}
+use Rattle.sound_constraints.proofs.ConstraintLaws.{asksHead, good, take-up-law, HeadTurn, head-turn, take-end, take-first, take-many, take-bad, take-rows, take-next}
 use borrow.Author.Needs.{needs}
 use native.Mathlib.Omega.{arith}
 use Rattle.sound_constraints.proofs.constraints_fit.Statement.{statement}
@@ -22,7 +23,7 @@ Inv-loop table constraints count start rows counts permissions next₀ taken₀ 
     (next ≤ count)
     × (taken ≤ rows)
     × (
-    takeUp (fitsHead (totalsIn counts permissions)) (good (totalsIn counts permissions)) taken (each headAt (pieces (count - next) 10 (drop (constraints + 10 * next) table)))
+    takeUp (asksHead (totalsIn counts permissions)) (good (totalsIn counts permissions) 6) taken (each headAt (pieces (count - next) 10 (drop (constraints + 10 * next) table)))
     (pieces (rows - taken) 6 (drop (start + 6 * taken) table))
     ≡ constraintsFit (totalsIn counts permissions) (each headAt (pieces count 10 (drop constraints table))) (pieces rows 6 (drop start table))
     )
@@ -47,7 +48,7 @@ ahead : (c : tie.After-constraint-at Inv-loop μ-loop) →
     let a = c .before .before .before .before .before .args in
     let l = c .before .before .loop in
     let n = totalsIn (a .counts) (now (a .permissions)) in
-    HeadTurn (fitsHead n) (good n) (now (a .table))
+    HeadTurn (asksHead n) (good n 6) (now (a .table))
     (constraintsFit n (each headAt (pieces (a .count) 10 (drop (a .constraints) (now (a .table))))) (pieces (a .rows) 6 (drop (a .start) (now (a .table)))))
     (l .taken) (a .start + 6 * l .taken) (a .rows - l .taken) (each headAt (pieces (a .count - (l .next + 1)) 10 (drop (a .constraints + 10 * (l .next + 1)) (now (a .table)))))
     (headOf (c .constraint-at .result))
@@ -55,24 +56,24 @@ ahead c =
     let a = c .before .before .before .before .before .args in
     let l = c .before .before .loop in
     let n = totalsIn (a .counts) (now (a .permissions)) in
-    head-turn (fitsHead n) (good n) (now (a .table)) (l .taken) (a .constraints + 10 * l .next) (a .count - l .next) (a .start + 6 * l .taken) (a .rows - l .taken) (l .inv .2)
+    head-turn 10 headAt head-front (asksHead n) (good n 6) (now (a .table)) (l .taken) (a .constraints + 10 * l .next) (a .count - l .next) (a .start + 6 * l .taken) (a .rows - l .taken) (l .inv .2)
     (a .constraints + 10 * (l .next + 1)) (a .count - (l .next + 1)) (omega arith) (omega arith) (headOf (c .constraint-at .result)) (c .constraint-at .ensures)
 
 returns : tie.Need-returns Inv-loop μ-loop
-returns c = take-first (ahead (c .before .before)) (c .if1 .taken)
+returns c = take-first (ahead (c .before .before)) (ne-eqb _ _ (c .if1 .taken))
 
 returns-2 : tie.Need-returns-2 Inv-loop μ-loop
-returns-2 c = take-many (ahead (c .before .before .before .before)) (c .before .before .if1 .left) (c .if2 .taken)
+returns-2 c = take-many (ahead (c .before .before .before .before)) (eq-eqb _ _ (c .before .before .if1 .left)) (c .if2 .taken)
 
 returns-3 : tie.Need-returns-3 Inv-loop μ-loop
 returns-3 c =
     let at-if1 = c .before .before .before .before in
     let at-before = at-if1 .before in
-    take-mask (ahead (at-before .before)) (at-if1 .if1 .left) (c .before .before .if2 .left) (sym (c .before .fits-mask .ensures) ∙ not-true _ (c .if3 .taken))
+    take-bad (ahead (at-before .before)) (eq-eqb _ _ (at-if1 .if1 .left)) (c .before .before .if2 .left) (sym (c .before .fits-mask .ensures) ∙ not-true _ (c .if3 .taken))
 
 returns-4 : tie.Need-returns-4 Inv-loop μ-loop
 returns-4 c =
-    take-rows (ahead (c .before .before .before .before .before .before .before .before)) (c .before .before .before .before .before .before .if1 .left)
+    take-rows (ahead (c .before .before .before .before .before .before .before .before)) (eq-eqb _ _ (c .before .before .before .before .before .before .if1 .left))
     (c .before .before .before .before .if2 .left)
     (sym (c .before .before .before .fits-mask .ensures) ∙ not-false _ (c .before .before .if3 .left)) (sym (c .before .rows-fit .ensures) ∙ not-true _ (c .if4 .taken))
 
@@ -89,7 +90,7 @@ loop-again c =
     let taken = at-loop .loop .taken + at-constraint-at .constraint-at .result .rows in (
       omega arith,
       omega arith,
-      take-next (ahead (at-before .before)) (at-if1 .if1 .left) (at-if2 .if2 .left) (sym (at-fits-mask .fits-mask .ensures) ∙ not-false _ (c .before .before .before .if3 .left))
+      take-next (ahead (at-before .before)) (eq-eqb _ _ (at-if1 .if1 .left)) (at-if2 .if2 .left) (sym (at-fits-mask .fits-mask .ensures) ∙ not-false _ (c .before .before .before .if3 .left))
           (sym (c .before .before .rows-fit .ensures) ∙ not-false _ (c .before .if4 .left)) (a .start + 6 * taken) (a .rows - taken) (omega arith) (omega arith),
     )
 
@@ -98,7 +99,7 @@ returns-5 c =
     let l = c .before .loop in
     let a = c .before .before .before .before .args in
     let n = totalsIn (a .counts) (a .permissions .now) in
-    take-end (fitsHead n) (good n) (a .table .now) (l .taken) (a .constraints + 10 * l .next) (a .count - l .next) (a .start + 6 * l .taken) (a .rows - l .taken) (l .inv .2)
+    take-end 10 headAt head-front (asksHead n) (good n 6) (a .table .now) (l .taken) (a .constraints + 10 * l .next) (a .count - l .next) (a .start + 6 * l .taken) (a .rows - l .taken) (l .inv .2)
     (a .rows) (omega arith) (omega arith) (omega arith)
 
 pub constraints-fit-spec : {M : Type 1} → statement M

@@ -16,16 +16,16 @@ use Rattle.sound_constraints.proofs.rows_fit.Statement.{statement}
 use Rattle.sound_constraints.proofs.rows_fit.Tie as tie
 
 abbrev Inv-loop : tie.InvT-loop
-Inv-loop table start first count counts depth₀ number₀ left₀ depth number left =
+Inv-loop table start first count components counts depth₀ number₀ left₀ depth number left =
     (number + left ≡ first + count)
     × (left ≤ count)
     × (
-    rowsFit (fitsRow (thingsOf counts) (attributesOf counts)) (pieces left 6 (drop (start + 6 * number) table)) depth
-    ≡ rowsFit (fitsRow (thingsOf counts) (attributesOf counts)) (pieces count 6 (drop (start + 6 * first) table)) 0
+    rowsFit (fitsRow components (thingsOf counts) (attributesOf counts)) (pieces left 6 (drop (start + 6 * number) table)) depth
+    ≡ rowsFit (fitsRow components (thingsOf counts) (attributesOf counts)) (pieces count 6 (drop (start + 6 * first) table)) 0
     )
 
 abbrev μ-loop : tie.MeasureT-loop
-μ-loop table start first count counts depth₀ number₀ left₀ depth number left = left
+μ-loop table start first count components counts depth₀ number₀ left₀ depth number left = left
 
 loop-holds : tie.Need-loop-holds Inv-loop μ-loop
 loop-holds c = (refl, search needs, refl)
@@ -34,13 +34,13 @@ loop-holds c = (refl, search needs, refl)
 ahead : (c : tie.After-row-at Inv-loop μ-loop) →
     let a = c .before .before .before .before .args in
     let l = c .before .before .loop in
-    let good = fitsRow (thingsOf (a .counts)) (attributesOf (a .counts)) in
+    let good = fitsRow (a .components) (thingsOf (a .counts)) (attributesOf (a .counts)) in
     RowTurn good (now (a .table)) (rowsFit good (pieces (a .count) 6 (drop (a .start + 6 * a .first) (now (a .table)))) 0) (a .start + 6 * l .number) (l .depth)
     (pieces (l .left - 1) 6 (drop (a .start + 6 * (l .number + 1)) (now (a .table)))) (rowOf (c .row-at .result))
 ahead c =
     let a = c .before .before .before .before .args in
     let l = c .before .before .loop in
-    row-turn (fitsRow (thingsOf (a .counts)) (attributesOf (a .counts))) (now (a .table)) (a .start + 6 * l .number) (l .left) (l .depth) (l .inv .2)
+    row-turn (fitsRow (a .components) (thingsOf (a .counts)) (attributesOf (a .counts))) (now (a .table)) (a .start + 6 * l .number) (l .left) (l .depth) (l .inv .2)
     (a .start + 6 * (l .number + 1)) (l .left - 1) (omega arith) (omega arith) (rowOf (c .row-at .result)) (c .row-at .ensures)
 
 returns : tie.Need-returns Inv-loop μ-loop
@@ -71,7 +71,7 @@ returns-4 : tie.Need-returns-4 Inv-loop μ-loop
 returns-4 c =
     let l = c .before .loop in
     let a = c .before .before .before .args in
-    rows-end (fitsRow (thingsOf (a .counts)) (attributesOf (a .counts))) (a .table .now) (a .start + 6 * l .number) (l .left) (l .depth) (l .inv .2) (omega arith)
+    rows-end (fitsRow (a .components) (thingsOf (a .counts)) (attributesOf (a .counts))) (a .table .now) (a .start + 6 * l .number) (l .left) (l .depth) (l .inv .2) (omega arith)
 
 pub rows-fit-spec : {M : Type 1} → statement M
 rows-fit-spec =

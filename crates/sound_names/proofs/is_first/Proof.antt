@@ -7,7 +7,7 @@ use borrow.Author.Needs.{needs}
 use Rattle.policy.specs.Encode.{NameEntry}
 use Rattle.policy.specs.Basics.{Name}
 use Rattle.symbols.specs.Lookup.{firstNamed}
-use Rattle.symbols.specs.Resolving.{isFound}
+use Rattle.symbols.specs.SearchAnswers.{isFound}
 use Rattle.symbols.specs.declared.Found.{Found}
 use Rattle.sound_names.proofs.is_first.Statement.{statement}
 use Rattle.sound_names.proofs.is_first.Tie as tie

@@ -1,6 +1,6 @@
 -- `soundness::sound` meets its contract: a table whose names are counted is sound. Assumes nothing.
 use borrow.Author.Needs.{needs}
-use Rattle.soundness.proofs.Deciding.{sound-by, unsound-by}
+use Rattle.soundness.proofs.AnswerLaws.{sound-by, unsound-by}
 use Rattle.soundness.proofs.sound.Statement.{statement}
 use Rattle.soundness.proofs.sound.Tie as tie
 

@@ -1,6 +1,6 @@
 -- `statement_code::put_unit` meets its contract: a store, or no room. Assumes nothing.
 use borrow.Author.Needs.{needs}
-use Rattle.statement_code.proofs.Putting.{stored, unstored}
+use Rattle.statement_code.proofs.UnitLaws.{stored, unstored}
 use Rattle.statement_code.proofs.put_unit.Statement.{statement}
 use Rattle.statement_code.proofs.put_unit.Tie as tie
 

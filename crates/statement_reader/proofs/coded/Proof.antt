@@ -1,6 +1,6 @@
 -- `statement_reader::coded` meets its contract: the units are those of the statements with it. Assumes nothing.
 use borrow.Author.Needs.{needs}
-use Rattle.statement_reader.proofs.Stepping.{coded-steps}
+use Rattle.statement_reader.proofs.StepLaws.{coded-steps}
 use Rattle.statement_reader.proofs.coded.Statement.{statement}
 use Rattle.statement_reader.proofs.coded.Tie as tie
 

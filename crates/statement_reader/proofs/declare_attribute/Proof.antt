@@ -2,7 +2,7 @@
 use borrow.Author.Needs.{needs}
 use Rattle.policy.specs.Statements.{attributeOf, plain}
 use Rattle.policy.specs.Answers.{familyOf}
-use Rattle.statement_reader.proofs.Stepping.{declared-steps}
+use Rattle.statement_reader.proofs.StepLaws.{declared-steps}
 use Rattle.statement_reader.proofs.declare_attribute.Statement.{statement}
 use Rattle.statement_reader.proofs.declare_attribute.Tie as tie
 

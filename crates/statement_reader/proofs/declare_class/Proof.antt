@@ -1,8 +1,8 @@
 -- `statement_reader::declare_class` meets its contract: a class has no code. Assumes nothing.
 use borrow.Author.Needs.{needs}
 use Rattle.policy.specs.Statements.{class}
-use Rattle.statement_reader.proofs.Filling.{wrote-none}
-use Rattle.statement_reader.proofs.Stepping.{declared-steps}
+use Rattle.statement_reader.proofs.MemoryLaws.{wrote-none}
+use Rattle.statement_reader.proofs.StepLaws.{declared-steps}
 use Rattle.statement_reader.proofs.declare_class.Statement.{statement}
 use Rattle.statement_reader.proofs.declare_class.Tie as tie
 

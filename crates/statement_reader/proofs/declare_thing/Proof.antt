@@ -2,8 +2,8 @@
 use borrow.Author.Needs.{needs}
 use Rattle.policy.specs.Statements.{thingOf, plain}
 use Rattle.policy.specs.Answers.{familyOf}
-use Rattle.statement_reader.proofs.Filling.{wrote-none}
-use Rattle.statement_reader.proofs.Stepping.{declared-steps}
+use Rattle.statement_reader.proofs.MemoryLaws.{wrote-none}
+use Rattle.statement_reader.proofs.StepLaws.{declared-steps}
 use Rattle.statement_reader.proofs.declare_thing.Statement.{statement}
 use Rattle.statement_reader.proofs.declare_thing.Tie as tie
 

@@ -54,8 +54,14 @@ returns-8 c =
 
 returns-9 : tie.Need-returns-9
 returns-9 c =
+    let is = c .before .before .before .before .enum-told4 .given .1 in
+    let asked = c .before .before .before .before .before .before in
+    λ at e. by-keyword (sees e (asked .before .before .first .given .1)) _ (asked .keyword-of .ensures ∙ ap keywordIn is) (c .validatetrans .ensures _ _)
+
+returns-10 : tie.Need-returns-10
+returns-10 c =
     let asked = c .before .before in
-    λ at e. no-keyword (sees e (asked .before .before .first .given .1)) (asked .keyword-of .ensures ∙ ap keywordIn (c .enum-told4 .given .1))
+    λ at e. no-keyword (sees e (asked .before .before .first .given .1)) (asked .keyword-of .ensures ∙ ap keywordIn (c .enum-told5 .given .1))
 
 pub statement-spec : {M : Type 1} → statement M
 statement-spec =
@@ -79,6 +85,8 @@ statement-spec =
     (λ c. search needs)
     (λ c κs. search needs)
     (λ c. search needs)
+    (λ c κs. search needs)
+    (λ c. search needs)
     returns-2
     returns-3
     returns-4
@@ -86,4 +94,5 @@ statement-spec =
     returns-6
     returns-7
     returns-8
-    returns-9)
+    returns-9
+    returns-10)

@@ -1,6 +1,6 @@
 -- `statement_writer::name_unit` meets its contract, kind by kind. Assumes nothing.
 use borrow.Author.Needs.{needs}
-use Rattle.statement_writer.proofs.Numbering.{as-reference, as-attribute, as-class, as-role}
+use Rattle.statement_writer.proofs.NumberLaws.{as-reference, as-attribute, as-class, as-role}
 use Rattle.statement_writer.proofs.name_unit.Statement.{statement}
 use Rattle.statement_writer.proofs.name_unit.Tie as tie
 

@@ -1,6 +1,6 @@
 -- `statement_writer::number_of` meets its contract: what the search finds, if it is of the sort. Assumes nothing.
 use borrow.Author.Needs.{needs}
-use Rattle.statement_writer.proofs.Numbering.{numbers, other-sort, too-large, of-the-sort}
+use Rattle.statement_writer.proofs.NumberLaws.{numbers, other-sort, too-large, of-the-sort}
 use Rattle.statement_writer.proofs.number_of.Statement.{statement}
 use Rattle.statement_writer.proofs.number_of.Tie as tie
 

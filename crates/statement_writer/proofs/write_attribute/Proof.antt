@@ -1,6 +1,6 @@
 -- `statement_writer::write_attribute` meets its contract: the head with the family's tag. Assumes nothing.
 use borrow.Author.Needs.{needs}
-use Rattle.statement_writer.proofs.Finishing.{tagged}
+use Rattle.statement_writer.proofs.StatementUnits.{tagged}
 use Rattle.statement_writer.proofs.write_attribute.Statement.{statement}
 use Rattle.statement_writer.proofs.write_attribute.Tie as tie
 

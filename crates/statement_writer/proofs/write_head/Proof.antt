@@ -1,6 +1,6 @@
 -- `statement_writer::write_head` meets its contract: two units, one after the other. Assumes nothing.
 use borrow.Author.Needs.{needs}
-use Rattle.statement_writer.proofs.Finishing.{head-stored}
+use Rattle.statement_writer.proofs.StatementUnits.{head-stored}
 use Rattle.statement_writer.proofs.write_head.Statement.{statement}
 use Rattle.statement_writer.proofs.write_head.Tie as tie
 

@@ -6,7 +6,7 @@ use mathlib.Core.List.{[], _∷_}
 use mathlib.Core.Option.{none}
 use Rattle.items.proofs.Frames.{sees}
 use Rattle.items.proofs.Items.{alike}
-use Rattle.statement_writer.specs.Naming.{firstUnit}
+use Rattle.statement_writer.specs.NameKinds.{firstUnit}
 use Rattle.statement_writer.proofs.RowNames.{no-word, no-name, one-name}
 use Rattle.statement_writer.proofs.write_name.Statement.{statement}
 use Rattle.statement_writer.proofs.write_name.Tie as tie

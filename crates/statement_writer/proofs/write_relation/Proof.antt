@@ -2,7 +2,7 @@
 use borrow.Author.Needs.{needs}
 use mathlib.Core.Path.{_∙_}
 use Rattle.statement_writer.specs.declared.NamesWritten.{NamesWritten}
-use Rattle.statement_writer.proofs.Finishing.{relation-coded}
+use Rattle.statement_writer.proofs.StatementUnits.{relation-coded}
 use Rattle.statement_writer.proofs.write_relation.Statement.{statement}
 use Rattle.statement_writer.proofs.write_relation.Tie as tie
 

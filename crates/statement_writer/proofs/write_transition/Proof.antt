@@ -6,7 +6,7 @@ use Rattle.policy.specs.declared.Family.{Family}
 use Rattle.statement_writer.specs.declared.Kind.{Kind}
 use Rattle.statement_writer.specs.declared.NamesWritten.{NamesWritten}
 use Rattle.statement_writer.proofs.RowNames.{names-stop, names-then}
-use Rattle.statement_writer.proofs.Finishing.{transition-coded}
+use Rattle.statement_writer.proofs.StatementUnits.{transition-coded}
 use Rattle.statement_writer.proofs.write_transition.Statement.{statement}
 use Rattle.statement_writer.proofs.write_transition.Tie as tie
 

@@ -1,6 +1,6 @@
--- `symbols::entry_at` meets its contract: each answer is a case of reading what is left of the section (LookLaws). Assumes nothing.
+-- `symbols::entry_at` meets its contract: each answer is a case of reading what is left of the section (EntryLaws). Assumes nothing.
 use Prim.Native.Nat.{_-_}
-use Rattle.symbols.proofs.LookLaws.{is-named, is-cut, is-short, is-end}
+use Rattle.symbols.proofs.EntryLaws.{is-named, is-cut, is-short, is-end}
 use native.Mathlib.Omega.{arith}
 use borrow.Author.Needs.{needs}
 use Rattle.symbols.proofs.entry_at.Statement.{statement}

@@ -3,7 +3,7 @@
 use Prim.Native.Nat.{_-_, _≤_}
 use Rattle.policy.specs.Questions.{nameFrom}
 use Rattle.symbols.specs.Section.{entriesAt}
-use Rattle.symbols.proofs.LookLaws.{met, less-left}
+use Rattle.symbols.proofs.EntryLaws.{met, less-left}
 use Rattle.symbols.proofs.FindLaws.{none-done, none-broken, none-numbered, name-begins, other-sort, other-number, this-numbered}
 use borrow.Author.Needs.{needs}
 use native.Mathlib.Omega.{arith}

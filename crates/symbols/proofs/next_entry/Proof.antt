@@ -1,7 +1,7 @@
 -- `symbols::next_entry` meets its contract: what is in a section that is cut at the end of the table is in the section. Assumes nothing.
 use native.Mathlib.Omega.{arith}
 use borrow.Author.Needs.{needs}
-use Rattle.symbols.proofs.LookLaws.{stands, none-past}
+use Rattle.symbols.proofs.EntryLaws.{stands, none-past}
 use Rattle.symbols.proofs.next_entry.Statement.{statement}
 use Rattle.symbols.proofs.next_entry.Tie as tie
 

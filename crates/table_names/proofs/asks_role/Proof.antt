@@ -2,7 +2,7 @@
 use mathlib.Core.Path.{_≡_, sym, _∙_}
 use mathlib.Core.Bool.{true, false}
 use borrow.Author.Tests.{not-true, not-false}
-use Rattle.policy.specs.Words.{process}
+use Rattle.policy.specs.Words.{processWord}
 use Rattle.table_names.specs.TableNames.{nameAt, hasName, asksRoleIn}
 use borrow.Author.Needs.{needs}
 use Rattle.table_names.proofs.asks_role.Statement.{statement}
@@ -13,7 +13,7 @@ unfolding asksRoleIn
 returns c =
     let start = c .before .before .before .before in
     let t = start .args .table .now in
-    let other : hasName t (nameAt t 6 (start .args .class)) process ≡ false = sym (c .before .is-named .ensures) ∙ not-true _ (c .if1 .taken) in
+    let other : hasName t (nameAt t 6 (start .args .class)) processWord ≡ false = sym (c .before .is-named .ensures) ∙ not-true _ (c .if1 .taken) in
     rw other
 
 returns-2 : tie.Need-returns-2
@@ -21,7 +21,7 @@ unfolding asksRoleIn
 returns-2 c =
     let start = c .before .before .before .before .before in
     let t = start .args .table .now in
-    let is : hasName t (nameAt t 6 (start .args .class)) process ≡ true = sym (c .before .before .is-named .ensures) ∙ not-false _ (c .before .if1 .left) in
+    let is : hasName t (nameAt t 6 (start .args .class)) processWord ≡ true = sym (c .before .before .is-named .ensures) ∙ not-false _ (c .before .if1 .left) in
     rw is (c .is-transition .ensures)
 
 pub asks-role-spec : {M : Type 1} → statement M

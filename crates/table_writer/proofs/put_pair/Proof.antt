@@ -2,7 +2,7 @@
 use native.Mathlib.Omega.{arith}
 use borrow.Author.Needs.{needs}
 use Rattle.table_laws.proofs.LittleEndian.{le-length}
-use Rattle.table_writer.proofs.Laying.{puts-then, no-room, pair-length}
+use Rattle.table_writer.proofs.HeaderLaws.{puts-then, no-room, pair-length}
 use Rattle.table_writer.proofs.put_pair.Statement.{statement}
 use Rattle.table_writer.proofs.put_pair.Tie as tie
 
@@ -20,4 +20,4 @@ returns-3 c h =
 pub put-pair-spec : {M : Type 1} → statement M
 put-pair-spec =
     tie.close
-    (tie.spec returns returns-2 (λ c κs. search needs) (λ c. search needs) (λ c κs. search needs) (λ c. search needs) returns-3)
+    (tie.spec (λ c. search needs) (λ c. search needs) returns returns-2 (λ c κs. search needs) (λ c. search needs) (λ c κs. search needs) (λ c. search needs) returns-3)

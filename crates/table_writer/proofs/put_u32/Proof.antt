@@ -2,7 +2,7 @@
 use native.Mathlib.Omega.{arith}
 use borrow.Author.Needs.{needs}
 use Rattle.table_laws.proofs.LittleEndian.{le-length}
-use Rattle.table_writer.proofs.Laying.{no-room}
+use Rattle.table_writer.proofs.HeaderLaws.{no-room}
 use Rattle.table_writer.proofs.put_u32.Statement.{statement}
 use Rattle.table_writer.proofs.put_u32.Tie as tie
 

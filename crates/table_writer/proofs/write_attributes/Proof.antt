@@ -4,7 +4,7 @@ use mathlib.Core.Path.{refl}
 use borrow.Author.Needs.{needs}
 use Rattle.policy.specs.Statements.{users, roles, types}
 use Rattle.table_writer.proofs.BodyLengths.{few-attributes, user-sets-long, role-sets-long, type-sets-long}
-use Rattle.table_writer.proofs.Laying.{puts-then, puts-same}
+use Rattle.table_writer.proofs.HeaderLaws.{puts-then, puts-same}
 use Rattle.table_writer.proofs.Assembly.{sets-puts, sets-are}
 use Rattle.table_writer.proofs.write_attributes.Statement.{statement}
 use Rattle.table_writer.proofs.write_attributes.Tie as tie

@@ -2,9 +2,9 @@
 use native.Mathlib.Omega.{arith}
 use borrow.Author.Needs.{needs}
 use mathlib.Core.List.{[], _∷_}
-use Rattle.policy.specs.Encode.{bodies, firstBody}
-use Rattle.table_writer.specs.Sizing.{body}
-use Rattle.table_writer.proofs.Laying.{puts-pair, no-pair}
+use Rattle.policy.specs.Encode.{bodies, firstBody, newest}
+use Rattle.table_writer.specs.TableSizes.{body}
+use Rattle.table_writer.proofs.HeaderLaws.{puts-pair, no-pair}
 use Rattle.table_writer.proofs.write_pairs.Statement.{statement}
 use Rattle.table_writer.proofs.write_pairs.Tie as tie
 
@@ -28,8 +28,8 @@ returns c =
           let e5 = at-args .args .places .constraints in
           let e6 = at-args .args .places .rows in
           let e7 = at-args .args .places .«user_sets» in
-          let e8 = at-args .args .places .end in
-          puts-pair 4 firstBody e1 (body 0 p) (body 1 p ∷ body 2 p ∷ body 3 p ∷ body 4 p ∷ body 5 p ∷ body 6 p ∷ body 7 p ∷ []) (at .user-roles)
+          let e8 = at-args .args .places .relabels in
+          puts-pair 4 (firstBody newest) e1 (body 0 p) (body 1 p ∷ body 2 p ∷ body 3 p ∷ body 4 p ∷ body 5 p ∷ body 6 p ∷ body 7 p ∷ []) (at .user-roles)
           (at-put-pair .put-pair .ensures (omega (arith, at .user-roles)))
           (puts-pair 12 e1 e2 (body 1 p) (body 2 p ∷ body 3 p ∷ body 4 p ∷ body 5 p ∷ body 6 p ∷ body 7 p ∷ []) (at .role-types)
           (at-put-pair2 .put-pair2 .ensures (omega (arith, at .role-types)))
@@ -38,7 +38,7 @@ returns c =
           (puts-pair 36 e4 e5 (body 4 p) (body 5 p ∷ body 6 p ∷ body 7 p ∷ []) (at .constraints) (at-put-pair5 .put-pair5 .ensures (omega (arith, at .constraints)))
           (puts-pair 44 e5 e6 (body 5 p) (body 6 p ∷ body 7 p ∷ []) (at .rows) (at-put-pair6 .put-pair6 .ensures (omega (arith, at .rows)))
           (puts-pair 52 e6 e7 (body 6 p) (body 7 p ∷ []) (at .user-sets) (at-put-pair7 .put-pair7 .ensures (omega (arith, at .user-sets)))
-          (puts-pair 60 e7 e8 (body 7 p) ([]) (at .end) (c .before .before .put-pair8 .ensures (omega (arith, at .end)))
+          (puts-pair 60 e7 e8 (body 7 p) [] (at .relabels) (c .before .before .put-pair8 .ensures (omega (arith, at .relabels)))
           (no-pair e8))))))));
     }
 

@@ -2,9 +2,9 @@
 use native.Mathlib.Omega.{arith}
 use mathlib.Core.Path.{refl}
 use borrow.Author.Needs.{needs}
-use Rattle.table_writer.specs.Sizing.{body}
+use Rattle.table_writer.specs.TableSizes.{body}
 use Rattle.table_writer.proofs.BodyLengths.{few-users, user-roles-long}
-use Rattle.table_writer.proofs.Laying.{puts-then}
+use Rattle.table_writer.proofs.HeaderLaws.{puts-then}
 use Rattle.table_writer.proofs.Assembly.{copy-puts, relation-puts, user-roles-are}
 use Rattle.table_writer.proofs.write_relations.Statement.{statement}
 use Rattle.table_writer.proofs.write_relations.Tie as tie

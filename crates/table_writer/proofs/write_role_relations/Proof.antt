@@ -2,9 +2,9 @@
 use native.Mathlib.Omega.{arith}
 use mathlib.Core.Path.{refl}
 use borrow.Author.Needs.{needs}
-use Rattle.table_writer.specs.Sizing.{body}
+use Rattle.table_writer.specs.TableSizes.{body}
 use Rattle.table_writer.proofs.BodyLengths.{few-roles, role-types-long, role-roles-long}
-use Rattle.table_writer.proofs.Laying.{puts-then}
+use Rattle.table_writer.proofs.HeaderLaws.{puts-then}
 use Rattle.table_writer.proofs.Assembly.{relation-puts, role-types-are, role-roles-are}
 use Rattle.table_writer.proofs.write_role_relations.Statement.{statement}
 use Rattle.table_writer.proofs.write_role_relations.Tie as tie

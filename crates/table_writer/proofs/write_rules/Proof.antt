@@ -3,9 +3,9 @@ use native.Mathlib.Omega.{arith}
 use mathlib.Core.Path.{_≡_}
 use borrow.Author.Needs.{needs}
 use Prim.Native.Nat.{_*_}
-use Rattle.table_writer.specs.Sizing.{body}
+use Rattle.table_writer.specs.TableSizes.{body}
 use Rattle.table_writer.proofs.BodyLengths.{few, constraints-long, rows-long}
-use Rattle.table_writer.proofs.Laying.{puts-then}
+use Rattle.table_writer.proofs.HeaderLaws.{puts-then}
 use Rattle.table_writer.proofs.Assembly.{copy-puts, transitions-puts}
 use Rattle.table_writer.proofs.write_rules.Statement.{statement}
 use Rattle.table_writer.proofs.write_rules.Tie as tie

@@ -1,8 +1,8 @@
 -- `tegzhumbi_compile` meets its contract: the numbers of the compiler's answer, which fit. Assumes nothing.
 use mathlib.Core.Path.{sym, ap, _∙_}
 use Rattle.answer_numbers.specs.Numbers.{compiledNumbers}
-use Rattle.tegzhumbi_c.proofs.Fitting.{outcome-fits}
-use Rattle.tegzhumbi_c.proofs.Accepting.{accepted-as}
+use Rattle.tegzhumbi_c.proofs.FourBytes.{outcome-fits}
+use Rattle.tegzhumbi_c.proofs.AcceptedIsZero.{accepted-as}
 use borrow.Author.Needs.{needs}
 use Rattle.tegzhumbi_c.proofs.tegzhumbi_compile.Statement.{statement}
 use Rattle.tegzhumbi_c.proofs.tegzhumbi_compile.Tie as tie

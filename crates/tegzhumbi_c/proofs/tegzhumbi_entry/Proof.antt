@@ -1,7 +1,7 @@
 -- `tegzhumbi_entry` meets its contract: the numbers of the library's answer, which fit. Assumes nothing.
 use mathlib.Core.Path.{ap, _∙_}
 use Rattle.answer_numbers.specs.Numbers.{partNumbers}
-use Rattle.tegzhumbi_c.proofs.Fitting.{entry-fits}
+use Rattle.tegzhumbi_c.proofs.FourBytes.{entry-fits}
 use borrow.Author.Needs.{needs}
 use Rattle.tegzhumbi_c.proofs.tegzhumbi_entry.Statement.{statement}
 use Rattle.tegzhumbi_c.proofs.tegzhumbi_entry.Tie as tie

@@ -1,7 +1,7 @@
 -- `tegzhumbi_name` meets its contract: the numbers of the library's answer, which fit. Assumes nothing.
 use mathlib.Core.Path.{ap, _∙_}
 use Rattle.answer_numbers.specs.Numbers.{partNumbers}
-use Rattle.tegzhumbi_c.proofs.Fitting.{name-fits}
+use Rattle.tegzhumbi_c.proofs.FourBytes.{name-fits}
 use borrow.Author.Needs.{needs}
 use Rattle.tegzhumbi_c.proofs.tegzhumbi_name.Statement.{statement}
 use Rattle.tegzhumbi_c.proofs.tegzhumbi_name.Tie as tie

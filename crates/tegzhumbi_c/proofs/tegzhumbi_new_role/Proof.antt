@@ -1,7 +1,7 @@
 -- `tegzhumbi_new_role` meets its contract: the numbers of the library's answer, which fit. Assumes nothing.
 use mathlib.Core.Path.{ap, _∙_}
 use Rattle.answer_numbers.specs.Numbers.{newRoleNumbers}
-use Rattle.tegzhumbi_c.proofs.Fitting.{new-role-fits}
+use Rattle.tegzhumbi_c.proofs.FourBytes.{new-role-fits}
 use borrow.Author.Needs.{needs}
 use Rattle.tegzhumbi_c.proofs.tegzhumbi_new_role.Statement.{statement}
 use Rattle.tegzhumbi_c.proofs.tegzhumbi_new_role.Tie as tie

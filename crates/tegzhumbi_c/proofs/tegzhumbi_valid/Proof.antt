@@ -1,7 +1,7 @@
 -- `tegzhumbi_valid` meets its contract: the numbers of the library's answer, which fit. Assumes nothing.
 use mathlib.Core.Path.{ap, _∙_}
 use Rattle.answer_numbers.specs.Numbers.{validNumbers}
-use Rattle.tegzhumbi_c.proofs.Fitting.{valid-fits}
+use Rattle.tegzhumbi_c.proofs.FourBytes.{valid-fits}
 use borrow.Author.Needs.{needs}
 use Rattle.tegzhumbi_c.proofs.tegzhumbi_valid.Statement.{statement}
 use Rattle.tegzhumbi_c.proofs.tegzhumbi_valid.Tie as tie

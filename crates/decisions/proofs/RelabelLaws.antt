@@ -1,0 +1,52 @@
+-- The question of relabelling on a sound table, by what the bytes say. Assumes nothing.
+use Prim.Native.Nat.{ℕ}
+use mathlib.Core.Path.{_≡_, refl, sym, ap, _∙_}
+use mathlib.Core.Bool.{Bool, true, false, _&&_}
+use mathlib.Core.List.{List}
+use lib.Dec.{eqb, ltb}
+use lib.ListN.{length}
+use Rattle.policy.specs.Statements.{classNames}
+use Rattle.policy.specs.Image.{Image}
+use Rattle.policy.specs.Deciding.{Relabelling, relabelContexts, Answer, firstFailing, declaredContext, declaredRelabel, decideRelabel, ruledRelabel}
+use Rattle.policy.specs.Questions.{rowsHold, relabel, decided, relabelOn}
+use Rattle.policy.proofs.Lists.{both-true}
+use Rattle.table_laws.specs.SoundTable.{Sound}
+use Rattle.table_laws.proofs.SoundLaws.{sound-read}
+use Rattle.table_names.specs.TableNames.{countsIn}
+use Rattle.decisions.specs.TableAnswers.{declaresContexts, declaresRelabelling, isValidIn}
+use Rattle.decisions.proofs.SoundLaws.{classes-of, declares-context}
+use Rattle.decisions.proofs.ContextLaws.{is-valid-of}
+
+-- what the validatetrans statements of the image answer
+abbrev pub relabelsSay : Image → Relabelling → Answer
+relabelsSay i q = firstFailing 6 (λ x. eqb (x .class) (q .class)) (λ x. rowsHold i (relabelContexts q) (x .rows)) 0 (i .relabels)
+
+module _ (t : List ℕ) (s : Sound t) (q : Relabelling) where
+  declares-relabelling : declaresRelabelling (countsIn t) q ≡ declaredRelabel (s .image .names) q
+  unfolding declaresRelabelling declaresContexts declaredRelabel
+  declares-relabelling = rw (declares-context t s (q .old), declares-context t s (q .new), declares-context t s (q .process), classes-of t s)
+
+  -- what the bytes say of the three contexts and of the rest
+  abbrev said : Answer
+  said = decideRelabel (declaresRelabelling (countsIn t) q) (isValidIn t (q .old)) (isValidIn t (q .new)) (isValidIn t (q .process)) (relabelsSay (s .image) q)
+
+  pub relabel-of : relabelOn t q ≡ said
+  unfolding relabelOn relabel ruledRelabel declaredRelabel decideRelabel
+  relabel-of = ap (decided (λ i. relabel i q)) (sound-read t s) ∙ by (declaredRelabel (s .image .names) q) refl
+    where
+      by : (b : Bool) → declaredRelabel (s .image .names) q ≡ b → relabel (s .image) q ≡ said
+      by true e =
+          let ds = s .image .names in
+          let old = declaredContext ds (q .old) in
+          let new = declaredContext ds (q .new) in
+          let process = declaredContext ds (q .process) in
+          let all = both-true (old && new && process) (ltb (q .class) (length (classNames ds))) e in
+          let two = both-true (old && new) process (all .0) in
+          let one = both-true old new (two .0) in
+          sym (rw (
+            declares-relabelling,
+            is-valid-of t s (q .old) (one .0),
+            is-valid-of t s (q .new) (one .1),
+            is-valid-of t s (q .process) (two .1),
+          ))
+      by false e = rw (declares-relabelling, e)

@@ -1,0 +1,2 @@
+pub mod RelabelShapes
+pub mod RelabelAnswers
