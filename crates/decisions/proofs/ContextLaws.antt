@@ -5,9 +5,9 @@ use mathlib.Core.Bool.{Bool, true, false, _&&_, _||_, cond}
 use native.Mathlib.Omega.{arith}
 use mathlib.Core.List.{List}
 use Rattle.policy.specs.Meaning.{Context}
-use Rattle.policy.specs.Deciding.{validBy, declaredContext, answered, refused, Answer, denied, unconsulted, decide, decideRelabel}
+use Rattle.policy.specs.Deciding.{validBy, declaredContext, answered, refused, Answer, denied, unconsulted}
 use Rattle.policy.specs.Questions.{givenIn, valid, validOn}
-use Rattle.answer_laws.proofs.FourTests.{FourTests, change-tests, relabel-tests}
+use Rattle.answer_laws.proofs.FourTests.{FourTests}
 use Rattle.table_laws.specs.SoundTable.{Sound}
 use Rattle.table_laws.proofs.QuestionLaws.{asked-sound}
 use Rattle.decisions.specs.TableAnswers.{declaresContext, isGivenIn, isValidIn, contextDenial, contextDenialIn}
@@ -43,23 +43,18 @@ both-valid-of true true h = (refl, refl)
 both-valid-of true false h = absurd (omega arith)
 both-valid-of false b h = absurd (omega arith)
 
--- a decision that answers 1 and 2 for them
-denied-first : (n : ℕ) (f : Bool → Bool → Bool → Bool → Answer → Answer) → FourTests n f → (a b c : Bool) (rest : Answer) → (contextDenial a b ≡ 0 → ⊥)
+denied-first : (k : ℕ) (f : Bool → Bool → Bool → Bool → Answer → Answer) → FourTests k f → (a b c : Bool) (rest : Answer) → (contextDenial a b ≡ 0 → ⊥)
     → unconsulted (denied (contextDenial a b)) ≡ f true a b c rest
-denied-first n f is true true c rest some = absurd (some refl)
-denied-first n f is true false c rest some = sym (is .second c rest)
-denied-first n f is false b c rest some = sym (is .first b c rest)
+denied-first k f is true true c rest some = absurd (some refl)
+denied-first k f is true false c rest some = sym (is .second c rest)
+denied-first k f is false b c rest some = sym (is .first b c rest)
 
 module _ (t : List ℕ) (a b : Context) {n : ℕ} (e : n ≡ contextDenialIn t a b) where
   pub both-valid : n ≡ 0 → (isValidIn t a ≡ true) × (isValidIn t b ≡ true)
   both-valid z = both-valid-of (isValidIn t a) (isValidIn t b) (sym e ∙ z)
 
-  -- their denial is that of a change, and that of a relabelling
-  module _ (some : n ≡ 0 → ⊥) (c : Bool) (rest : Answer) where
-    pub denied-change : unconsulted (denied n) ≡ decide true (isValidIn t a) (isValidIn t b) c rest
-    denied-change =
-        ap {B = Answer} (λ (n : ℕ). unconsulted (denied n)) e ∙ denied-first 3 decide change-tests (isValidIn t a) (isValidIn t b) c rest (λ z. some (e ∙ z))
-
-    pub denied-relabel : unconsulted (denied n) ≡ decideRelabel true (isValidIn t a) (isValidIn t b) c rest
-    denied-relabel =
-        ap {B = Answer} (λ (n : ℕ). unconsulted (denied n)) e ∙ denied-first 5 decideRelabel relabel-tests (isValidIn t a) (isValidIn t b) c rest (λ z. some (e ∙ z))
+  -- their denial is that of a change and of a relabelling, whose tests are in one order
+  pub context-denied : (n ≡ 0 → ⊥) → (k : ℕ) (f : Bool → Bool → Bool → Bool → Answer → Answer) → FourTests k f → (c : Bool) (rest : Answer)
+      → unconsulted (denied n) ≡ f true (isValidIn t a) (isValidIn t b) c rest
+  context-denied some k f is c rest =
+      ap {B = Answer} (λ (n : ℕ). unconsulted (denied n)) e ∙ denied-first k f is (isValidIn t a) (isValidIn t b) c rest (λ z. some (e ∙ z))

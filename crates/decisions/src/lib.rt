@@ -214,11 +214,11 @@ fn context_denial(table: &[u8], source: Context, target: Context) -> usize
 
 // ---- what statements are asked of
 
-// How many sides a statement can name.
-const SIDES: usize = Component::COUNT_OF_THREE as usize;
+// How many components three contexts have.
+const COMPONENTS: usize = Component::COUNT_OF_THREE as usize;
 
 // The numbers of three contexts in the order in which a table's rows name them, u1 u2 r1 r2 t1 t2 u3 r3 t3.
-fn sides_of(source: Context, target: Context, process: Context) -> [usize; SIDES]
+fn sides_of(source: Context, target: Context, process: Context) -> [usize; COMPONENTS]
     ensures { λ r. ⌜ r ≡ sidesOfThree (contextOf source) (contextOf target) (contextOf process) ⌝ }
 {
     [

@@ -80,67 +80,24 @@ fn relabel(table: &[u8], class: u64, old: Context, new: Context, process: Contex
 
 // Files are relabelled by processes of user v, and their type changes only by a process in role a.
 fn relabels(table: &[u8]) {
-    // u a t to u b t by v b t: the process is v's, and the types are the same
-    relabel(
-        table,
-        1,
-        context(0, 0, 1),
-        context(0, 1, 1),
-        context(1, 1, 1),
-    );
-    // u a s to u a t by v b t: the types differ, and the process is not in role a
-    relabel(
-        table,
-        1,
-        context(0, 0, 0),
-        context(0, 0, 1),
-        context(1, 1, 1),
-    );
-    // the same by u a t: the process is not v's
-    relabel(
-        table,
-        1,
-        context(0, 0, 0),
-        context(0, 0, 1),
-        context(0, 0, 1),
-    );
+    let uas = context(0, 0, 0);
+    let uat = context(0, 0, 1);
+    let ubt = context(0, 1, 1);
+    let vat = context(1, 0, 1);
+    let vbt = context(1, 1, 1);
+    // the process is v's, and the types are the same
+    relabel(table, 1, uat, ubt, vbt);
+    // the types differ, and the process is not in role a
+    relabel(table, 1, uas, uat, vbt);
+    // the process is not v's
+    relabel(table, 1, uas, uat, uat);
     // v has not the role a: as the process, as the new context, as the old one
-    relabel(
-        table,
-        1,
-        context(0, 0, 0),
-        context(0, 0, 1),
-        context(1, 0, 1),
-    );
-    relabel(
-        table,
-        1,
-        context(0, 0, 0),
-        context(1, 0, 1),
-        context(1, 0, 1),
-    );
-    relabel(
-        table,
-        1,
-        context(1, 0, 1),
-        context(1, 0, 1),
-        context(1, 0, 1),
-    );
+    relabel(table, 1, uas, uat, vat);
+    relabel(table, 1, uas, vat, vat);
+    relabel(table, 1, vat, vat, vat);
     // nothing is said of processes, and there is no third class
-    relabel(
-        table,
-        0,
-        context(0, 0, 0),
-        context(0, 0, 1),
-        context(0, 0, 1),
-    );
-    relabel(
-        table,
-        2,
-        context(0, 0, 0),
-        context(0, 0, 1),
-        context(0, 0, 1),
-    );
+    relabel(table, 0, uas, uat, uat);
+    relabel(table, 2, uas, uat, uat);
 }
 
 // The other questions.

@@ -6,8 +6,9 @@ use borrow.Author.Tests.{not-true, not-false}
 use Rattle.policy.specs.Deciding.{decide}
 use Rattle.decisions.specs.Asked.{contextOf}
 use Rattle.decisions.proofs.SoundLaws.{sound-table}
-use Rattle.decisions.proofs.ContextLaws.{both-valid, denied-change}
+use Rattle.decisions.proofs.ContextLaws.{both-valid, context-denied}
 use Rattle.decisions.proofs.ChangeLaws.{change-of}
+use Rattle.answer_laws.proofs.FourTests.{change-tests}
 use borrow.Author.Needs.{needs}
 use Rattle.decisions.proofs.change_in_counted.Statement.{statement}
 use Rattle.decisions.proofs.change_in_counted.Tie as tie
@@ -30,7 +31,7 @@ returns-2 c =
     sym (change-of t s _ ∙ rw (
       ← start .pre .1,
       sym (at-if1 .before .declares-question .ensures t (start .args .permission) (start .pre .2)) ∙ not-false _ (at-if1 .if1 .left),
-    ) (sym (denied-change t (contextOf (start .args .source)) (contextOf (start .args .target)) (c .before .context-denial .ensures) (c .if2 .taken) _ _)))
+    ) (sym (context-denied t (contextOf (start .args .source)) (contextOf (start .args .target)) (c .before .context-denial .ensures) (c .if2 .taken) _ _ change-tests _ _)))
 
 returns-3 : tie.Need-returns-3
 unfolding decide

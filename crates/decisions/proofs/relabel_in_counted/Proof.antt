@@ -6,8 +6,9 @@ use borrow.Author.Tests.{not-true, not-false}
 use Rattle.policy.specs.Deciding.{decideRelabel}
 use Rattle.decisions.specs.Asked.{contextOf}
 use Rattle.decisions.proofs.SoundLaws.{sound-table}
-use Rattle.decisions.proofs.ContextLaws.{both-valid, denied-relabel}
+use Rattle.decisions.proofs.ContextLaws.{both-valid, context-denied}
 use Rattle.decisions.proofs.RelabelLaws.{relabel-of}
+use Rattle.answer_laws.proofs.FourTests.{relabel-tests}
 use borrow.Author.Needs.{needs}
 use Rattle.decisions.proofs.relabel_in_counted.Statement.{statement}
 use Rattle.decisions.proofs.relabel_in_counted.Tie as tie
@@ -28,7 +29,7 @@ returns-2 c =
     let t = start .args .table .now in
     let s = sound-table t (all-places (λ k. k < 256) t 0 (λ i l. at-slice .shared-slice-known .given i .fits)) (start .pre .0) in
     sym (relabel-of t s _ ∙ rw (← start .pre .1, sym (at-if1 .before .declares-relabelling .ensures) ∙ not-false _ (at-if1 .if1 .left))
-    (sym (denied-relabel t (contextOf (start .args .old)) (contextOf (start .args .new)) (c .before .context-denial .ensures) (c .if2 .taken) _ _)))
+    (sym (context-denied t (contextOf (start .args .old)) (contextOf (start .args .new)) (c .before .context-denial .ensures) (c .if2 .taken) _ _ relabel-tests _ _)))
 
 returns-3 : tie.Need-returns-3
 unfolding decideRelabel
