@@ -16,7 +16,7 @@ use Rattle.policy.specs.Statements.{roles, types, thingOf, count, classNames}
 use Rattle.policy.specs.Deciding.{Question, Relabelling, Verdict, granted, denied, fails, refuses, Answer, consult, firstFailing, ruledBy, ruledRelabel, Reply, answered}
 use Rattle.policy.specs.Deciding.{refused}
 use Rattle.policy.specs.Image.{Image, TransitionEntry}
-use Rattle.policy.specs.Encode.{NameEntry, entries, entryBytes, transitionBytes, headBytes, headsFrom, relabelHead, relabelBytes, bodies, firstBody}
+use Rattle.policy.specs.Encode.{NameEntry, entries, entryBytes, transitionBytes, constraintBytes, constraintRecords, relabelRecord, relabelBytes, bodies, firstBody}
 use Rattle.policy.specs.Sound.{wellFormed, editionIn, imageIn, goodTransition}
 use Rattle.policy.specs.Questions.{change, relabel, decided, changeOn, relabelOn, matches, firstTransition, newRole, newRoleOn, asked, Part, nameFrom, nameOf, nameOn, Records}
 use Rattle.policy.specs.Questions.{recordFrom, records, entryOf, entryOn}
@@ -25,9 +25,9 @@ use Rattle.policy.proofs.Counts.{few-of}
 use Rattle.policy.proofs.Gathered.{all-map}
 use Rattle.symbols.proofs.AppendLaws.{entry-length}
 use Rattle.table_laws.proofs.Pieces.{wide-length}
-use Rattle.table_laws.proofs.Records.{head-wide, relabel-wide}
+use Rattle.table_laws.proofs.Records.{constraint-wide, relabel-wide}
 use Rattle.table_laws.proofs.ImageReadBack.{every-wide, transitions-wide}
-use Rattle.table_laws.proofs.Lengths.{bodies-length, heads-length}
+use Rattle.table_laws.proofs.Lengths.{bodies-length, constraint-records-length}
 use Rattle.table_laws.proofs.Editions.{sections-most}
 use Rattle.table_laws.proofs.ListLaws.{joined-room}
 use Rattle.table_laws.proofs.WellFormed.{formed, good-transition}
@@ -221,9 +221,9 @@ module _ (e : ℕ) (i : Image) (h : wellFormed i ≡ true) where
       body-small 5 k (getD (records i) 6 [])
       (omega (
         arith,
-        wide-length 10 (each headBytes (headsFrom 0 (i .constraints))) (every-wide 10 headBytes head-wide (headsFrom 0 (i .constraints))),
-        each-length headBytes (headsFrom 0 (i .constraints)),
-        heads-length 0 (i .constraints),
+        wide-length 10 (each constraintBytes (constraintRecords 0 (i .constraints))) (every-wide 10 constraintBytes constraint-wide (constraintRecords 0 (i .constraints))),
+        each-length constraintBytes (constraintRecords 0 (i .constraints)),
+        constraint-records-length 0 (i .constraints),
       ))
   entry-small (suc (suc (suc (suc (suc (suc (suc zero))))))) k = body-small 6 k (getD (records i) 7 []) (omega arith)
   entry-small (suc (suc (suc (suc (suc (suc (suc (suc zero)))))))) k =
@@ -240,9 +240,9 @@ module _ (e : ℕ) (i : Image) (h : wellFormed i ≡ true) where
       body-small 8 k (getD (records i) 9 [])
       (omega (
         arith,
-        wide-length 4 (each relabelBytes (each relabelHead (i .relabels))) (every-wide 4 relabelBytes relabel-wide (each relabelHead (i .relabels))),
-        each-length relabelBytes (each relabelHead (i .relabels)),
-        each-length relabelHead (i .relabels),
+        wide-length 4 (each relabelBytes (each relabelRecord (i .relabels))) (every-wide 4 relabelBytes relabel-wide (each relabelRecord (i .relabels))),
+        each-length relabelBytes (each relabelRecord (i .relabels)),
+        each-length relabelRecord (i .relabels),
       ))
   entry-small (suc (suc (suc (suc (suc (suc (suc (suc (suc (suc zero)))))))))) k = body-small 9 k (getD (records i) 10 []) (omega arith)
   entry-small (suc (suc (suc (suc (suc (suc (suc (suc (suc (suc (suc b))))))))))) k = omega arith

@@ -15,7 +15,7 @@ use Rattle.policy.specs.Words.{twoSides}
 use Rattle.policy.specs.Grammar.{expressionIn}
 use Rattle.policy.specs.Names.{refer, Environment}
 use Rattle.policy.specs.Reading.{referE, resolved}
-use Rattle.policy.specs.Encode.{headBytes}
+use Rattle.policy.specs.Encode.{constraintBytes}
 use Rattle.table_laws.proofs.ListLaws.{bound-then}
 use Rattle.scopes.specs.Symbols.{Symbols}
 use Rattle.items.specs.Looks.{itemAt, rowEnd}
@@ -26,7 +26,7 @@ use Rattle.constraint_writer.specs.declared.RowsWritten.{RowsWritten}
 use Rattle.constraint_writer.proofs.Answers.{undeclared, declared}
 use Rattle.constraint_writer.proofs.WrittenRows.{told}
 use Rattle.constrain_statement.specs.ClassPermissions.{numbersOf, ScopeForm, Scoped, Scopes}
-use Rattle.constrain_statement.specs.ConstrainWrites.{headWith, Answers, WritesConstrain}
+use Rattle.constrain_statement.specs.ConstrainWrites.{recordWith, Answers, WritesConstrain}
 use Rattle.constrain_statement.specs.Limits.{Records, Admits}
 use Rattle.constrain_statement.specs.declared.Constrained.{Constrained}
 use Rattle.constrain_statement.specs.declared.ClassAndPermissions.{ClassAndPermissions}
@@ -153,7 +153,7 @@ module _ {t : List ℕ} {at : ℕ} {table : List ℕ} {before : List ℕ} {count
 
         -- 6 and 7, and what is written, by what the maxima and the stack need allow
         pub answered : {a n deep : ℕ} → k ≡ RowsWritten.Next a n deep → {after : List ℕ} {b : Constrained}
-            → Admits maxConstraints maxRows count n deep (Records 10 (headBytes (headWith class mask row (n - row))) before after count) b
+            → Admits maxConstraints maxRows count n deep (Records 10 (constraintBytes (recordWith class mask row (n - row))) before after count) b
             → WritesConstrain t at table before after count rowsBefore rowsAfter row b
         answered {a} {n} {deep} d {after} {b} m = record {
           says = λ env w y g long rows-long f.
@@ -167,5 +167,5 @@ module _ {t : List ℕ} {at : ℕ} {table : List ℕ} {before : List ℕ} {count
               subst (λ (o : Option Statement). Answers o before after count rowsBefore rowsAfter row b)
               (sym (ap (resolved env) (s .written) ∙ resolves env (s .class) (s .permissions) (s .body) c (i .expression) (i .refers)))
               (admitted maxConstraints maxRows 10 _ before after count rowsBefore rowsAfter row n deep (i .expression) p (i .count) (λ h. omega (arith, h, long)) rows-long
-              (i .bytes) (ap₂ (λ (m k : ℕ). headBytes (headWith class m row k)) (c .mask-is) (rows-of row n (size (i .expression)) (i .count))) b (m .says));
+              (i .bytes) (ap₂ (λ (m k : ℕ). constraintBytes (recordWith class m row k)) (c .mask-is) (rows-of row n (size (i .expression)) (i .count))) b (m .says));
         }

@@ -7,13 +7,13 @@ use lib.ListN.{length}
 use Rattle.byte_slices.specs.Parts.{put}
 use Rattle.byte_slices.proofs.PartLaws.{put-then}
 use Rattle.policy.specs.Basics.{le}
-use Rattle.policy.specs.Encode.{headBytes}
-use Rattle.constrain_statement.specs.ConstrainWrites.{headWith}
+use Rattle.policy.specs.Encode.{constraintBytes}
+use Rattle.constrain_statement.specs.ConstrainWrites.{recordWith}
 use Rattle.constrain_statement.specs.Limits.{Records}
 
 pub stored : (t : List ℕ) (n c m first rows : ℕ) {p q s u : List ℕ}
     → p ≡ put t (10 * n) (le 2 c) → q ≡ put p (10 * n + 2) (le 4 m) → s ≡ put q (10 * n + 6) (le 2 first) → u ≡ put s (10 * n + 8) (le 2 rows)
-    → Records 10 (headBytes (headWith c m first rows)) t u n
+    → Records 10 (constraintBytes (recordWith c m first rows)) t u n
 unfolding le
 stored t n c m first rows class mask first-row count room =
     let o = 10 * n in

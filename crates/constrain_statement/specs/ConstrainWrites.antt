@@ -13,25 +13,25 @@ use Rattle.policy.specs.Maxima.{maxConstraints, maxRows}
 use Rattle.policy.specs.Grammar.{formed}
 use Rattle.policy.specs.Reading.{resolved}
 use Rattle.policy.specs.Image.{maskOf}
-use Rattle.policy.specs.Encode.{ConstraintHead, headBytes}
+use Rattle.policy.specs.Encode.{ConstraintRecord, constraintBytes}
 use Rattle.policy.specs.Names.{Environment}
 use Rattle.scopes.specs.Symbols.{Symbols}
 use Rattle.constrain_statement.specs.declared.Constrained.{Constrained}
 use Rattle.constrain_statement.specs.Limits.{IsUndeclared, AddsOrFault}
 
 -- "class 2, permission mask 4, first row 2, row count 2"
-abbrev pub headWith : ℕ → ℕ → ℕ → ℕ → ConstraintHead
-headWith c m first rows = record { class = c; mask = m; first = first; rows = rows }
+abbrev pub recordWith : ℕ → ℕ → ℕ → ℕ → ConstraintRecord
+recordWith c m first rows = record { class = c; mask = m; first = first; rows = rows }
 
 -- the record of a constrain: class, mask, first row, number of rows
-abbrev pub headOf : ℕ → List ℕ → Constraint Reference → ℕ → ConstraintHead
-headOf c ps e row = headWith c (maskOf ps) row (size e)
+abbrev pub recordOf : ℕ → List ℕ → Constraint Reference → ℕ → ConstraintRecord
+recordOf c ps e row = recordWith c (maskOf ps) row (size e)
 
 -- "constraints 128, constraint rows 2,048 in all": by the statement with its names resolved
 abbrev pub Answers : Option Statement → List ℕ → List ℕ → ℕ → List ℕ → List ℕ → ℕ → Constrained → Type 0
 Answers none before after count rowsBefore rowsAfter row r = IsUndeclared r
 Answers (some (constrain c ps e)) before after count rowsBefore rowsAfter row r =
-    AddsOrFault maxConstraints maxRows e 10 (headBytes (headOf c ps e row)) before after count rowsBefore rowsAfter row r
+    AddsOrFault maxConstraints maxRows e 10 (constraintBytes (recordOf c ps e row)) before after count rowsBefore rowsAfter row r
 Answers (some (declare d)) before after count rowsBefore rowsAfter row r = Unit {0}
 Answers (some (attributeset f a s)) before after count rowsBefore rowsAfter row r = Unit {0}
 Answers (some (gives k x y)) before after count rowsBefore rowsAfter row r = Unit {0}

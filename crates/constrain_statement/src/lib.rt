@@ -6,11 +6,11 @@ ghost use Prim.Native.Nat.{_-_, _%_, _≤_};
 ghost use lib.Dec.{eqb};
 ghost use Rattle.bitset.specs.Sets.{bit, fromBits};
 ghost use Rattle.policy.specs.Maxima.{maxConstraints, maxRows};
-ghost use Rattle.policy.specs.Encode.{headBytes};
+ghost use Rattle.policy.specs.Encode.{constraintBytes};
 ghost use Rattle.constrain_statement.specs.ClassPermissions.{Masks, Scopes};
 ghost use Rattle.constrain_statement.specs.ClassNames.{Classes};
 ghost use Rattle.constrain_statement.specs.Limits.{Records, Admits};
-ghost use Rattle.constrain_statement.specs.ConstrainWrites.{headWith, WritesConstrain};
+ghost use Rattle.constrain_statement.specs.ConstrainWrites.{recordWith, WritesConstrain};
 use constraint_writer::RowsWritten;
 use items::Item;
 use lexer::Level;
@@ -160,7 +160,7 @@ fn put_record(
     first: usize,
     rows: usize,
 )
-    ensures { λ _. ⌜ Records 10 (headBytes (headWith class mask first rows)) (now (constraints .entry)) (now (constraints .exit)) count ⌝ }
+    ensures { λ _. ⌜ Records 10 (constraintBytes (recordWith class mask first rows)) (now (constraints .entry)) (now (constraints .exit)) count ⌝ }
 {
     if constraints.len() / Constraint::BYTES <= count {
         return;
@@ -202,7 +202,7 @@ fn admit(
 ) -> Constrained
     requires { ⌜ row ≤ next ⌝ }
     ensures { λ r. ⌜ Admits maxConstraints maxRows count next need
-        (Records 10 (headBytes (headWith class mask row (next - row))) (now (constraints .entry)) (now (constraints .exit)) count) r ⌝ }
+        (Records 10 (constraintBytes (recordWith class mask row (next - row))) (now (constraints .entry)) (now (constraints .exit)) count) r ⌝ }
 {
     let limited = limit(Constraint::MAX, Row::MAX, count, next, need);
     let Constrained::Next(_) = limited else {

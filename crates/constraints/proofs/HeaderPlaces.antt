@@ -14,14 +14,14 @@ use Rattle.policy.specs.Statements.{Family, users, roles, types, attributeOf, c
 use Rattle.policy.specs.Meaning.{Contexts}
 use Rattle.policy.specs.Rows.{Row}
 use Rattle.policy.specs.Image.{Image, RelabelEntry, width}
-use Rattle.policy.specs.Encode.{headsFrom, headBytes, relabelHead, relabelBytes, bodies, sectionsOf}
+use Rattle.policy.specs.Encode.{constraintRecords, constraintBytes, relabelRecord, relabelBytes, bodies, sectionsOf}
 use Rattle.policy.specs.Sound.{editionIn}
 use Rattle.policy.specs.Deciding.{firstFailing}
 use Rattle.policy.specs.Questions.{setsIn, rowsHold, entryNames, entryHolds}
 use Rattle.policy.proofs.Lists.{each-length}
 use Rattle.table_laws.specs.SoundTable.{Sound}
 use Rattle.table_laws.proofs.Pieces.{Wide, wide-length}
-use Rattle.table_laws.proofs.Records.{head-wide, relabel-wide}
+use Rattle.table_laws.proofs.Records.{constraint-wide, relabel-wide}
 use Rattle.table_laws.proofs.ImageReadBack.{Laid, every-wide}
 use Rattle.table_laws.proofs.WellFormed.{formed}
 use Rattle.table_laws.proofs.WellFormedLaid.{well-formed-laid}
@@ -29,7 +29,7 @@ use Rattle.table_laws.proofs.SoundLaws.{sound-edition}
 use Rattle.table_reader.specs.Records.{startIn, lengthIn}
 use Rattle.table_reader.proofs.SoundPlaces.{known-section, length-of, stands-of}
 use Rattle.constraints.specs.declared.Bodies.{Bodies}
-use Rattle.constraints.specs.TableConstraints.{bodiesIn, relabelCount, relabelBodiesIn, sidesOf, headsIn, headNames, headHolds, relabelsIn, relabelNames, relabelHolds}
+use Rattle.constraints.specs.TableConstraints.{bodiesIn, relabelCount, relabelBodiesIn, sidesOf, constraintsIn, constraintNames, constraintHolds, relabelsIn, relabelNames, relabelHolds}
 use Rattle.constraints.proofs.ImageAnswers.{Fits, PlacedSets, Placed, image-constraints, PlacedRelabels, image-relabels}
 
 module _ (t : List ℕ) (s : Sound t) where
@@ -44,10 +44,10 @@ module _ (t : List ℕ) (s : Sound t) where
   fits = record {
     many = many;
     wide = wide;
-    heads = laid .heads;
+    constraint-records = laid .constraints;
     rows = laid .rows;
     constraints = formed i (s .formed) .constraints;
-    relabel-heads = laid .relabels;
+    relabel-records = laid .relabels;
     relabel-rows = laid .relabel-rows;
     few-relabel-rows = formed i (s .formed) .few-relabel-rows;
     relabels = formed i (s .formed) .relabels;
@@ -64,12 +64,12 @@ module _ (t : List ℕ) (s : Sound t) where
       wide types = laid .typeSets .wide
 
   -- so many constraints, and so many validatetrans statements
-  many-heads : lengthIn t 5 / 10 ≡ length (headsFrom 0 (i .constraints))
+  many-constraints : lengthIn t 5 / 10 ≡ length (constraintRecords 0 (i .constraints))
   unfolding bodies
-  many-heads =
-      let hs = headsFrom 0 (i .constraints) in
-      let long = wide-length 10 (each headBytes hs) (every-wide 10 headBytes head-wide hs) in
-      omega (arith, length-of t s 5 (known-section t s 5 (omega arith)), long, each-length headBytes hs)
+  many-constraints =
+      let hs = constraintRecords 0 (i .constraints) in
+      let long = wide-length 10 (each constraintBytes hs) (every-wide 10 constraintBytes constraint-wide hs) in
+      omega (arith, length-of t s 5 (known-section t s 5 (omega arith)), long, each-length constraintBytes hs)
 
   many-relabels : relabelCount t ≡ length (i .relabels)
   unfolding bodies
@@ -78,10 +78,10 @@ module _ (t : List ℕ) (s : Sound t) where
       vs : List RelabelEntry
       vs = i .relabels
 
-      long : length (joined (each relabelBytes (each relabelHead vs))) ≡ length vs * 4
+      long : length (joined (each relabelBytes (each relabelRecord vs))) ≡ length vs * 4
       long =
-          wide-length 4 (each relabelBytes (each relabelHead vs)) (every-wide 4 relabelBytes relabel-wide (each relabelHead vs))
-          ∙ ap (λ (n : ℕ). n * 4) (each-length relabelBytes (each relabelHead vs) ∙ each-length relabelHead vs)
+          wide-length 4 (each relabelBytes (each relabelRecord vs)) (every-wide 4 relabelBytes relabel-wide (each relabelRecord vs))
+          ∙ ap (λ (n : ℕ). n * 4) (each-length relabelBytes (each relabelRecord vs) ∙ each-length relabelRecord vs)
 
       by : (b : Bool) → ltb 8 (sectionsOf (s .edition)) ≡ b → cond b (lengthIn t 8 / 4) 0 ≡ length vs
       by true e = omega (arith, length-of t s 8 (ltb-true 8 (sectionsOf (s .edition)) e), long)
@@ -92,8 +92,8 @@ module _ (t : List ℕ) (s : Sound t) where
     unfolding bodies
     placed = record {
       sets = record { stand = stands-of t s 7; user-attributes = same-us; role-attributes = same-rs };
-      count = many-heads;
-      heads = stands-of t s 5;
+      count = many-constraints;
+      records = stands-of t s 5;
       rows = stands-of t s 6;
     }
 
@@ -102,13 +102,13 @@ module _ (t : List ℕ) (s : Sound t) where
     placed-relabels = record {
       sets = record { stand = stands-of t s 7; user-attributes = same-us; role-attributes = same-rs };
       count = many-relabels;
-      heads = stands-of t s 8;
+      records = stands-of t s 8;
       rows = stands-of t s 9;
     }
 
     -- the promise of `first_failing`, on a sound table
     pub constraints-answer : (on : Contexts) (class permission : ℕ)
-        → firstFailing 4 (headNames class permission) (headHolds t (bodiesIn t us rs) (sidesOf on)) 0 (headsIn t (bodiesIn t us rs))
+        → firstFailing 4 (constraintNames class permission) (constraintHolds t (bodiesIn t us rs) (sidesOf on)) 0 (constraintsIn t (bodiesIn t us rs))
         ≡ firstFailing 4 (entryNames class permission) (entryHolds i on) 0 (i .constraints)
     constraints-answer = image-constraints i t (bodiesIn t us rs) fits placed
 

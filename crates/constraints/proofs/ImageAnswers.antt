@@ -18,21 +18,21 @@ use Rattle.policy.specs.Meaning.{Contexts}
 use Rattle.policy.specs.Maxima.{maxRelabelRows}
 use Rattle.policy.specs.Rows.{Row, top, balanced}
 use Rattle.policy.specs.Image.{Image, ConstraintEntry, RelabelEntry, width}
-use Rattle.policy.specs.Encode.{ConstraintHead, headsFrom, headBytes, rowBytes, relabelHead, relabelBytes}
-use Rattle.policy.specs.Sound.{ofComp, goodRow, goodConstraint, goodRelabel, headAt, relabelAt}
+use Rattle.policy.specs.Encode.{ConstraintRecord, constraintRecords, constraintBytes, rowBytes, relabelRecord, relabelBytes}
+use Rattle.policy.specs.Sound.{ofComp, goodRow, goodConstraint, goodRelabel, constraintAt, relabelAt}
 use Rattle.policy.specs.Questions.{setsIn, viewOf, rowsHold, entryNames, entryHolds}
 use Rattle.policy.specs.Deciding.{consult, firstFailing}
 use Rattle.policy.proofs.Lists.{both-true, all-left, all-right, each-append, each-length, joined-append}
 use Rattle.table_laws.specs.SoundTable.{allRows, relabelRows}
 use Rattle.table_laws.proofs.ListLaws.{every-all, all-each}
 use Rattle.table_laws.proofs.Pieces.{Wide, wide-length}
-use Rattle.table_laws.proofs.Records.{SmallHead, SmallRelabel, row-wide}
+use Rattle.table_laws.proofs.Records.{SmallConstraint, SmallRelabel, row-wide}
 use Rattle.table_reader.specs.Records.{records}
 use Rattle.table_reader.proofs.RecordLaws.{Stands, stands-left, stands-right, set-part}
-use Rattle.table_reader.proofs.BodyRecords.{SmallRow, rows-part, heads-part, relabels-part}
+use Rattle.table_reader.proofs.BodyRecords.{SmallRow, rows-part, constraints-part, relabels-part}
 use Rattle.constraints.specs.declared.Bodies.{Bodies}
 use Rattle.constraints.specs.Stack.{boundedRun}
-use Rattle.constraints.specs.TableConstraints.{setStart, viewIn, rowsHoldIn, sidesOf, headsIn, headNames, headHolds}
+use Rattle.constraints.specs.TableConstraints.{setStart, viewIn, rowsHoldIn, sidesOf, constraintsIn, constraintNames, constraintHolds}
 use Rattle.constraints.specs.TableConstraints.{RelabelRun, runsFrom, relabelsIn, relabelNames, relabelHolds}
 use Rattle.constraints.proofs.BoundedStack.{bounded-run}
 use Rattle.constraints.proofs.SameView.{same-run}
@@ -41,10 +41,10 @@ use Rattle.constraints.proofs.SameView.{same-run}
 pub record Fits (i : Image) : Type 0 where
   pub many : (f : Family) → length (setsIn i f) ≡ count (attributeOf f) (i .names)
   pub wide : (f : Family) → Wide (width f) (setsIn i f)
-  pub heads : All SmallHead (headsFrom 0 (i .constraints))
+  pub constraint-records : All SmallConstraint (constraintRecords 0 (i .constraints))
   pub rows : All SmallRow (allRows i)
   pub constraints : All (λ (c : ConstraintEntry). goodConstraint (i .names) c ≡ true) (i .constraints)
-  pub relabel-heads : All SmallRelabel (each relabelHead (i .relabels))
+  pub relabel-records : All SmallRelabel (each relabelRecord (i .relabels))
   pub relabel-rows : All SmallRow (relabelRows i)
   pub few-relabel-rows : length (relabelRows i) ≤ maxRelabelRows
   pub relabels : All (λ (c : RelabelEntry). goodRelabel (i .names) c ≡ true) (i .relabels)
@@ -144,35 +144,35 @@ module _ {A H : Type 0} (rows : A → List Row) (head : ℕ → A → H) where
 
 -- CONSTRAINTS
 
-abbrev headOf : ℕ → ConstraintEntry → ConstraintHead
-headOf r c = record { class = c .class; mask = c .mask; first = r; rows = length (c .rows) }
+abbrev recordOf : ℕ → ConstraintEntry → ConstraintRecord
+recordOf r c = record { class = c .class; mask = c .mask; first = r; rows = length (c .rows) }
 
-heads-in-order : (r : ℕ) (cs : List ConstraintEntry) → headsFrom r cs ≡ inOrder (λ c. c .rows) headOf r cs
-unfolding headsFrom inOrder
-heads-in-order r [] = refl
-heads-in-order r (c ∷ cs) = ap (λ (l : List ConstraintHead). headOf r c ∷ l) (heads-in-order (r + length (c .rows)) cs)
+records-in-order : (r : ℕ) (cs : List ConstraintEntry) → constraintRecords r cs ≡ inOrder (λ c. c .rows) recordOf r cs
+unfolding constraintRecords inOrder
+records-in-order r [] = refl
+records-in-order r (c ∷ cs) = ap (λ (l : List ConstraintRecord). recordOf r c ∷ l) (records-in-order (r + length (c .rows)) cs)
 
 -- the constraints of an image and their rows stand where b says
 pub record Placed (i : Image) (t : List ℕ) (b : Bodies) : Type 0 where
   pub sets : PlacedSets i t b
-  pub count : b .count ≡ length (headsFrom 0 (i .constraints))
-  pub heads : Stands t (b .statements) (joined (each headBytes (headsFrom 0 (i .constraints))))
+  pub count : b .count ≡ length (constraintRecords 0 (i .constraints))
+  pub records : Stands t (b .statements) (joined (each constraintBytes (constraintRecords 0 (i .constraints))))
   pub rows : Stands t (b .rows) (joined (each rowBytes (allRows i)))
 
 pub image-constraints : (i : Image) (t : List ℕ) (b : Bodies) → Fits i → Placed i t b → (on : Contexts) (class permission : ℕ)
-    → firstFailing 4 (headNames class permission) (headHolds t b (sidesOf on)) 0 (headsIn t b)
+    → firstFailing 4 (constraintNames class permission) (constraintHolds t b (sidesOf on)) 0 (constraintsIn t b)
     ≡ firstFailing 4 (entryNames class permission) (entryHolds i on) 0 (i .constraints)
 image-constraints i t b fits placed on class permission =
     let ds = i .names in
     let others : ConstraintEntry → Bool =
     λ c. ltb (c .class) (length (classNames ds)) && ltb 0 (c .mask) && ltb (c .mask) (2 ^ length (permissions ds (c .class))) in
     let start : b .rows ≡ b .rows + 6 * 0 = omega arith in
-    ap (firstFailing 4 (headNames class permission) (headHolds t b (sidesOf on)) 0) (
-    ap (λ (n : ℕ). records 10 headAt n (drop (b .statements) t)) (placed .count)
-    ∙ heads-part (headsFrom 0 (i .constraints)) (fits .heads) (placed .heads)
-    ∙ heads-in-order 0 (i .constraints)
+    ap (firstFailing 4 (constraintNames class permission) (constraintHolds t b (sidesOf on)) 0) (
+    ap (λ (n : ℕ). records 10 constraintAt n (drop (b .statements) t)) (placed .count)
+    ∙ constraints-part (constraintRecords 0 (i .constraints)) (fits .constraint-records) (placed .records)
+    ∙ records-in-order 0 (i .constraints)
     )
-    ∙ in-order (λ c. c .rows) headOf t (b .rows) 4 (headNames class permission) (headHolds t b (sidesOf on)) (entryNames class permission) (entryHolds i on)
+    ∙ in-order (λ c. c .rows) recordOf t (b .rows) 4 (constraintNames class permission) (constraintHolds t b (sidesOf on)) (entryNames class permission) (entryHolds i on)
     (λ c. goodConstraint ds c ≡ true) (λ r c. refl)
     (λ r c good small stand. rows-hold i t b fits (placed .sets) on 6 (c .rows) (sound-rows i t b fits (placed .sets) 6 (c .rows) (others c) good) small r stand)
     (i .constraints) (fits .constraints) (fits .rows) 0 (subst (λ (p : ℕ). Stands t p (joined (each rowBytes (allRows i)))) start (placed .rows)) 0
@@ -184,7 +184,7 @@ runOf r c = record { class = c .class; first = r; rows = length (c .rows) }
 
 -- the running sums, which stay below where they go round
 runs-in-order : (r : ℕ) (cs : List RelabelEntry) → r + length (joined (each (λ c. c .rows) cs)) < 65536
-    → runsFrom r (each relabelHead cs) ≡ inOrder (λ c. c .rows) runOf r cs
+    → runsFrom r (each relabelRecord cs) ≡ inOrder (λ c. c .rows) runOf r cs
 unfolding runsFrom inOrder joined each
 runs-in-order r [] h = refl
 runs-in-order r (c ∷ cs) h =
@@ -199,7 +199,7 @@ runs-in-order r (c ∷ cs) h =
 pub record PlacedRelabels (i : Image) (t : List ℕ) (b : Bodies) : Type 0 where
   pub sets : PlacedSets i t b
   pub count : b .count ≡ length (i .relabels)
-  pub heads : Stands t (b .statements) (joined (each relabelBytes (each relabelHead (i .relabels))))
+  pub records : Stands t (b .statements) (joined (each relabelBytes (each relabelRecord (i .relabels))))
   pub rows : Stands t (b .rows) (joined (each rowBytes (relabelRows i)))
 
 pub image-relabels : (i : Image) (t : List ℕ) (b : Bodies) → Fits i → PlacedRelabels i t b → (on : Contexts) (class : ℕ)
@@ -209,8 +209,8 @@ image-relabels i t b fits placed on class =
     let ds = i .names in
     let start : b .rows ≡ b .rows + 6 * 0 = omega arith in
     ap (firstFailing 6 (relabelNames class) (relabelHolds t b (sidesOf on)) 0) (
-    ap (λ (n : ℕ). runsFrom 0 (records 4 relabelAt n (drop (b .statements) t))) (placed .count ∙ sym (each-length relabelHead (i .relabels)))
-    ∙ ap (runsFrom 0) (relabels-part (each relabelHead (i .relabels)) (fits .relabel-heads) (placed .heads))
+    ap (λ (n : ℕ). runsFrom 0 (records 4 relabelAt n (drop (b .statements) t))) (placed .count ∙ sym (each-length relabelRecord (i .relabels)))
+    ∙ ap (runsFrom 0) (relabels-part (each relabelRecord (i .relabels)) (fits .relabel-records) (placed .records))
     ∙ runs-in-order 0 (i .relabels) (omega (arith, fits .few-relabel-rows))
     )
     ∙ in-order (λ c. c .rows) runOf t (b .rows) 6 (relabelNames class) (relabelHolds t b (sidesOf on)) (λ x. eqb (x .class) class) (λ x. rowsHold i on (x .rows))

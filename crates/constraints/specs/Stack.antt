@@ -18,8 +18,8 @@ abbrev pub push : Bool → List Bool → List Bool
 push b s = cond (ltb (length s) maxStack) (b ∷ s) s
 
 -- a row on the stack of five
-abbrev pub boundedTurn : View → Row → List Bool → List Bool
-boundedTurn v r s =
+abbrev pub boundedRunRow : View → Row → List Bool → List Bool
+boundedRunRow v r s =
     cond (eqb (r .kind) 0) (notTop s)
     (cond (eqb (r .kind) 1) (andTop s)
     (cond (eqb (r .kind) 2) (orTop s)
@@ -27,4 +27,4 @@ boundedTurn v r s =
 
 unfoldable pub boundedRun : View → List Row → List Bool → List Bool
 boundedRun v [] s = s
-boundedRun v (r ∷ rs) s = boundedRun v rs (boundedTurn v r s)
+boundedRun v (r ∷ rs) s = boundedRun v rs (boundedRunRow v r s)

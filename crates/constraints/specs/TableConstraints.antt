@@ -11,8 +11,8 @@ use Rattle.policy.specs.Statements.{Family, users, roles, types, source, target
 use Rattle.policy.specs.Meaning.{Contexts}
 use Rattle.policy.specs.Rows.{Row, View, top}
 use Rattle.policy.specs.Image.{width}
-use Rattle.policy.specs.Encode.{ConstraintHead, RelabelHead, sectionsOf}
-use Rattle.policy.specs.Sound.{headAt, relabelAt, editionIn, ofComp}
+use Rattle.policy.specs.Encode.{ConstraintRecord, RelabelRecord, sectionsOf}
+use Rattle.policy.specs.Sound.{constraintAt, relabelAt, editionIn, ofComp}
 use Rattle.table_reader.specs.Records.{records, rowAt, startIn, lengthIn}
 use Rattle.constraints.specs.Stack.{boundedRun}
 use Rattle.constraints.specs.declared.Bodies.{Bodies}
@@ -72,15 +72,15 @@ sidesOf on =
 -- CONSTRAINTS
 
 -- the constraints of body 6
-abbrev pub headsIn : List ℕ → Bodies → List ConstraintHead
-headsIn t b = records 10 headAt (b .count) (drop (b .statements) t)
+abbrev pub constraintsIn : List ℕ → Bodies → List ConstraintRecord
+constraintsIn t b = records 10 constraintAt (b .count) (drop (b .statements) t)
 
 -- a constraint names the class and permission; it holds
-abbrev pub headNames : ℕ → ℕ → ConstraintHead → Bool
-headNames c k h = eqb (h .class) c && bit (h .mask) k
+abbrev pub constraintNames : ℕ → ℕ → ConstraintRecord → Bool
+constraintNames c k h = eqb (h .class) c && bit (h .mask) k
 
-abbrev pub headHolds : List ℕ → Bodies → List ℕ → ConstraintHead → Bool
-headHolds t b sides h = rowsHoldIn t b sides (h .first) (h .rows)
+abbrev pub constraintHolds : List ℕ → Bodies → List ℕ → ConstraintRecord → Bool
+constraintHolds t b sides h = rowsHoldIn t b sides (h .first) (h .rows)
 
 -- VALIDATETRANS STATEMENTS
 
@@ -91,7 +91,7 @@ pub record RelabelRun : Type 0 where
   pub rows : ℕ
 
 -- they take up the rows in order, from row r on. A number of a row has 2 bytes and goes round after the last; a sound table has fewer rows
-unfoldable pub runsFrom : ℕ → List RelabelHead → List RelabelRun
+unfoldable pub runsFrom : ℕ → List RelabelRecord → List RelabelRun
 runsFrom r [] = []
 runsFrom r (h ∷ hs) = record { class = h .class; first = r; rows = h .rows } ∷ runsFrom ((r + h .rows) % 65536) hs
 

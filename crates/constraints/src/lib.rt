@@ -22,11 +22,11 @@ ghost use Rattle.policy.specs.Image.{width};
 ghost use Rattle.policy.specs.Rows.{notTop, andTop, orTop, top, opTest, isSame};
 ghost use Rattle.policy.specs.Deciding.{firstFailing};
 ghost use Rattle.policy.specs.Answers.{familyOf, changeOf};
-ghost use Rattle.table_reader.specs.Records.{rowOf, headOf};
+ghost use Rattle.table_reader.specs.Records.{rowOf, constraintOf};
 ghost use Rattle.constraints.specs.Stack as stack;
-ghost use Rattle.constraints.specs.Stack.{code, boundedTurn};
+ghost use Rattle.constraints.specs.Stack.{code, boundedRunRow};
 ghost use Rattle.constraints.specs.TableConstraints.{bodiesIn, relabelCount, relabelBodiesIn, setStart, viewIn, rowsHoldIn};
-ghost use Rattle.constraints.specs.TableConstraints.{headsIn, headNames, headHolds, relabelsIn, relabelNames, relabelHolds};
+ghost use Rattle.constraints.specs.TableConstraints.{constraintsIn, constraintNames, constraintHolds, relabelsIn, relabelNames, relabelHolds};
 
 // Where the constraints of a table, or its validatetrans statements, start and how many there are; where their rows
 // start; where the sets of attributes start, and how many of userattributes and of roleattributes come before the
@@ -245,7 +245,7 @@ fn compare(table: &[u8], bodies: Bodies, row: RowRecord, sides: &[usize]) -> boo
 // The stack after a row.
 fn row_step(table: &[u8], bodies: Bodies, row: RowRecord, sides: &[usize], before: Stack) -> Stack
     ensures { λ r. ⌜ ((s : List Bool) → before .bits ≡ code s
-        → r .bits ≡ code (boundedTurn (viewIn (now (table .entry)) bodies (now (sides .entry))) (rowOf row) s)) ⌝ }
+        → r .bits ≡ code (boundedRunRow (viewIn (now (table .entry)) bodies (now (sides .entry))) (rowOf row) s)) ⌝ }
 {
     let kind = row.kind;
     if kind == Row::NOT {
@@ -281,7 +281,7 @@ fn evaluate(table: &[u8], bodies: Bodies, first: u16, count: u16, sides: &[usize
 
 // Whether a constraint names the class and the permission.
 fn names(constraint: ConstraintRecord, class: usize, permission: usize) -> bool
-    ensures { λ r. ⌜ r ≡ headNames class permission (headOf constraint) ⌝ }
+    ensures { λ r. ⌜ r ≡ constraintNames class permission (constraintOf constraint) ⌝ }
 {
     if constraint.class as usize != class {
         return false;
@@ -304,7 +304,7 @@ pub fn first_failing(
     permission: usize,
     sides: &[usize],
 ) -> Change
-    ensures { λ r. ⌜ changeOf r ≡ firstFailing 4 (headNames class permission) (headHolds (now (table .entry)) bodies (now (sides .entry))) 0 (headsIn (now (table .entry)) bodies) ⌝ }
+    ensures { λ r. ⌜ changeOf r ≡ firstFailing 4 (constraintNames class permission) (constraintHolds (now (table .entry)) bodies (now (sides .entry))) 0 (constraintsIn (now (table .entry)) bodies) ⌝ }
 {
     let start = bodies.statements;
     let count = bodies.count;

@@ -18,7 +18,7 @@ use Rattle.table_laws.proofs.WellFormed.{formed}
 use Rattle.table_laws.proofs.WellFormedLaid.{well-formed-laid}
 use Rattle.table_names.specs.TableNames.{countIn, countsIn}
 use Rattle.constraints.specs.declared.Bodies.{Bodies}
-use Rattle.constraints.specs.TableConstraints.{bodiesIn, relabelBodiesIn, sidesOf, headsIn, headNames, headHolds, relabelsIn, relabelNames, relabelHolds}
+use Rattle.constraints.specs.TableConstraints.{bodiesIn, relabelBodiesIn, sidesOf, constraintsIn, constraintNames, constraintHolds, relabelsIn, relabelNames, relabelHolds}
 use Rattle.constraints.proofs.HeaderPlaces.{constraints-answer, relabels-answer}
 use Rattle.decisions.proofs.SoundLaws.{things-of}
 
@@ -43,7 +43,7 @@ module _ (t : List ℕ) (s : Sound t) where
 
     module _ {us rs : ℕ} (u : n .«user_attributes» ≤ 64 → us ≡ n .«user_attributes») (r : n .«role_attributes» ≤ 64 → rs ≡ n .«role_attributes») where
       pub ask-constraints-of : (q : Question) (b : Bodies) (l : List ℕ) → b ≡ bodiesIn t us rs → l ≡ sidesOf (contextsOf q)
-          → firstFailing 4 (headNames (q .class) (q .perm)) (headHolds t b l) 0 (headsIn t b)
+          → firstFailing 4 (constraintNames (q .class) (q .perm)) (constraintHolds t b l) 0 (constraintsIn t b)
           ≡ firstFailing 4 (entryNames (q .class) (q .perm)) (entryHolds (s .image) (contextsOf q)) 0 (s .image .constraints)
       ask-constraints-of q b l e f = rw (e, f) (constraints-answer t s us rs (user-sets u) (role-sets r) (contextsOf q) (q .class) (q .perm))
 

@@ -30,7 +30,7 @@ use Rattle.policy.specs.Scopes.{Scoped, scoped, scopedIn, blockOf, blocksIn}
 use Rattle.policy.proofs.Lists.{both-true, gather-append, same-is}
 use Rattle.policy.specs.Reading.{Judged, reads, opens, fault, judgeStatement, judgeBlock, judge, Read, policy, refused, readFrom, rowCount}
 use Rattle.policy.specs.Accepted.{Accepted, GoodPath}
-use Rattle.policy.specs.Encode.{headsFrom, entriesFrom, entries}
+use Rattle.policy.specs.Encode.{constraintRecords, entriesFrom, entries}
 use Rattle.policy.proofs.BlockLaws.{no-block}
 use Rattle.items.specs.Looks.{itemOf, itemAt}
 use Rattle.items.specs.declared.Item.{Item}
@@ -76,7 +76,7 @@ use Rattle.symbols.specs.Section.{nameBytes}
 -- ---- before the first part
 
 nothing-holds : (lent : Memory) → Chained (lent .symbols) 0 [] → InScope (lent .symbols) [] → Holds [] [] lent lent nothingRead
-unfolding symbolsOf sectionOf codeOf constraintsOf rowsOf relabelsOf relabelRowsOf declarations transitions constrains relabels gather rowCount entries entriesFrom headsFrom joined each
+unfolding symbolsOf sectionOf codeOf constraintsOf rowsOf relabelsOf relabelRowsOf declarations transitions constrains relabels gather rowCount entries entriesFrom constraintRecords joined each
 nothing-holds lent index scope = record {
   accepted = none-accepted;
   blocks = good-top;

@@ -23,7 +23,7 @@ use Rattle.policy.specs.Faults.{mentionsS, mentions, attributesIn, below
 use Rattle.policy.specs.Faults.{firstClash, clash}
 use Rattle.policy.specs.Rows.{rowsOf, run, balanced as balanced-of-Rows}
 use Rattle.policy.specs.Image.{maskOf as maskOf-of-Image, imageOf}
-use Rattle.policy.specs.Encode.{permissionEntries, entriesFrom, entries, headsFrom, bodies, pairs, encode}
+use Rattle.policy.specs.Encode.{permissionEntries, entriesFrom, entries, constraintRecords, bodies, pairs, encode}
 use Rattle.policy.specs.Sound.{goodFrom, wellFormed, bodyLengths, splitBodies, bodiesIn, pieces, entriesIn, group, sameNumbers, namesAt}
 use Rattle.policy.specs.Sound.{assignRows, assignRelabels, imageIn}
 use Rattle.policy.specs.Questions.{valid, change, relabel, firstTransition, newRole, nameFrom, nameOf, recordFrom, entryOf, validOn, newRoleOn}
@@ -42,7 +42,7 @@ unfolding bit member fromBits tabulate setOf countBelow allBelow meet inserted r
     relabelAnswer reserved isReserved dotless keywordOf setWord expressionWord opOf componentOf operandRow operands setIn expressions
     expressionIn rowOf partsAlone full outward tries firstHit firstFrom environmentOf refer numberIn scopedIn blocksIn referS referE rowCount
     judge readFrom readPolicy mentionsS mentions attributesIn below mentionedBy reach onCycle places firstCycle cycle clashes firstClash clash
-    rowsOf run balanced-of-Rows maskOf-of-Image imageOf permissionEntries entriesFrom entries headsFrom bodies pairs encode goodFrom wellFormed
+    rowsOf run balanced-of-Rows maskOf-of-Image imageOf permissionEntries entriesFrom entries constraintRecords bodies pairs encode goodFrom wellFormed
     bodyLengths splitBodies bodiesIn pieces entriesIn group sameNumbers namesAt assignRows assignRelabels imageIn valid change relabel
     firstTransition newRole nameFrom nameOf recordFrom entryOf validOn newRoleOn nameOn entryOn changeOn relabelOn accept policyOf compiled
     lineFeeds refusalOf outcome after digits rollLines rollOf printed

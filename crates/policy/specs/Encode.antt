@@ -52,33 +52,33 @@ abbrev pub transitionBytes : TransitionEntry → List ℕ
 transitionBytes m = m .roles ++ (m .types ++ (m .class ∷ m .new ∷ []))
 
 -- a constraint of body 6: "class 2, permission mask 4, first row 2, row count 2"
-pub record ConstraintHead : Type 0 where
+pub record ConstraintRecord : Type 0 where
   pub class : ℕ
   pub mask : ℕ
   pub first : ℕ
   pub rows : ℕ
 
-abbrev pub headBytes : ConstraintHead → List ℕ
-headBytes h = le 2 (h .class) ++ (le 4 (h .mask) ++ (le 2 (h .first) ++ le 2 (h .rows)))
+abbrev pub constraintBytes : ConstraintRecord → List ℕ
+constraintBytes h = le 2 (h .class) ++ (le 4 (h .mask) ++ (le 2 (h .first) ++ le 2 (h .rows)))
 
 -- "constraints take up the rows in order", from row r on
-unfoldable pub headsFrom : ℕ → List ConstraintEntry → List ConstraintHead
-headsFrom r [] = []
-headsFrom r (c ∷ cs) = record { class = c .class; mask = c .mask; first = r; rows = length (c .rows) } ∷ headsFrom (r + length (c .rows)) cs
+unfoldable pub constraintRecords : ℕ → List ConstraintEntry → List ConstraintRecord
+constraintRecords r [] = []
+constraintRecords r (c ∷ cs) = record { class = c .class; mask = c .mask; first = r; rows = length (c .rows) } ∷ constraintRecords (r + length (c .rows)) cs
 
 -- "Rows of 6 bytes"
 abbrev pub rowBytes : Row → List ℕ
 rowBytes r = r .kind ∷ r .comp ∷ r .op ∷ 0 ∷ le 2 (r .num)
 
 -- W-205: "9 holds class and row count, 2 bytes each"
-pub record RelabelHead : Type 0 where
+pub record RelabelRecord : Type 0 where
   pub class : ℕ
   pub rows : ℕ
 
-abbrev pub relabelHead : RelabelEntry → RelabelHead
-relabelHead c = record { class = c .class; rows = length (c .rows) }
+abbrev pub relabelRecord : RelabelEntry → RelabelRecord
+relabelRecord c = record { class = c .class; rows = length (c .rows) }
 
-abbrev pub relabelBytes : RelabelHead → List ℕ
+abbrev pub relabelBytes : RelabelRecord → List ℕ
 relabelBytes h = le 2 (h .class) ++ le 2 (h .rows)
 
 -- the bodies of all sections
@@ -89,10 +89,10 @@ bodies i =
     ∷ joined (i .roleTypes)
     ∷ joined (i .roleRoles)
     ∷ joined (each transitionBytes (i .transitions))
-    ∷ joined (each headBytes (headsFrom 0 (i .constraints)))
+    ∷ joined (each constraintBytes (constraintRecords 0 (i .constraints)))
     ∷ joined (each rowBytes (joined (each (λ c. c .rows) (i .constraints))))
     ∷ (joined (i .userSets) ++ (joined (i .roleSets) ++ joined (i .typeSets)))
-    ∷ joined (each relabelBytes (each relabelHead (i .relabels)))
+    ∷ joined (each relabelBytes (each relabelRecord (i .relabels)))
     ∷ joined (each rowBytes (joined (each (λ c. c .rows) (i .relabels))))
     ∷ []
 

@@ -15,7 +15,7 @@ use Rattle.policy.specs.Reading.{isNew, hasRoom}
 use Rattle.bitset.specs.Sets.{within}
 use Rattle.policy.specs.Rows.{Row, row, balanced}
 use Rattle.policy.specs.Image.{Image, TransitionEntry, ConstraintEntry, RelabelEntry, width}
-use Rattle.policy.specs.Encode.{NameEntry, nameEntry, entries, ConstraintHead, RelabelHead, sectionsOf, firstBody}
+use Rattle.policy.specs.Encode.{NameEntry, nameEntry, entries, ConstraintRecord, RelabelRecord, sectionsOf, firstBody}
 
 -- WELL FORMED: what must hold of an image besides its layout
 
@@ -182,8 +182,8 @@ transitionAt t = record { roles = take 16 t; types = take 64 (drop 16 t); class 
 abbrev pub rowAt : List ℕ → Option Row
 rowAt t = given (eqb (getD t 3 0) 0) (row (getD t 0 0) (getD t 1 0) (getD t 2 0) (unle (take 2 (drop 4 t))))
 
-abbrev pub headAt : List ℕ → ConstraintHead
-headAt t = record {
+abbrev pub constraintAt : List ℕ → ConstraintRecord
+constraintAt t = record {
   class = unle (take 2 t);
   mask = unle (take 4 (drop 2 t));
   first = unle (take 2 (drop 6 t));
@@ -191,7 +191,7 @@ headAt t = record {
 }
 
 -- "constraints take up the rows in order with none left", from row r on
-unfoldable pub assignRows : ℕ → List ConstraintHead → List Row → Option (List ConstraintEntry)
+unfoldable pub assignRows : ℕ → List ConstraintRecord → List Row → Option (List ConstraintEntry)
 assignRows r [] [] = some []
 assignRows r [] (x ∷ xs) = none
 assignRows r (h ∷ hs) rs = cond (eqb (h .first) r && leb (h .rows) (length rs))
@@ -199,11 +199,11 @@ assignRows r (h ∷ hs) rs = cond (eqb (h .first) r && leb (h .rows) (length rs)
     none
 
 -- W-205: a record of body 9
-abbrev pub relabelAt : List ℕ → RelabelHead
+abbrev pub relabelAt : List ℕ → RelabelRecord
 relabelAt t = record { class = unle (take 2 t); rows = unle (take 2 (drop 2 t)) }
 
 -- the statements of body 9 take up the rows of body 10 in order with none left
-unfoldable pub assignRelabels : List RelabelHead → List Row → Option (List RelabelEntry)
+unfoldable pub assignRelabels : List RelabelRecord → List Row → Option (List RelabelEntry)
 assignRelabels [] [] = some []
 assignRelabels [] (x ∷ xs) = none
 assignRelabels (h ∷ hs) rs = cond (leb (h .rows) (length rs))
@@ -221,7 +221,7 @@ imageFrom bs =
     exactly (length (getD bs 5 []) / 10) 10 (getD bs 5 []) >>= λ hs.
     exactly (length (getD bs 6 []) / 6) 6 (getD bs 6 []) >>= λ rs.
     eachOf rowAt rs >>= λ rs.
-    assignRows 0 (each headAt hs) rs >>= λ cs.
+    assignRows 0 (each constraintAt hs) rs >>= λ cs.
     let ua = 16 * count (attributeOf users) ds in
     let ra = 16 * count (attributeOf roles) ds in
     exactly (count (attributeOf users) ds) 16 (take ua (getD bs 7 [])) >>= λ us.

@@ -35,13 +35,13 @@ use Rattle.constrain_statement.proofs.Masks.{tag}
 use Rattle.constrain_statement.proofs.ClassLaws.{not-there, no-part, same-parts, class-told}
 use Rattle.constrain_statement.proofs.LimitLaws.{admitted}
 use Rattle.constrain_statement.proofs.Answers.{need-kept, rows-of}
-use Rattle.relabel_statement.specs.RelabelWrites.{headWith, Answers, WritesRelabel}
+use Rattle.relabel_statement.specs.RelabelWrites.{recordWith, Answers, WritesRelabel}
 use Rattle.relabel_statement.proofs.RelabelShapes.{RelabelShape, relabel-shape}
 
 -- ---- the record
 
 -- its two fields, put one after the other, are one `put` of the record
-pub recorded : (t : List ℕ) (n c rows : ℕ) {p u : List ℕ} → p ≡ put t (4 * n) (le 2 c) → u ≡ put p (4 * n + 2) (le 2 rows) → Records 4 (relabelBytes (headWith c rows)) t u n
+pub recorded : (t : List ℕ) (n c rows : ℕ) {p u : List ℕ} → p ≡ put t (4 * n) (le 2 c) → u ≡ put p (4 * n + 2) (le 2 rows) → Records 4 (relabelBytes (recordWith c rows)) t u n
 unfolding le
 recorded t n c rows class count room = put-then t (4 * n) (le 2 c) (le 2 rows) (omega arith) class (omega arith) count
 
@@ -122,7 +122,7 @@ module _ {t : List ℕ} {at : ℕ} {table : List ℕ} {before : List ℕ} {count
 
         -- 6 and 7, and what is written, by what the maxima and the stack need allow
         pub answered : {a n deep : ℕ} → k ≡ RowsWritten.Next a n deep → {after : List ℕ} {b : Constrained}
-            → Admits maxRelabels maxRelabelRows count n deep (Records 4 (relabelBytes (headWith class (n - row))) before after count) b
+            → Admits maxRelabels maxRelabelRows count n deep (Records 4 (relabelBytes (recordWith class (n - row))) before after count) b
             → WritesRelabel t at table before after count rowsBefore rowsAfter row b
         answered {a} {n} {deep} e {after} {b} m = record {
           says = λ env w y g long rows-long f.
@@ -135,5 +135,5 @@ module _ {t : List ℕ} {at : ℕ} {table : List ℕ} {before : List ℕ} {count
               subst (λ (o : Option Statement). Answers o before after count rowsBefore rowsAfter row b)
               (sym (ap (resolved env) (s .written) ∙ resolves env (s .class) (s .body) (class-then c y s .0) (i .expression) (i .refers)))
               (admitted maxRelabels maxRelabelRows 4 _ before after count rowsBefore rowsAfter row n deep (i .expression) p (i .count) (λ h. omega (arith, h, long)) rows-long
-              (i .bytes) (ap (λ (k : ℕ). relabelBytes (headWith class k)) (rows-of row n (size (i .expression)) (i .count))) b (m .says));
+              (i .bytes) (ap (λ (k : ℕ). relabelBytes (recordWith class k)) (rows-of row n (size (i .expression)) (i .count))) b (m .says));
         }

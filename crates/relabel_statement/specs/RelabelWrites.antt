@@ -11,21 +11,21 @@ use Rattle.policy.specs.Statements.{Written, Statement, declare, attributeset, 
 use Rattle.policy.specs.Maxima.{maxRelabels, maxRelabelRows}
 use Rattle.policy.specs.Grammar.{relabelForm}
 use Rattle.policy.specs.Reading.{resolved}
-use Rattle.policy.specs.Encode.{RelabelHead, relabelBytes}
+use Rattle.policy.specs.Encode.{RelabelRecord, relabelBytes}
 use Rattle.policy.specs.Names.{Environment}
 use Rattle.scopes.specs.Symbols.{Symbols}
 use Rattle.constrain_statement.specs.declared.Constrained.{Constrained}
 use Rattle.constrain_statement.specs.Limits.{IsUndeclared, AddsOrFault}
 
 -- "class and row count": the record of a statement
-abbrev pub headWith : ℕ → ℕ → RelabelHead
-headWith c rows = record { class = c; rows = rows }
+abbrev pub recordWith : ℕ → ℕ → RelabelRecord
+recordWith c rows = record { class = c; rows = rows }
 
 -- "At most 64 such statements and 1,024 rows": by the statement with its names resolved
 abbrev pub Answers : Option Statement → List ℕ → List ℕ → ℕ → List ℕ → List ℕ → ℕ → Constrained → Type 0
 Answers none before after count rowsBefore rowsAfter row r = IsUndeclared r
 Answers (some (validatetrans c e)) before after count rowsBefore rowsAfter row r =
-    AddsOrFault maxRelabels maxRelabelRows e 4 (relabelBytes (headWith c (size e))) before after count rowsBefore rowsAfter row r
+    AddsOrFault maxRelabels maxRelabelRows e 4 (relabelBytes (recordWith c (size e))) before after count rowsBefore rowsAfter row r
 Answers (some (declare d)) before after count rowsBefore rowsAfter row r = Unit {0}
 Answers (some (attributeset f a s)) before after count rowsBefore rowsAfter row r = Unit {0}
 Answers (some (gives k x y)) before after count rowsBefore rowsAfter row r = Unit {0}

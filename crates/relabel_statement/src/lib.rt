@@ -4,7 +4,7 @@ ghost use Prim.Native.Nat.{_-_, _≤_};
 ghost use Rattle.policy.specs.Maxima.{maxRelabels, maxRelabelRows};
 ghost use Rattle.policy.specs.Encode.{relabelBytes};
 ghost use Rattle.constrain_statement.specs.Limits.{Records, Admits};
-ghost use Rattle.relabel_statement.specs.RelabelWrites.{headWith, WritesRelabel};
+ghost use Rattle.relabel_statement.specs.RelabelWrites.{recordWith, WritesRelabel};
 use constrain_statement::Constrained;
 use constrain_statement::NamedClass;
 use constraint_writer::RowsWritten;
@@ -23,7 +23,7 @@ const LEVELS: usize = Level::MAX - 2;
 
 // Writes the record of a statement, if there is room for it: class 2, row count 2.
 fn put_record(relabels: &mut [u8], count: usize, class: usize, rows: usize)
-    ensures { λ _. ⌜ Records 4 (relabelBytes (headWith class rows)) (now (relabels .entry)) (now (relabels .exit)) count ⌝ }
+    ensures { λ _. ⌜ Records 4 (relabelBytes (recordWith class rows)) (now (relabels .entry)) (now (relabels .exit)) count ⌝ }
 {
     if relabels.len() / Relabel::BYTES <= count {
         return;
@@ -45,7 +45,7 @@ fn admit(
 ) -> Constrained
     requires { ⌜ row ≤ next ⌝ }
     ensures { λ r. ⌜ Admits maxRelabels maxRelabelRows count next need
-        (Records 4 (relabelBytes (headWith class (next - row))) (now (relabels .entry)) (now (relabels .exit)) count) r ⌝ }
+        (Records 4 (relabelBytes (recordWith class (next - row))) (now (relabels .entry)) (now (relabels .exit)) count) r ⌝ }
 {
     let limited = constrain_statement::limit(Relabel::MAX, Relabel::MAX_ROWS, count, next, need);
     let Constrained::Next(_) = limited else {

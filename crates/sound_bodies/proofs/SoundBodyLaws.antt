@@ -17,13 +17,13 @@ use Rattle.policy.specs.Statements.{Family, users, roles, types, thingOf, attri
 use Rattle.policy.specs.Maxima.{maxTransitions, maxConstraints, maxRows, maxRelabels, maxRelabelRows}
 use Rattle.policy.specs.Rows.{Row}
 use Rattle.policy.specs.Image.{ConstraintEntry, RelabelEntry, width}
-use Rattle.policy.specs.Encode.{ConstraintHead, RelabelHead, relabelHead, sectionsOf}
-use Rattle.policy.specs.Sound.{goodSet, goodSets, goodTransition, goodConstraint, goodRelabel, pieces, transitionAt, headAt, rowAt, assignRows, relabelAt, assignRelabels}
+use Rattle.policy.specs.Encode.{ConstraintRecord, RelabelRecord, relabelRecord, sectionsOf}
+use Rattle.policy.specs.Sound.{goodSet, goodSets, goodTransition, goodConstraint, goodRelabel, pieces, transitionAt, constraintAt, rowAt, assignRows, relabelAt, assignRelabels}
 use Rattle.policy.specs.Sound.{editionIn, bodiesIn}
 use Rattle.policy.proofs.Lists.{both-true, each-length, under}
 use Rattle.table_laws.proofs.Pieces.{Wide, exactly-only}
 use Rattle.table_laws.proofs.Constraints.{rowsIn, assign-only, relabels-only}
-use Rattle.table_laws.proofs.Lengths.{heads-length}
+use Rattle.table_laws.proofs.Lengths.{constraint-records-length}
 use Rattle.table_reader.specs.Records.{startIn, lengthIn}
 use Rattle.sound_constraints.specs.Totals.{totalsOf}
 use Rattle.sound_constraints.specs.SoundRows.{passes, relabelsFit}
@@ -213,15 +213,15 @@ module _ (ds : List Declaration) where
   pub constraint-bodies : (t : List ℕ) (bs : List (List ℕ)) → BodyAt t bs 5 → BodyAt t bs 6 →
       let b = getD bs 5 [] in
       let d = getD bs 6 [] in
-      let dealt = eachOf rowAt (pieces (length d / 6) 6 d) >>= λ rs. assignRows 0 (each headAt (pieces (length b / 10) 10 b)) rs in
+      let dealt = eachOf rowAt (pieces (length d / 6) 6 d) >>= λ rs. assignRows 0 (each constraintAt (pieces (length b / 10) 10 b)) rs in
       (eqb (length b) (length b / 10 * 10) && (eqb (length d) (length d / 6 * 6)
       && passes dealt (λ cs. leb (length cs) maxConstraints && every (goodConstraint ds) cs && leb (length (rowsIn cs)) maxRows)))
       ≡ constraintsSound (totalsOf ds) t
   constraint-bodies t bs at below =
-      statement-bodies 10 maxConstraints maxRows headAt (λ hs rs. assignRows 0 hs rs) (λ c. c .rows) (goodConstraint ds) none-lost t bs 5 6 at below
+      statement-bodies 10 maxConstraints maxRows constraintAt (λ hs rs. assignRows 0 hs rs) (λ c. c .rows) (goodConstraint ds) none-lost t bs 5 6 at below
     where
-      none-lost : (hs : List ConstraintHead) (rs : List Row) (cs : List ConstraintEntry) → assignRows 0 hs rs ≡ some cs → (length cs ≡ length hs) × (rowsIn cs ≡ rs)
-      none-lost hs rs cs e = let only = assign-only 0 hs rs cs e in (sym (heads-length 0 cs) ∙ ap length (only .0), only .1)
+      none-lost : (hs : List ConstraintRecord) (rs : List Row) (cs : List ConstraintEntry) → assignRows 0 hs rs ≡ some cs → (length cs ≡ length hs) × (rowsIn cs ≡ rs)
+      none-lost hs rs cs e = let only = assign-only 0 hs rs cs e in (sym (constraint-records-length 0 cs) ∙ ap length (only .0), only .1)
 
   -- VALIDATETRANS STATEMENTS
 
@@ -240,9 +240,9 @@ module _ (ds : List Declaration) where
   pub relabel-bodies : (t : List ℕ) (bs : List (List ℕ)) → bodiesIn t ≡ some bs → relabelsAsked (getD bs 8 []) (getD bs 9 []) ≡ relabelsSound (totalsOf ds) t
   relabel-bodies t bs laid = by (leb (sectionsOf (editionIn t)) 8) refl
     where
-      none-lost : (hs : List RelabelHead) (rs : List Row) (vs : List RelabelEntry) → assignRelabels hs rs ≡ some vs
+      none-lost : (hs : List RelabelRecord) (rs : List Row) (vs : List RelabelEntry) → assignRelabels hs rs ≡ some vs
           → (length vs ≡ length hs) × (joined (each (λ (v : RelabelEntry). v .rows) vs) ≡ rs)
-      none-lost hs rs vs e = let only = relabels-only hs rs vs e in (sym (each-length relabelHead vs) ∙ ap length (only .0), only .1)
+      none-lost hs rs vs e = let only = relabels-only hs rs vs e in (sym (each-length relabelRecord vs) ∙ ap length (only .0), only .1)
 
       by : (n : Bool) → leb (sectionsOf (editionIn t)) 8 ≡ n
           → relabelsAsked (getD bs 8 []) (getD bs 9 [])

@@ -16,7 +16,7 @@ use Rattle.policy.specs.Statements.{Family, users, roles, types, thingOf, attri
 use Rattle.policy.specs.Maxima.{maxTransitions, maxConstraints, maxRows, maxRelabels, maxRelabelRows}
 use Rattle.policy.specs.Rows.{balanced}
 use Rattle.policy.specs.Image.{Image, ConstraintEntry, RelabelEntry}
-use Rattle.policy.specs.Sound.{goodFrom, goodSets, goodTransition, goodConstraint, pieces, exactly, transitionAt, headAt, rowAt, assignRows, namesAt}
+use Rattle.policy.specs.Sound.{goodFrom, goodSets, goodTransition, goodConstraint, pieces, exactly, transitionAt, constraintAt, rowAt, assignRows, namesAt}
 use Rattle.policy.specs.Sound.{goodRelabel, relabelAt, assignRelabels, wellFormed, bodiesIn, imageFrom, imageIn}
 use Rattle.policy.proofs.Lists.{both-true, true-both, same-tests}
 use Rattle.policy.proofs.Options.{given-some, given-passes}
@@ -177,10 +177,10 @@ module _ (t : List ℕ) (bs : List (List ℕ)) (laid : bodiesIn t ≡ some bs) (
       (step wellFormedImage (eqb (length (body 4)) (length (body 4) / 82 * 82)) ms _
       (step wellFormedImage (eqb (length (body 5)) (length (body 5) / 10 * 10)) hs _
       (step wellFormedImage (eqb (length (body 6)) (length (body 6) / 6 * 6)) ts _
-      (two-steps wellFormedImage (eachOf rowAt ts) (λ rs. assignRows 0 (each headAt hs) rs) _
+      (two-steps wellFormedImage (eachOf rowAt ts) (λ rs. assignRows 0 (each constraintAt hs) rs) _
       (λ cs. earlier cs && attributesSound (totalsOf ds .things) (totalsOf ds .attributes) t && relabelsSound (totalsOf ds) t)
       (λ cs. attributes-next (earlier cs) (relabelsSound (totalsOf ds) t) _ (relabels-last (withSets (earlier cs)) _ (λ vs. refl)))))))))
-      ∙ in-order (eachOf rowAt ts >>= λ rs. assignRows 0 (each headAt hs) rs) few few-rows
+      ∙ in-order (eachOf rowAt ts >>= λ rs. assignRows 0 (each constraintAt hs) rs) few few-rows
       (eqb (length (body 1)) (us * 16)) (eqb (length (body 2)) (rs * 64)) (eqb (length (body 3)) (rs * 16)) (eqb (length (body 4)) (length (body 4) / 82 * 82))
       (eqb (length (body 5)) (length (body 5) / 10 * 10)) (eqb (length (body 6)) (length (body 6) / 6 * 6))
       (goodFrom [] ds) (goodSets ds us roles (pieces us 16 (body 1))) (goodSets ds rs types (pieces rs 64 (body 2))) (goodSets ds rs roles (pieces rs 16 (body 3)))
@@ -239,7 +239,7 @@ image-names t i h =
         bound-then (exactly (length (getD bs 5 []) / 10) 10 (getD bs 5 [])) _ i h λ hs e h.
         bound-then (exactly (length (getD bs 6 []) / 6) 6 (getD bs 6 [])) _ i h λ ts e h.
         bound-then (eachOf rowAt ts) _ i h λ rs e h.
-        bound-then (assignRows 0 (each headAt hs) rs) _ i h λ cs e h.
+        bound-then (assignRows 0 (each constraintAt hs) rs) _ i h λ cs e h.
         bound-then (exactly (count (attributeOf users) ds) 16 (take (16 * count (attributeOf users) ds) (getD bs 7 []))) _ i h λ us e h.
         bound-then (exactly (count (attributeOf roles) ds) 16 (take (16 * count (attributeOf roles) ds) (drop (16 * count (attributeOf users) ds) (getD bs 7 [])))) _ i h λ ss e h.
         bound-then (exactly (count (attributeOf types) ds) 64 (drop (16 * count (attributeOf roles) ds) (drop (16 * count (attributeOf users) ds) (getD bs 7 [])))) _ i h λ ys e h.
@@ -292,7 +292,7 @@ module _ (ds : List Declaration) (ps : List ℕ) (of-class : PermissionsOf ds ps
       && (
       hasRecords 5 10 maxConstraints t && hasRecords 6 6 maxRows t
       && passes (eachOf rowAt (pieces (lengthIn t 6 / 6) 6 (drop (startIn t 6) t)) >>= λ rs. assignRows 0
-      (each headAt (pieces (lengthIn t 5 / 10) 10 (drop (startIn t 5) t))) rs) (every f)
+      (each constraintAt (pieces (lengthIn t 5 / 10) 10 (drop (startIn t 5) t))) rs) (every f)
       )
       && attributesSound (totalsOf ds .things) (totalsOf ds .attributes) t
       && relabelsSound (totalsOf ds) t) constraint-same

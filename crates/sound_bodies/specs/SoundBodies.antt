@@ -13,7 +13,7 @@ use Rattle.policy.specs.Statements.{Family, users, roles, types}
 use Rattle.policy.specs.Maxima.{maxTransitions, maxConstraints, maxRows, maxRelabels, maxRelabelRows}
 use Rattle.policy.specs.Image.{TransitionEntry}
 use Rattle.policy.specs.Encode.{sectionsOf}
-use Rattle.policy.specs.Sound.{editionIn, pieces, transitionAt, headAt, relabelAt}
+use Rattle.policy.specs.Sound.{editionIn, pieces, transitionAt, constraintAt, relabelAt}
 use Rattle.table_reader.specs.Records.{startIn, lengthIn}
 use Rattle.sound_constraints.specs.Totals.{Totals}
 use Rattle.sound_constraints.specs.SoundRows.{constraintsFit, relabelsFit}
@@ -71,7 +71,7 @@ module _ (things : Family → ℕ) (classes : ℕ) where
 abbrev pub constraintsSound : Totals → List ℕ → Bool
 constraintsSound n t =
     hasRecords 5 10 maxConstraints t && hasRecords 6 6 maxRows t
-    && constraintsFit n (each headAt (pieces (lengthIn t 5 / 10) 10 (drop (startIn t 5) t))) (pieces (lengthIn t 6 / 6) 6 (drop (startIn t 6) t))
+    && constraintsFit n (each constraintAt (pieces (lengthIn t 5 / 10) 10 (drop (startIn t 5) t))) (pieces (lengthIn t 6 / 6) 6 (drop (startIn t 6) t))
 
 -- ATTRIBUTES: body 8, "Sets of userattributes, roleattributes, typeattributes: 16, 16, 64 each"
 

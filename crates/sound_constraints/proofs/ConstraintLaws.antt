@@ -16,12 +16,12 @@ use Rattle.policy.specs.Statements.{Declaration}
 use Rattle.policy.specs.Maxima.{maxStack}
 use Rattle.policy.specs.Rows.{Row, after, balanced}
 use Rattle.policy.specs.Image.{ConstraintEntry, RelabelEntry}
-use Rattle.policy.specs.Encode.{ConstraintHead, RelabelHead}
+use Rattle.policy.specs.Encode.{ConstraintRecord, RelabelRecord}
 use Rattle.policy.specs.Sound.{goodConstraint, goodRelabel, rowAt, pieces, assignRows, assignRelabels}
 use Rattle.table_laws.proofs.ListLaws.{more-some}
 use Rattle.table_reader.specs.Records as records
 use Rattle.sound_constraints.specs.Totals.{Totals, totalsOf}
-use Rattle.sound_constraints.specs.SoundRows.{passes, fitsRow, fitsMask, rowsFit, Heads, takeUp, fitsConstraint, constraintsFit, fitsRelabel, relabelsFit}
+use Rattle.sound_constraints.specs.SoundRows.{passes, fitsRow, fitsMask, rowsFit, AskedOf, takeUp, fitsConstraint, constraintsFit, fitsRelabel, relabelsFit}
 use Rattle.sound_constraints.proofs.PieceLaws.{pieces-step, pieces-none, pieces-length, pieces-take, pieces-drop}
 
 -- ONE STATEMENT'S ROWS
@@ -74,7 +74,7 @@ module _ {A B : Type 0} (f : A → Option B) where
 -- ALL STATEMENTS
 
 -- rows are dealt out to statements as their heads say, from row r on, with none left
-unfoldable dealOut : {A B : Type 0} → Heads A → (A → List Row → B) → ℕ → List A → List Row → Option (List B)
+unfoldable dealOut : {A B : Type 0} → AskedOf A → (A → List Row → B) → ℕ → List A → List Row → Option (List B)
 dealOut asks entry r [] [] = some []
 dealOut asks entry r [] (x ∷ xs) = none
 dealOut asks entry r (h ∷ hs) rs = cond (asks .starts h r && leb (asks .rows h) (length rs))
@@ -82,7 +82,7 @@ dealOut asks entry r (h ∷ hs) rs = cond (asks .starts h r && leb (asks .rows h
     none
 
 -- a statement fits where its head and its rows do
-module _ {A B : Type 0} (asks : Heads A) (good : Row → Bool) (entry : A → List Row → B) (fits : B → Bool)
+module _ {A B : Type 0} (asks : AskedOf A) (good : Row → Bool) (entry : A → List Row → B) (fits : B → Bool)
     (agree : (h : A) (us : List Row) → fits (entry h us) ≡ (asks .fits h && every good us && balanced us 0)) where
   -- what the rows are dealt out as, and all of it is good
   abbrev dealt : ℕ → List A → Option (List Row) → Bool
@@ -157,72 +157,72 @@ module _ {A B : Type 0} (asks : Heads A) (good : Row → Bool) (entry : A → Li
 
 module _ (n : Totals) where
   -- a constraint says which row is its first
-  abbrev pub asksHead : Heads ConstraintHead
-  asksHead = record {
+  abbrev pub asksConstraint : AskedOf ConstraintRecord
+  asksConstraint = record {
     rows = λ h. h .rows;
     starts = λ h r. eqb (h .first) r;
     fits = λ h. fitsMask (n .classes) (n .permissions) (h .class) (h .mask);
   }
 
-  abbrev pub asksRelabel : Heads RelabelHead
+  abbrev pub asksRelabel : AskedOf RelabelRecord
   asksRelabel = record { rows = λ h. h .rows; starts = λ h r. true; fits = λ h. ltb (h .class) (n .classes) }
 
   -- a row is good, of so many components
   abbrev pub good : ℕ → Row → Bool
   good k r = fitsRow k (n .things) (n .attributes) r
 
-  abbrev constraintOf : ConstraintHead → List Row → ConstraintEntry
-  constraintOf h us = record { class = h .class; mask = h .mask; rows = us }
+  abbrev constraintWith : ConstraintRecord → List Row → ConstraintEntry
+  constraintWith h us = record { class = h .class; mask = h .mask; rows = us }
 
-  abbrev relabelOf : RelabelHead → List Row → RelabelEntry
-  relabelOf h us = record { class = h .class; rows = us }
+  abbrev relabelWith : RelabelRecord → List Row → RelabelEntry
+  relabelWith h us = record { class = h .class; rows = us }
 
-  assign-rows : (r : ℕ) (hs : List ConstraintHead) (rs : List Row) → dealOut asksHead constraintOf r hs rs ≡ assignRows r hs rs
+  assign-rows : (r : ℕ) (hs : List ConstraintRecord) (rs : List Row) → dealOut asksConstraint constraintWith r hs rs ≡ assignRows r hs rs
   unfolding dealOut assignRows
   assign-rows r [] [] = refl
   assign-rows r [] (x ∷ xs) = refl
   assign-rows r (h ∷ hs) rs = rw (assign-rows (r + h .rows) hs (drop (h .rows) rs))
 
-  assign-relabels : (r : ℕ) (hs : List RelabelHead) (rs : List Row) → dealOut asksRelabel relabelOf r hs rs ≡ assignRelabels hs rs
+  assign-relabels : (r : ℕ) (hs : List RelabelRecord) (rs : List Row) → dealOut asksRelabel relabelWith r hs rs ≡ assignRelabels hs rs
   unfolding dealOut assignRelabels
   assign-relabels r [] [] = refl
   assign-relabels r [] (x ∷ xs) = refl
   assign-relabels r (h ∷ hs) rs = rw (assign-relabels (r + h .rows) hs (drop (h .rows) rs))
 
   -- the test that goes statement by statement is that of the definition
-  pub take-up-law : (hs : List ConstraintHead) (ts : List (List ℕ)) → takeUp asksHead (good 6) 0 hs ts ≡ constraintsFit n hs ts
+  pub take-up-law : (hs : List ConstraintRecord) (ts : List (List ℕ)) → takeUp asksConstraint (good 6) 0 hs ts ≡ constraintsFit n hs ts
   take-up-law hs ts =
-      take-up asksHead (good 6) constraintOf (fitsConstraint n) (λ h us. refl) 0 hs ts
+      take-up asksConstraint (good 6) constraintWith (fitsConstraint n) (λ h us. refl) 0 hs ts
       ∙ (λ i. passes (eachOf rowAt ts >>= λ rs. assign-rows 0 hs rs i) (every (fitsConstraint n)))
 
-  pub take-up-relabels : (hs : List RelabelHead) (ts : List (List ℕ)) → takeUp asksRelabel (good 9) 0 hs ts ≡ relabelsFit n hs ts
+  pub take-up-relabels : (hs : List RelabelRecord) (ts : List (List ℕ)) → takeUp asksRelabel (good 9) 0 hs ts ≡ relabelsFit n hs ts
   take-up-relabels hs ts =
-      take-up asksRelabel (good 9) relabelOf (fitsRelabel n) (λ h us. refl) 0 hs ts
+      take-up asksRelabel (good 9) relabelWith (fitsRelabel n) (λ h us. refl) 0 hs ts
       ∙ (λ i. passes (eachOf rowAt ts >>= λ rs. assign-relabels 0 hs rs i) (every (fitsRelabel n)))
 
 -- by the totals of the declarations, it is what is asked of a sound table
-pub constraints-good : (ds : List Declaration) (hs : List ConstraintHead) (ts : List (List ℕ))
+pub constraints-good : (ds : List Declaration) (hs : List ConstraintRecord) (ts : List (List ℕ))
     → constraintsFit (totalsOf ds) hs ts ≡ passes (eachOf rowAt ts >>= λ rs. assignRows 0 hs rs) (every (goodConstraint ds))
 constraints-good ds hs ts = refl
 
-pub relabels-good : (ds : List Declaration) (hs : List RelabelHead) (ts : List (List ℕ))
+pub relabels-good : (ds : List Declaration) (hs : List RelabelRecord) (ts : List (List ℕ))
     → relabelsFit (totalsOf ds) hs ts ≡ passes (eachOf rowAt ts >>= λ rs. assignRelabels hs rs) (every (goodRelabel ds))
 relabels-good ds hs ts = refl
 
 -- STATEMENT BY STATEMENT
 
 -- a statement and those after it take up m rows at a place, from row r on, where the whole passes
-pub record HeadTurn {A : Type 0} (asks : Heads A) (good : Row → Bool) (t : List ℕ) (whole : Bool) (r at m : ℕ) (later : List A) (h : A) : Type 0 where
+pub record RecordTurn {A : Type 0} (asks : AskedOf A) (good : Row → Bool) (t : List ℕ) (whole : Bool) (r at m : ℕ) (later : List A) (h : A) : Type 0 where
   pub tests : takeUp asks good r (h ∷ later) (pieces m 6 (drop at t)) ≡ whole
 
 -- heads of w bytes, each of which is read from its own bytes alone
 module _ {A : Type 0} (w : ℕ) (read : List ℕ → A) (front : (t : List ℕ) → read (take w t) ≡ read t)
-    (asks : Heads A) (good : Row → Bool) (t : List ℕ) {whole : Bool} (r from k at m : ℕ)
+    (asks : AskedOf A) (good : Row → Bool) (t : List ℕ) {whole : Bool} (r from k at m : ℕ)
     (left : takeUp asks good r (each read (pieces k w (drop from t))) (pieces m 6 (drop at t)) ≡ whole) where
-  pub head-turn : (next j : ℕ) → k ≡ j + 1 → next ≡ from + w → (h : A) → h ≡ read (drop from t)
-      → HeadTurn asks good t whole r at m (each read (pieces j w (drop next t))) h
+  pub record-turn : (next j : ℕ) → k ≡ j + 1 → next ≡ from + w → (h : A) → h ≡ read (drop from t)
+      → RecordTurn asks good t whole r at m (each read (pieces j w (drop next t))) h
   unfolding each
-  head-turn next j p q h is = record {
+  record-turn next j p q h is = record {
     tests =
         ap (λ (h : A). takeUp asks good r (h ∷ each read (pieces j w (drop next t))) (pieces m 6 (drop at t))) (is ∙ sym (front (drop from t)))
         ∙ (rw (pieces-step w t from next k j p q) at left);
@@ -236,8 +236,8 @@ module _ {A : Type 0} (w : ℕ) (read : List ℕ → A) (front : (t : List ℕ) 
       by true q = sym (eq-eqb m 0 (omega (arith, eqb-true r rows q)))
       by false q = sym (ne-eqb m 0 (λ z. eqb-false r rows q (omega arith)))
 
-module _ {A : Type 0} {asks : Heads A} {good : Row → Bool} {t : List ℕ} {whole : Bool} {r at m : ℕ} {later : List A} {h : A}
-    (turn : HeadTurn asks good t whole r at m later h) where
+module _ {A : Type 0} {asks : AskedOf A} {good : Row → Bool} {t : List ℕ} {whole : Bool} {r at m : ℕ} {later : List A} {h : A}
+    (turn : RecordTurn asks good t whole r at m later h) where
   pub take-first : asks .starts h r ≡ false → false ≡ whole
   unfolding takeUp
   take-first n = rw n at (turn .tests)

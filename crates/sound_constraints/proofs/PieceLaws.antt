@@ -11,7 +11,7 @@ use Rattle.byte_slices.specs.Parts.{part}
 use Rattle.byte_slices.proofs.PartLaws.{part-part, getD-part}
 use Rattle.policy.specs.Basics.{each, every, unle}
 use Rattle.policy.specs.Rows.{row}
-use Rattle.policy.specs.Sound.{pieces, transitionAt, headAt, relabelAt}
+use Rattle.policy.specs.Sound.{pieces, transitionAt, constraintAt, relabelAt}
 use Rattle.table_reader.specs.Records.{rowAt}
 
 -- CUT
@@ -104,8 +104,8 @@ transition-front at t = λ i. record {
   new = (getD-drop 81 (take 82 (drop at t)) 0 0 ∙ getD-part t at 82 81 (omega arith)) i;
 }
 
-pub head-front : (t : List ℕ) → headAt (take 10 t) ≡ headAt t
-head-front t = λ i. record {
+pub constraint-front : (t : List ℕ) → constraintAt (take 10 t) ≡ constraintAt t
+constraint-front t = λ i. record {
   class = unle (take-take 2 10 t (omega arith) i);
   mask = unle (field 10 2 4 t (omega arith) i);
   first = unle (field 10 6 2 t (omega arith) i);

@@ -13,7 +13,7 @@ use Rattle.policy.specs.Statements.{Family}
 use Rattle.policy.specs.Maxima.{maxStack}
 use Rattle.policy.specs.Rows.{Row, after, balanced}
 use Rattle.policy.specs.Image.{ConstraintEntry, RelabelEntry}
-use Rattle.policy.specs.Encode.{ConstraintHead, RelabelHead}
+use Rattle.policy.specs.Encode.{ConstraintRecord, RelabelRecord}
 use Rattle.policy.specs.Sound.{ofComp, rowAt, assignRows, assignRelabels}
 use Rattle.table_reader.specs.Records as records
 use Rattle.sound_constraints.specs.Totals.{Totals}
@@ -67,13 +67,13 @@ rowsFit good (t ∷ ts) d =
 -- STATEMENTS
 
 -- what is asked of a statement's head: how many rows it takes up, whether it may take them up from a row on, and whether it is good by itself
-pub record Heads (A : Type 0) : Type 0 where
+pub record AskedOf (A : Type 0) : Type 0 where
   pub rows : A → ℕ
   pub starts : A → ℕ → Bool
   pub fits : A → Bool
 
 -- statements take up the rows in these bytes in order, from row r on, with none left
-unfoldable pub takeUp : {A : Type 0} → Heads A → (Row → Bool) → ℕ → List A → List (List ℕ) → Bool
+unfoldable pub takeUp : {A : Type 0} → AskedOf A → (Row → Bool) → ℕ → List A → List (List ℕ) → Bool
 takeUp asks good r [] ts = eqb (length ts) 0
 takeUp asks good r (h ∷ hs) ts =
     asks .starts h r && leb (asks .rows h) (length ts) && asks .fits h && rowsFit good (take (asks .rows h) ts) 0
@@ -85,7 +85,7 @@ module _ (n : Totals) where
       fitsMask (n .classes) (n .permissions) (c .class) (c .mask) && every (fitsRow 6 (n .things) (n .attributes)) (c .rows) && balanced (c .rows) 0
 
   -- the constraints of these heads, where their rows are in these bytes
-  abbrev pub constraintsFit : List ConstraintHead → List (List ℕ) → Bool
+  abbrev pub constraintsFit : List ConstraintRecord → List (List ℕ) → Bool
   constraintsFit hs ts = passes (eachOf rowAt ts >>= λ rs. assignRows 0 hs rs) (every fitsConstraint)
 
   -- W-205: "sound as 6 and 7 are"
@@ -93,5 +93,5 @@ module _ (n : Totals) where
   fitsRelabel c = ltb (c .class) (n .classes) && every (fitsRow 9 (n .things) (n .attributes)) (c .rows) && balanced (c .rows) 0
 
   -- the validatetrans statements of these heads, where their rows are in these bytes
-  abbrev pub relabelsFit : List RelabelHead → List (List ℕ) → Bool
+  abbrev pub relabelsFit : List RelabelRecord → List (List ℕ) → Bool
   relabelsFit hs ts = passes (eachOf rowAt ts >>= λ rs. assignRelabels hs rs) (every fitsRelabel)

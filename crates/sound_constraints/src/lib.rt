@@ -16,7 +16,7 @@ ghost use Prim.Native.Nat.{_+_, _*_};
 ghost use lib.ListN.{getD, drop};
 ghost use Rattle.policy.specs.Basics.{each};
 ghost use Rattle.policy.specs.Rows.{after};
-ghost use Rattle.policy.specs.Sound.{ofComp, pieces, headAt, relabelAt};
+ghost use Rattle.policy.specs.Sound.{ofComp, pieces, constraintAt, relabelAt};
 ghost use Rattle.table_reader.specs.Records.{rowOf};
 ghost use Rattle.sound_constraints.specs.Totals.{thingsOf, attributesOf, totalsIn};
 ghost use Rattle.sound_constraints.specs.SoundRows.{isBare, comparesSides, namesOne, fitsRow, fitsMask, kept, rowsFit, constraintsFit, relabelsFit};
@@ -221,7 +221,7 @@ pub fn constraints_fit(
     counts: NameCounts,
     permissions: &[usize],
 ) -> bool
-    ensures { λ r. ⌜ r ≡ constraintsFit (totalsIn counts (now (permissions .entry))) (each headAt (pieces count 10 (drop constraints (now (table .entry)))))
+    ensures { λ r. ⌜ r ≡ constraintsFit (totalsIn counts (now (permissions .entry))) (each constraintAt (pieces count 10 (drop constraints (now (table .entry)))))
         (pieces rows 6 (drop start (now (table .entry)))) ⌝ }
 {
     let mut next = 0;

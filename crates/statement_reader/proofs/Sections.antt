@@ -14,28 +14,28 @@ use Rattle.policy.specs.Reading.{rowCount}
 use Rattle.policy.specs.Rows as rows
 use Rattle.policy.specs.Rows.{Row}
 use Rattle.policy.specs.Image.{maskOf, ConstraintEntry, constraintEntry, RelabelEntry, relabelEntry}
-use Rattle.policy.specs.Encode.{NameEntry, entriesOf, entries, entryBytes, ConstraintHead, headBytes, headsFrom, rowBytes}
-use Rattle.policy.specs.Encode.{RelabelHead, relabelHead, relabelBytes}
+use Rattle.policy.specs.Encode.{NameEntry, entriesOf, entries, entryBytes, ConstraintRecord, constraintBytes, constraintRecords, rowBytes}
+use Rattle.policy.specs.Encode.{RelabelRecord, relabelRecord, relabelBytes}
 use Rattle.policy.proofs.Lists.{each-append, joined-append, gather-over, gather-last}
 use Rattle.policy.proofs.RowCounts.{rows-count}
 use Rattle.symbols.proofs.DeclaredEntries.{entries-more}
 use Rattle.image_laws.proofs.RowCounts.{rows-in-all}
 use Rattle.declarations.specs.Declares.{sectionOf}
-use Rattle.constrain_statement.specs.ConstrainWrites.{headWith, headOf}
+use Rattle.constrain_statement.specs.ConstrainWrites.{recordWith, recordOf}
 use Rattle.relabel_statement.specs.RelabelWrites as relabelling
 use Rattle.table_laws.proofs.Constraints.{rowsIn}
 use Rattle.statement_reader.specs.Memory.{symbolsOf, constraintsOf, rowsOf, relabelsOf, relabelRowsOf}
 
 -- the records of bodies 6 and 7 that one more constraint adds
-heads-more : (r : ℕ) (cs : List ConstraintEntry) (c : ConstraintEntry)
-    → headsFrom r (cs ++ (c ∷ [])) ≡ headsFrom r cs ++ (headWith (c .class) (c .mask) (r + length (rowsIn cs)) (length (c .rows)) ∷ [])
-unfolding headsFrom joined each
-heads-more r [] c = ap (λ (n : ℕ). headWith (c .class) (c .mask) n (length (c .rows)) ∷ []) (sym (add-zero r))
-heads-more r (x ∷ cs) c =
+constraint-records-more : (r : ℕ) (cs : List ConstraintEntry) (c : ConstraintEntry)
+    → constraintRecords r (cs ++ (c ∷ [])) ≡ constraintRecords r cs ++ (recordWith (c .class) (c .mask) (r + length (rowsIn cs)) (length (c .rows)) ∷ [])
+unfolding constraintRecords joined each
+constraint-records-more r [] c = ap (λ (n : ℕ). recordWith (c .class) (c .mask) n (length (c .rows)) ∷ []) (sym (add-zero r))
+constraint-records-more r (x ∷ cs) c =
     let long : r + length (x .rows) + length (rowsIn cs) ≡ r + length (x .rows ++ rowsIn cs) = omega (arith, length-append (x .rows) (rowsIn cs)) in
-    ap (λ (hs : List ConstraintHead). headWith (x .class) (x .mask) r (length (x .rows)) ∷ hs)
-    (heads-more (r + length (x .rows)) cs c
-    ∙ ap (λ (n : ℕ). headsFrom (r + length (x .rows)) cs ++ (headWith (c .class) (c .mask) n (length (c .rows)) ∷ [])) long)
+    ap (λ (hs : List ConstraintRecord). recordWith (x .class) (x .mask) r (length (x .rows)) ∷ hs)
+    (constraint-records-more (r + length (x .rows)) cs c
+    ∙ ap (λ (n : ℕ). constraintRecords (r + length (x .rows)) cs ++ (recordWith (c .class) (c .mask) n (length (c .rows)) ∷ [])) long)
 
 -- the bytes of the records of one more
 bytes-more : {A : Type 0} (f : A → List ℕ) (xs : List A) (x : A) → joined (each f (xs ++ (x ∷ []))) ≡ joined (each f xs) ++ f x
@@ -48,13 +48,13 @@ module _ (cs : List Constrain) (c : Constrain) where
   unfolding each
   entries-last = each-append constraintEntry cs (c ∷ [])
 
-  heads-last : joined (each headBytes (headsFrom 0 (each constraintEntry (cs ++ (c ∷ [])))))
-      ≡ joined (each headBytes (headsFrom 0 (each constraintEntry cs))) ++ headBytes (headOf (c .class) (c .perms) (c .body) (rowCount constrainBody cs))
-  heads-last =
-      ap (λ (es : List ConstraintEntry). joined (each headBytes (headsFrom 0 es))) entries-last
-      ∙ ap (λ (hs : List ConstraintHead). joined (each headBytes hs)) (heads-more 0 (each constraintEntry cs) (constraintEntry c))
-      ∙ bytes-more headBytes (headsFrom 0 (each constraintEntry cs)) _
-      ∙ ap₂ (λ (first n : ℕ). joined (each headBytes (headsFrom 0 (each constraintEntry cs))) ++ headBytes (headWith (c .class) (maskOf (c .perms)) first n))
+  constraint-last : joined (each constraintBytes (constraintRecords 0 (each constraintEntry (cs ++ (c ∷ [])))))
+      ≡ joined (each constraintBytes (constraintRecords 0 (each constraintEntry cs))) ++ constraintBytes (recordOf (c .class) (c .perms) (c .body) (rowCount constrainBody cs))
+  constraint-last =
+      ap (λ (es : List ConstraintEntry). joined (each constraintBytes (constraintRecords 0 es))) entries-last
+      ∙ ap (λ (hs : List ConstraintRecord). joined (each constraintBytes hs)) (constraint-records-more 0 (each constraintEntry cs) (constraintEntry c))
+      ∙ bytes-more constraintBytes (constraintRecords 0 (each constraintEntry cs)) _
+      ∙ ap₂ (λ (first n : ℕ). joined (each constraintBytes (constraintRecords 0 (each constraintEntry cs))) ++ constraintBytes (recordWith (c .class) (maskOf (c .perms)) first n))
       (zero-add _ ∙ rows-in-all cs) (rows-count (c .body))
 
 -- the rows of statements whose entries have them
@@ -75,15 +75,15 @@ module _ {A E : Type 0} (entry : A → E) (rowsFor : E → List Row) where
 
 -- the record of body 9 that one more validatetrans statement adds
 abbrev relabelRecords : List Relabel → List ℕ
-relabelRecords cs = joined (each relabelBytes (each relabelHead (each relabelEntry cs)))
+relabelRecords cs = joined (each relabelBytes (each relabelRecord (each relabelEntry cs)))
 
-relabel-last : (cs : List Relabel) (c : Relabel) → relabelRecords (cs ++ (c ∷ [])) ≡ relabelRecords cs ++ relabelBytes (relabelling.headWith (c .class) (size (c .body)))
+relabel-last : (cs : List Relabel) (c : Relabel) → relabelRecords (cs ++ (c ∷ [])) ≡ relabelRecords cs ++ relabelBytes (relabelling.recordWith (c .class) (size (c .body)))
 unfolding each
 relabel-last cs c =
-    ap (λ (es : List RelabelEntry). joined (each relabelBytes (each relabelHead es))) (each-append relabelEntry cs (c ∷ []))
-    ∙ ap (λ (hs : List RelabelHead). joined (each relabelBytes hs)) (each-append relabelHead (each relabelEntry cs) (relabelEntry c ∷ []))
-    ∙ bytes-more relabelBytes (each relabelHead (each relabelEntry cs)) (relabelHead (relabelEntry c))
-    ∙ ap (λ (n : ℕ). relabelRecords cs ++ relabelBytes (relabelling.headWith (c .class) n)) (rows-count (c .body))
+    ap (λ (es : List RelabelEntry). joined (each relabelBytes (each relabelRecord es))) (each-append relabelEntry cs (c ∷ []))
+    ∙ ap (λ (hs : List RelabelRecord). joined (each relabelBytes hs)) (each-append relabelRecord (each relabelEntry cs) (relabelEntry c ∷ []))
+    ∙ bytes-more relabelBytes (each relabelRecord (each relabelEntry cs)) (relabelRecord (relabelEntry c))
+    ∙ ap (λ (n : ℕ). relabelRecords cs ++ relabelBytes (relabelling.recordWith (c .class) n)) (rows-count (c .body))
 
 module _ (p : Policy) (l : Line) where
   -- a declaration
@@ -126,14 +126,14 @@ module _ (p : Policy) (l : Line) where
   constrains-same h = gather-over constrained p l h
 
   pub constraints-more : (c : Constrain) → constrained l ≡ some c
-      → constraintsOf (p ++ (l ∷ [])) ≡ constraintsOf p ++ headBytes (headOf (c .class) (c .perms) (c .body) (rowCount constrainBody (constrains p)))
+      → constraintsOf (p ++ (l ∷ [])) ≡ constraintsOf p ++ constraintBytes (recordOf (c .class) (c .perms) (c .body) (rowCount constrainBody (constrains p)))
   unfolding constraintsOf
   constraints-more c h =
-      ap (λ (cs : List Constrain). joined (each headBytes (headsFrom 0 (each constraintEntry cs)))) (constrains-more c h) ∙ heads-last (constrains p) c
+      ap (λ (cs : List Constrain). joined (each constraintBytes (constraintRecords 0 (each constraintEntry cs)))) (constrains-more c h) ∙ constraint-last (constrains p) c
 
   pub constraints-same : constrained l ≡ none → constraintsOf (p ++ (l ∷ [])) ≡ constraintsOf p
   unfolding constraintsOf
-  constraints-same h = ap (λ (cs : List Constrain). joined (each headBytes (headsFrom 0 (each constraintEntry cs)))) (constrains-same h)
+  constraints-same h = ap (λ (cs : List Constrain). joined (each constraintBytes (constraintRecords 0 (each constraintEntry cs)))) (constrains-same h)
 
   pub rows-more : (c : Constrain) → constrained l ≡ some c → rowsOf (p ++ (l ∷ [])) ≡ rowsOf p ++ joined (each rowBytes (rows.rowsOf (c .body)))
   unfolding rowsOf
@@ -154,7 +154,7 @@ module _ (p : Policy) (l : Line) where
   relabels-same h = gather-over relabelled p l h
 
   pub relabel-records-more : (c : Relabel) → relabelled l ≡ some c
-      → relabelsOf (p ++ (l ∷ [])) ≡ relabelsOf p ++ relabelBytes (relabelling.headWith (c .class) (size (c .body)))
+      → relabelsOf (p ++ (l ∷ [])) ≡ relabelsOf p ++ relabelBytes (relabelling.recordWith (c .class) (size (c .body)))
   unfolding relabelsOf
   relabel-records-more c h = ap relabelRecords (relabels-more c h) ∙ relabel-last (relabels p) c
 

@@ -23,10 +23,10 @@ use Rattle.policy.specs.Statements.{need, validatetrans, Relabel, relabelled, r
 use Rattle.policy.specs.Grammar.{formed}
 use Rattle.policy.specs.Reading.{fullDeclaration, isNew, hasRoom, isShort, resolved, rowCount, Judged, reads, fault, judgeMaxima, judgeResolved, judgeStatement}
 use Rattle.policy.specs.Rows as rows
-use Rattle.policy.specs.Encode.{headBytes, rowBytes, relabelBytes}
+use Rattle.policy.specs.Encode.{constraintBytes, rowBytes, relabelBytes}
 use Rattle.policy.proofs.Lists.{both-true}
 use Rattle.table_laws.proofs.Lengths.{rows-length}
-use Rattle.table_laws.proofs.Records.{head-wide, relabel-wide}
+use Rattle.table_laws.proofs.Records.{constraint-wide, relabel-wide}
 use Rattle.reading_laws.proofs.ReadThen.{line}
 use Rattle.statement_code.specs.Code.{declarationCode, statementCode, codeOf}
 use Rattle.code_laws.proofs.CodeFits.{code-last}
@@ -42,7 +42,7 @@ use Rattle.policy.proofs.RowCounts.{rows-count, rows-last}
 use Rattle.statement_writer.specs.ResolvedUnits.{WritesStatement}
 use Rattle.statement_writer.specs.declared.CodeWritten.{CodeWritten}
 use Rattle.constrain_statement.specs.ConstrainWrites as constraining
-use Rattle.constrain_statement.specs.ConstrainWrites.{headOf, WritesConstrain}
+use Rattle.constrain_statement.specs.ConstrainWrites.{recordOf, WritesConstrain}
 use Rattle.constrain_statement.specs.Limits.{fitsWithin, IsUndeclared, OrFault, Adds}
 use Rattle.relabel_statement.specs.RelabelWrites as relabelling
 use Rattle.relabel_statement.specs.RelabelWrites.{WritesRelabel}
@@ -148,15 +148,15 @@ module _ {p : Policy} {path : List Name} {lent : Memory} {sy co cs rs : List ℕ
 
       filled-constrained : {cs' rs' z w x y : List ℕ} {next : ℕ} (c : ℕ) (ps : List ℕ) (e : Constraint Reference)
           → FrontLent constraintRoom cs cs' z x → FrontLent rowRoom rs rs' w y
-          → Adds maxConstraints maxRows e 10 (headBytes (headOf c ps e (s .rows))) (take constraintRoom cs) x (s .constraints) (take rowRoom rs) y (s .rows) next
+          → Adds maxConstraints maxRows e 10 (constraintBytes (recordOf c ps e (s .rows))) (take constraintRoom cs) x (s .constraints) (take rowRoom rs) y (s .rows) next
           → Filled (p ++ (line place (constrain c ps e) ∷ [])) path lent (memory sy co cs' rs') (withRows s next)
       filled-constrained {cs'} {rs'} {z} {w} {x} {y} {next} c ps e u v a =
           let l = line place (constrain c ps e) in
           let k : Constrain = record { class = c; perms = ps; body = e } in
           let fits = within maxConstraints maxRows (s .constraints) (s .rows + size e) (a .fits) in
-          let head = headOf c ps e (rowCount constrainBody (constrains p)) in
-          let written : x ≡ put (take constraintRoom cs) (10 * s .constraints) (headBytes head) =
-          a .head ∙ ap (λ (n : ℕ). put (take constraintRoom cs) (10 * s .constraints) (headBytes (headOf c ps e n))) (h .row-count) in
+          let head = recordOf c ps e (rowCount constrainBody (constrains p)) in
+          let written : x ≡ put (take constraintRoom cs) (10 * s .constraints) (constraintBytes head) =
+          a .head ∙ ap (λ (n : ℕ). put (take constraintRoom cs) (10 * s .constraints) (constraintBytes (recordOf c ps e n))) (h .row-count) in
           let counted : s .constraints + 1 ≡ length (constrains p ++ (k ∷ [])) = omega (arith, h .constraint-count, length-append (constrains p) (k ∷ [])) in
           let numbered : next ≡ rowCount constrainBody (constrains p ++ (k ∷ [])) = omega (arith, a .next-row, h .row-count, rows-last constrainBody (constrains p) k) in
           record {
@@ -164,8 +164,8 @@ module _ {p : Policy} {path : List Name} {lent : Memory} {sy co cs rs : List ℕ
             chained = rw (declared-same p l refl) (h .chained);
             scope = h .scope;
             code = rw (code-last p l, append-nil) (h .code);
-            constraints = rw (constraints-more p l k refl, u .is) (put-behind (h .constraints) (headBytes head) x (10 * (s .constraints + 1)) written
-                (omega (arith, head-wide head)) (omega (arith, fits .1, records-first, now-long (h .constraints))));
+            constraints = rw (constraints-more p l k refl, u .is) (put-behind (h .constraints) (constraintBytes head) x (10 * (s .constraints + 1)) written
+                (omega (arith, constraint-wide head)) (omega (arith, fits .1, records-first, now-long (h .constraints))));
             rows = rw (rows-more p l k refl, v .is) (rows-behind (s .rows) next e (h .rows) (a .rows) (a .next-row) (omega (arith, fits .2, a .next-row, rows-first)));
             relabel-records = rw (relabel-records-same p l refl, u .kept) (h .relabel-records);
             relabel-rows = rw (relabel-rows-same p l refl, v .kept) (h .relabel-rows);
@@ -178,14 +178,14 @@ module _ {p : Policy} {path : List Name} {lent : Memory} {sy co cs rs : List ℕ
 
       filled-relabelled : {cs' rs' z w x y : List ℕ} {next : ℕ} (c : ℕ) (e : Constraint Reference)
           → RestLent constraintRoom cs cs' z x → RestLent rowRoom rs rs' w y
-          → Adds maxRelabels maxRelabelRows e 4 (relabelBytes (relabelling.headWith c (size e))) (drop constraintRoom cs) x (s .relabels) (drop rowRoom rs) y
+          → Adds maxRelabels maxRelabelRows e 4 (relabelBytes (relabelling.recordWith c (size e))) (drop constraintRoom cs) x (s .relabels) (drop rowRoom rs) y
           (s .«relabel_rows») next
           → Filled (p ++ (line place (validatetrans c e) ∷ [])) path lent (memory sy co cs' rs') (withRelabel s next)
       filled-relabelled {cs'} {rs'} {z} {w} {x} {y} {next} c e u v a =
           let l = line place (validatetrans c e) in
           let k : Relabel = record { class = c; body = e } in
           let fits = within maxRelabels maxRelabelRows (s .relabels) (s .«relabel_rows» + size e) (a .fits) in
-          let head = relabelling.headWith c (size e) in
+          let head = relabelling.recordWith c (size e) in
           let counted : s .relabels + 1 ≡ length (relabels p ++ (k ∷ [])) = omega (arith, h .relabel-count, length-append (relabels p) (k ∷ [])) in
           let numbered : next ≡ rowCount relabelBody (relabels p ++ (k ∷ [])) = omega (arith, a .next-row, h .relabel-row-count, rows-last relabelBody (relabels p) k) in
           record {

@@ -11,7 +11,7 @@ use Rattle.policy.specs.Statements.{Policy, declarations, transitions, constrai
 use Rattle.policy.specs.Reading.{rowCount}
 use Rattle.policy.specs.Accepted.{Accepted, GoodPath}
 use Rattle.policy.specs.Image.{ConstraintEntry, constraintEntry, RelabelEntry, relabelEntry}
-use Rattle.policy.specs.Encode.{entries, headBytes, headsFrom, rowBytes, relabelHead, relabelBytes}
+use Rattle.policy.specs.Encode.{entries, constraintBytes, constraintRecords, rowBytes, relabelRecord, relabelBytes}
 use Rattle.statement_code.specs.Code.{codeOf}
 use Rattle.name_chains.specs.Chains.{Chained}
 use Rattle.scopes.specs.Scope.{InScope}
@@ -35,7 +35,7 @@ symbolsOf p = sectionOf (declarations p)
 
 -- body 6: "Constraints in text order: class 2, permission mask 4, first row 2, row count 2"
 unfoldable pub constraintsOf : Policy → List ℕ
-constraintsOf p = joined (each headBytes (headsFrom 0 (each constraintEntry (constrains p))))
+constraintsOf p = joined (each constraintBytes (constraintRecords 0 (each constraintEntry (constrains p))))
 
 -- body 7: "Rows of 6 bytes, operands before operators, left first"
 unfoldable pub rowsOf : Policy → List ℕ
@@ -43,7 +43,7 @@ rowsOf p = joined (each rowBytes (joined (each (λ (c : ConstraintEntry). c .row
 
 -- body 9: "class and row count, 2 bytes each"
 unfoldable pub relabelsOf : Policy → List ℕ
-relabelsOf p = joined (each relabelBytes (each relabelHead (each relabelEntry (relabels p))))
+relabelsOf p = joined (each relabelBytes (each relabelRecord (each relabelEntry (relabels p))))
 
 -- body 10: "the rows"
 unfoldable pub relabelRowsOf : Policy → List ℕ

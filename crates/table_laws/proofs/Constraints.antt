@@ -13,7 +13,7 @@ use Rattle.bitset.specs.Relations.{joined}
 use Rattle.policy.specs.Basics.{more, each}
 use Rattle.policy.specs.Rows.{Row}
 use Rattle.policy.specs.Image.{ConstraintEntry, RelabelEntry}
-use Rattle.policy.specs.Encode.{ConstraintHead, headsFrom, RelabelHead, relabelHead}
+use Rattle.policy.specs.Encode.{ConstraintRecord, constraintRecords, RelabelRecord, relabelRecord}
 use Rattle.policy.specs.Sound.{assignRows, assignRelabels}
 use Rattle.policy.proofs.Lists.{both-true}
 use Rattle.policy.proofs.Options.{if-some}
@@ -23,8 +23,8 @@ use Rattle.table_laws.proofs.LayoutLaws.{fits}
 abbrev pub rowsIn : List ConstraintEntry → List Row
 rowsIn cs = joined (each (λ (c : ConstraintEntry). c .rows) cs)
 
-pub assign-back : (r : ℕ) (cs : List ConstraintEntry) → assignRows r (headsFrom r cs) (rowsIn cs) ≡ some cs
-unfolding assignRows headsFrom joined each
+pub assign-back : (r : ℕ) (cs : List ConstraintEntry) → assignRows r (constraintRecords r cs) (rowsIn cs) ≡ some cs
+unfolding assignRows constraintRecords joined each
 assign-back r [] = refl
 assign-back r (c ∷ cs) =
     rw (
@@ -35,10 +35,10 @@ assign-back r (c ∷ cs) =
       assign-back (r + length (c .rows)) cs,
     )
 
-pub assign-only : (r : ℕ) (hs : List ConstraintHead) (rs : List Row) (cs : List ConstraintEntry) → assignRows r hs rs ≡ some cs
-    → (headsFrom r cs ≡ hs) × (rowsIn cs ≡ rs)
-unfolding assignRows headsFrom joined each
-assign-only r [] [] cs e = subst (λ (cs : List ConstraintEntry). (headsFrom r cs ≡ []) × (rowsIn cs ≡ [])) (Option·some-injective [] cs e) (refl, refl)
+pub assign-only : (r : ℕ) (hs : List ConstraintRecord) (rs : List Row) (cs : List ConstraintEntry) → assignRows r hs rs ≡ some cs
+    → (constraintRecords r cs ≡ hs) × (rowsIn cs ≡ rs)
+unfolding assignRows constraintRecords joined each
+assign-only r [] [] cs e = subst (λ (cs : List ConstraintEntry). (constraintRecords r cs ≡ []) × (rowsIn cs ≡ [])) (Option·some-injective [] cs e) (refl, refl)
 assign-only r [] (x ∷ xs) cs e = absurd (Option·none-ne-some cs e)
 assign-only r (h ∷ hs) rs cs e =
     let c : ConstraintEntry = record { class = h .class; mask = h .mask; rows = take (h .rows) rs } in
@@ -46,19 +46,19 @@ assign-only r (h ∷ hs) rs cs e =
     let t = both-true (eqb (h .first) r) (leb (h .rows) (length rs)) (g .0) in
     let m = more-after c (assignRows (r + h .rows) hs (drop (h .rows) rs)) cs (g .1) in
     let after = assign-only (r + h .rows) hs (drop (h .rows) rs) (m .0) (m .1) in
-    subst (λ (cs : List ConstraintEntry). (headsFrom r cs ≡ h ∷ hs) × (rowsIn cs ≡ rs)) (sym (m .2)) (
+    subst (λ (cs : List ConstraintEntry). (constraintRecords r cs ≡ h ∷ hs) × (rowsIn cs ≡ rs)) (sym (m .2)) (
       put (m .0) (eqb-true (h .first) r (t .0)) (length-take-le (h .rows) rs (leb-true (h .rows) (length rs) (t .1))) (after .0),
       ap (λ (xs : List Row). take (h .rows) rs ++ xs) (after .1) ∙ take-append-drop (h .rows) rs,
     )
   where
-    put : (cs : List ConstraintEntry) → h .first ≡ r → length (take (h .rows) rs) ≡ h .rows → headsFrom (r + h .rows) cs ≡ hs
-        → record { class = h .class; mask = h .mask; first = r; rows = length (take (h .rows) rs) } ∷ headsFrom (r + length (take (h .rows) rs)) cs ≡ h ∷ hs
-    put cs f l e = λ i. record { class = h .class; mask = h .mask; first = sym f i; rows = l i } ∷ (ap (λ (n : ℕ). headsFrom (r + n) cs) l ∙ e) i
+    put : (cs : List ConstraintEntry) → h .first ≡ r → length (take (h .rows) rs) ≡ h .rows → constraintRecords (r + h .rows) cs ≡ hs
+        → record { class = h .class; mask = h .mask; first = r; rows = length (take (h .rows) rs) } ∷ constraintRecords (r + length (take (h .rows) rs)) cs ≡ h ∷ hs
+    put cs f l e = λ i. record { class = h .class; mask = h .mask; first = sym f i; rows = l i } ∷ (ap (λ (n : ℕ). constraintRecords (r + n) cs) l ∙ e) i
 
 abbrev rowsOf : List RelabelEntry → List Row
 rowsOf vs = joined (each (λ (v : RelabelEntry). v .rows) vs)
 
-pub relabels-back : (vs : List RelabelEntry) → assignRelabels (each relabelHead vs) (rowsOf vs) ≡ some vs
+pub relabels-back : (vs : List RelabelEntry) → assignRelabels (each relabelRecord vs) (rowsOf vs) ≡ some vs
 unfolding assignRelabels joined each
 relabels-back [] = refl
 relabels-back (v ∷ vs) =
@@ -69,9 +69,9 @@ relabels-back (v ∷ vs) =
       relabels-back vs,
     )
 
-pub relabels-only : (hs : List RelabelHead) (rs : List Row) (vs : List RelabelEntry) → assignRelabels hs rs ≡ some vs → (each relabelHead vs ≡ hs) × (rowsOf vs ≡ rs)
+pub relabels-only : (hs : List RelabelRecord) (rs : List Row) (vs : List RelabelEntry) → assignRelabels hs rs ≡ some vs → (each relabelRecord vs ≡ hs) × (rowsOf vs ≡ rs)
 unfolding assignRelabels joined each
-relabels-only [] [] vs e = subst (λ (vs : List RelabelEntry). (each relabelHead vs ≡ []) × (rowsOf vs ≡ [])) (Option·some-injective [] vs e) (refl, refl)
+relabels-only [] [] vs e = subst (λ (vs : List RelabelEntry). (each relabelRecord vs ≡ []) × (rowsOf vs ≡ [])) (Option·some-injective [] vs e) (refl, refl)
 relabels-only [] (x ∷ xs) vs e = absurd (Option·none-ne-some vs e)
 relabels-only (h ∷ hs) rs vs e =
     let v : RelabelEntry = record { class = h .class; rows = take (h .rows) rs } in
@@ -79,7 +79,7 @@ relabels-only (h ∷ hs) rs vs e =
     let m = more-after v (assignRelabels hs (drop (h .rows) rs)) vs (g .1) in
     let after = relabels-only hs (drop (h .rows) rs) (m .0) (m .1) in
     let long = length-take-le (h .rows) rs (leb-true (h .rows) (length rs) (g .0)) in
-    subst (λ (vs : List RelabelEntry). (each relabelHead vs ≡ h ∷ hs) × (rowsOf vs ≡ rs)) (sym (m .2)) (
+    subst (λ (vs : List RelabelEntry). (each relabelRecord vs ≡ h ∷ hs) × (rowsOf vs ≡ rs)) (sym (m .2)) (
       λ i. record { class = h .class; rows = long i } ∷ after .0 i,
       ap (λ (xs : List Row). take (h .rows) rs ++ xs) (after .1) ∙ take-append-drop (h .rows) rs,
     )

@@ -9,7 +9,7 @@ use lib.Seq.{length-take-le, getD-take, getD-drop}
 use Rattle.bitset.specs.Relations.{joined}
 use Rattle.policy.specs.Basics.{each, le}
 use Rattle.policy.specs.Image.{Image, RelabelEntry}
-use Rattle.policy.specs.Encode.{rowBytes, relabelHead, relabelBytes, bodies, sectionsOf}
+use Rattle.policy.specs.Encode.{rowBytes, relabelRecord, relabelBytes, bodies, sectionsOf}
 use Rattle.table_laws.specs.SoundTable.{FitsEdition}
 use Rattle.table_laws.proofs.ListLaws.{places-front, joined-front}
 
@@ -39,7 +39,7 @@ unfolding bodies
 bodies-ten i = refl
 
 -- no bytes are those of no statement
-none-written : (vs : List RelabelEntry) → joined (each relabelBytes (each relabelHead vs)) ≡ [] → vs ≡ []
+none-written : (vs : List RelabelEntry) → joined (each relabelBytes (each relabelRecord vs)) ≡ [] → vs ≡ []
 unfolding joined each le
 none-written [] h = refl
 none-written (v ∷ vs) h = absurd (nil≢cons (sym h))
@@ -77,7 +77,7 @@ module _ (e : ℕ) (i : Image) where
       last : drop 8 (bodies i) ≡ [] ∷ [] ∷ []
       last = unfold bodies joined each in
           ap {B = List (List ℕ)} (λ (vs : List RelabelEntry).
-          joined (each relabelBytes (each relabelHead vs)) ∷ joined (each rowBytes (joined (each (λ c. c .rows) vs))) ∷ []) without
+          joined (each relabelBytes (each relabelRecord vs)) ∷ joined (each rowBytes (joined (each (λ c. c .rows) vs))) ∷ []) without
 
       nothing : (j : ℕ) → getD {A = List ℕ} ([] ∷ [] ∷ []) j [] ≡ []
       nothing zero = refl

@@ -15,7 +15,7 @@ use Rattle.bitset.specs.Relations.{joined}
 use Rattle.policy.specs.Basics.{each}
 use Rattle.policy.specs.Rows.{Row}
 use Rattle.policy.specs.Image.{Image}
-use Rattle.policy.specs.Encode.{transitionBytes, headBytes, headsFrom, rowBytes, relabelHead, relabelBytes, bodies, sectionsOf, firstBody, encode}
+use Rattle.policy.specs.Encode.{transitionBytes, constraintBytes, constraintRecords, rowBytes, relabelRecord, relabelBytes, bodies, sectionsOf, firstBody, encode}
 use Rattle.policy.specs.Sound.{wellFormed}
 use Rattle.policy.specs.Deciding.{answered}
 use Rattle.policy.specs.Questions.{Records, recordsOf, recordFrom, entryOf}
@@ -24,9 +24,9 @@ use Rattle.table_laws.specs.SoundTable.{FitsEdition, allRows, relabelRow
 use Rattle.table_laws.specs.Shown.{shown, orTwelve, recordsIn}
 use Rattle.table_laws.proofs.LayoutLaws.{table-at}
 use Rattle.table_laws.proofs.Pieces.{Wide, wide-length}
-use Rattle.table_laws.proofs.Records.{head-wide, relabel-wide, row-wide}
+use Rattle.table_laws.proofs.Records.{constraint-wide, relabel-wide, row-wide}
 use Rattle.table_laws.proofs.ImageReadBack.{every-wide, transitions-wide}
-use Rattle.table_laws.proofs.Lengths.{heads-length, rows-length}
+use Rattle.table_laws.proofs.Lengths.{constraint-records-length, rows-length}
 use Rattle.table_laws.proofs.WellFormedLaid.{widths}
 
 -- part k of parts of one width
@@ -137,9 +137,9 @@ module _ (e : ℕ) (i : Image) (known : 0 < sectionsOf e) (fits : FitsEdition e 
       one-run 4 (length (i .transitions)) 82 (each transitionBytes (i .transitions)) (sym (each-length transitionBytes (i .transitions)))
       (transitions-wide (i .transitions) (widths i h .transitions)) refl k
   entry-shown (suc (suc (suc (suc (suc (suc zero)))))) k =
-      one-run 5 (length (i .constraints)) 10 (each headBytes (headsFrom 0 (i .constraints)))
-      (sym (each-length headBytes (headsFrom 0 (i .constraints)) ∙ heads-length 0 (i .constraints)))
-      (every-wide 10 headBytes head-wide (headsFrom 0 (i .constraints))) refl k
+      one-run 5 (length (i .constraints)) 10 (each constraintBytes (constraintRecords 0 (i .constraints)))
+      (sym (each-length constraintBytes (constraintRecords 0 (i .constraints)) ∙ constraint-records-length 0 (i .constraints)))
+      (every-wide 10 constraintBytes constraint-wide (constraintRecords 0 (i .constraints))) refl k
   entry-shown (suc (suc (suc (suc (suc (suc (suc zero))))))) k =
       rows-run 6 (allRows i) refl k
   entry-shown (suc (suc (suc (suc (suc (suc (suc (suc zero)))))))) k =
@@ -148,8 +148,8 @@ module _ (e : ℕ) (i : Image) (known : 0 < sectionsOf e) (fits : FitsEdition e 
       (refl, widths i h .userSets, (refl, widths i h .roleSets, (refl, widths i h .typeSets, tt))) last-body k
       ∙ ap (λ (r : List (List ℕ)). orTwelve (getElem? r k)) last-records
   entry-shown (suc (suc (suc (suc (suc (suc (suc (suc (suc zero))))))))) k =
-      one-run 8 (length (i .relabels)) 4 (each relabelBytes (each relabelHead (i .relabels)))
-      (sym (each-length relabelBytes (each relabelHead (i .relabels)) ∙ each-length relabelHead (i .relabels)))
-      (every-wide 4 relabelBytes relabel-wide (each relabelHead (i .relabels))) refl k
+      one-run 8 (length (i .relabels)) 4 (each relabelBytes (each relabelRecord (i .relabels)))
+      (sym (each-length relabelBytes (each relabelRecord (i .relabels)) ∙ each-length relabelRecord (i .relabels)))
+      (every-wide 4 relabelBytes relabel-wide (each relabelRecord (i .relabels))) refl k
   entry-shown (suc (suc (suc (suc (suc (suc (suc (suc (suc (suc zero)))))))))) k = rows-run 9 (relabelRows i) refl k
   entry-shown (suc (suc (suc (suc (suc (suc (suc (suc (suc (suc (suc b))))))))))) k = refl

@@ -13,9 +13,9 @@ use Rattle.policy.specs.Basics.{each, eachOf, le, All}
 use Rattle.policy.specs.Statements.{users, roles, types, thingOf, attributeOf, count}
 use Rattle.policy.specs.Rows.{Row}
 use Rattle.policy.specs.Image.{Image, TransitionEntry}
-use Rattle.policy.specs.Encode.{transitionBytes, ConstraintHead, headBytes, headsFrom, rowBytes, RelabelHead, relabelHead, relabelBytes, bodies}
+use Rattle.policy.specs.Encode.{transitionBytes, ConstraintRecord, constraintBytes, constraintRecords, rowBytes, RelabelRecord, relabelRecord, relabelBytes, bodies}
 use Rattle.policy.specs.Encode.{pairs, sectionsOf, firstBody, layout, encode}
-use Rattle.policy.specs.Sound.{exactly, transitionAt, rowAt, headAt, assignRows, relabelAt, assignRelabels, imageFrom, editionIn, bodiesIn, namesAt, wellFormed, imageIn}
+use Rattle.policy.specs.Sound.{exactly, transitionAt, rowAt, constraintAt, assignRows, relabelAt, assignRelabels, imageFrom, editionIn, bodiesIn, namesAt, wellFormed, imageIn}
 use Rattle.policy.proofs.Lists.{all-left, all-right}
 use Rattle.table_laws.specs.SoundTable.{Bytes, FitsEdition, allRows, relabelRows}
 use Rattle.table_laws.proofs.ListLaws.{bound-then, all-joined, all-both, each-back}
@@ -24,14 +24,14 @@ use Rattle.policy.proofs.Options.{given-some}
 use Rattle.table_laws.proofs.Editions.{edition-known}
 use Rattle.table_laws.proofs.LayoutOnly.{layout-only}
 use Rattle.table_laws.proofs.Pieces.{Wide, exactly-only}
-use Rattle.table_laws.proofs.Records.{transition-only, head-only, relabel-only, rows-only}
+use Rattle.table_laws.proofs.Records.{transition-only, constraint-only, relabel-only, rows-only}
 use Rattle.table_laws.proofs.NamesOnly.{names-only}
 use Rattle.table_laws.proofs.Constraints.{assign-only, relabels-only}
 
 -- heads of w bytes are those of their bytes
-heads-written : {A : Type 0} (w : ℕ) (read : List ℕ → A) (write : A → List ℕ) → ((t : List ℕ) → length t ≡ w → Bytes t → write (read t) ≡ t)
+records-written : {A : Type 0} (w : ℕ) (read : List ℕ → A) (write : A → List ℕ) → ((t : List ℕ) → length t ≡ w → Bytes t → write (read t) ≡ t)
     → (ts : List (List ℕ)) → Wide w ts → All Bytes ts → each write (each read ts) ≡ ts
-heads-written w read write only ts wide b = each-back (λ (t : List ℕ). (length t ≡ w) × Bytes t) read write (λ t h. only t (h .0) (h .1)) ts
+records-written w read write only ts wide b = each-back (λ (t : List ℕ). (length t ≡ w) × Bytes t) read write (λ t h. only t (h .0) (h .1)) ts
     (all-both (λ (t : List ℕ). length t ≡ w) Bytes ts wide b)
 
 module _ (bs : List (List ℕ)) where
@@ -53,7 +53,7 @@ module _ (bs : List (List ℕ)) where
     lines : exactly (length (body 6) / 6) 6 (body 6) ≡ some ts
     rs : List Row
     rows : eachOf rowAt ts ≡ some rs
-    constraints : assignRows 0 (each headAt hs) rs ≡ some (i .constraints)
+    constraints : assignRows 0 (each constraintAt hs) rs ≡ some (i .constraints)
     userSets : exactly (count (attributeOf users) (i .names)) 16 (take (16 * count (attributeOf users) (i .names)) (body 7)) ≡ some (i .userSets)
     roleSets :
         exactly (count (attributeOf roles) (i .names)) 16 (take (16 * count (attributeOf roles) (i .names)) (drop (16 * count (attributeOf users) (i .names)) (body 7)))
@@ -81,7 +81,7 @@ module _ (bs : List (List ℕ)) where
       bound-then (exactly (length (body 5) / 10) 10 (body 5)) _ i h λ hs heads h.
       bound-then (exactly (length (body 6) / 6) 6 (body 6)) _ i h λ ts lines h.
       bound-then (eachOf rowAt ts) _ i h λ rs rows h.
-      bound-then (assignRows 0 (each headAt hs) rs) _ i h λ cs constraints h.
+      bound-then (assignRows 0 (each constraintAt hs) rs) _ i h λ cs constraints h.
       bound-then (exactly (count (attributeOf users) ds) 16 (take ua (body 7))) _ i h λ us userSets h.
       bound-then (exactly (count (attributeOf roles) ds) 16 (take ra (drop ua (body 7)))) _ i h λ ss roleSets h.
       bound-then (exactly (count (attributeOf types) ds) 64 (drop ra (drop ua (body 7)))) _ i h λ ys typeSets h.
@@ -146,14 +146,14 @@ module _ (bs : List (List ℕ)) where
           ap (λ (ms : List TransitionEntry). joined (each transitionBytes ms)) (sym (f .transitions))
           ∙ ap joined (each-back (λ s. length s ≡ 82) transitionAt transitionBytes transition-only (f .ms) (p .wide)) ∙ p .whole
 
-      dealt : (headsFrom 0 (i .constraints) ≡ each headAt (f .hs)) × (allRows i ≡ f .rs)
-      dealt = assign-only 0 (each headAt (f .hs)) (f .rs) (i .constraints) (f .constraints)
+      dealt : (constraintRecords 0 (i .constraints) ≡ each constraintAt (f .hs)) × (allRows i ≡ f .rs)
+      dealt = assign-only 0 (each constraintAt (f .hs)) (f .rs) (i .constraints) (f .constraints)
 
-      six : joined (each headBytes (headsFrom 0 (i .constraints))) ≡ body 5
+      six : joined (each constraintBytes (constraintRecords 0 (i .constraints))) ≡ body 5
       six =
           let p = exactly-only (length (body 5) / 10) 10 (body 5) (f .hs) (f .heads) in
           let b = all-joined (λ b. b < 256) (f .hs) (rw (p .whole) (byte 5)) in
-          ap (λ (hs : List ConstraintHead). joined (each headBytes hs)) (dealt .0) ∙ ap joined (heads-written 10 headAt headBytes head-only (f .hs) (p .wide) b) ∙ p .whole
+          ap (λ (hs : List ConstraintRecord). joined (each constraintBytes hs)) (dealt .0) ∙ ap joined (records-written 10 constraintAt constraintBytes constraint-only (f .hs) (p .wide) b) ∙ p .whole
 
       -- the rows that are read from a body
       rows-of : (k : ℕ) (ts : List (List ℕ)) (rs rows : List Row) → exactly (length (body k) / 6) 6 (body k) ≡ some ts → eachOf rowAt ts ≡ some rs → rows ≡ rs
@@ -176,15 +176,15 @@ module _ (bs : List (List ℕ)) where
           ∙ take-append-drop ra (drop ua (body 7)))
           ∙ take-append-drop ua (body 7)
 
-      dealt-out : (each relabelHead (i .relabels) ≡ each relabelAt (f .vs)) × (relabelRows i ≡ f .ws)
+      dealt-out : (each relabelRecord (i .relabels) ≡ each relabelAt (f .vs)) × (relabelRows i ≡ f .ws)
       dealt-out = relabels-only (each relabelAt (f .vs)) (f .ws) (i .relabels) (f .relabels)
 
-      nine : joined (each relabelBytes (each relabelHead (i .relabels))) ≡ body 8
+      nine : joined (each relabelBytes (each relabelRecord (i .relabels))) ≡ body 8
       nine =
           let p = exactly-only (length (body 8) / 4) 4 (body 8) (f .vs) (f .statements) in
           let b = all-joined (λ b. b < 256) (f .vs) (rw (p .whole) (byte 8)) in
-          ap (λ (hs : List RelabelHead). joined (each relabelBytes hs)) (dealt-out .0)
-          ∙ ap joined (heads-written 4 relabelAt relabelBytes relabel-only (f .vs) (p .wide) b) ∙ p .whole
+          ap (λ (hs : List RelabelRecord). joined (each relabelBytes hs)) (dealt-out .0)
+          ∙ ap joined (records-written 4 relabelAt relabelBytes relabel-only (f .vs) (p .wide) b) ∙ p .whole
 
       ten : joined (each rowBytes (relabelRows i)) ≡ body 9
       ten = rows-of 9 (f .us) (f .ws) (relabelRows i) (f .relabel-lines) (f .relabel-rows) (dealt-out .1)

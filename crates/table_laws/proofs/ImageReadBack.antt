@@ -13,14 +13,14 @@ use Rattle.policy.specs.Basics.{each, All}
 use Rattle.policy.specs.Statements.{users, roles, types, thingOf, attributeOf, count}
 use Rattle.policy.specs.Rows.{Row}
 use Rattle.policy.specs.Image.{Image, TransitionEntry}
-use Rattle.policy.specs.Encode.{entries, transitionBytes, headBytes, headsFrom, rowBytes, relabelHead, relabelBytes, bodies, sectionsOf, firstBody, encode}
-use Rattle.policy.specs.Sound.{exactly, transitionAt, headAt, relabelAt, imageFrom, wellFormed, imageIn}
+use Rattle.policy.specs.Encode.{entries, transitionBytes, constraintBytes, constraintRecords, rowBytes, relabelRecord, relabelBytes, bodies, sectionsOf, firstBody, encode}
+use Rattle.policy.specs.Sound.{exactly, transitionAt, constraintAt, relabelAt, imageFrom, wellFormed, imageIn}
 use Rattle.table_laws.specs.SoundTable.{FitsEdition, allRows, relabelRows}
 use Rattle.table_laws.proofs.ListLaws.{all-each, each-back}
 use Rattle.table_laws.proofs.Editions.{section-at, sections-joined}
 use Rattle.table_laws.proofs.LayoutLaws.{bodies-law}
 use Rattle.table_laws.proofs.Pieces.{Wide, wide-length, exactly-back, exactly-all}
-use Rattle.table_laws.proofs.Records.{WideTransition, transition-back, transition-wide, SmallHead, head-back, head-wide, rows-back, row-wide}
+use Rattle.table_laws.proofs.Records.{WideTransition, transition-back, transition-wide, SmallConstraint, constraint-back, constraint-wide, rows-back, row-wide}
 use Rattle.table_laws.proofs.Records.{SmallRelabel, relabel-back, relabel-wide}
 use Rattle.table_laws.proofs.NamesReadBack.{Peopled, SmallNumber, names-back}
 use Rattle.table_laws.proofs.Constraints.{assign-back, relabels-back}
@@ -38,12 +38,12 @@ pub record Laid (i : Image) : Type 0 where
   pub roleTypes : Sets (count (thingOf roles) (i .names)) 64 (i .roleTypes)
   pub roleRoles : Sets (count (thingOf roles) (i .names)) 16 (i .roleRoles)
   pub transitions : All WideTransition (i .transitions)
-  pub heads : All SmallHead (headsFrom 0 (i .constraints))
+  pub constraints : All SmallConstraint (constraintRecords 0 (i .constraints))
   pub rows : All (λ (r : Row). r .num < 65536) (allRows i)
   pub userSets : Sets (count (attributeOf users) (i .names)) 16 (i .userSets)
   pub roleSets : Sets (count (attributeOf roles) (i .names)) 16 (i .roleSets)
   pub typeSets : Sets (count (attributeOf types) (i .names)) 64 (i .typeSets)
-  pub relabels : All SmallRelabel (each relabelHead (i .relabels))
+  pub relabels : All SmallRelabel (each relabelRecord (i .relabels))
   pub relabel-rows : All (λ (r : Row). r .num < 65536) (relabelRows i)
 
 -- the widths of what is written
@@ -81,10 +81,10 @@ from-back i ok =
       sets-back (count (thingOf roles) ds) 64 (i .roleTypes) (ok .roleTypes),
       sets-back (count (thingOf roles) ds) 16 (i .roleRoles) (ok .roleRoles),
       exactly-all 82 (λ k. omega arith) (each transitionBytes (i .transitions)) (transitions-wide (i .transitions) (ok .transitions)),
-      exactly-all 10 (λ k. omega arith) (each headBytes (headsFrom 0 (i .constraints))) (every-wide 10 headBytes head-wide (headsFrom 0 (i .constraints))),
+      exactly-all 10 (λ k. omega arith) (each constraintBytes (constraintRecords 0 (i .constraints))) (every-wide 10 constraintBytes constraint-wide (constraintRecords 0 (i .constraints))),
       exactly-all 6 (λ k. omega arith) (each rowBytes (allRows i)) (every-wide 6 rowBytes row-wide (allRows i)),
       rows-back (allRows i) (ok .rows),
-      each-back SmallHead headBytes headAt head-back (headsFrom 0 (i .constraints)) (ok .heads),
+      each-back SmallConstraint constraintBytes constraintAt constraint-back (constraintRecords 0 (i .constraints)) (ok .constraints),
       assign-back 0 (i .constraints),
       take-at us (rs ++ ts) (16 * count (attributeOf users) ds) long-us,
       drop-at us (rs ++ ts) (16 * count (attributeOf users) ds) long-us,
@@ -94,10 +94,10 @@ from-back i ok =
       sets-back (count (attributeOf roles) ds) 16 (i .roleSets) (ok .roleSets),
       sets-back (count (attributeOf types) ds) 64 (i .typeSets) (ok .typeSets),
       each-back WideTransition transitionBytes transitionAt transition-back (i .transitions) (ok .transitions),
-      exactly-all 4 (λ k. omega arith) (each relabelBytes (each relabelHead (i .relabels))) (every-wide 4 relabelBytes relabel-wide (each relabelHead (i .relabels))),
+      exactly-all 4 (λ k. omega arith) (each relabelBytes (each relabelRecord (i .relabels))) (every-wide 4 relabelBytes relabel-wide (each relabelRecord (i .relabels))),
       exactly-all 6 (λ k. omega arith) (each rowBytes (relabelRows i)) (every-wide 6 rowBytes row-wide (relabelRows i)),
       rows-back (relabelRows i) (ok .relabel-rows),
-      each-back SmallRelabel relabelBytes relabelAt relabel-back (each relabelHead (i .relabels)) (ok .relabels),
+      each-back SmallRelabel relabelBytes relabelAt relabel-back (each relabelRecord (i .relabels)) (ok .relabels),
       relabels-back (i .relabels),
     )
 

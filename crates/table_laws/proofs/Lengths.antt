@@ -7,7 +7,7 @@ use lib.ListN.{length, take, length-append}
 use Rattle.bitset.specs.Relations.{joined}
 use Rattle.policy.specs.Basics.{each, le, All}
 use Rattle.policy.specs.Image.{Image, ConstraintEntry}
-use Rattle.policy.specs.Encode.{entries, entryBytes, transitionBytes, headBytes, headsFrom, rowBytes, relabelHead, relabelBytes, bodies, pairs}
+use Rattle.policy.specs.Encode.{entries, entryBytes, transitionBytes, constraintBytes, constraintRecords, rowBytes, relabelRecord, relabelBytes, bodies, pairs}
 use Rattle.policy.specs.Encode.{sectionsOf, firstBody, encode}
 use Rattle.policy.specs.Rows.{Row}
 use Rattle.policy.proofs.Lists.{each-length}
@@ -15,7 +15,7 @@ use Rattle.table_laws.specs.SoundTable.{FitsEdition, allRows, relabelRow
 use Rattle.table_laws.proofs.Editions.{sections-many, sections-joined}
 use Rattle.table_laws.proofs.LayoutLaws.{pairs-length}
 use Rattle.table_laws.proofs.Pieces.{Wide, wide-length}
-use Rattle.table_laws.proofs.Records.{WideTransition, head-wide, relabel-wide, row-wide}
+use Rattle.table_laws.proofs.Records.{WideTransition, constraint-wide, relabel-wide, row-wide}
 use Rattle.table_laws.proofs.ImageReadBack.{every-wide, transitions-wide}
 use Rattle.table_laws.proofs.NamesRoom.{names-length}
 
@@ -29,10 +29,10 @@ pub record Widths (i : Image) : Type 0 where
   pub roleSets : Wide 16 (i .roleSets)
   pub typeSets : Wide 64 (i .typeSets)
 
-pub heads-length : (r : ℕ) (cs : List ConstraintEntry) → length (headsFrom r cs) ≡ length cs
-unfolding headsFrom
-heads-length r [] = refl
-heads-length r (c ∷ cs) = ap suc (heads-length (r + length (c .rows)) cs)
+pub constraint-records-length : (r : ℕ) (cs : List ConstraintEntry) → length (constraintRecords r cs) ≡ length cs
+unfolding constraintRecords
+constraint-records-length r [] = refl
+constraint-records-length r (c ∷ cs) = ap suc (constraint-records-length (r + length (c .rows)) cs)
 
 -- ten lists, one after the other
 joined-ten : (a b c d e f g h j k : List ℕ)
@@ -50,9 +50,9 @@ unfolding bodies tableLength
 bodies-length e i w =
     ap (λ (n : ℕ). firstBody e + n)
     (joined-ten (joined (each entryBytes (entries (i .names)))) (joined (i .userRoles)) (joined (i .roleTypes)) (joined (i .roleRoles))
-    (joined (each transitionBytes (i .transitions))) (joined (each headBytes (headsFrom 0 (i .constraints)))) (joined (each rowBytes (allRows i)))
+    (joined (each transitionBytes (i .transitions))) (joined (each constraintBytes (constraintRecords 0 (i .constraints)))) (joined (each rowBytes (allRows i)))
     (joined (i .userSets) ++ (joined (i .roleSets) ++ joined (i .typeSets)))
-    (joined (each relabelBytes (each relabelHead (i .relabels)))) (joined (each rowBytes (relabelRows i))))
+    (joined (each relabelBytes (each relabelRecord (i .relabels)))) (joined (each rowBytes (relabelRows i))))
     ∙ sum (firstBody e) (length (i .userRoles)) (length (i .roleTypes)) (length (i .roleRoles)) (length (i .transitions)) (length (i .constraints)) (length (allRows i))
     (length (i .userSets)) (length (i .roleSets)) (length (i .typeSets)) (length (i .relabels)) (length (relabelRows i))
     (names-length (entries (i .names)))
@@ -61,15 +61,15 @@ bodies-length e i w =
     (wide-length 16 (i .roleRoles) (w .roleRoles))
     (wide-length 82 (each transitionBytes (i .transitions)) (transitions-wide (i .transitions) (w .transitions))
     ∙ ap (λ (n : ℕ). n * 82) (each-length transitionBytes (i .transitions)))
-    (wide-length 10 (each headBytes (headsFrom 0 (i .constraints))) (every-wide 10 headBytes head-wide (headsFrom 0 (i .constraints)))
-    ∙ ap (λ (n : ℕ). n * 10) (each-length headBytes (headsFrom 0 (i .constraints)) ∙ heads-length 0 (i .constraints)))
+    (wide-length 10 (each constraintBytes (constraintRecords 0 (i .constraints))) (every-wide 10 constraintBytes constraint-wide (constraintRecords 0 (i .constraints)))
+    ∙ ap (λ (n : ℕ). n * 10) (each-length constraintBytes (constraintRecords 0 (i .constraints)) ∙ constraint-records-length 0 (i .constraints)))
     (rows-length (allRows i))
     (length-append (joined (i .userSets)) (joined (i .roleSets) ++ joined (i .typeSets))
     ∙ ap₂ _+_ (wide-length 16 (i .userSets) (w .userSets))
     (length-append (joined (i .roleSets)) (joined (i .typeSets))
     ∙ ap₂ _+_ (wide-length 16 (i .roleSets) (w .roleSets)) (wide-length 64 (i .typeSets) (w .typeSets))))
-    (wide-length 4 (each relabelBytes (each relabelHead (i .relabels))) (every-wide 4 relabelBytes relabel-wide (each relabelHead (i .relabels)))
-    ∙ ap (λ (n : ℕ). n * 4) (each-length relabelBytes (each relabelHead (i .relabels)) ∙ each-length relabelHead (i .relabels)))
+    (wide-length 4 (each relabelBytes (each relabelRecord (i .relabels))) (every-wide 4 relabelBytes relabel-wide (each relabelRecord (i .relabels)))
+    ∙ ap (λ (n : ℕ). n * 4) (each-length relabelBytes (each relabelRecord (i .relabels)) ∙ each-length relabelRecord (i .relabels)))
     (rows-length (relabelRows i))
   where
     sum : (header ur rt rr ms cs rs us ss ts vs ws : ℕ) {a b c d e f g h j k n : ℕ}

@@ -12,8 +12,8 @@ use borrow.Author.Tests.{eqb-true}
 use Rattle.policy.specs.Basics.{more, each, eachOf, le, unle, All}
 use Rattle.policy.specs.Rows.{Row, row}
 use Rattle.policy.specs.Image.{TransitionEntry}
-use Rattle.policy.specs.Encode.{transitionBytes, ConstraintHead, headBytes, RelabelHead, relabelBytes, rowBytes}
-use Rattle.policy.specs.Sound.{transitionAt, rowAt, headAt, relabelAt}
+use Rattle.policy.specs.Encode.{transitionBytes, ConstraintRecord, constraintBytes, RelabelRecord, relabelBytes, rowBytes}
+use Rattle.policy.specs.Sound.{transitionAt, rowAt, constraintAt, relabelAt}
 use Rattle.policy.proofs.Options.{given-some}
 use Rattle.table_laws.specs.SoundTable.{Bytes}
 use Rattle.table_laws.proofs.ListLaws.{more-some, all-drop}
@@ -62,31 +62,31 @@ transition-only t h =
 
 -- CONSTRAINT HEADS
 
-pub record SmallHead (h : ConstraintHead) : Type 0 where
+pub record SmallConstraint (h : ConstraintRecord) : Type 0 where
   pub class : h .class < 65536
   pub mask : h .mask < 4294967296
   pub first : h .first < 65536
   pub rows : h .rows < 65536
 
-pub head-back : (h : ConstraintHead) → SmallHead h → headAt (headBytes h) ≡ h
+pub constraint-back : (h : ConstraintRecord) → SmallConstraint h → constraintAt (constraintBytes h) ≡ h
 unfolding le
-head-back h s = λ i. record {
+constraint-back h s = λ i. record {
   class = unle-le 2 (h .class) (s .class) i;
   mask = unle-le 4 (h .mask) (s .mask) i;
   first = unle-le 2 (h .first) (s .first) i;
   rows = unle-le 2 (h .rows) (s .rows) i;
 }
 
-pub head-wide : (h : ConstraintHead) → length (headBytes h) ≡ 10
+pub constraint-wide : (h : ConstraintRecord) → length (constraintBytes h) ≡ 10
 unfolding le
-head-wide h = refl
+constraint-wide h = refl
 
 -- w bytes from m on are those of their number
 field : (w m : ℕ) (t : List ℕ) → Bytes t → m + w ≤ length t → le w (unle (take w (drop m t))) ≡ take w (drop m t)
 field w m t b l = le-unle-take w (drop m t) (all-drop (λ b. b < 256) m t b) (omega (arith, length-drop m t))
 
-pub head-only : (t : List ℕ) → length t ≡ 10 → Bytes t → headBytes (headAt t) ≡ t
-head-only t h b = rw (
+pub constraint-only : (t : List ℕ) → length t ≡ 10 → Bytes t → constraintBytes (constraintAt t) ≡ t
+constraint-only t h b = rw (
   field 2 0 t b (omega arith),
   field 4 2 t b (omega arith),
   field 2 6 t b (omega arith),
@@ -99,15 +99,15 @@ head-only t h b = rw (
 
 -- VALIDATETRANS HEADS
 
-pub record SmallRelabel (h : RelabelHead) : Type 0 where
+pub record SmallRelabel (h : RelabelRecord) : Type 0 where
   pub class : h .class < 65536
   pub rows : h .rows < 65536
 
-pub relabel-back : (h : RelabelHead) → SmallRelabel h → relabelAt (relabelBytes h) ≡ h
+pub relabel-back : (h : RelabelRecord) → SmallRelabel h → relabelAt (relabelBytes h) ≡ h
 unfolding le
 relabel-back h s = λ i. record { class = unle-le 2 (h .class) (s .class) i; rows = unle-le 2 (h .rows) (s .rows) i }
 
-pub relabel-wide : (h : RelabelHead) → length (relabelBytes h) ≡ 4
+pub relabel-wide : (h : RelabelRecord) → length (relabelBytes h) ≡ 4
 unfolding le
 relabel-wide h = refl
 

@@ -10,8 +10,8 @@ use Rattle.policy.specs.Basics.{each, le, All}
 use Rattle.policy.specs.Statements.{roles, thingOf}
 use Rattle.policy.specs.Rows.{Row}
 use Rattle.policy.specs.Image.{Image, TransitionEntry}
-use Rattle.policy.specs.Encode.{NameEntry, entries, entryBytes, transitionBytes, ConstraintHead, headBytes, headsFrom, rowBytes}
-use Rattle.policy.specs.Encode.{RelabelHead, relabelHead, relabelBytes, bodies, pairs, sectionsOf, firstBody, encode}
+use Rattle.policy.specs.Encode.{NameEntry, entries, entryBytes, transitionBytes, ConstraintRecord, constraintBytes, constraintRecords, rowBytes}
+use Rattle.policy.specs.Encode.{RelabelRecord, relabelRecord, relabelBytes, bodies, pairs, sectionsOf, firstBody, encode}
 use Rattle.policy.specs.Sound.{wellFormed}
 use Rattle.policy.proofs.Lists.{all-append, all-left, all-right}
 use Rattle.table_laws.specs.SoundTable.{Bytes, SetsOfBytes, allRows, relabelRows}
@@ -46,16 +46,16 @@ entry-bytes e g = (
   number 2 (e .number) (length (e .name) ∷ e .name) (omega (arith, name-short (e .name) (g .name)), name-bytes (e .name) (g .name)),
 )
 
-heads-bytes : (hs : List ConstraintHead) → All Bytes (each headBytes hs)
+constraints-bytes : (hs : List ConstraintRecord) → All Bytes (each constraintBytes hs)
 unfolding each
-heads-bytes [] = tt
-heads-bytes (h ∷ hs) = (
+constraints-bytes [] = tt
+constraints-bytes (h ∷ hs) = (
   number 2 (h .class) (le 4 (h .mask) ++ (le 2 (h .first) ++ le 2 (h .rows)))
       (number 4 (h .mask) (le 2 (h .first) ++ le 2 (h .rows)) (number 2 (h .first) (le 2 (h .rows)) (le-bytes 2 (h .rows)))),
-  heads-bytes hs,
+  constraints-bytes hs,
 )
 
-relabels-bytes : (hs : List RelabelHead) → All Bytes (each relabelBytes hs)
+relabels-bytes : (hs : List RelabelRecord) → All Bytes (each relabelBytes hs)
 unfolding each
 relabels-bytes [] = tt
 relabels-bytes (h ∷ hs) = (number 2 (h .class) (le 2 (h .rows)) (le-bytes 2 (h .rows)), relabels-bytes hs)
@@ -91,14 +91,14 @@ module _ (i : Image) (h : wellFormed i ≡ true) (b : SetsOfBytes i) where
           (
             all (each transitionBytes (i .transitions)) moves,
             (
-              all (each headBytes (headsFrom 0 (i .constraints))) (heads-bytes (headsFrom 0 (i .constraints))),
+              all (each constraintBytes (constraintRecords 0 (i .constraints))) (constraints-bytes (constraintRecords 0 (i .constraints))),
               (
                 rows (allRows i) (rows-small i h),
                 (
                   two (joined (i .userSets)) (joined (i .roleSets) ++ joined (i .typeSets)) (all (i .userSets) (b .userSets))
                       (two (joined (i .roleSets)) (joined (i .typeSets)) (all (i .roleSets) (b .roleSets)) (all (i .typeSets) (b .typeSets))),
                   (
-                    all (each relabelBytes (each relabelHead (i .relabels))) (relabels-bytes (each relabelHead (i .relabels))),
+                    all (each relabelBytes (each relabelRecord (i .relabels))) (relabels-bytes (each relabelRecord (i .relabels))),
                     (rows (relabelRows i) (relabel-rows-small i h), tt),
                   ),
                 ),

@@ -12,13 +12,13 @@ use Rattle.policy.specs.Basics.{each, All}
 use Rattle.policy.specs.Statements.{users, roles, types, Sort, thingOf, attributeOf, count}
 use Rattle.policy.specs.Rows.{Row}
 use Rattle.policy.specs.Image.{Image, TransitionEntry, ConstraintEntry, RelabelEntry}
-use Rattle.policy.specs.Encode.{entries, headsFrom, relabelHead, bodies, sectionsOf, firstBody, encode}
+use Rattle.policy.specs.Encode.{entries, constraintRecords, relabelRecord, bodies, sectionsOf, firstBody, encode}
 use Rattle.policy.specs.Sound.{goodRow, goodConstraint, goodRelabel, goodTransition, wellFormed, imageIn}
 use Rattle.table_laws.specs.SoundTable.{FitsEdition, allRows, relabelRows, tableLength}
 use Rattle.table_laws.proofs.ListLaws.{all-each, joined-all}
 use Rattle.policy.proofs.Gathered.{all-map}
 use Rattle.policy.proofs.Counts.{few-of, few-permissions-of}
-use Rattle.table_laws.proofs.Records.{WideTransition, SmallHead, SmallRelabel}
+use Rattle.table_laws.proofs.Records.{WideTransition, SmallConstraint, SmallRelabel}
 use Rattle.table_laws.proofs.Constraints.{rowsIn}
 use Rattle.table_laws.proofs.Editions.{edition-known, without-fits}
 use Rattle.table_laws.proofs.ImageReadBack.{Sets, Laid, image-back}
@@ -38,10 +38,10 @@ module _ (i : Image) (h : wellFormed i ≡ true) where
   mask-small : (c : ConstraintEntry) → GoodConstraint (i .names) c → c .mask < 4294967296
   mask-small c g = omega (arith, g .mask, pow-le-pow-right {n = 2} (omega arith) (few-permissions-of (i .names) (formed i h .names) (c .class)))
 
-  heads-small : (r : ℕ) (cs : List ConstraintEntry) → All (GoodConstraint (i .names)) cs → r + length (rowsIn cs) ≤ 2048 → All SmallHead (headsFrom r cs)
-  unfolding headsFrom joined each
-  heads-small r [] g l = tt
-  heads-small r (c ∷ cs) g l =
+  constraints-small : (r : ℕ) (cs : List ConstraintEntry) → All (GoodConstraint (i .names)) cs → r + length (rowsIn cs) ≤ 2048 → All SmallConstraint (constraintRecords r cs)
+  unfolding constraintRecords joined each
+  constraints-small r [] g l = tt
+  constraints-small r (c ∷ cs) g l =
       let long = length-append (c .rows) (rowsIn cs) in (
         record {
           class = omega (arith, g .0 .class, few-classes (i .names) (formed i h .names));
@@ -49,7 +49,7 @@ module _ (i : Image) (h : wellFormed i ≡ true) where
           first = omega arith;
           rows = omega arith;
         },
-        heads-small (r + length (c .rows)) cs (g .1) (omega arith),
+        constraints-small (r + length (c .rows)) cs (g .1) (omega arith),
       )
 
   pub constraints-good : All (GoodConstraint (i .names)) (i .constraints)
@@ -77,7 +77,7 @@ module _ (i : Image) (h : wellFormed i ≡ true) where
   pub relabel-rows-small : All SmallRow (relabelRows i)
   relabel-rows-small = entry-rows 9 (omega arith) (GoodRelabel (i .names)) (λ v. v .rows) (λ v g. g .rows) (i .relabels) relabels-good
 
-  relabels-small : (vs : List RelabelEntry) → All (GoodRelabel (i .names)) vs → length (joined (each (λ v. v .rows) vs)) ≤ 1024 → All SmallRelabel (each relabelHead vs)
+  relabels-small : (vs : List RelabelEntry) → All (GoodRelabel (i .names)) vs → length (joined (each (λ v. v .rows) vs)) ≤ 1024 → All SmallRelabel (each relabelRecord vs)
   unfolding joined each
   relabels-small [] g l = tt
   relabels-small (v ∷ vs) g l =
@@ -166,7 +166,7 @@ module _ (i : Image) (h : wellFormed i ≡ true) where
     roleTypes = roleTypes;
     roleRoles = roleRoles;
     transitions = wide-transitions;
-    heads = heads-small 0 (i .constraints) constraints-good (omega (arith, formed i h .few-rows));
+    constraints = constraints-small 0 (i .constraints) constraints-good (omega (arith, formed i h .few-rows));
     rows = all-map SmallRow (λ (r : Row). r .num < 65536) (λ r s. s .num) (allRows i) rows-small;
     userSets = userSets;
     roleSets = roleSets;

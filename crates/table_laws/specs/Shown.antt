@@ -9,7 +9,7 @@ use lib.ListN.{getD, getElem?, take, drop}
 use Rattle.policy.specs.Basics.{Name, _>>=_, each}
 use Rattle.policy.specs.Statements.{Declaration, namesOf, classNames, permissions}
 use Rattle.policy.specs.Image.{Image}
-use Rattle.policy.specs.Encode.{transitionBytes, headBytes, headsFrom, rowBytes, relabelHead, relabelBytes}
+use Rattle.policy.specs.Encode.{transitionBytes, constraintBytes, constraintRecords, rowBytes, relabelRecord, relabelBytes}
 use Rattle.policy.specs.Sound.{sortOf}
 use Rattle.policy.specs.Deciding.{Reply, answered, refused}
 use Rattle.policy.specs.Questions.{Part}
@@ -41,9 +41,9 @@ recordsIn i b = getD (
     ∷ i .roleTypes
     ∷ i .roleRoles
     ∷ each transitionBytes (i .transitions)
-    ∷ each headBytes (headsFrom 0 (i .constraints))
+    ∷ each constraintBytes (constraintRecords 0 (i .constraints))
     ∷ each rowBytes (allRows i)
     ∷ (i .userSets ++ (i .roleSets ++ i .typeSets))
-    ∷ each relabelBytes (each relabelHead (i .relabels))
+    ∷ each relabelBytes (each relabelRecord (i .relabels))
     ∷ each rowBytes (relabelRows i)
     ∷ []) b []

@@ -16,7 +16,7 @@ use Rattle.policy.specs.Statements.{Family, users, roles, types, Sort, thingOf,
 use Rattle.policy.specs.Rows.{Row}
 use Rattle.policy.specs.Image.{Image}
 use Rattle.policy.specs.Encode.{NameEntry, nameEntry, sortCode, entryBytes, entries, firstBody}
-use Rattle.policy.specs.Sound.{editionIn, namesAt, transitionAt, headAt, rowAt, assignRows, relabelAt, assignRelabels}
+use Rattle.policy.specs.Sound.{editionIn, namesAt, transitionAt, constraintAt, rowAt, assignRows, relabelAt, assignRelabels}
 use Rattle.policy.specs.Deciding.{Reply, answered, refused}
 use Rattle.policy.specs.Questions.{Part, nameFrom, nameOf, nameOn, asked}
 use Rattle.policy.proofs.Lists.{both-true}
@@ -271,7 +271,7 @@ module _ (t u : List ℕ) (a : Sound t) (b : Sound u) (same : SameAnswers t u) w
     roleTypes = (sym (back .roleTypes) ∙ same-body 3 ∙ back′ .roleTypes) x;
     roleRoles = (sym (back .roleRoles) ∙ same-body 4 ∙ back′ .roleRoles) x;
     transitions = (sym (back .transitions) ∙ ap (each transitionAt) (same-body 5) ∙ back′ .transitions) x;
-    constraints = same-with-rows headAt (assignRows 0) 6 (i .constraints) (j .constraints) (back .constraints) (back′ .constraints) x;
+    constraints = same-with-rows constraintAt (assignRows 0) 6 (i .constraints) (j .constraints) (back .constraints) (back′ .constraints) x;
     userSets = first-sets .0 x;
     roleSets = last-sets .0 x;
     typeSets = last-sets .1 x;

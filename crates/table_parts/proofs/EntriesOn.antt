@@ -11,16 +11,16 @@ use Rattle.policy.specs.Statements.{users, roles, types, Sort, attributeOf, cou
 use Rattle.policy.specs.declared.NameCounts.{NameCounts}
 use Rattle.policy.specs.Maxima.{maxOf}
 use Rattle.policy.specs.Image.{Image, RelabelEntry}
-use Rattle.policy.specs.Encode.{transitionBytes, headBytes, headsFrom, relabelHead, relabelBytes, sortCode, bodies, sectionsOf, firstBody}
+use Rattle.policy.specs.Encode.{transitionBytes, constraintBytes, constraintRecords, relabelRecord, relabelBytes, sortCode, bodies, sectionsOf, firstBody}
 use Rattle.policy.specs.Sound.{editionIn}
 use Rattle.policy.specs.Deciding.{refused}
 use Rattle.policy.specs.Questions.{Records, recordsOf, records, recordFrom, entryOf, asked, entryOn}
 use Rattle.policy.proofs.Lists.{each-length}
 use Rattle.policy.proofs.Counts.{few-of}
 use Rattle.table_laws.proofs.Pieces.{wide-length}
-use Rattle.table_laws.proofs.Records.{head-wide, relabel-wide}
+use Rattle.table_laws.proofs.Records.{constraint-wide, relabel-wide}
 use Rattle.table_laws.proofs.ImageReadBack.{every-wide, transitions-wide}
-use Rattle.table_laws.proofs.Lengths.{heads-length}
+use Rattle.table_laws.proofs.Lengths.{constraint-records-length}
 use Rattle.table_laws.proofs.Editions.{edition-known, least-section, without-fits}
 use Rattle.table_laws.proofs.WellFormedLaid.{widths, well-formed-laid}
 use Rattle.table_reader.specs.Records.{startIn, lengthIn, bodyPlace}
@@ -114,9 +114,9 @@ module _ {t : List ℕ} (h : Held t) where
       (omega (
         arith,
         h .long 5 l,
-        wide-length 10 (each headBytes (headsFrom 0 (i .constraints))) (every-wide 10 headBytes head-wide (headsFrom 0 (i .constraints))),
-        each-length headBytes (headsFrom 0 (i .constraints)),
-        heads-length 0 (i .constraints),
+        wide-length 10 (each constraintBytes (constraintRecords 0 (i .constraints))) (every-wide 10 constraintBytes constraint-wide (constraintRecords 0 (i .constraints))),
+        each-length constraintBytes (constraintRecords 0 (i .constraints)),
+        constraint-records-length 0 (i .constraints),
       ))
   entry-run (suc (suc (suc (suc (suc (suc zero)))))) k l w = rows-run 6 k l refl
   entry-run (suc (suc (suc (suc (suc (suc (suc zero))))))) k l w = absurd (omega arith)
@@ -124,9 +124,9 @@ module _ {t : List ℕ} (h : Held t) where
       (omega (
         arith,
         h .long 8 l,
-        wide-length 4 (each relabelBytes (each relabelHead (i .relabels))) (every-wide 4 relabelBytes relabel-wide (each relabelHead (i .relabels))),
-        each-length relabelBytes (each relabelHead (i .relabels)),
-        each-length relabelHead (i .relabels),
+        wide-length 4 (each relabelBytes (each relabelRecord (i .relabels))) (every-wide 4 relabelBytes relabel-wide (each relabelRecord (i .relabels))),
+        each-length relabelBytes (each relabelRecord (i .relabels)),
+        each-length relabelRecord (i .relabels),
       ))
   entry-run (suc (suc (suc (suc (suc (suc (suc (suc (suc zero))))))))) k l w = rows-run 9 k l refl
   entry-run (suc (suc (suc (suc (suc (suc (suc (suc (suc (suc b)))))))))) k l w = absurd (omega arith)

@@ -11,8 +11,8 @@ use Rattle.policy.specs.Basics.{_>>=_, each, eachOf, All}
 use Rattle.policy.specs.Statements.{users, roles, types, Sort, thingOf, attributeOf, namesOf, classNames, permissions, count}
 use Rattle.policy.specs.Rows.{Row}
 use Rattle.policy.specs.Image.{Image}
-use Rattle.policy.specs.Encode.{sortCode, transitionBytes, headBytes, headsFrom, rowBytes, relabelHead, relabelBytes, sectionsOf, encode}
-use Rattle.policy.specs.Sound.{wellFormed, transitionAt, headAt, rowAt, assignRows, relabelAt, assignRelabels}
+use Rattle.policy.specs.Encode.{sortCode, transitionBytes, constraintBytes, constraintRecords, rowBytes, relabelRecord, relabelBytes, sectionsOf, encode}
+use Rattle.policy.specs.Sound.{wellFormed, transitionAt, constraintAt, rowAt, assignRows, relabelAt, assignRelabels}
 use Rattle.policy.specs.Deciding.{Reply}
 use Rattle.policy.specs.Questions.{nameOn, entryOn}
 use Rattle.policy.proofs.Lists.{each-length}
@@ -21,9 +21,9 @@ use Rattle.policy.proofs.Sorts.{max-small}
 use Rattle.table_laws.specs.SoundTable.{FitsEdition, Sound, allRows, relabelRows}
 use Rattle.table_laws.specs.Shown.{shown, orTwelve, nameIn, recordsIn}
 use Rattle.table_laws.proofs.ListLaws.{each-back}
-use Rattle.table_laws.proofs.Records.{WideTransition, transition-back, SmallHead, head-back, SmallRelabel, relabel-back, rows-back}
+use Rattle.table_laws.proofs.Records.{WideTransition, transition-back, SmallConstraint, constraint-back, SmallRelabel, relabel-back, rows-back}
 use Rattle.table_laws.proofs.Constraints.{assign-back, relabels-back}
-use Rattle.table_laws.proofs.Lengths.{heads-length}
+use Rattle.table_laws.proofs.Lengths.{constraint-records-length}
 use Rattle.table_laws.proofs.ImageReadBack.{Laid}
 use Rattle.table_laws.proofs.WellFormed.{Formed, formed}
 use Rattle.table_laws.proofs.WellFormedLaid.{well-formed-laid}
@@ -101,17 +101,17 @@ module _ (t : List ℕ) (s : Sound t) where
       ap (each transitionAt) (body 5 (omega (arith, each-length transitionBytes (i .transitions), form .few-transitions)))
       ∙ each-back WideTransition transitionBytes transitionAt transition-back (i .transitions) (laid .transitions)
 
-  heads-back : each headAt (entriesOf t 6) ≡ headsFrom 0 (i .constraints)
+  constraint-records-back : each constraintAt (entriesOf t 6) ≡ constraintRecords 0 (i .constraints)
   unfolding recordsIn
-  heads-back =
-      ap (each headAt) (body 6 (omega (arith, each-length headBytes (headsFrom 0 (i .constraints)), heads-length 0 (i .constraints), form .few-constraints)))
-      ∙ each-back SmallHead headBytes headAt head-back (headsFrom 0 (i .constraints)) (laid .heads)
+  constraint-records-back =
+      ap (each constraintAt) (body 6 (omega (arith, each-length constraintBytes (constraintRecords 0 (i .constraints)), constraint-records-length 0 (i .constraints), form .few-constraints)))
+      ∙ each-back SmallConstraint constraintBytes constraintAt constraint-back (constraintRecords 0 (i .constraints)) (laid .constraints)
 
-  relabel-heads-back : each relabelAt (entriesOf t 9) ≡ each relabelHead (i .relabels)
+  relabel-records-back : each relabelAt (entriesOf t 9) ≡ each relabelRecord (i .relabels)
   unfolding recordsIn
-  relabel-heads-back =
-      let heads = each relabelHead (i .relabels) in
-      ap (each relabelAt) (body 9 (omega (arith, each-length relabelBytes heads, each-length relabelHead (i .relabels), form .few-relabels)))
+  relabel-records-back =
+      let heads = each relabelRecord (i .relabels) in
+      ap (each relabelAt) (body 9 (omega (arith, each-length relabelBytes heads, each-length relabelRecord (i .relabels), form .few-relabels)))
       ∙ each-back SmallRelabel relabelBytes relabelAt relabel-back heads (laid .relabels)
 
   -- records and rows that are given back are so together
@@ -138,11 +138,11 @@ module _ (t : List ℕ) (s : Sound t) where
     roleRoles = body 4 (omega (arith, laid .roleRoles .many, few (thingOf roles)));
     transitions = transitions-back;
     constraints =
-        with-rows headAt (assignRows 0) 6 (headsFrom 0 (i .constraints)) (allRows i) (i .constraints) heads-back refl (form .few-rows) (laid .rows)
+        with-rows constraintAt (assignRows 0) 6 (constraintRecords 0 (i .constraints)) (allRows i) (i .constraints) constraint-records-back refl (form .few-rows) (laid .rows)
         (assign-back 0 (i .constraints));
     attributes = body 8 few-sets;
     relabels =
-        with-rows relabelAt assignRelabels 9 (each relabelHead (i .relabels)) (relabelRows i) (i .relabels) relabel-heads-back refl (omega (arith, form .few-relabel-rows))
+        with-rows relabelAt assignRelabels 9 (each relabelRecord (i .relabels)) (relabelRows i) (i .relabels) relabel-records-back refl (omega (arith, form .few-relabel-rows))
         (laid .relabel-rows) (relabels-back (i .relabels));
   }
 

@@ -9,7 +9,7 @@ use Rattle.policy.specs.Statements.{Sort, namesOf, classNames, permissions}
 use Rattle.policy.specs.Rows.{Row}
 use Rattle.policy.specs.Image.{Image}
 use Rattle.policy.specs.Encode.{sortCode}
-use Rattle.policy.specs.Sound.{transitionAt, headAt, rowAt, assignRows, relabelAt, assignRelabels}
+use Rattle.policy.specs.Sound.{transitionAt, constraintAt, rowAt, assignRows, relabelAt, assignRelabels}
 use Rattle.policy.specs.Deciding.{Reply, answered, refused}
 use Rattle.policy.specs.Questions.{nameOn, entryOn}
 use Rattle.table_laws.specs.Shown as parts
@@ -49,7 +49,7 @@ pub record GivesBack (t : List ℕ) (i : Image) : Type 0 where
   pub roleTypes : entriesOf t 3 ≡ i .roleTypes
   pub roleRoles : entriesOf t 4 ≡ i .roleRoles
   pub transitions : each transitionAt (entriesOf t 5) ≡ i .transitions
-  pub constraints : withRows headAt (assignRows 0) t 6 ≡ some (i .constraints)
+  pub constraints : withRows constraintAt (assignRows 0) t 6 ≡ some (i .constraints)
   pub attributes : entriesOf t 8 ≡ i .userSets ++ (i .roleSets ++ i .typeSets)
   pub relabels : withRows relabelAt assignRelabels t 9 ≡ some (i .relabels)
 

@@ -8,10 +8,10 @@ use Rattle.bitset.specs.Relations.{joined}
 use Rattle.policy.specs.Basics.{each, le, All}
 use Rattle.policy.specs.Rows.{Row, row}
 use Rattle.policy.specs.Image.{TransitionEntry}
-use Rattle.policy.specs.Encode.{transitionBytes, ConstraintHead, headBytes, RelabelHead, relabelBytes, rowBytes}
-use Rattle.policy.specs.Sound.{transitionAt, headAt, relabelAt}
+use Rattle.policy.specs.Encode.{transitionBytes, ConstraintRecord, constraintBytes, RelabelRecord, relabelBytes, rowBytes}
+use Rattle.policy.specs.Sound.{transitionAt, constraintAt, relabelAt}
 use Rattle.table_laws.proofs.LittleEndian.{unle-le}
-use Rattle.table_laws.proofs.Records.{WideTransition, transition-wide, SmallHead, head-wide, SmallRelabel, relabel-wide, row-wide}
+use Rattle.table_laws.proofs.Records.{WideTransition, transition-wide, SmallConstraint, constraint-wide, SmallRelabel, relabel-wide, row-wide}
 use Rattle.table_reader.specs.Records.{records, rowAt}
 use Rattle.table_reader.proofs.RecordLaws.{Stands, records-part}
 
@@ -29,25 +29,25 @@ rows-part = records-part 6 rowAt rowBytes SmallRow (λ r h. row-wide r) row-fron
 
 -- BODY 6
 
-head-front : (h : ConstraintHead) → SmallHead h → (rest : List ℕ) → headAt (headBytes h ++ rest) ≡ h
+constraint-front : (h : ConstraintRecord) → SmallConstraint h → (rest : List ℕ) → constraintAt (constraintBytes h ++ rest) ≡ h
 unfolding le
-head-front h s rest = λ i. record {
+constraint-front h s rest = λ i. record {
   class = unle-le 2 (h .class) (s .class) i;
   mask = unle-le 4 (h .mask) (s .mask) i;
   first = unle-le 2 (h .first) (s .first) i;
   rows = unle-le 2 (h .rows) (s .rows) i;
 }
 
-pub heads-part : {t : List ℕ} {at : ℕ} (l : List ConstraintHead) → All SmallHead l → Stands t at (joined (each headBytes l)) → records 10 headAt (length l) (drop at t) ≡ l
-heads-part = records-part 10 headAt headBytes SmallHead (λ h s. head-wide h) head-front
+pub constraints-part : {t : List ℕ} {at : ℕ} (l : List ConstraintRecord) → All SmallConstraint l → Stands t at (joined (each constraintBytes l)) → records 10 constraintAt (length l) (drop at t) ≡ l
+constraints-part = records-part 10 constraintAt constraintBytes SmallConstraint (λ h s. constraint-wide h) constraint-front
 
 -- BODY 9
 
-relabel-front : (h : RelabelHead) → SmallRelabel h → (rest : List ℕ) → relabelAt (relabelBytes h ++ rest) ≡ h
+relabel-front : (h : RelabelRecord) → SmallRelabel h → (rest : List ℕ) → relabelAt (relabelBytes h ++ rest) ≡ h
 unfolding le
 relabel-front h s rest = λ i. record { class = unle-le 2 (h .class) (s .class) i; rows = unle-le 2 (h .rows) (s .rows) i }
 
-pub relabels-part : {t : List ℕ} {at : ℕ} (l : List RelabelHead) → All SmallRelabel l → Stands t at (joined (each relabelBytes l))
+pub relabels-part : {t : List ℕ} {at : ℕ} (l : List RelabelRecord) → All SmallRelabel l → Stands t at (joined (each relabelBytes l))
     → records 4 relabelAt (length l) (drop at t) ≡ l
 relabels-part = records-part 4 relabelAt relabelBytes SmallRelabel (λ h s. relabel-wide h) relabel-front
 

@@ -12,8 +12,8 @@ ghost use lib.ListN.{length, take, drop};
 ghost use Rattle.policy.specs.Basics.{unle};
 ghost use Rattle.policy.specs.Answers.{familyOf};
 ghost use Rattle.policy.specs.Encode.{sectionsOf};
-ghost use Rattle.policy.specs.Sound.{ofComp, headAt, relabelAt, editionIn};
-ghost use Rattle.table_reader.specs.Records.{rowAt, rowOf, headOf, relabelOf, startIn, lengthIn};
+ghost use Rattle.policy.specs.Sound.{ofComp, constraintAt, relabelAt, editionIn};
+ghost use Rattle.table_reader.specs.Records.{rowAt, rowOf, constraintOf, relabelOf, startIn, lengthIn};
 
 // A constraint of body 6: its class, its permission mask, its first row and how many rows it has.
 pub struct ConstraintRecord {
@@ -70,7 +70,7 @@ pub fn u32_at(table: &[u8], at: usize) -> u32
 
 // The constraint of this number, where the constraints of 10 bytes start at `start`.
 pub fn constraint_at(table: &[u8], start: u32, number: u32) -> ConstraintRecord
-    ensures { λ r. ⌜ headOf r ≡ headAt (drop (start + 10 * number) (now (table .entry))) ⌝ }
+    ensures { λ r. ⌜ constraintOf r ≡ constraintAt (drop (start + 10 * number) (now (table .entry))) ⌝ }
 {
     let at = start as usize + Constraint::BYTES * (number as usize);
     ConstraintRecord {

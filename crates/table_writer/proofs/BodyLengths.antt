@@ -12,15 +12,15 @@ use Rattle.policy.specs.Meaning.{countIn, final}
 use Rattle.policy.specs.Reading.{rowCount}
 use Rattle.policy.specs.Accepted.{Accepted}
 use Rattle.policy.specs.Image.{imageOf, setsOf, constraintEntry, transitionEntry, relabelEntry}
-use Rattle.policy.specs.Encode.{entries, transitionBytes, headBytes, headsFrom, rowBytes, relabelHead, relabelBytes, bodies, encode, firstBody, newest}
+use Rattle.policy.specs.Encode.{entries, transitionBytes, constraintBytes, constraintRecords, rowBytes, relabelRecord, relabelBytes, bodies, encode, firstBody, newest}
 use Rattle.policy.proofs.Lists.{each-length}
 use Rattle.policy.proofs.Counts.{few-of}
 use Rattle.table_laws.specs.SoundTable.{allRows, relabelRows, tableLength}
 use Rattle.table_laws.proofs.NamesRoom.{names-length}
 use Rattle.table_laws.proofs.Pieces.{wide-length}
-use Rattle.table_laws.proofs.Records.{head-wide, row-wide, relabel-wide}
+use Rattle.table_laws.proofs.Records.{constraint-wide, row-wide, relabel-wide}
 use Rattle.table_laws.proofs.Editions.{fits-ten}
-use Rattle.table_laws.proofs.Lengths.{heads-length}
+use Rattle.table_laws.proofs.Lengths.{constraint-records-length}
 use Rattle.table_laws.proofs.ImageReadBack.{Laid, every-wide, transitions-wide, sets-length}
 use Rattle.table_laws.proofs.WellFormedLaid.{well-formed-laid, table-short, length-encode}
 use Rattle.image_laws.proofs.ImageWellFormed.{image-well-formed}
@@ -58,9 +58,9 @@ module _ (p : Policy) (ok : Accepted p) where
   unfolding bodies imageOf
   constraints-long =
       let cs = each constraintEntry (constrains p) in
-      let a = wide-length 10 (each headBytes (headsFrom 0 cs)) (every-wide 10 headBytes head-wide (headsFrom 0 cs)) in
-      let b = each-length headBytes (headsFrom 0 cs) in
-      let d = heads-length 0 cs in
+      let a = wide-length 10 (each constraintBytes (constraintRecords 0 cs)) (every-wide 10 constraintBytes constraint-wide (constraintRecords 0 cs)) in
+      let b = each-length constraintBytes (constraintRecords 0 cs) in
+      let d = constraint-records-length 0 cs in
       let e = each-length constraintEntry (constrains p) in
       omega (arith, a, b, d, e)
 
@@ -77,10 +77,10 @@ module _ (p : Policy) (ok : Accepted p) where
   unfolding bodies imageOf
   relabels-long =
       let es = each relabelEntry (relabels p) in
-      let hs = each relabelHead es in
+      let hs = each relabelRecord es in
       let a = wide-length 4 (each relabelBytes hs) (every-wide 4 relabelBytes relabel-wide hs) in
       let b = each-length relabelBytes hs in
-      let d = each-length relabelHead es in
+      let d = each-length relabelRecord es in
       let e = each-length relabelEntry (relabels p) in
       omega (arith, a, b, d, e)
 

@@ -9,7 +9,7 @@ use lib.ListN.{drop}
 use Rattle.policy.specs.Rows.{Row, top}
 use Rattle.table_reader.specs.Records.{rowAt}
 use Rattle.table_reader.proofs.RecordLaws.{records-step, records-none}
-use Rattle.constraints.specs.Stack.{code, boundedTurn, boundedRun}
+use Rattle.constraints.specs.Stack.{code, boundedRunRow, boundedRun}
 use Rattle.constraints.specs.TableConstraints.{viewIn, rowsIn}
 use borrow.Author.Needs.{needs}
 use native.Mathlib.Omega.{arith}
@@ -41,8 +41,8 @@ loop-again c =
       omega arith,
       omega arith,
       (
-        boundedTurn v (rowAt (drop (a .bodies .rows + 6 * l .number) (a .table .now))) (l .inv .2 .0),
-        subst (λ (r : Row). c .row-step .result .bits ≡ code (boundedTurn v r (l .inv .2 .0))) (c .before .row-at .ensures) (c .row-step .ensures (l .inv .2 .0) (l .inv .2 .1)),
+        boundedRunRow v (rowAt (drop (a .bodies .rows + 6 * l .number) (a .table .now))) (l .inv .2 .0),
+        subst (λ (r : Row). c .row-step .result .bits ≡ code (boundedRunRow v r (l .inv .2 .0))) (c .before .row-at .ensures) (c .row-step .ensures (l .inv .2 .0) (l .inv .2 .1)),
         rw (records-step 6 rowAt (a .table .now) (a .bodies .rows + 6 * l .number) (a .bodies .rows + 6 * (l .number + 1)) (l .left) (l .left - 1)
             (omega arith) (omega arith)) at (l .inv .2 .2),
       ),

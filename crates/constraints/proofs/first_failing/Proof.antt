@@ -7,11 +7,11 @@ use mathlib.Core.List.{_∷_}
 use borrow.Author.Tests.{not-true, not-false}
 use denote.Ref.{now}
 use lib.ListN.{drop}
-use Rattle.policy.specs.Sound.{headAt}
+use Rattle.policy.specs.Sound.{constraintAt}
 use Rattle.policy.specs.Deciding.{firstFailing}
-use Rattle.table_reader.specs.Records.{records, headOf}
+use Rattle.table_reader.specs.Records.{records, constraintOf}
 use Rattle.table_reader.proofs.RecordLaws.{records-step, records-none}
-use Rattle.constraints.specs.TableConstraints.{headsIn, headNames, headHolds}
+use Rattle.constraints.specs.TableConstraints.{constraintsIn, constraintNames, constraintHolds}
 use Rattle.constraints.proofs.ScanLaws.{Left, left-all, left-skip, left-pass, left-fail, left-none}
 use borrow.Author.Needs.{needs}
 use native.Mathlib.Omega.{arith}
@@ -22,9 +22,9 @@ abbrev Inv-loop : tie.InvT-loop
 Inv-loop table bodies class permission sides start count consulted₀ next₀ consulted next =
     (next ≤ bodies .count)
     × (consulted ≤ next)
-    × Left 4 (headNames class permission) (headHolds table bodies sides)
-    (firstFailing 4 (headNames class permission) (headHolds table bodies sides) 0 (headsIn table bodies)) consulted next
-    (records 10 headAt (bodies .count - next) (drop (bodies .statements + 10 * next) table))
+    × Left 4 (constraintNames class permission) (constraintHolds table bodies sides)
+    (firstFailing 4 (constraintNames class permission) (constraintHolds table bodies sides) 0 (constraintsIn table bodies)) consulted next
+    (records 10 constraintAt (bodies .count - next) (drop (bodies .statements + 10 * next) table))
 
 abbrev μ-loop : tie.MeasureT-loop
 μ-loop table bodies class permission sides start count consulted₀ next₀ consulted next = bodies .count - next
@@ -33,10 +33,10 @@ abbrev μ-loop : tie.MeasureT-loop
 ahead : (c : tie.After-constraint-at Inv-loop μ-loop) →
     let a = c .before .before .before .before .before .args in
     let l = c .before .before .loop in
-    let n = headNames (a .class) (a .permission) in
-    let h = headHolds (now (a .table)) (a .bodies) (now (a .sides)) in
-    Left 4 n h (firstFailing 4 n h 0 (headsIn (now (a .table)) (a .bodies))) (l .consulted) (l .next)
-    (headOf (c .constraint-at .result) ∷ records 10 headAt (a .bodies .count - (l .next + 1)) (drop (a .bodies .statements + 10 * (l .next + 1)) (now (a .table))))
+    let n = constraintNames (a .class) (a .permission) in
+    let h = constraintHolds (now (a .table)) (a .bodies) (now (a .sides)) in
+    Left 4 n h (firstFailing 4 n h 0 (constraintsIn (now (a .table)) (a .bodies))) (l .consulted) (l .next)
+    (constraintOf (c .constraint-at .result) ∷ records 10 constraintAt (a .bodies .count - (l .next + 1)) (drop (a .bodies .statements + 10 * (l .next + 1)) (now (a .table))))
 ahead c =
     let at-args = c .before .before .before .before .before in
     let a = at-args .args in
@@ -44,7 +44,7 @@ ahead c =
     let at = a .bodies .statements + 10 * l .next in
     rw (
       c .constraint-at .ensures,
-      ← records-step 10 headAt (now (a .table)) at (a .bodies .statements + 10 * (l .next + 1)) (a .bodies .count - l .next)
+      ← records-step 10 constraintAt (now (a .table)) at (a .bodies .statements + 10 * (l .next + 1)) (a .bodies .count - l .next)
           (a .bodies .count - (l .next + 1)) (omega arith) (omega arith),
     )
     (l .inv .2)
@@ -89,7 +89,7 @@ returns-2 : tie.Need-returns-2 Inv-loop μ-loop
 returns-2 c =
     let l = c .before .loop in
     let a = c .before .before .before .before .args in
-    left-none _ _ _ (rw (records-none 10 headAt (now (a .table)) (a .bodies .statements + 10 * l .next) (a .bodies .count - l .next) (omega arith)) at (l .inv .2))
+    left-none _ _ _ (rw (records-none 10 constraintAt (now (a .table)) (a .bodies .statements + 10 * l .next) (a .bodies .count - l .next) (omega arith)) at (l .inv .2))
 
 pub first-failing-spec : {M : Type 1} → statement M
 first-failing-spec =

@@ -7,7 +7,7 @@ use mathlib.Core.List.{_∷_}
 use borrow.Author.Tests.{eq-eqb, ne-eqb, not-true, not-false}
 use denote.Ref.{now}
 use lib.ListN.{drop}
-use Rattle.policy.specs.Encode.{RelabelHead}
+use Rattle.policy.specs.Encode.{RelabelRecord}
 use Rattle.policy.specs.Sound.{relabelAt}
 use Rattle.policy.specs.Deciding.{firstFailing}
 use Rattle.table_reader.specs.Records.{records}
@@ -52,7 +52,7 @@ ahead c =
     let later = records 4 relabelAt (a .bodies .count - (l .next + 1)) (drop from (now (a .table))) in
     rw (c .wrapping-add-u16 .ensures) (
     subst
-    (λ (x : RelabelHead). Left 6 n h (firstFailing 6 n h 0 (relabelsIn (now (a .table)) (a .bodies))) (l .asked) (l .next)
+    (λ (x : RelabelRecord). Left 6 n h (firstFailing 6 n h 0 (relabelsIn (now (a .table)) (a .bodies))) (l .asked) (l .next)
     (record { class = x .class; first = l .row; rows = x .rows } ∷ runsFrom ((l .row + x .rows) % 65536) later))
     (sym (c .before .relabel-at .ensures))
     (rw (records-step 4 relabelAt (now (a .table)) (a .bodies .statements + 4 * l .next) from (a .bodies .count - l .next) (a .bodies .count - (l .next + 1))

@@ -7,12 +7,12 @@ use borrow.Author.Tests.{eq-eqb, ne-eqb, not-true, not-false}
 use denote.Ref.{now}
 use lib.ListN.{drop}
 use Rattle.policy.specs.Basics.{each}
-use Rattle.policy.specs.Sound.{headAt, pieces}
-use Rattle.table_reader.specs.Records.{headOf}
+use Rattle.policy.specs.Sound.{constraintAt, pieces}
+use Rattle.table_reader.specs.Records.{constraintOf}
 use Rattle.sound_constraints.specs.Totals.{totalsIn}
 use Rattle.sound_constraints.specs.SoundRows.{takeUp, constraintsFit}
-use Rattle.sound_constraints.proofs.PieceLaws.{head-front}
-use Rattle.sound_constraints.proofs.ConstraintLaws.{asksHead, good, take-up-law, HeadTurn, head-turn, take-end, take-first, take-many, take-bad, take-rows, take-next}
+use Rattle.sound_constraints.proofs.PieceLaws.{constraint-front}
+use Rattle.sound_constraints.proofs.ConstraintLaws.{asksConstraint, good, take-up-law, RecordTurn, record-turn, take-end, take-first, take-many, take-bad, take-rows, take-next}
 use borrow.Author.Needs.{needs}
 use native.Mathlib.Omega.{arith}
 use Rattle.sound_constraints.proofs.constraints_fit.Statement.{statement}
@@ -23,9 +23,9 @@ Inv-loop table constraints count start rows counts permissions next₀ taken₀ 
     (next ≤ count)
     × (taken ≤ rows)
     × (
-    takeUp (asksHead (totalsIn counts permissions)) (good (totalsIn counts permissions) 6) taken (each headAt (pieces (count - next) 10 (drop (constraints + 10 * next) table)))
+    takeUp (asksConstraint (totalsIn counts permissions)) (good (totalsIn counts permissions) 6) taken (each constraintAt (pieces (count - next) 10 (drop (constraints + 10 * next) table)))
     (pieces (rows - taken) 6 (drop (start + 6 * taken) table))
-    ≡ constraintsFit (totalsIn counts permissions) (each headAt (pieces count 10 (drop constraints table))) (pieces rows 6 (drop start table))
+    ≡ constraintsFit (totalsIn counts permissions) (each constraintAt (pieces count 10 (drop constraints table))) (pieces rows 6 (drop start table))
     )
 
 abbrev μ-loop : tie.MeasureT-loop
@@ -48,16 +48,16 @@ ahead : (c : tie.After-constraint-at Inv-loop μ-loop) →
     let a = c .before .before .before .before .before .args in
     let l = c .before .before .loop in
     let n = totalsIn (a .counts) (now (a .permissions)) in
-    HeadTurn (asksHead n) (good n 6) (now (a .table))
-    (constraintsFit n (each headAt (pieces (a .count) 10 (drop (a .constraints) (now (a .table))))) (pieces (a .rows) 6 (drop (a .start) (now (a .table)))))
-    (l .taken) (a .start + 6 * l .taken) (a .rows - l .taken) (each headAt (pieces (a .count - (l .next + 1)) 10 (drop (a .constraints + 10 * (l .next + 1)) (now (a .table)))))
-    (headOf (c .constraint-at .result))
+    RecordTurn (asksConstraint n) (good n 6) (now (a .table))
+    (constraintsFit n (each constraintAt (pieces (a .count) 10 (drop (a .constraints) (now (a .table))))) (pieces (a .rows) 6 (drop (a .start) (now (a .table)))))
+    (l .taken) (a .start + 6 * l .taken) (a .rows - l .taken) (each constraintAt (pieces (a .count - (l .next + 1)) 10 (drop (a .constraints + 10 * (l .next + 1)) (now (a .table)))))
+    (constraintOf (c .constraint-at .result))
 ahead c =
     let a = c .before .before .before .before .before .args in
     let l = c .before .before .loop in
     let n = totalsIn (a .counts) (now (a .permissions)) in
-    head-turn 10 headAt head-front (asksHead n) (good n 6) (now (a .table)) (l .taken) (a .constraints + 10 * l .next) (a .count - l .next) (a .start + 6 * l .taken) (a .rows - l .taken) (l .inv .2)
-    (a .constraints + 10 * (l .next + 1)) (a .count - (l .next + 1)) (omega arith) (omega arith) (headOf (c .constraint-at .result)) (c .constraint-at .ensures)
+    record-turn 10 constraintAt constraint-front (asksConstraint n) (good n 6) (now (a .table)) (l .taken) (a .constraints + 10 * l .next) (a .count - l .next) (a .start + 6 * l .taken) (a .rows - l .taken) (l .inv .2)
+    (a .constraints + 10 * (l .next + 1)) (a .count - (l .next + 1)) (omega arith) (omega arith) (constraintOf (c .constraint-at .result)) (c .constraint-at .ensures)
 
 returns : tie.Need-returns Inv-loop μ-loop
 returns c = take-first (ahead (c .before .before)) (ne-eqb _ _ (c .if1 .taken))
@@ -99,7 +99,7 @@ returns-5 c =
     let l = c .before .loop in
     let a = c .before .before .before .before .args in
     let n = totalsIn (a .counts) (a .permissions .now) in
-    take-end 10 headAt head-front (asksHead n) (good n 6) (a .table .now) (l .taken) (a .constraints + 10 * l .next) (a .count - l .next) (a .start + 6 * l .taken) (a .rows - l .taken) (l .inv .2)
+    take-end 10 constraintAt constraint-front (asksConstraint n) (good n 6) (a .table .now) (l .taken) (a .constraints + 10 * l .next) (a .count - l .next) (a .start + 6 * l .taken) (a .rows - l .taken) (l .inv .2)
     (a .rows) (omega arith) (omega arith) (omega arith)
 
 pub constraints-fit-spec : {M : Type 1} → statement M

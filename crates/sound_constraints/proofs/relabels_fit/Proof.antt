@@ -13,7 +13,7 @@ use Rattle.table_reader.specs.Records.{relabelOf}
 use Rattle.sound_constraints.specs.Totals.{totalsIn}
 use Rattle.sound_constraints.specs.SoundRows.{takeUp, relabelsFit}
 use Rattle.sound_constraints.proofs.PieceLaws.{relabel-front}
-use Rattle.sound_constraints.proofs.ConstraintLaws.{asksRelabel, good, take-up-relabels, HeadTurn, head-turn, take-end, take-many, take-bad, take-rows, take-next}
+use Rattle.sound_constraints.proofs.ConstraintLaws.{asksRelabel, good, take-up-relabels, RecordTurn, record-turn, take-end, take-many, take-bad, take-rows, take-next}
 use borrow.Author.Needs.{needs}
 use native.Mathlib.Omega.{arith}
 use Rattle.sound_constraints.proofs.relabels_fit.Statement.{statement}
@@ -40,7 +40,7 @@ ahead : (c : tie.After-relabel-at Inv-loop μ-loop) →
     let a = c .before .before .before .before .args in
     let l = c .before .before .loop in
     let n = totalsIn (a .counts) [] in
-    HeadTurn (asksRelabel n) (good n 9) (now (a .table))
+    RecordTurn (asksRelabel n) (good n 9) (now (a .table))
     (relabelsFit n (each relabelAt (pieces (a .count) 4 (drop (a .relabels) (now (a .table))))) (pieces (a .rows) 6 (drop (a .start) (now (a .table)))))
     (l .taken) (a .start + 6 * l .taken) (a .rows - l .taken) (each relabelAt (pieces (a .count - (l .next + 1)) 4 (drop (a .relabels + 4 * (l .next + 1)) (now (a .table)))))
     (relabelOf (c .relabel-at .result))
@@ -48,7 +48,7 @@ ahead c =
     let a = c .before .before .before .before .args in
     let l = c .before .before .loop in
     let n = totalsIn (a .counts) [] in
-    head-turn 4 relabelAt relabel-front (asksRelabel n) (good n 9) (now (a .table)) (l .taken) (a .relabels + 4 * l .next) (a .count - l .next) (a .start + 6 * l .taken)
+    record-turn 4 relabelAt relabel-front (asksRelabel n) (good n 9) (now (a .table)) (l .taken) (a .relabels + 4 * l .next) (a .count - l .next) (a .start + 6 * l .taken)
     (a .rows - l .taken) (l .inv .2)
     (a .relabels + 4 * (l .next + 1)) (a .count - (l .next + 1)) (omega arith) (omega arith) (relabelOf (c .relabel-at .result)) (c .relabel-at .ensures)
 
