@@ -16,7 +16,8 @@ use Rattle.policy.specs.Statements.{roles, types, thingOf, count, classNames}
 use Rattle.policy.specs.Deciding.{Question, Relabelling, Verdict, granted, denied, fails, refuses, Answer, consult, firstFailing, ruledBy, ruledRelabel, Reply, answered}
 use Rattle.policy.specs.Deciding.{refused}
 use Rattle.policy.specs.Image.{Image, TransitionEntry}
-use Rattle.policy.specs.Encode.{NameEntry, entries, entryBytes, transitionBytes, constraintBytes, constraintRecords, relabelRecord, relabelBytes, bodies, firstBody}
+use Rattle.policy.specs.Encode.{NameEntry, entries, entryBytes, transitionBytes, constraintBytes, constraintRecords, relabelRecord, relabelBytes}
+use Rattle.policy.specs.Encode.{bodies, firstBody}
 use Rattle.policy.specs.Sound.{wellFormed, editionIn, imageIn, goodTransition}
 use Rattle.policy.specs.Questions.{change, relabel, decided, changeOn, relabelOn, matches, firstTransition, newRole, newRoleOn, asked, Part, nameFrom, nameOf, nameOn, Records}
 use Rattle.policy.specs.Questions.{recordFrom, records, entryOf, entryOn}
@@ -221,7 +222,8 @@ module _ (e : ℕ) (i : Image) (h : wellFormed i ≡ true) where
       body-small 5 k (getD (records i) 6 [])
       (omega (
         arith,
-        wide-length 10 (each constraintBytes (constraintRecords 0 (i .constraints))) (every-wide 10 constraintBytes constraint-wide (constraintRecords 0 (i .constraints))),
+        wide-length 10 (each constraintBytes (constraintRecords 0 (i .constraints)))
+            (every-wide 10 constraintBytes constraint-wide (constraintRecords 0 (i .constraints))),
         each-length constraintBytes (constraintRecords 0 (i .constraints)),
         constraint-records-length 0 (i .constraints),
       ))

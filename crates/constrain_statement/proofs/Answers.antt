@@ -153,9 +153,9 @@ module _ {t : List ℕ} {at : ℕ} {table : List ℕ} {before : List ℕ} {count
 
         -- 6 and 7, and what is written, by what the maxima and the stack need allow
         pub answered : {a n deep : ℕ} → k ≡ RowsWritten.Next a n deep → {after : List ℕ} {b : Constrained}
-            → Admits maxConstraints maxRows count n deep (Records 10 (constraintBytes (recordWith class mask row (n - row))) before after count) b
+            → Records 10 (constraintBytes (recordWith class mask row (n - row))) before after count → Admits maxConstraints maxRows count n deep b
             → WritesConstrain t at table before after count rowsBefore rowsAfter row b
-        answered {a} {n} {deep} d {after} {b} m = record {
+        answered {a} {n} {deep} d {after} {b} stored m = record {
           says = λ env w y g long rows-long f.
               let s = shape (trim (framesAt t at .here) levels) w f in
               let o = scope-told u e in
@@ -167,5 +167,6 @@ module _ {t : List ℕ} {at : ℕ} {table : List ℕ} {before : List ℕ} {count
               subst (λ (o : Option Statement). Answers o before after count rowsBefore rowsAfter row b)
               (sym (ap (resolved env) (s .written) ∙ resolves env (s .class) (s .permissions) (s .body) c (i .expression) (i .refers)))
               (admitted maxConstraints maxRows 10 _ before after count rowsBefore rowsAfter row n deep (i .expression) p (i .count) (λ h. omega (arith, h, long)) rows-long
-              (i .bytes) (ap₂ (λ (m k : ℕ). constraintBytes (recordWith class m row k)) (c .mask-is) (rows-of row n (size (i .expression)) (i .count))) b (m .says));
+              (i .bytes) (ap₂ (λ (m k : ℕ). constraintBytes (recordWith class m row k)) (c .mask-is) (rows-of row n (size (i .expression)) (i .count))) stored b
+              (m .says));
         }

@@ -1,14 +1,12 @@
--- Whether the maxima and the stack need allow a statement, what is done where they do, and what is then there. Assumes nothing.
-use mathlib.Core.Path.{_≡_, refl, sym, ap, subst, _∙_}
+-- Whether the maxima and the stack need allow a statement, and what is there where they do. Assumes nothing.
+use mathlib.Core.Path.{_≡_, refl, sym, ap, _∙_}
 use mathlib.Core.Bool.{Bool, true, and-false}
-use mathlib.Core.List.{List, [], _∷_}
+use mathlib.Core.List.{List}
 use Prim.Native.Nat.{ℕ, _+_, _*_, _≤_, _<_}
 use native.Mathlib.Omega.{arith}
 use borrow.Author.Tests.{lt-ltb, le-ltb, le-leb, lt-leb, leb-true, ltb-true}
 use lib.Dec.{leb, ltb}
 use lib.ListN.{length}
-use types.Run.{OneOf, miss}
-use denote.Enum.Declared.{tagOf}
 use Rattle.byte_slices.specs.Parts.{put}
 use Rattle.bitset.specs.Relations.{joined}
 use Rattle.policy.specs.Basics.{each}
@@ -19,7 +17,6 @@ use Rattle.policy.specs.Encode.{rowBytes}
 use Rattle.policy.proofs.Lists.{both-true}
 use Rattle.constrain_statement.specs.Limits.{Records, fitsWithin, AdmitsBy, Admits, AddsOrFault}
 use Rattle.constrain_statement.specs.declared.Constrained.{Constrained}
-use Rattle.constrain_statement.proofs.Constrained.{the-type}
 
 -- ---- what fits
 
@@ -42,36 +39,18 @@ both-fit : {statements rows count next : ℕ} → count < statements → next �
 both-fit h k = rw (lt-ltb _ _ h, le-leb _ _ k)
 
 module _ {statements rows count next deep : ℕ} where
-  pub many-statements : {Done : Type 0} → statements ≤ count → Admits statements rows count next deep Done Constrained.MaximumPassed
+  pub many-statements : statements ≤ count → Admits statements rows count next deep Constrained.MaximumPassed
   many-statements h = record { says = rw (le-ltb count statements h) }
 
-  pub many-rows : {Done : Type 0} → rows < next → Admits statements rows count next deep Done Constrained.MaximumPassed
+  pub many-rows : rows < next → Admits statements rows count next deep Constrained.MaximumPassed
   many-rows h = record { says = rw (lt-leb next rows h) (and-false (ltb count statements)) }
 
   module _ (h : count < statements) (k : next ≤ rows) where
-    pub stack-small : {Done : Type 0} → 5 < deep → Admits statements rows count next deep Done Constrained.StackTooSmall
+    pub stack-small : 5 < deep → Admits statements rows count next deep Constrained.StackTooSmall
     stack-small d = record { says = (both-fit h k, lt-leb deep 5 d) }
 
-    pub allowed : deep ≤ 5 → Admits statements rows count next deep (Unit {0}) (Constrained.Next next)
-    allowed d = record { says = (both-fit h k, le-leb deep 5 d, tt, refl) }
-
-  -- where they allow nothing, nothing is done
-  pub refused : {Done : Type 0} (r : Constrained) → Admits statements rows count next deep (Unit {0}) r → OneOf (1 ∷ 2 ∷ 3 ∷ []) (tagOf the-type r)
-      → Admits statements rows count next deep Done r
-  refused (Constrained.Next n) a o = absurd (miss (1 ∷ 2 ∷ 3 ∷ []) 0 tt o)
-  refused Constrained.Undeclared a o = record { says = a .says }
-  refused Constrained.MaximumPassed a o = record { says = a .says }
-  refused Constrained.StackTooSmall a o = record { says = a .says }
-
-  module _ {r : Constrained} {n : ℕ} (a : Admits statements rows count next deep (Unit {0}) r) (e : r ≡ Constrained.Next n) where
-    next-told : Admits statements rows count next deep (Unit {0}) (Constrained.Next n)
-    next-told = subst (Admits statements rows count next deep (Unit {0})) e a
-
-    pub few-statements : count < statements
-    few-statements = few statements rows count next (next-told .says .0)
-
-    pub done : {Done : Type 0} → Done → Admits statements rows count next deep Done (Constrained.Next next)
-    done d = let s = next-told .says in record { says = (s .0, s .1, d, refl) }
+    pub allowed : deep ≤ 5 → Admits statements rows count next deep (Constrained.Next next)
+    allowed d = record { says = (both-fit h k, le-leb deep 5 d, refl) }
 
 -- ---- from what was admitted to what is there
 
@@ -79,15 +58,15 @@ module _ {statements rows count next deep : ℕ} where
 module _ (statements most width : ℕ) (bytes before after : List ℕ) (count : ℕ) (rowsBefore rowsAfter : List ℕ) (row n deep : ℕ) (x : Constraint Reference)
     (p : need x ≡ deep) (q : n ≡ row + size x) (long : count < statements → width * count + width ≤ length before) (rows-long : 6 * most ≤ length rowsBefore)
     (v : 6 * (row + size x) ≤ length rowsBefore → rowsAfter ≡ put rowsBefore (6 * row) (joined (each rowBytes (rowsOf x)))) where
-  pub admitted : {written : List ℕ} → written ≡ bytes → (b : Constrained) → AdmitsBy statements most count n deep (Records width written before after count) b
+  pub admitted : {written : List ℕ} → written ≡ bytes → Records width written before after count → (b : Constrained) → AdmitsBy statements most count n deep b
       → AddsOrFault statements most x width bytes before after count rowsBefore rowsAfter row b
-  admitted e (Constrained.Next o) g = record {
+  admitted e stored (Constrained.Next o) g = record {
     fits = as-fits statements most count n (row + size x) q (g .0);
     shallow = as-shallow (need x) deep p (g .1);
-    head = g .2 (long (few statements most count n (g .0))) ∙ ap (put before (width * count)) e;
+    recorded = stored (long (few statements most count n (g .0))) ∙ ap (put before (width * count)) e;
     rows = v (omega (arith, q, rows-long, room statements most count n (g .0)));
-    next-row = g .3 ∙ q;
+    next-row = g .2 ∙ q;
   }
-  admitted e Constrained.Undeclared g = g
-  admitted e Constrained.MaximumPassed g = as-fits statements most count n (row + size x) q g
-  admitted e Constrained.StackTooSmall g = (as-fits statements most count n (row + size x) q (g .0), as-shallow (need x) deep p (g .1))
+  admitted e stored Constrained.Undeclared g = g
+  admitted e stored Constrained.MaximumPassed g = as-fits statements most count n (row + size x) q g
+  admitted e stored Constrained.StackTooSmall g = (as-fits statements most count n (row + size x) q (g .0), as-shallow (need x) deep p (g .1))

@@ -36,21 +36,21 @@ OrFault fits shallow Done Constrained.Undeclared = ⊥
 OrFault fits shallow Done Constrained.MaximumPassed = fits ≡ false
 OrFault fits shallow Done Constrained.StackTooSmall = (fits ≡ true) × (shallow ≡ false)
 
--- the maxima allow it and so deep a stack, and this is done; or the first of 6 and 7
-abbrev pub AdmitsBy : ℕ → ℕ → ℕ → ℕ → ℕ → Type 0 → Constrained → Type 0
-AdmitsBy statements rows count next deep Done r =
+-- the maxima allow it and so deep a stack; or the first of 6 and 7
+abbrev pub AdmitsBy : ℕ → ℕ → ℕ → ℕ → ℕ → Constrained → Type 0
+AdmitsBy statements rows count next deep r =
     let fits = fitsWithin statements rows count next in
     let shallow = leb deep maxStack in
-    OrFault fits shallow (λ n. (fits ≡ true) × (shallow ≡ true) × Done × (n ≡ next)) r
+    OrFault fits shallow (λ n. (fits ≡ true) × (shallow ≡ true) × (n ≡ next)) r
 
-pub record Admits (statements rows count next deep : ℕ) (Done : Type 0) (r : Constrained) : Type 0 where
-  pub says : AdmitsBy statements rows count next deep Done r
+pub record Admits (statements rows count next deep : ℕ) (r : Constrained) : Type 0 where
+  pub says : AdmitsBy statements rows count next deep r
 
 -- the record, of so many bytes, and the rows of e are in the memory as they will be in the table, and the maxima allow both
 pub record Adds (statements most : ℕ) (e : Constraint Reference) (width : ℕ) (bytes before after : List ℕ) (count : ℕ) (rowsBefore rowsAfter : List ℕ) (row next : ℕ) : Type 0 where
   pub fits : fitsWithin statements most count (row + size e) ≡ true
   pub shallow : leb (need e) maxStack ≡ true
-  pub head : after ≡ put before (width * count) bytes
+  pub recorded : after ≡ put before (width * count) bytes
   pub rows : rowsAfter ≡ put rowsBefore (6 * row) (joined (each rowBytes (rowsOf e)))
   pub next-row : next ≡ row + size e
 

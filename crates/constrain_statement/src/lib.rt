@@ -2,10 +2,9 @@
 // in the table; faults 5, 6 and 7. Its form is known to be good where this is called.
 ghost use mathlib.Core.Path.{_≡_};
 ghost use mathlib.Core.Bool.{_||_};
-ghost use Prim.Native.Nat.{_-_, _%_, _≤_};
+ghost use Prim.Native.Nat.{_%_};
 ghost use lib.Dec.{eqb};
 ghost use Rattle.bitset.specs.Sets.{bit, fromBits};
-ghost use Rattle.policy.specs.Maxima.{maxConstraints, maxRows};
 ghost use Rattle.policy.specs.Encode.{constraintBytes};
 ghost use Rattle.constrain_statement.specs.ClassPermissions.{Masks, Scopes};
 ghost use Rattle.constrain_statement.specs.ClassNames.{Classes};
@@ -20,11 +19,6 @@ use policy::Permission;
 use policy::Row;
 use symbols::Found;
 use symbols::NameFamily;
-
-// The bytes of all records that body 6 may have, and of all rows of body 7.
-pub const CONSTRAINTS_BYTES: usize = Constraint::MAX * Constraint::BYTES;
-
-pub const ROWS_BYTES: usize = Row::MAX * Row::BYTES;
 
 // The number of the row after the statement's rows; or the fault: a name is not declared, 5; a maximum is passed, 6;
 // the stack need is, 7.
@@ -175,7 +169,7 @@ fn put_record(
 // Whether the maxima, of statements and of their rows, allow one more after `count` of them, whose last row is before
 // the next, and then whether the stack does: the number of the next row, or the fault.
 pub fn limit(statements: usize, rows: usize, count: usize, next: usize, need: usize) -> Constrained
-    ensures { λ r. ⌜ Admits statements rows count next need (Unit {0}) r ⌝ }
+    ensures { λ r. ⌜ Admits statements rows count next need r ⌝ }
 {
     if statements <= count {
         return Constrained::MaximumPassed;
@@ -189,31 +183,9 @@ pub fn limit(statements: usize, rows: usize, count: usize, next: usize, need: us
     Constrained::Next(next)
 }
 
-// The record of a constraint whose names are declared and whose rows go from a row to before the next, if the maxima
-// allow both and the stack need of its expression.
-fn admit(
-    constraints: &mut [u8],
-    count: usize,
-    class: usize,
-    mask: u32,
-    row: usize,
-    next: usize,
-    need: usize,
-) -> Constrained
-    requires { ⌜ row ≤ next ⌝ }
-    ensures { λ r. ⌜ Admits maxConstraints maxRows count next need
-        (Records 10 (constraintBytes (recordWith class mask row (next - row))) (now (constraints .entry)) (now (constraints .exit)) count) r ⌝ }
-{
-    let limited = limit(Constraint::MAX, Row::MAX, count, next, need);
-    let Constrained::Next(_) = limited else {
-        return limited;
-    };
-    put_record(constraints, count, class, mask, row, next - row);
-    Constrained::Next(next)
-}
-
 // Resolves what follows the keyword, writes the rows of the expression from a row on, and the record of that number.
-// What has no room in the lent slices is not written; those that hold all records and rows always have it.
+// What has no room in the lent slices is not written; those that hold all records and rows always have it. The maxima
+// are asked last: what a refused statement leaves in the slices is not read.
 pub fn write_constrain(
     text: &[u8],
     at: usize,
@@ -250,5 +222,6 @@ pub fn write_constrain(
     else {
         return Constrained::Undeclared;
     };
-    admit(constraints, count, class, mask, row, past, need)
+    put_record(constraints, count, class, mask, row, past - row);
+    limit(Constraint::MAX, Row::MAX, count, past, need)
 }

@@ -114,16 +114,17 @@ module _ (i : Image) (t : List ℕ) (b : Bodies) (fits : Fits i) (placed : Place
 
 -- ALL STATEMENTS
 
--- statements whose rows follow each other, from row r on: each head has its first row
-module _ {A H : Type 0} (rows : A → List Row) (head : ℕ → A → H) where
+-- statements whose rows follow each other, from row r on: each record has its first row
+module _ {A H : Type 0} (rows : A → List Row) (recordAt : ℕ → A → H) where
   unfoldable inOrder : ℕ → List A → List H
   inOrder r [] = []
-  inOrder r (c ∷ cs) = head r c ∷ inOrder (r + length (rows c)) cs
+  inOrder r (c ∷ cs) = recordAt r c ∷ inOrder (r + length (rows c)) cs
 
   -- the first that fails is the same, where each names the same and holds as its rows do
   module _ (t : List ℕ) (from n : ℕ) (names holds : H → Bool) (says keeps : A → Bool) (Good : A → Type 0)
-      (named : (r : ℕ) (c : A) → names (head r c) ≡ says c)
-      (held : (r : ℕ) (c : A) → Good c → All SmallRow (rows c) → Stands t (from + 6 * r) (joined (each rowBytes (rows c))) → holds (head r c) ≡ keeps c) where
+      (named : (r : ℕ) (c : A) → names (recordAt r c) ≡ says c)
+      (held : (r : ℕ) (c : A) → Good c → All SmallRow (rows c) → Stands t (from + 6 * r) (joined (each rowBytes (rows c)))
+      → holds (recordAt r c) ≡ keeps c) where
     in-order : (cs : List A) → All Good cs → All SmallRow (joined (each rows cs)) → (r : ℕ) → Stands t (from + 6 * r) (joined (each rowBytes (joined (each rows cs))))
         → (k : ℕ) → firstFailing n names holds k (inOrder r cs) ≡ firstFailing n says keeps k cs
     unfolding firstFailing inOrder joined each
@@ -172,7 +173,8 @@ image-constraints i t b fits placed on class permission =
     ∙ constraints-part (constraintRecords 0 (i .constraints)) (fits .constraint-records) (placed .records)
     ∙ records-in-order 0 (i .constraints)
     )
-    ∙ in-order (λ c. c .rows) recordOf t (b .rows) 4 (constraintNames class permission) (constraintHolds t b (sidesOf on)) (entryNames class permission) (entryHolds i on)
+    ∙ in-order (λ c. c .rows) recordOf t (b .rows) 4 (constraintNames class permission) (constraintHolds t b (sidesOf on))
+    (entryNames class permission) (entryHolds i on)
     (λ c. goodConstraint ds c ≡ true) (λ r c. refl)
     (λ r c good small stand. rows-hold i t b fits (placed .sets) on 6 (c .rows) (sound-rows i t b fits (placed .sets) 6 (c .rows) (others c) good) small r stand)
     (i .constraints) (fits .constraints) (fits .rows) 0 (subst (λ (p : ℕ). Stands t p (joined (each rowBytes (allRows i)))) start (placed .rows)) 0

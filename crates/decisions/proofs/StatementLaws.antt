@@ -18,7 +18,8 @@ use Rattle.table_laws.proofs.WellFormed.{formed}
 use Rattle.table_laws.proofs.WellFormedLaid.{well-formed-laid}
 use Rattle.table_names.specs.TableNames.{countIn, countsIn}
 use Rattle.constraints.specs.declared.Bodies.{Bodies}
-use Rattle.constraints.specs.TableConstraints.{bodiesIn, relabelBodiesIn, sidesOf, constraintsIn, constraintNames, constraintHolds, relabelsIn, relabelNames, relabelHolds}
+use Rattle.constraints.specs.TableConstraints.{bodiesIn, relabelBodiesIn, sidesOf, constraintsIn, constraintNames, constraintHolds, relabelsIn}
+use Rattle.constraints.specs.TableConstraints.{relabelNames, relabelHolds}
 use Rattle.constraints.proofs.HeaderPlaces.{constraints-answer, relabels-answer}
 use Rattle.decisions.proofs.SoundLaws.{things-of}
 

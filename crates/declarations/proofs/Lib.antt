@@ -1,7 +1,6 @@
 pub mod StatusLaws
 pub mod NewEntryLaws
 pub mod SymbolMemory
-pub mod Maxima
 pub mod DeclarationForms
 pub mod FullNames
 pub mod NewPermissions

@@ -20,16 +20,17 @@ use Rattle.policy.proofs.Counts.{few-classes}
 use Rattle.policy.proofs.Sorts.{max-small, code-below}
 use Rattle.reading_laws.proofs.FullNames.{full-good}
 use Rattle.table_laws.proofs.NamesRoom.{name-short, entries-room}
-use Rattle.symbols.specs.Lookup.{familyNumber, firstNamed}
+use Rattle.symbols.specs.Lookup.{familyNumber, mostOf, firstNamed}
 use Rattle.symbols.specs.SearchAnswers.{isFound, familyCode}
 use Rattle.symbols.specs.declared.Found.{Found}
 use Rattle.symbols.proofs.ReferencesFound.{reference-found, code-of, family-below}
+use Rattle.symbols.proofs.CountLaws.{most-of}
 use Rattle.symbols.proofs.DeclaredEntries.{entries-more}
 use Rattle.name_chains.specs.Chains.{Chained}
 use Rattle.scopes.specs.Scope.{InScope}
 use Rattle.name_rows.specs.WordRows.{WordHere, WordIs}
 use Rattle.name_rows.specs.declared.NextWord.{NextWord}
-use Rattle.declarations.specs.SortCounts.{standing, MostIs, Stands}
+use Rattle.declarations.specs.SortCounts.{standing, Stands}
 use Rattle.declarations.specs.NewEntries.{Entered, Enters, answerOf, Indexable}
 use Rattle.declarations.specs.Declares.{Holds, Declares, DeclaresName, DeclaresPlain}
 use Rattle.declarations.specs.declared.Declared.{Declared}
@@ -65,7 +66,7 @@ module _ (sort : ℕ) (v : Name) (before : List ℕ) (end : ℕ) where
     says = λ ds s e y good. (ap not (sym (is-in sort s e ds v) ∙ taken-found (found sort ds v) (count s ds) (q .names end ds s y e)), refl);
   }
 
-  module _ {number most : ℕ} (q : Stands before sort v (NameStatus.Undeclared number)) (m : MostIs sort most) where
+  module _ {number most : ℕ} (q : Stands before sort v (NameStatus.Undeclared number)) (m : most ≡ mostOf sort) where
     is-free : (s : Sort) → sort ≡ sortCode s → {ds : List Declaration} → Holds before end ds → (isFound (found sort ds v) ≡ false) × (count s ds ≡ number)
     is-free s e {ds} y = free-missing (found sort ds v) (count s ds) number (q .names end ds s y e)
 
@@ -75,15 +76,18 @@ module _ (sort : ℕ) (v : Name) (before : List ℕ) (end : ℕ) where
     count-is : (s : Sort) → sort ≡ sortCode s → {ds : List Declaration} → Holds before end ds → count s ds ≡ number
     count-is s e y = is-free s e y .1
 
+    max-is : (s : Sort) → sort ≡ sortCode s → most ≡ maxOf s
+    max-is s e = m ∙ ap mostOf e ∙ most-of s
+
     -- "one of the other maxima passed"
     pub name-full : most ≤ number → DeclaresPlain sort v before before end Declared.MaximumPassed
     name-full l = record {
-      says = λ ds s e y good. (is-new s e y, rw (le-ltb (count s ds) (maxOf s) (omega (arith, count-is s e y, m .is s e))), refl);
+      says = λ ds s e y good. (is-new s e y, rw (le-ltb (count s ds) (maxOf s) (omega (arith, count-is s e y, max-is s e))), refl);
     }
 
     module _ (after : List ℕ) (l : number < most) where
       has-room : (s : Sort) → sort ≡ sortCode s → {ds : List Declaration} → Holds before end ds → hasRoom ds (plain s v) ≡ true
-      has-room s e {ds} y = lt-ltb (count s ds) (maxOf s) (omega (arith, count-is s e y, m .is s e))
+      has-room s e {ds} y = lt-ltb (count s ds) (maxOf s) (omega (arith, count-is s e y, max-is s e))
 
       entries-are : (s : Sort) → sort ≡ sortCode s → {ds : List Declaration} → Holds before end ds → nameEntry sort number v ∷ [] ≡ entriesOf ds (plain s v)
       entries-are s e y = ap₂ (λ (k n : ℕ). nameEntry k n v ∷ []) e (sym (count-is s e y))
@@ -93,7 +97,7 @@ module _ (sort : ℕ) (v : Name) (before : List ℕ) (end : ℕ) where
       entry-indexable s e {ds} y =
           let family : familyNumber sort number ≡ familyCode (familyOf s) = ap (λ (x : ℕ). familyNumber x number) e ∙ code-of s number in (
             omega (arith, entries-room ds (y .good), few-classes ds (y .good)),
-            omega (arith, l, m .is s e, max-small s),
+            omega (arith, l, max-is s e, max-small s),
             omega (arith, family, family-below (familyOf s)),
             tt,
           )

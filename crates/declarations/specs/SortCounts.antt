@@ -6,7 +6,6 @@ use lib.ListN.{length}
 use Rattle.policy.specs.Basics.{Name}
 use Rattle.policy.specs.Statements.{Sort, Declaration, classNames}
 use Rattle.policy.specs.Statements as statements
-use Rattle.policy.specs.Maxima.{maxOf}
 use Rattle.policy.specs.Encode.{sortCode, entries}
 use Rattle.symbols.specs.Lookup.{familyNumber, firstNamed}
 use Rattle.symbols.specs.declared.Found.{Found}
@@ -17,10 +16,6 @@ use Rattle.declarations.specs.declared.NameStatus.{NameStatus}
 pub record Counts (table : List ℕ) (sort r : ℕ) : Type 0 where
   pub things : (end : ℕ) (ds : List Declaration) (s : Sort) → Holds table end ds → sort ≡ sortCode s → r ≡ statements.count s ds
   pub classes : (end : ℕ) (ds : List Declaration) → Holds table end ds → sort ≡ 6 → r ≡ length (classNames ds)
-
--- "Users 128, roles 128, types 512, attributes 64 per family"
-pub record MostIs (sort r : ℕ) : Type 0 where
-  pub is : (s : Sort) → sort ≡ sortCode s → r ≡ maxOf s
 
 -- a name that is found is taken; one that is not may be declared, as the next of its sort
 abbrev pub standing : Found → ℕ → NameStatus

@@ -12,7 +12,7 @@ ghost use lib.ListN.{length};
 ghost use Rattle.lexer.specs.Forms.{framesAt};
 ghost use Rattle.policy.specs.Encode.{nameEntry, permissionEntries};
 ghost use Rattle.policy.specs.Words.{classK};
-ghost use Rattle.declarations.specs.SortCounts.{Counts, MostIs, Stands};
+ghost use Rattle.declarations.specs.SortCounts.{Counts, Stands};
 ghost use Rattle.name_rows.specs.WordRows.{wordsIn};
 ghost use Rattle.declarations.specs.NewEntries.{Enters, answerOf};
 ghost use Rattle.declarations.specs.Declares.{DeclaresAt, DeclaresName, DeclaresPlain, DeclaresClass};
@@ -53,22 +53,6 @@ pub fn count(symbols: &[u8], sort: usize) -> usize
         return 0;
     }
     name_chains::entered(symbols, sort)
-}
-
-// How many names of a sort of things or attributes there may be.
-fn most(sort: usize) -> usize
-    ensures { λ r. ⌜ MostIs sort r ⌝ }
-{
-    if sort == Sort::USER {
-        return policy::User::MAX;
-    }
-    if sort == Sort::ROLE {
-        return policy::Role::MAX;
-    }
-    if sort == Sort::TYPE {
-        return policy::Type::MAX;
-    }
-    policy::Attribute::MAX
 }
 
 // What the symbols say of a full name: its family has it, or how many its sort has.
@@ -121,7 +105,7 @@ fn add_name(symbols: &mut [u8], end: usize, sort: usize, name: &[u8]) -> Declare
     let NameStatus::Undeclared(number) = known else {
         return Declared::DeclaredAgain;
     };
-    if most(sort) <= number {
+    if symbols::most(sort) <= number {
         return Declared::MaximumPassed;
     }
     answer(add(symbols, end, sort, number, name))

@@ -42,8 +42,8 @@ unfolding bit member fromBits tabulate setOf countBelow allBelow meet inserted r
     relabelAnswer reserved isReserved dotless keywordOf setWord expressionWord opOf componentOf operandRow operands setIn expressions
     expressionIn rowOf partsAlone full outward tries firstHit firstFrom environmentOf refer numberIn scopedIn blocksIn referS referE rowCount
     judge readFrom readPolicy mentionsS mentions attributesIn below mentionedBy reach onCycle places firstCycle cycle clashes firstClash clash
-    rowsOf run balanced-of-Rows maskOf-of-Image imageOf permissionEntries entriesFrom entries constraintRecords bodies pairs encode goodFrom wellFormed
-    bodyLengths splitBodies bodiesIn pieces entriesIn group sameNumbers namesAt assignRows assignRelabels imageIn valid change relabel
-    firstTransition newRole nameFrom nameOf recordFrom entryOf validOn newRoleOn nameOn entryOn changeOn relabelOn accept policyOf compiled
-    lineFeeds refusalOf outcome after digits rollLines rollOf printed
+    rowsOf run balanced-of-Rows maskOf-of-Image imageOf permissionEntries entriesFrom entries constraintRecords bodies pairs encode goodFrom
+    wellFormed bodyLengths splitBodies bodiesIn pieces entriesIn group sameNumbers namesAt assignRows assignRelabels imageIn valid change
+    relabel firstTransition newRole nameFrom nameOf recordFrom entryOf validOn newRoleOn nameOn entryOn changeOn relabelOn accept policyOf
+    compiled lineFeeds refusalOf outcome after digits rollLines rollOf printed
 computing = tt

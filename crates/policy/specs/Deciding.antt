@@ -70,7 +70,7 @@ pub record Answer : Type 0 where
   pub verdict : Verdict
   pub consulted : ℕ
 
--- "0 for denials 1 to 3 and for refusals"
+-- "0 for denials 1 to 3 and for refusals"; W-205, of a relabelling: "consulted as for a change, 0 for denials 1, 2 and 5"
 abbrev pub unconsulted : Verdict → Answer
 unconsulted v = record { verdict = v; consulted = 0 }
 

@@ -1,4 +1,5 @@
--- Document 01, "The table": its content without its bytes. Assumes nothing.
+-- Document 01, "The table": its content without its bytes. A section's bytes are its body: section 5 and body 5 are one thing, counted from 1 as in the
+-- documents. Assumes nothing.
 use Prim.Native.Nat.{ℕ}
 use mathlib.Core.List.{List}
 use mathlib.Core.Option.{none}

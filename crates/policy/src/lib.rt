@@ -88,6 +88,9 @@ impl Constraint {
     pub const FIRST_ROW_AT: usize = 6;
 
     pub const ROW_COUNT_AT: usize = 8;
+
+    // The bytes of body 6 where it has as many as there may be.
+    pub const MAX_BODY_BYTES: usize = Constraint::MAX * Constraint::BYTES;
 }
 
 // The number of a validatetrans statement, which says when a file may be relabelled.
@@ -104,6 +107,11 @@ impl Relabel {
 
     // Where they are in it; the class comes first.
     pub const ROW_COUNT_AT: usize = 2;
+
+    // The bytes of bodies 9 and 10 where they have as many, and as many rows, as there may be.
+    pub const MAX_BODY_BYTES: usize = Relabel::MAX * Relabel::BYTES;
+
+    pub const MAX_ROWS_BODY_BYTES: usize = Relabel::MAX_ROWS * Row::BYTES;
 }
 
 // The number of a constraint row, over all constraints.
@@ -123,6 +131,9 @@ impl Row {
     pub const UNUSED_AT: usize = 3;
 
     pub const NUMBER_AT: usize = 4;
+
+    // The bytes of body 7 where it has as many as there may be.
+    pub const MAX_BODY_BYTES: usize = Row::MAX * Row::BYTES;
 
     // The kinds: three operators on the stack, and three comparisons.
     pub const NOT: u8 = 0;
@@ -270,7 +281,7 @@ impl NameEntry {
     pub const HEAD_BYTES: usize = 4;
 }
 
-// The sections of a table, counted from 0.
+// The sections of a table, counted from 0: body 1 is the first one's bytes.
 pub struct Section;
 
 impl Section {

@@ -122,9 +122,9 @@ module _ {t : List ℕ} {at : ℕ} {table : List ℕ} {before : List ℕ} {count
 
         -- 6 and 7, and what is written, by what the maxima and the stack need allow
         pub answered : {a n deep : ℕ} → k ≡ RowsWritten.Next a n deep → {after : List ℕ} {b : Constrained}
-            → Admits maxRelabels maxRelabelRows count n deep (Records 4 (relabelBytes (recordWith class (n - row))) before after count) b
+            → Records 4 (relabelBytes (recordWith class (n - row))) before after count → Admits maxRelabels maxRelabelRows count n deep b
             → WritesRelabel t at table before after count rowsBefore rowsAfter row b
-        answered {a} {n} {deep} e {after} {b} m = record {
+        answered {a} {n} {deep} e {after} {b} stored m = record {
           says = λ env w y g long rows-long f.
               let s = relabel-shape (trim (framesAt t at .here) levels) w f in
               let c = class-told u d in
@@ -135,5 +135,5 @@ module _ {t : List ℕ} {at : ℕ} {table : List ℕ} {before : List ℕ} {count
               subst (λ (o : Option Statement). Answers o before after count rowsBefore rowsAfter row b)
               (sym (ap (resolved env) (s .written) ∙ resolves env (s .class) (s .body) (class-then c y s .0) (i .expression) (i .refers)))
               (admitted maxRelabels maxRelabelRows 4 _ before after count rowsBefore rowsAfter row n deep (i .expression) p (i .count) (λ h. omega (arith, h, long)) rows-long
-              (i .bytes) (ap (λ (k : ℕ). relabelBytes (recordWith class k)) (rows-of row n (size (i .expression)) (i .count))) b (m .says));
+              (i .bytes) (ap (λ (k : ℕ). relabelBytes (recordWith class k)) (rows-of row n (size (i .expression)) (i .count))) stored b (m .says));
         }

@@ -1,9 +1,7 @@
 // `(validatetrans C E)` with its names resolved: the record of body 9 and the rows of body 10 as they will be in the
 // table; faults 5, 6 and 7. Its form is known to be good where this is called.
-ghost use Prim.Native.Nat.{_-_, _≤_};
-ghost use Rattle.policy.specs.Maxima.{maxRelabels, maxRelabelRows};
 ghost use Rattle.policy.specs.Encode.{relabelBytes};
-ghost use Rattle.constrain_statement.specs.Limits.{Records, Admits};
+ghost use Rattle.constrain_statement.specs.Limits.{Records};
 ghost use Rattle.relabel_statement.specs.RelabelWrites.{recordWith, WritesRelabel};
 use constrain_statement::Constrained;
 use constrain_statement::NamedClass;
@@ -11,12 +9,6 @@ use constraint_writer::RowsWritten;
 use items::Item;
 use lexer::Level;
 use policy::Relabel;
-use policy::Row;
-
-// The bytes of all records that body 9 may have, and of all rows of body 10.
-pub const RELABELS_BYTES: usize = Relabel::MAX * Relabel::BYTES;
-
-pub const RELABEL_ROWS_BYTES: usize = Relabel::MAX_ROWS * Row::BYTES;
 
 // The levels that may lie inside the expression: it is itself a part of its statement.
 const LEVELS: usize = Level::MAX - 2;
@@ -33,30 +25,9 @@ fn put_record(relabels: &mut [u8], count: usize, class: usize, rows: usize)
     little_endian::put2(relabels, at + Relabel::ROW_COUNT_AT, rows);
 }
 
-// The record of a statement whose names are declared and whose rows go from a row to before the next, if the maxima
-// allow both and the stack need of its expression.
-fn admit(
-    relabels: &mut [u8],
-    count: usize,
-    class: usize,
-    row: usize,
-    next: usize,
-    need: usize,
-) -> Constrained
-    requires { ⌜ row ≤ next ⌝ }
-    ensures { λ r. ⌜ Admits maxRelabels maxRelabelRows count next need
-        (Records 4 (relabelBytes (recordWith class (next - row))) (now (relabels .entry)) (now (relabels .exit)) count) r ⌝ }
-{
-    let limited = constrain_statement::limit(Relabel::MAX, Relabel::MAX_ROWS, count, next, need);
-    let Constrained::Next(_) = limited else {
-        return limited;
-    };
-    put_record(relabels, count, class, next - row);
-    Constrained::Next(next)
-}
-
 // Resolves what follows the keyword, writes the rows of the expression from a row on, and the record of that number.
-// What has no room in the lent slices is not written; those that hold all records and rows always have it.
+// What has no room in the lent slices is not written; those that hold all records and rows always have it. The maxima
+// are asked last: what a refused statement leaves in the slices is not read.
 pub fn write_relabel(
     text: &[u8],
     at: usize,
@@ -89,5 +60,6 @@ pub fn write_relabel(
     else {
         return Constrained::Undeclared;
     };
-    admit(relabels, count, class, row, past, need)
+    put_record(relabels, count, class, past - row);
+    constrain_statement::limit(Relabel::MAX, Relabel::MAX_ROWS, count, past, need)
 }

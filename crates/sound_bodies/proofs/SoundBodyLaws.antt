@@ -107,7 +107,7 @@ few-records k w most t h = leb-true (lengthIn t k / w) most (both-true (eqb (len
 
 -- STATEMENTS AND THEIR ROWS
 
--- statements whose heads have w bytes: rows are dealt out to them so that no statement and no row is lost
+-- statements whose records have w bytes: rows are dealt out to them so that no statement and no row is lost
 module _ {H A : Type 0} (w most mostRows : ℕ) (read : List ℕ → H) (deal : List H → List Row → Option (List A)) (rowsOf : A → List Row) (good : A → Bool)
     (none-lost : (hs : List H) (rs : List Row) (cs : List A) → deal hs rs ≡ some cs → (length cs ≡ length hs) × (joined (each rowsOf cs) ≡ rs)) where
   abbrev fewAndGood : List A → Bool

@@ -73,7 +73,7 @@ module _ {A B : Type 0} (f : A → Option B) where
 
 -- ALL STATEMENTS
 
--- rows are dealt out to statements as their heads say, from row r on, with none left
+-- rows are dealt out to statements as their records say, from row r on, with none left
 unfoldable dealOut : {A B : Type 0} → AskedOf A → (A → List Row → B) → ℕ → List A → List Row → Option (List B)
 dealOut asks entry r [] [] = some []
 dealOut asks entry r [] (x ∷ xs) = none
@@ -81,7 +81,7 @@ dealOut asks entry r (h ∷ hs) rs = cond (asks .starts h r && leb (asks .rows h
     (more (some (entry h (take (asks .rows h) rs))) (dealOut asks entry (r + asks .rows h) hs (drop (asks .rows h) rs)))
     none
 
--- a statement fits where its head and its rows do
+-- a statement fits where its record and its rows do
 module _ {A B : Type 0} (asks : AskedOf A) (good : Row → Bool) (entry : A → List Row → B) (fits : B → Bool)
     (agree : (h : A) (us : List Row) → fits (entry h us) ≡ (asks .fits h && every good us && balanced us 0)) where
   -- what the rows are dealt out as, and all of it is good
@@ -215,7 +215,7 @@ relabels-good ds hs ts = refl
 pub record RecordTurn {A : Type 0} (asks : AskedOf A) (good : Row → Bool) (t : List ℕ) (whole : Bool) (r at m : ℕ) (later : List A) (h : A) : Type 0 where
   pub tests : takeUp asks good r (h ∷ later) (pieces m 6 (drop at t)) ≡ whole
 
--- heads of w bytes, each of which is read from its own bytes alone
+-- records of w bytes, each of which is read from its own bytes alone
 module _ {A : Type 0} (w : ℕ) (read : List ℕ → A) (front : (t : List ℕ) → read (take w t) ≡ read t)
     (asks : AskedOf A) (good : Row → Bool) (t : List ℕ) {whole : Bool} (r from k at m : ℕ)
     (left : takeUp asks good r (each read (pieces k w (drop from t))) (pieces m 6 (drop at t)) ≡ whole) where

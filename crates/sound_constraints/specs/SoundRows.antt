@@ -66,7 +66,7 @@ rowsFit good (t ∷ ts) d =
 
 -- STATEMENTS
 
--- what is asked of a statement's head: how many rows it takes up, whether it may take them up from a row on, and whether it is good by itself
+-- what is asked of a statement's record: how many rows it takes up, whether it may take them up from a row on, and whether it is good by itself
 pub record AskedOf (A : Type 0) : Type 0 where
   pub rows : A → ℕ
   pub starts : A → ℕ → Bool
@@ -84,7 +84,7 @@ module _ (n : Totals) where
   fitsConstraint c =
       fitsMask (n .classes) (n .permissions) (c .class) (c .mask) && every (fitsRow 6 (n .things) (n .attributes)) (c .rows) && balanced (c .rows) 0
 
-  -- the constraints of these heads, where their rows are in these bytes
+  -- the constraints of these records, where their rows are in these bytes
   abbrev pub constraintsFit : List ConstraintRecord → List (List ℕ) → Bool
   constraintsFit hs ts = passes (eachOf rowAt ts >>= λ rs. assignRows 0 hs rs) (every fitsConstraint)
 
@@ -92,6 +92,6 @@ module _ (n : Totals) where
   abbrev pub fitsRelabel : RelabelEntry → Bool
   fitsRelabel c = ltb (c .class) (n .classes) && every (fitsRow 9 (n .things) (n .attributes)) (c .rows) && balanced (c .rows) 0
 
-  -- the validatetrans statements of these heads, where their rows are in these bytes
+  -- the validatetrans statements of these records, where their rows are in these bytes
   abbrev pub relabelsFit : List RelabelRecord → List (List ℕ) → Bool
   relabelsFit hs ts = passes (eachOf rowAt ts >>= λ rs. assignRelabels hs rs) (every fitsRelabel)

@@ -221,26 +221,33 @@ pub fn constraints_fit(
     counts: NameCounts,
     permissions: &[usize],
 ) -> bool
-    ensures { λ r. ⌜ r ≡ constraintsFit (totalsIn counts (now (permissions .entry))) (each constraintAt (pieces count 10 (drop constraints (now (table .entry)))))
-        (pieces rows 6 (drop start (now (table .entry)))) ⌝ }
+    ensures { λ r. ⌜ r ≡ constraintsFit (totalsIn counts (now (permissions .entry)))
+        (each constraintAt (pieces count 10 (drop constraints (now (table .entry))))) (pieces rows 6 (drop start (now (table .entry)))) ⌝ }
 {
     let mut next = 0;
     let mut taken = 0;
     while next < count {
-        let head = table_reader::constraint_at(table, constraints, next);
-        if head.first != taken {
+        let constraint = table_reader::constraint_at(table, constraints, next);
+        if constraint.first != taken {
             return false;
         }
-        if rows - taken < head.rows {
+        if rows - taken < constraint.rows {
             return false;
         }
-        if !fits_mask(head, counts, permissions) {
+        if !fits_mask(constraint, counts, permissions) {
             return false;
         }
-        if !rows_fit(table, start, taken, head.rows, Component::COUNT, counts) {
+        if !rows_fit(
+            table,
+            start,
+            taken,
+            constraint.rows,
+            Component::COUNT,
+            counts,
+        ) {
             return false;
         }
-        taken += head.rows;
+        taken += constraint.rows;
         next += 1;
     }
     taken == rows
@@ -264,24 +271,24 @@ pub fn relabels_fit(
     let mut next = 0;
     let mut taken = 0;
     while next < count {
-        let head = table_reader::relabel_at(table, relabels, next);
-        if rows - taken < head.rows {
+        let relabel = table_reader::relabel_at(table, relabels, next);
+        if rows - taken < relabel.rows {
             return false;
         }
-        if counts.classes <= head.class as usize {
+        if counts.classes <= relabel.class as usize {
             return false;
         }
         if !rows_fit(
             table,
             start,
             taken,
-            head.rows,
+            relabel.rows,
             Component::COUNT_OF_THREE,
             counts,
         ) {
             return false;
         }
-        taken += head.rows;
+        taken += relabel.rows;
         next += 1;
     }
     taken == rows

@@ -19,10 +19,12 @@ use Rattle.policy.proofs.Lists.{both-true, true-both, gather-over, gather-last,
 use Rattle.policy.proofs.Sameness.{sort-self, sort-same}
 use Rattle.policy.proofs.Sorts.{code-below, code-sort}
 use Rattle.policy.proofs.Counts.{count-same, count-more}
+use Rattle.symbols.specs.Lookup.{mostOf}
 use Rattle.symbols.proofs.ClassesFound.{classes-same, classes-more}
+use Rattle.symbols.proofs.CountLaws.{most-of}
 use Rattle.sound_names.specs.SoundNames.{countsOf, permissionCounts}
 use Rattle.sound_names.specs.EntryOrder.{Kind, ofThing, ofClass, ofPermission, ofNothing, kindOf, Declaring, complete, opened, declared, closes, isPlaced, extended}
-use Rattle.sound_names.specs.Tally.{mostOf, allows, counted, permitted, Zeros, openOf, Tallied, countsIn}
+use Rattle.sound_names.specs.Tally.{allows, counted, permitted, Zeros, openOf, Tallied, countsIn}
 use Rattle.sound_names.proofs.EntryOrderLaws.{KindIs, kind-is, rises}
 
 -- ---- which entry the counts allow
@@ -31,14 +33,6 @@ pub closes-open : (d : Declaring) → not (eqb (openOf d) 1) ≡ closes d
 closes-open (complete ds) = refl
 closes-open (opened ds v []) = refl
 closes-open (opened ds v (p ∷ ps)) = rw (ne-eqb (length (p ∷ ps) + 1) 1 (λ e. omega arith))
-
-most-of : (s : Sort) → mostOf (sortCode s) ≡ maxOf s
-most-of (thingOf users) = refl
-most-of (thingOf roles) = refl
-most-of (thingOf types) = refl
-most-of (attributeOf users) = refl
-most-of (attributeOf roles) = refl
-most-of (attributeOf types) = refl
 
 -- a permission's number, by its class and its place
 by-place : (n k l : ℕ) → eqb (n / 32 + 1) (k + 1) && eqb (n % 32 + 1) (l + 1) ≡ ltb l 32 && eqb n (k * 32 + l)

@@ -7,23 +7,15 @@ use Prim.Native.Nat.{ℕ, _+_, _/_, _%_, _<_}
 use lib.Dec.{eqb, ltb}
 use lib.ListN.{length, getD, set, replicate}
 use Rattle.policy.specs.Basics.{Name}
-use Rattle.policy.specs.Statements.{users, roles, types, Sort, thingOf, attributeOf, Declaration, count, classNames, permissions}
-use Rattle.policy.specs.Maxima.{maxOf, maxClasses, maxParts}
+use Rattle.policy.specs.Statements.{Sort, Declaration, count, classNames, permissions}
+use Rattle.policy.specs.Maxima.{maxParts}
 use Rattle.policy.specs.Encode.{NameEntry, sortCode}
-use Rattle.symbols.specs.Lookup.{familyNumber, firstNamed}
+use Rattle.symbols.specs.Lookup.{familyNumber, mostOf, firstNamed}
 use Rattle.symbols.specs.SearchAnswers.{isFound}
 use Rattle.name_spelling.specs.Spelling.{isSpelt}
 use Rattle.policy.specs.declared.NameCounts.{NameCounts}
 use Rattle.sound_names.specs.SoundNames.{countsOf, permissionCounts}
 use Rattle.sound_names.specs.EntryOrder.{Declaring, complete, opened, declared}
-
--- "Users 128, roles 128, types 512, attributes 64 per family, classes 32", by the sort's number
-abbrev pub mostOf : ℕ → ℕ
-mostOf sort =
-    cond (eqb sort 0) (maxOf (thingOf users))
-    (cond (eqb sort 1) (maxOf (thingOf roles))
-    (cond (eqb sort 2) (maxOf (thingOf types))
-    (cond (ltb sort 6) (maxOf (attributeOf users)) maxClasses)))
 
 -- W-203: "at most .. nine parts, a permission's one", by the sort's number
 abbrev pub mostParts : ℕ → ℕ

@@ -16,7 +16,7 @@ ghost use Rattle.symbols.specs.Section.{between, entriesAt};
 ghost use Rattle.symbols.specs.Lookup.{firstNamed};
 ghost use Rattle.symbols.specs.SearchAnswers.{isFound};
 ghost use Rattle.sound_names.specs.SoundNames.{soundNames, countedOf, permissionsAfter};
-ghost use Rattle.sound_names.specs.Tally.{mostOf, mostParts, allows, counted, permitted, Room, Zeros, judgedOf, judged};
+ghost use Rattle.sound_names.specs.Tally.{mostParts, allows, counted, permitted, Room, Zeros, judgedOf, judged};
 
 // How many things of each sort a sound body 1 names.
 pub enum Counted {
@@ -61,25 +61,6 @@ fn is_new(table: &[u8], start: usize, at: usize, past: usize, family: usize, sha
     is_first(table, start, at, past, family)
 }
 
-// How many things of a sort, or classes, there may be.
-fn most(sort: usize) -> usize
-    ensures { λ r. ⌜ r ≡ mostOf sort ⌝ }
-{
-    if sort == Sort::USER {
-        return policy::User::MAX;
-    }
-    if sort == Sort::ROLE {
-        return policy::Role::MAX;
-    }
-    if sort == Sort::TYPE {
-        return policy::Type::MAX;
-    }
-    if sort < Sort::CLASS {
-        return policy::Attribute::MAX;
-    }
-    policy::Class::MAX
-}
-
 // How many parts the name of an entry of a sort may have: a permission takes no block's name.
 fn most_parts(sort: usize) -> usize
     ensures { λ r. ⌜ r ≡ mostParts sort ⌝ }
@@ -102,7 +83,7 @@ fn is_allowed(counts: &[usize], sort: usize, number: usize) -> bool
         if number != counts[sort] {
             return false;
         }
-        return number < most(sort);
+        return number < symbols::most(sort);
     }
     if sort != Sort::PERMISSION {
         return false;

@@ -49,13 +49,14 @@ module _ (cs : List Constrain) (c : Constrain) where
   entries-last = each-append constraintEntry cs (c ∷ [])
 
   constraint-last : joined (each constraintBytes (constraintRecords 0 (each constraintEntry (cs ++ (c ∷ [])))))
-      ≡ joined (each constraintBytes (constraintRecords 0 (each constraintEntry cs))) ++ constraintBytes (recordOf (c .class) (c .perms) (c .body) (rowCount constrainBody cs))
+      ≡ joined (each constraintBytes (constraintRecords 0 (each constraintEntry cs)))
+      ++ constraintBytes (recordOf (c .class) (c .perms) (c .body) (rowCount constrainBody cs))
   constraint-last =
       ap (λ (es : List ConstraintEntry). joined (each constraintBytes (constraintRecords 0 es))) entries-last
       ∙ ap (λ (hs : List ConstraintRecord). joined (each constraintBytes hs)) (constraint-records-more 0 (each constraintEntry cs) (constraintEntry c))
       ∙ bytes-more constraintBytes (constraintRecords 0 (each constraintEntry cs)) _
-      ∙ ap₂ (λ (first n : ℕ). joined (each constraintBytes (constraintRecords 0 (each constraintEntry cs))) ++ constraintBytes (recordWith (c .class) (maskOf (c .perms)) first n))
-      (zero-add _ ∙ rows-in-all cs) (rows-count (c .body))
+      ∙ ap₂ (λ (first n : ℕ). joined (each constraintBytes (constraintRecords 0 (each constraintEntry cs)))
+      ++ constraintBytes (recordWith (c .class) (maskOf (c .perms)) first n)) (zero-add _ ∙ rows-in-all cs) (rows-count (c .body))
 
 -- the rows of statements whose entries have them
 module _ {A E : Type 0} (entry : A → E) (rowsFor : E → List Row) where
@@ -129,7 +130,8 @@ module _ (p : Policy) (l : Line) where
       → constraintsOf (p ++ (l ∷ [])) ≡ constraintsOf p ++ constraintBytes (recordOf (c .class) (c .perms) (c .body) (rowCount constrainBody (constrains p)))
   unfolding constraintsOf
   constraints-more c h =
-      ap (λ (cs : List Constrain). joined (each constraintBytes (constraintRecords 0 (each constraintEntry cs)))) (constrains-more c h) ∙ constraint-last (constrains p) c
+      ap (λ (cs : List Constrain). joined (each constraintBytes (constraintRecords 0 (each constraintEntry cs)))) (constrains-more c h)
+      ∙ constraint-last (constrains p) c
 
   pub constraints-same : constrained l ≡ none → constraintsOf (p ++ (l ∷ [])) ≡ constraintsOf p
   unfolding constraintsOf

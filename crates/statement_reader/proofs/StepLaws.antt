@@ -10,6 +10,8 @@ use mathlib.Core.Option.{Option, none, some}
 use lib.Dec.{ltb, leb}
 use lib.ListN.{length, take, drop, length-append, length-drop}
 use lib.Seq.{take-take, length-take-le}
+use types.Run.{OneOf, miss}
+use denote.Enum.Declared.{tagOf}
 use Rattle.byte_slices.specs.Parts.{put}
 use Rattle.bitset.specs.Relations.{joined}
 use Rattle.lexer.specs.Forms.{framesAt, trim}
@@ -47,8 +49,9 @@ use Rattle.constrain_statement.specs.Limits.{fitsWithin, IsUndeclared, OrFault,
 use Rattle.relabel_statement.specs.RelabelWrites as relabelling
 use Rattle.relabel_statement.specs.RelabelWrites.{WritesRelabel}
 use Rattle.constrain_statement.specs.declared.Constrained.{Constrained}
+use Rattle.constrain_statement.proofs.Constrained.{the-type}
 use Rattle.statement_reader.specs.Memory.{Memory, memory, symbolsOf, constraintRoom, rowRoom, Starts, Holds}
-use Rattle.statement_reader.specs.Steps.{codedKeyword, Filled, Stepped, RowIs, Room, Steps, withSymbols, declaredStep, withCode, codedStep, rowsStep, withRows}
+use Rattle.statement_reader.specs.Steps.{codedKeyword, Filled, Stepped, RowIs, Room, Steps, withSymbols, declaredStep, withCode, codedStep, rowsFault, rowsStep, withRows}
 use Rattle.statement_reader.specs.Steps.{constrainedStep, withRelabel, relabelledStep}
 use Rattle.statement_reader.specs.declared.Progress.{Progress}
 use Rattle.statement_reader.specs.declared.Step.{Step}
@@ -154,9 +157,9 @@ module _ {p : Policy} {path : List Name} {lent : Memory} {sy co cs rs : List ℕ
           let l = line place (constrain c ps e) in
           let k : Constrain = record { class = c; perms = ps; body = e } in
           let fits = within maxConstraints maxRows (s .constraints) (s .rows + size e) (a .fits) in
-          let head = recordOf c ps e (rowCount constrainBody (constrains p)) in
-          let written : x ≡ put (take constraintRoom cs) (10 * s .constraints) (constraintBytes head) =
-          a .head ∙ ap (λ (n : ℕ). put (take constraintRoom cs) (10 * s .constraints) (constraintBytes (recordOf c ps e n))) (h .row-count) in
+          let constraint = recordOf c ps e (rowCount constrainBody (constrains p)) in
+          let written : x ≡ put (take constraintRoom cs) (10 * s .constraints) (constraintBytes constraint) =
+          a .recorded ∙ ap (λ (n : ℕ). put (take constraintRoom cs) (10 * s .constraints) (constraintBytes (recordOf c ps e n))) (h .row-count) in
           let counted : s .constraints + 1 ≡ length (constrains p ++ (k ∷ [])) = omega (arith, h .constraint-count, length-append (constrains p) (k ∷ [])) in
           let numbered : next ≡ rowCount constrainBody (constrains p ++ (k ∷ [])) = omega (arith, a .next-row, h .row-count, rows-last constrainBody (constrains p) k) in
           record {
@@ -164,8 +167,8 @@ module _ {p : Policy} {path : List Name} {lent : Memory} {sy co cs rs : List ℕ
             chained = rw (declared-same p l refl) (h .chained);
             scope = h .scope;
             code = rw (code-last p l, append-nil) (h .code);
-            constraints = rw (constraints-more p l k refl, u .is) (put-behind (h .constraints) (constraintBytes head) x (10 * (s .constraints + 1)) written
-                (omega (arith, constraint-wide head)) (omega (arith, fits .1, records-first, now-long (h .constraints))));
+            constraints = rw (constraints-more p l k refl, u .is) (put-behind (h .constraints) (constraintBytes constraint) x (10 * (s .constraints + 1))
+                written (omega (arith, constraint-wide constraint)) (omega (arith, fits .1, records-first, now-long (h .constraints))));
             rows = rw (rows-more p l k refl, v .is) (rows-behind (s .rows) next e (h .rows) (a .rows) (a .next-row) (omega (arith, fits .2, a .next-row, rows-first)));
             relabel-records = rw (relabel-records-same p l refl, u .kept) (h .relabel-records);
             relabel-rows = rw (relabel-rows-same p l refl, v .kept) (h .relabel-rows);
@@ -185,7 +188,7 @@ module _ {p : Policy} {path : List Name} {lent : Memory} {sy co cs rs : List ℕ
           let l = line place (validatetrans c e) in
           let k : Relabel = record { class = c; body = e } in
           let fits = within maxRelabels maxRelabelRows (s .relabels) (s .«relabel_rows» + size e) (a .fits) in
-          let head = relabelling.recordWith c (size e) in
+          let relabel = relabelling.recordWith c (size e) in
           let counted : s .relabels + 1 ≡ length (relabels p ++ (k ∷ [])) = omega (arith, h .relabel-count, length-append (relabels p) (k ∷ [])) in
           let numbered : next ≡ rowCount relabelBody (relabels p ++ (k ∷ [])) = omega (arith, a .next-row, h .relabel-row-count, rows-last relabelBody (relabels p) k) in
           record {
@@ -195,8 +198,8 @@ module _ {p : Policy} {path : List Name} {lent : Memory} {sy co cs rs : List ℕ
             code = rw (code-last p l, append-nil) (h .code);
             constraints = rw (constraints-same p l refl, u .kept) (h .constraints);
             rows = rw (rows-same p l refl, v .kept) (h .rows);
-            relabel-records = rw (relabel-records-more p l k refl, u .is) (put-behind (h .relabel-records) (relabelBytes head) x (4 * (s .relabels + 1)) (a .head)
-                (omega (arith, relabel-wide head)) (omega (arith, fits .1, records-second, now-long (h .relabel-records))));
+            relabel-records = rw (relabel-records-more p l k refl, u .is) (put-behind (h .relabel-records) (relabelBytes relabel) x (4 * (s .relabels + 1)) (a .recorded)
+                (omega (arith, relabel-wide relabel)) (omega (arith, fits .1, records-second, now-long (h .relabel-records))));
             relabel-rows =
                 rw (relabel-rows-more p l k refl, v .is)
                 (rows-behind (s .«relabel_rows») next e (h .relabel-rows) (a .rows) (a .next-row) (omega (arith, fits .2, a .next-row, rows-second)));
@@ -355,6 +358,14 @@ module _ {t : List ℕ} {at place : ℕ} {sy co co' cs rs : List ℕ} {s : Progr
               (resolved-of (environmentOf (declarations p) path) (codedKeyword kind) w i .has st e)
 
 -- STATEMENTS WITH ROWS: fault 5, then 6, then 7
+
+-- one whose rows are not written is refused, however many there may be
+pub not-written : (room : Bool) (past : ℕ → Progress) (r : Constrained) → OneOf (1 ∷ 2 ∷ 3 ∷ []) (tagOf the-type r) → rowsFault r ≡ rowsStep room past r
+not-written room past (Constrained.Next n) o = absurd (miss (1 ∷ 2 ∷ 3 ∷ []) 0 tt o)
+not-written room past Constrained.Undeclared o = refl
+not-written room past Constrained.MaximumPassed o = refl
+not-written room past Constrained.StackTooSmall o = refl
+
 module _ (p : Policy) (path : List Name) (place : ℕ) (lent now : Memory) (room : Bool) (past : ℕ → Progress) where
   rows-undeclared : (r : Constrained) → IsUndeclared r → Stepped (fault 5) p path place lent now (rowsStep room past r)
   rows-undeclared (Constrained.Next n) y = absurd y

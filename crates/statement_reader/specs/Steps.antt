@@ -119,12 +119,19 @@ abbrev pub codedStep : CodedStatement → CodeWritten → Progress → Step
 codedStep k (CodeWritten.Next to) s = codedNext k to s
 codedStep k CodeWritten.Undeclared s = Step.Fault 5
 
--- the step of a statement with rows, by whether there may be one more and the progress past its rows: faults 5, 6, 7 in this order
+-- the fault of a statement with rows that is not read: 5, 6, 7 in this order. One whose rows are written is one too many
+abbrev pub rowsFault : Constrained → Step
+rowsFault (Constrained.Next next) = Step.Fault 6
+rowsFault Constrained.Undeclared = Step.Fault 5
+rowsFault Constrained.MaximumPassed = Step.Fault 6
+rowsFault Constrained.StackTooSmall = Step.Fault 7
+
+-- the step of a statement with rows, by whether there may be one more and the progress past its rows
 abbrev pub rowsStep : Bool → (ℕ → Progress) → Constrained → Step
-rowsStep room past (Constrained.Next next) = cond room (Step.Read (past next)) (Step.Fault 6)
-rowsStep room past Constrained.Undeclared = Step.Fault 5
-rowsStep room past Constrained.MaximumPassed = Step.Fault 6
-rowsStep room past Constrained.StackTooSmall = Step.Fault 7
+rowsStep room past (Constrained.Next next) = cond room (Step.Read (past next)) (rowsFault (Constrained.Next next))
+rowsStep room past Constrained.Undeclared = rowsFault Constrained.Undeclared
+rowsStep room past Constrained.MaximumPassed = rowsFault Constrained.MaximumPassed
+rowsStep room past Constrained.StackTooSmall = rowsFault Constrained.StackTooSmall
 
 -- "constraints 128"
 abbrev pub withRows : Progress → ℕ → Progress

@@ -1,8 +1,6 @@
 // One statement whose form is good: its names are entered or looked up, and what it says is put into the lent memory;
 // or its fault 4 to 7.
-use constrain_statement::CONSTRAINTS_BYTES;
 use constrain_statement::Constrained;
-use constrain_statement::ROWS_BYTES;
 use declarations::Declared;
 use declarations::SYMBOL_BYTES;
 use grammar::Keyword;
@@ -13,10 +11,9 @@ use policy::Family;
 use policy::Refusal;
 use policy::Relabel;
 use policy::Relation;
+use policy::Row;
 use policy::Sort;
 use policy::Transition;
-use relabel_statement::RELABEL_ROWS_BYTES;
-use relabel_statement::RELABELS_BYTES;
 use statement_writer::CodeWritten;
 ghost use mathlib.Core.Path.{_≡_};
 ghost use mathlib.Core.List.{List};
@@ -29,15 +26,16 @@ ghost use Rattle.policy.specs.Answers.{familyOf};
 ghost use Rattle.items.specs.Looks.{itemAt};
 ghost use Rattle.statement_writer.specs.ResolvedUnits.{WritesStatement};
 ghost use Rattle.statement_reader.specs.Memory.{memory, constraintRoom, rowRoom};
-ghost use Rattle.statement_reader.specs.Steps.{codedKeyword, Steps, StepsAt, declaredStep, withCode, codedStep, constrainedStep, relabelledStep};
+ghost use Rattle.statement_reader.specs.Steps.{codedKeyword, Steps, StepsAt, declaredStep, withCode, codedStep, rowsFault, constrainedStep};
+ghost use Rattle.statement_reader.specs.Steps.{relabelledStep};
 
 // Room for the code: no statement has more units than bytes of the text.
 pub const CODE_UNITS: usize = Text::MAX + 1;
 
 // Room for the records of constrains, and after it for those of validatetrans statements; and for their rows likewise.
-pub const RECORD_BYTES: usize = CONSTRAINTS_BYTES + RELABELS_BYTES;
+pub const RECORD_BYTES: usize = Constraint::MAX_BODY_BYTES + Relabel::MAX_BODY_BYTES;
 
-pub const ROW_BYTES: usize = ROWS_BYTES + RELABEL_ROWS_BYTES;
+pub const ROW_BYTES: usize = Row::MAX_BODY_BYTES + Relabel::MAX_ROWS_BODY_BYTES;
 
 // How far the lent memory is filled, and how many transitions, constraints and validatetrans statements there are.
 pub struct Progress {
@@ -234,31 +232,39 @@ fn coded(
     coded_step(kind, written, progress)
 }
 
+// The fault of a statement with rows that is not read. One whose rows are written is one too many.
+fn rows_fault(written: Constrained) -> Step
+    ensures { λ r. ⌜ r ≡ rowsFault written ⌝ }
+{
+    match written {
+        Constrained::Next(_) => Step::Fault(Refusal::MAXIMUM_PASSED),
+        Constrained::Undeclared => Step::Fault(Refusal::NAME_UNDECLARED),
+        Constrained::MaximumPassed => Step::Fault(Refusal::MAXIMUM_PASSED),
+        Constrained::StackTooSmall => Step::Fault(Refusal::STACK_TOO_SMALL),
+    }
+}
+
 // A constraint whose record and rows are written, or its fault. Where they are written there was room for one more,
 // which the test repeats so that the count cannot overflow.
 fn constrained_step(written: Constrained, progress: Progress) -> Step
     ensures { λ r. ⌜ r ≡ constrainedStep written progress ⌝ }
 {
     let count = progress.constraints;
-    match written {
-        Constrained::Next(row) => {
-            if Constraint::MAX <= count {
-                return Step::Fault(Refusal::MAXIMUM_PASSED);
-            }
-            Step::Read(Progress {
-                symbols: progress.symbols,
-                code: progress.code,
-                transitions: progress.transitions,
-                constraints: count + 1,
-                rows: row,
-                relabels: progress.relabels,
-                relabel_rows: progress.relabel_rows,
-            })
-        }
-        Constrained::Undeclared => Step::Fault(Refusal::NAME_UNDECLARED),
-        Constrained::MaximumPassed => Step::Fault(Refusal::MAXIMUM_PASSED),
-        Constrained::StackTooSmall => Step::Fault(Refusal::STACK_TOO_SMALL),
+    let Constrained::Next(row) = written else {
+        return rows_fault(written);
+    };
+    if Constraint::MAX <= count {
+        return rows_fault(written);
     }
+    Step::Read(Progress {
+        symbols: progress.symbols,
+        code: progress.code,
+        transitions: progress.transitions,
+        constraints: count + 1,
+        rows: row,
+        relabels: progress.relabels,
+        relabel_rows: progress.relabel_rows,
+    })
 }
 
 // `(constrain (C (P ...)) E)`, whose record and rows go into the first part of each memory: no other statement writes
@@ -276,8 +282,8 @@ fn constrain(
         (memory (now (symbols .entry)) co (now (constraints .entry)) (now (rows .entry)))
         (memory (now (symbols .entry)) co (now (constraints .exit)) (now (rows .exit))) progress r) ⌝ }
 {
-    let records_end = CONSTRAINTS_BYTES;
-    let rows_end = ROWS_BYTES;
+    let records_end = Constraint::MAX_BODY_BYTES;
+    let rows_end = Row::MAX_BODY_BYTES;
     let written = constrain_statement::write_constrain(
         text,
         at,
@@ -295,25 +301,21 @@ fn relabelled_step(written: Constrained, progress: Progress) -> Step
     ensures { λ r. ⌜ r ≡ relabelledStep written progress ⌝ }
 {
     let count = progress.relabels;
-    match written {
-        Constrained::Next(row) => {
-            if Relabel::MAX <= count {
-                return Step::Fault(Refusal::MAXIMUM_PASSED);
-            }
-            Step::Read(Progress {
-                symbols: progress.symbols,
-                code: progress.code,
-                transitions: progress.transitions,
-                constraints: progress.constraints,
-                rows: progress.rows,
-                relabels: count + 1,
-                relabel_rows: row,
-            })
-        }
-        Constrained::Undeclared => Step::Fault(Refusal::NAME_UNDECLARED),
-        Constrained::MaximumPassed => Step::Fault(Refusal::MAXIMUM_PASSED),
-        Constrained::StackTooSmall => Step::Fault(Refusal::STACK_TOO_SMALL),
+    let Constrained::Next(row) = written else {
+        return rows_fault(written);
+    };
+    if Relabel::MAX <= count {
+        return rows_fault(written);
     }
+    Step::Read(Progress {
+        symbols: progress.symbols,
+        code: progress.code,
+        transitions: progress.transitions,
+        constraints: progress.constraints,
+        rows: progress.rows,
+        relabels: count + 1,
+        relabel_rows: row,
+    })
 }
 
 // `(validatetrans C E)`, whose record and rows go into the rest of each memory.
@@ -330,8 +332,8 @@ fn validatetrans(
         (memory (now (symbols .entry)) co (now (constraints .entry)) (now (rows .entry)))
         (memory (now (symbols .entry)) co (now (constraints .exit)) (now (rows .exit))) progress r) ⌝ }
 {
-    let records_start = CONSTRAINTS_BYTES;
-    let rows_start = ROWS_BYTES;
+    let records_start = Constraint::MAX_BODY_BYTES;
+    let rows_start = Row::MAX_BODY_BYTES;
     let written = relabel_statement::write_relabel(
         text,
         at,

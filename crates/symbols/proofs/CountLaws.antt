@@ -1,4 +1,4 @@
--- How many entries of a sort there are: counted entry by entry, and among the entries of declarations. Assumes nothing.
+-- How many entries of a sort there may be, and how many there are: counted entry by entry, and among the entries of declarations. Assumes nothing.
 use Prim.Native.Nat.{ℕ, _+_, _*_}
 use native.Mathlib.Omega.{arith}
 use native.Mathlib.Nat.{add-zero, zero-add}
@@ -10,14 +10,26 @@ use lib.Dec.{eqb}
 use lib.ListN.{length}
 use borrow.Author.Tests.{eq-eqb, ne-eqb}
 use Rattle.policy.specs.Basics.{Name, gather, keep}
-use Rattle.policy.specs.Statements.{Sort, Declaration, plain, class, sameSort, ofSort, ofClass, namesOf, count, classNames}
+use Rattle.policy.specs.Statements.{users, roles, types, Sort, thingOf, attributeOf, Declaration, plain, class, sameSort, ofSort, ofClass, namesOf}
+use Rattle.policy.specs.Statements.{count, classNames}
+use Rattle.policy.specs.Maxima.{maxOf}
 use Rattle.policy.specs.Encode.{NameEntry, sortCode, permissionEntries, entriesFrom, entries}
 use Rattle.policy.proofs.Sameness.{sort-same, sort-self}
 use Rattle.policy.proofs.Sorts.{code-below, code-sort}
 use Rattle.symbols.specs.Section.{entriesAt, EntryIs}
 use Rattle.symbols.specs.declared.Entry.{Entry}
-use Rattle.symbols.specs.Lookup.{countSort}
+use Rattle.symbols.specs.Lookup.{mostOf, countSort}
 use Rattle.symbols.proofs.FindLaws.{ahead}
+
+-- THE MAXIMA
+
+pub most-of : (s : Sort) → mostOf (sortCode s) ≡ maxOf s
+most-of (thingOf users) = refl
+most-of (thingOf roles) = refl
+most-of (thingOf types) = refl
+most-of (attributeOf users) = refl
+most-of (attributeOf roles) = refl
+most-of (attributeOf types) = refl
 
 -- THE WALK
 

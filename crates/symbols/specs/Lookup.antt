@@ -4,6 +4,8 @@ use mathlib.Core.List.{List, [], _∷_}
 use Prim.Native.Nat.{ℕ, _+_, _-_, _/_}
 use lib.Dec.{eqb, ltb}
 use Rattle.policy.specs.Basics.{Name, same}
+use Rattle.policy.specs.Statements.{users, roles, types, thingOf, attributeOf}
+use Rattle.policy.specs.Maxima.{maxOf, maxClasses}
 use Rattle.policy.specs.Encode.{NameEntry}
 use Rattle.policy.specs.Deciding.{Reply, answered, refused}
 use Rattle.policy.specs.Questions.{Part}
@@ -15,6 +17,14 @@ use Rattle.symbols.specs.declared.NamePlace.{NamePlace}
 -- 3 to 5 their attributes, 6 is class, 7 permission (no other is in a sound table); a permission's number is "class x 32 + its place"
 abbrev pub familyNumber : ℕ → ℕ → ℕ
 familyNumber sort number = cond (ltb sort 3) sort (cond (ltb sort 6) (sort - 3) (cond (eqb sort 6) 3 (4 + number / 32)))
+
+-- "Users 128, roles 128, types 512, attributes 64 per family, classes 32", by the sort's number
+abbrev pub mostOf : ℕ → ℕ
+mostOf sort =
+    cond (eqb sort 0) (maxOf (thingOf users))
+    (cond (eqb sort 1) (maxOf (thingOf roles))
+    (cond (eqb sort 2) (maxOf (thingOf types))
+    (cond (ltb sort 6) (maxOf (attributeOf users)) maxClasses)))
 
 -- an entry of the family f with the name w
 abbrev pub isNamed : ℕ → Name → NameEntry → Bool

@@ -12,7 +12,7 @@ ghost use Rattle.policy.specs.Basics as basics;
 ghost use Rattle.policy.specs.Encode.{nameEntry};
 ghost use Rattle.policy.specs.Questions.{nameFrom};
 ghost use Rattle.symbols.specs.Section.{EntryIs, entriesAt};
-ghost use Rattle.symbols.specs.Lookup.{familyNumber, replyOf};
+ghost use Rattle.symbols.specs.Lookup.{familyNumber, mostOf, replyOf};
 ghost use Rattle.symbols.specs.Append.{Room, Appended};
 
 // What is at a place of a section: an entry, with the place past it; the section's end; or bytes that are no entry.
@@ -123,6 +123,25 @@ pub fn family_of(sort: usize, number: usize) -> usize
         return NameFamily::CLASSES;
     }
     NameFamily::FIRST_PERMISSIONS + number / policy::Permission::MAX
+}
+
+// How many things of a sort, or classes, there may be.
+pub fn most(sort: usize) -> usize
+    ensures { λ r. ⌜ r ≡ mostOf sort ⌝ }
+{
+    if sort == Sort::USER {
+        return policy::User::MAX;
+    }
+    if sort == Sort::ROLE {
+        return policy::Role::MAX;
+    }
+    if sort == Sort::TYPE {
+        return policy::Type::MAX;
+    }
+    if sort < Sort::CLASS {
+        return policy::Attribute::MAX;
+    }
+    policy::Class::MAX
 }
 
 // Writes an entry at the end of a section, with the len bytes of text from a place on as its name; the section's new

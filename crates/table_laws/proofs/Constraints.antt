@@ -52,7 +52,8 @@ assign-only r (h ∷ hs) rs cs e =
     )
   where
     put : (cs : List ConstraintEntry) → h .first ≡ r → length (take (h .rows) rs) ≡ h .rows → constraintRecords (r + h .rows) cs ≡ hs
-        → record { class = h .class; mask = h .mask; first = r; rows = length (take (h .rows) rs) } ∷ constraintRecords (r + length (take (h .rows) rs)) cs ≡ h ∷ hs
+        → record { class = h .class; mask = h .mask; first = r; rows = length (take (h .rows) rs) } ∷ constraintRecords (r + length (take (h .rows) rs)) cs
+        ≡ h ∷ hs
     put cs f l e = λ i. record { class = h .class; mask = h .mask; first = sym f i; rows = l i } ∷ (ap (λ (n : ℕ). constraintRecords (r + n) cs) l ∙ e) i
 
 abbrev rowsOf : List RelabelEntry → List Row

@@ -1,4 +1,4 @@
--- The question entry shows the entry of the image: a set, a transition, the head of a constraint or of a validatetrans statement, a row. One
+-- The question entry shows the entry of the image: a set, a transition, the record of a constraint or of a validatetrans statement, a row. One
 -- law over runs of records, by induction on the runs. Assumes nothing.
 use Prim.Native.Nat.{ℕ, zero, suc, _+_, _-_, _*_, _/_, _<_}
 use native.Mathlib.Omega.{arith}
@@ -15,7 +15,8 @@ use Rattle.bitset.specs.Relations.{joined}
 use Rattle.policy.specs.Basics.{each}
 use Rattle.policy.specs.Rows.{Row}
 use Rattle.policy.specs.Image.{Image}
-use Rattle.policy.specs.Encode.{transitionBytes, constraintBytes, constraintRecords, rowBytes, relabelRecord, relabelBytes, bodies, sectionsOf, firstBody, encode}
+use Rattle.policy.specs.Encode.{transitionBytes, constraintBytes, constraintRecords, rowBytes, relabelRecord, relabelBytes, bodies, sectionsOf}
+use Rattle.policy.specs.Encode.{firstBody, encode}
 use Rattle.policy.specs.Sound.{wellFormed}
 use Rattle.policy.specs.Deciding.{answered}
 use Rattle.policy.specs.Questions.{Records, recordsOf, recordFrom, entryOf}

@@ -13,7 +13,8 @@ use Rattle.policy.specs.Basics.{each, eachOf, le, All}
 use Rattle.policy.specs.Statements.{users, roles, types, thingOf, attributeOf, count}
 use Rattle.policy.specs.Rows.{Row}
 use Rattle.policy.specs.Image.{Image, TransitionEntry}
-use Rattle.policy.specs.Encode.{transitionBytes, ConstraintRecord, constraintBytes, constraintRecords, rowBytes, RelabelRecord, relabelRecord, relabelBytes, bodies}
+use Rattle.policy.specs.Encode.{transitionBytes, ConstraintRecord, constraintBytes, constraintRecords, rowBytes, RelabelRecord, relabelRecord}
+use Rattle.policy.specs.Encode.{relabelBytes, bodies}
 use Rattle.policy.specs.Encode.{pairs, sectionsOf, firstBody, layout, encode}
 use Rattle.policy.specs.Sound.{exactly, transitionAt, rowAt, constraintAt, assignRows, relabelAt, assignRelabels, imageFrom, editionIn, bodiesIn, namesAt, wellFormed, imageIn}
 use Rattle.policy.proofs.Lists.{all-left, all-right}
@@ -28,7 +29,7 @@ use Rattle.table_laws.proofs.Records.{transition-only, constraint-only,
 use Rattle.table_laws.proofs.NamesOnly.{names-only}
 use Rattle.table_laws.proofs.Constraints.{assign-only, relabels-only}
 
--- heads of w bytes are those of their bytes
+-- records of w bytes are those of their bytes
 records-written : {A : Type 0} (w : ℕ) (read : List ℕ → A) (write : A → List ℕ) → ((t : List ℕ) → length t ≡ w → Bytes t → write (read t) ≡ t)
     → (ts : List (List ℕ)) → Wide w ts → All Bytes ts → each write (each read ts) ≡ ts
 records-written w read write only ts wide b = each-back (λ (t : List ℕ). (length t ≡ w) × Bytes t) read write (λ t h. only t (h .0) (h .1)) ts
@@ -48,7 +49,7 @@ module _ (bs : List (List ℕ)) where
     moves : exactly (length (body 4) / 82) 82 (body 4) ≡ some ms
     transitions : each transitionAt ms ≡ i .transitions
     hs : List (List ℕ)
-    heads : exactly (length (body 5) / 10) 10 (body 5) ≡ some hs
+    records : exactly (length (body 5) / 10) 10 (body 5) ≡ some hs
     ts : List (List ℕ)
     lines : exactly (length (body 6) / 6) 6 (body 6) ≡ some ts
     rs : List Row
@@ -78,7 +79,7 @@ module _ (bs : List (List ℕ)) where
       bound-then (exactly (count (thingOf roles) ds) 64 (body 2)) _ i h λ rt roleTypes h.
       bound-then (exactly (count (thingOf roles) ds) 16 (body 3)) _ i h λ rr roleRoles h.
       bound-then (exactly (length (body 4) / 82) 82 (body 4)) _ i h λ ms moves h.
-      bound-then (exactly (length (body 5) / 10) 10 (body 5)) _ i h λ hs heads h.
+      bound-then (exactly (length (body 5) / 10) 10 (body 5)) _ i h λ hs records h.
       bound-then (exactly (length (body 6) / 6) 6 (body 6)) _ i h λ ts lines h.
       bound-then (eachOf rowAt ts) _ i h λ rs rows h.
       bound-then (assignRows 0 (each constraintAt hs) rs) _ i h λ cs constraints h.
@@ -99,7 +100,7 @@ module _ (bs : List (List ℕ)) where
         moves = moves;
         transitions = refl;
         hs = hs;
-        heads = heads;
+        records = records;
         ts = ts;
         lines = lines;
         rs = rs;
@@ -151,7 +152,7 @@ module _ (bs : List (List ℕ)) where
 
       six : joined (each constraintBytes (constraintRecords 0 (i .constraints))) ≡ body 5
       six =
-          let p = exactly-only (length (body 5) / 10) 10 (body 5) (f .hs) (f .heads) in
+          let p = exactly-only (length (body 5) / 10) 10 (body 5) (f .hs) (f .records) in
           let b = all-joined (λ b. b < 256) (f .hs) (rw (p .whole) (byte 5)) in
           ap (λ (hs : List ConstraintRecord). joined (each constraintBytes hs)) (dealt .0) ∙ ap joined (records-written 10 constraintAt constraintBytes constraint-only (f .hs) (p .wide) b) ∙ p .whole
 

@@ -13,14 +13,16 @@ use Rattle.policy.specs.Basics.{each, All}
 use Rattle.policy.specs.Statements.{users, roles, types, thingOf, attributeOf, count}
 use Rattle.policy.specs.Rows.{Row}
 use Rattle.policy.specs.Image.{Image, TransitionEntry}
-use Rattle.policy.specs.Encode.{entries, transitionBytes, constraintBytes, constraintRecords, rowBytes, relabelRecord, relabelBytes, bodies, sectionsOf, firstBody, encode}
+use Rattle.policy.specs.Encode.{entries, transitionBytes, constraintBytes, constraintRecords, rowBytes, relabelRecord, relabelBytes, bodies}
+use Rattle.policy.specs.Encode.{sectionsOf, firstBody, encode}
 use Rattle.policy.specs.Sound.{exactly, transitionAt, constraintAt, relabelAt, imageFrom, wellFormed, imageIn}
 use Rattle.table_laws.specs.SoundTable.{FitsEdition, allRows, relabelRows}
 use Rattle.table_laws.proofs.ListLaws.{all-each, each-back}
 use Rattle.table_laws.proofs.Editions.{section-at, sections-joined}
 use Rattle.table_laws.proofs.LayoutLaws.{bodies-law}
 use Rattle.table_laws.proofs.Pieces.{Wide, wide-length, exactly-back, exactly-all}
-use Rattle.table_laws.proofs.Records.{WideTransition, transition-back, transition-wide, SmallConstraint, constraint-back, constraint-wide, rows-back, row-wide}
+use Rattle.table_laws.proofs.Records.{WideTransition, transition-back, transition-wide, SmallConstraint, constraint-back, constraint-wide}
+use Rattle.table_laws.proofs.Records.{rows-back, row-wide}
 use Rattle.table_laws.proofs.Records.{SmallRelabel, relabel-back, relabel-wide}
 use Rattle.table_laws.proofs.NamesReadBack.{Peopled, SmallNumber, names-back}
 use Rattle.table_laws.proofs.Constraints.{assign-back, relabels-back}
@@ -81,7 +83,8 @@ from-back i ok =
       sets-back (count (thingOf roles) ds) 64 (i .roleTypes) (ok .roleTypes),
       sets-back (count (thingOf roles) ds) 16 (i .roleRoles) (ok .roleRoles),
       exactly-all 82 (λ k. omega arith) (each transitionBytes (i .transitions)) (transitions-wide (i .transitions) (ok .transitions)),
-      exactly-all 10 (λ k. omega arith) (each constraintBytes (constraintRecords 0 (i .constraints))) (every-wide 10 constraintBytes constraint-wide (constraintRecords 0 (i .constraints))),
+      exactly-all 10 (λ k. omega arith) (each constraintBytes (constraintRecords 0 (i .constraints)))
+          (every-wide 10 constraintBytes constraint-wide (constraintRecords 0 (i .constraints))),
       exactly-all 6 (λ k. omega arith) (each rowBytes (allRows i)) (every-wide 6 rowBytes row-wide (allRows i)),
       rows-back (allRows i) (ok .rows),
       each-back SmallConstraint constraintBytes constraintAt constraint-back (constraintRecords 0 (i .constraints)) (ok .constraints),

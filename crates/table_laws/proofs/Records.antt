@@ -1,5 +1,5 @@
--- Transitions, constraint and validatetrans heads, and rows: each is read back from its bytes, and bytes of the right length are those of what is read from
--- them. Assumes nothing.
+-- Transitions, the records of constraints and of validatetrans statements, and rows: each is read back from its bytes, and bytes of
+-- the right length are those of what is read from them. Assumes nothing.
 use Prim.Native.Nat.{ℕ, suc, _+_, _<_, _≤_}
 use native.Mathlib.Omega.{arith}
 use mathlib.Core.Path.{_≡_, refl, sym, ap, ap₂, _∙_, subst}

@@ -38,7 +38,8 @@ module _ (i : Image) (h : wellFormed i ≡ true) where
   mask-small : (c : ConstraintEntry) → GoodConstraint (i .names) c → c .mask < 4294967296
   mask-small c g = omega (arith, g .mask, pow-le-pow-right {n = 2} (omega arith) (few-permissions-of (i .names) (formed i h .names) (c .class)))
 
-  constraints-small : (r : ℕ) (cs : List ConstraintEntry) → All (GoodConstraint (i .names)) cs → r + length (rowsIn cs) ≤ 2048 → All SmallConstraint (constraintRecords r cs)
+  constraints-small : (r : ℕ) (cs : List ConstraintEntry) → All (GoodConstraint (i .names)) cs → r + length (rowsIn cs) ≤ 2048
+      → All SmallConstraint (constraintRecords r cs)
   unfolding constraintRecords joined each
   constraints-small r [] g l = tt
   constraints-small r (c ∷ cs) g l =

@@ -114,7 +114,8 @@ module _ {t : List ℕ} (h : Held t) where
       (omega (
         arith,
         h .long 5 l,
-        wide-length 10 (each constraintBytes (constraintRecords 0 (i .constraints))) (every-wide 10 constraintBytes constraint-wide (constraintRecords 0 (i .constraints))),
+        wide-length 10 (each constraintBytes (constraintRecords 0 (i .constraints)))
+            (every-wide 10 constraintBytes constraint-wide (constraintRecords 0 (i .constraints))),
         each-length constraintBytes (constraintRecords 0 (i .constraints)),
         constraint-records-length 0 (i .constraints),
       ))

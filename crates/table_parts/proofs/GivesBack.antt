@@ -104,7 +104,8 @@ module _ (t : List ℕ) (s : Sound t) where
   constraint-records-back : each constraintAt (entriesOf t 6) ≡ constraintRecords 0 (i .constraints)
   unfolding recordsIn
   constraint-records-back =
-      ap (each constraintAt) (body 6 (omega (arith, each-length constraintBytes (constraintRecords 0 (i .constraints)), constraint-records-length 0 (i .constraints), form .few-constraints)))
+      ap (each constraintAt) (body 6
+      (omega (arith, each-length constraintBytes (constraintRecords 0 (i .constraints)), constraint-records-length 0 (i .constraints), form .few-constraints)))
       ∙ each-back SmallConstraint constraintBytes constraintAt constraint-back (constraintRecords 0 (i .constraints)) (laid .constraints)
 
   relabel-records-back : each relabelAt (entriesOf t 9) ≡ each relabelRecord (i .relabels)
@@ -138,8 +139,8 @@ module _ (t : List ℕ) (s : Sound t) where
     roleRoles = body 4 (omega (arith, laid .roleRoles .many, few (thingOf roles)));
     transitions = transitions-back;
     constraints =
-        with-rows constraintAt (assignRows 0) 6 (constraintRecords 0 (i .constraints)) (allRows i) (i .constraints) constraint-records-back refl (form .few-rows) (laid .rows)
-        (assign-back 0 (i .constraints));
+        with-rows constraintAt (assignRows 0) 6 (constraintRecords 0 (i .constraints)) (allRows i) (i .constraints) constraint-records-back refl (form .few-rows)
+        (laid .rows) (assign-back 0 (i .constraints));
     attributes = body 8 few-sets;
     relabels =
         with-rows relabelAt assignRelabels 9 (each relabelRecord (i .relabels)) (relabelRows i) (i .relabels) relabel-records-back refl (omega (arith, form .few-relabel-rows))

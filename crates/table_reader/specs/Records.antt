@@ -6,7 +6,8 @@ use Rattle.bitset.specs.Relations.{joined}
 use Rattle.policy.specs.Basics.{unle}
 use Rattle.policy.specs.Rows.{Row, row}
 use Rattle.policy.specs.Image.{Image}
-use Rattle.policy.specs.Encode.{ConstraintRecord, RelabelRecord, bodies, firstBody}
+use Rattle.policy.specs.Encode as encode
+use Rattle.policy.specs.Encode.{bodies, firstBody}
 use Rattle.table_reader.specs.declared.ConstraintRecord.{ConstraintRecord}
 use Rattle.table_reader.specs.declared.RelabelRecord.{RelabelRecord}
 use Rattle.table_reader.specs.declared.RowRecord.{RowRecord}
@@ -25,10 +26,10 @@ rowAt t = row (getD t 0 0) (getD t 1 0) (getD t 2 0) (unle (take 2 (drop 4 t)))
 abbrev pub rowOf : RowRecord → Row
 rowOf r = row (r .kind) (r .component) (r .operator) (r .number)
 
-abbrev pub constraintOf : ConstraintRecord → ConstraintRecord
+abbrev pub constraintOf : ConstraintRecord → encode.ConstraintRecord
 constraintOf c = record { class = c .class; mask = c .mask; first = c .first; rows = c .rows }
 
-abbrev pub relabelOf : RelabelRecord → RelabelRecord
+abbrev pub relabelOf : RelabelRecord → encode.RelabelRecord
 relabelOf c = record { class = c .class; rows = c .rows }
 
 -- where body k of an image's table of the edition e starts, counted from 0: "the bodies follow the last pair in order, without gaps"

@@ -135,7 +135,7 @@ pub fn edition(table: &[u8]) -> u16
 }
 
 // How many sections the tables of each edition have, by its number. There is no edition 0.
-const SECTIONS: [u8; 3] = [0, 8, 10];
+const SECTIONS: [u8; 3] = [0, 8, Table::SECTIONS];
 
 // How many sections the tables of an edition have; 0 where there is no such edition.
 pub fn sections_of(edition: u16) -> u8

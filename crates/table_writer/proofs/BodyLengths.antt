@@ -12,7 +12,8 @@ use Rattle.policy.specs.Meaning.{countIn, final}
 use Rattle.policy.specs.Reading.{rowCount}
 use Rattle.policy.specs.Accepted.{Accepted}
 use Rattle.policy.specs.Image.{imageOf, setsOf, constraintEntry, transitionEntry, relabelEntry}
-use Rattle.policy.specs.Encode.{entries, transitionBytes, constraintBytes, constraintRecords, rowBytes, relabelRecord, relabelBytes, bodies, encode, firstBody, newest}
+use Rattle.policy.specs.Encode.{entries, transitionBytes, constraintBytes, constraintRecords, rowBytes, relabelRecord, relabelBytes, bodies, encode}
+use Rattle.policy.specs.Encode.{firstBody, newest}
 use Rattle.policy.proofs.Lists.{each-length}
 use Rattle.policy.proofs.Counts.{few-of}
 use Rattle.table_laws.specs.SoundTable.{allRows, relabelRows, tableLength}

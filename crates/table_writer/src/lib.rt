@@ -51,12 +51,6 @@ struct Starts {
 // The edition and the number of sections, two bytes each, as one number.
 const EDITION_AND_SECTIONS: usize = Table::EDITION as usize + 65_536 * (Table::SECTIONS as usize);
 
-// Where the records of validatetrans statements start in the memory that holds those of constrains too, and where
-// their rows start likewise: after room for all that there may be of constrains.
-const FIRST_RELABEL: usize = Constraint::MAX * Constraint::BYTES;
-
-const FIRST_RELABEL_ROW: usize = Row::MAX * Row::BYTES;
-
 // No place of a table and no number of its entries comes near this.
 const FAR: usize = 100_000_000;
 
@@ -338,15 +332,16 @@ fn write_attributes(
     );
 }
 
-// Bodies 9 and 10: the validatetrans statements and their rows, which are in the memory after those of constrains.
+// Bodies 9 and 10: the validatetrans statements and their rows. In the memory, which holds constrains too, each starts
+// after room for all that there may be of those.
 fn write_relabels(places: Starts, sizes: Sizes, constraints: &[u8], rows: &[u8], table: &mut [u8])
     ensures { λ _. ⌜ WritesRelabels places sizes (now (constraints .entry)) (now (rows .entry)) (now (table .entry)) (now (table .exit)) ⌝ }
 {
     let relabel_bytes = past(0, sizes.relabels, Relabel::BYTES);
-    let relabels = byte_slices::part(constraints, FIRST_RELABEL, relabel_bytes);
+    let relabels = byte_slices::part(constraints, Constraint::MAX_BODY_BYTES, relabel_bytes);
     body_writer::copy(relabels, relabel_bytes, table, places.relabels);
     let row_bytes = past(0, sizes.relabel_rows, Row::BYTES);
-    let relabel_rows = byte_slices::part(rows, FIRST_RELABEL_ROW, row_bytes);
+    let relabel_rows = byte_slices::part(rows, Row::MAX_BODY_BYTES, row_bytes);
     body_writer::copy(relabel_rows, row_bytes, table, places.relabel_rows);
 }
 

@@ -1,5 +1,5 @@
--- `constrain_statement::write_constrain` meets its contract: 5 by the class, its permissions and the names of the expression; then what `admit` says.
--- Assumes nothing.
+-- `constrain_statement::write_constrain` meets its contract: 5 by the class, its permissions and the names of the expression; then the record, and
+-- what `limit` says. Assumes nothing.
 use Rattle.policy.specs.Words.{twoSides}
 use Rattle.items.proofs.Items.{sees}
 use Rattle.constraint_writer.proofs.WrittenRows.{told}
@@ -42,16 +42,16 @@ returns-5 c =
     (at-scope .scope .given .1) (sees (at-next-item2 .next-item2 .ensures) (at-second .second .given .1)) (at-write .write-constraint .ensures twoSides)
     (c .enum-told2 .given .1)
 
-admit-requires : tie.Need-admit-requires
-admit-requires c κs =
+some-rows : tie.Need-sub-put-record
+some-rows c =
     let at-written = c .before .before in
     let w = told (at-written .before .before .before .before .write-constraint .ensures twoSides) (at-written .written .given .1) in
     omega (arith, w .reads .some-row)
 
 returns-6 : tie.Need-returns-6
 returns-6 c =
-    let at-admit = c .before .before in
-    let at-written = at-admit .before .before .before in
+    let at-put = c .before .before .before in
+    let at-written = at-put .before .before .before in
     let at-write = at-written .before .before .before .before in
     let at-second = at-write .before .before .before in
     let at-next-item2 = at-second .before .before in
@@ -61,7 +61,7 @@ returns-6 c =
     let at-next-item = at-first .before .before in
     answered (sees (at-next-item .next-item .ensures) (at-first .first .given .1)) (at-class-and-permissions .class-and-permissions .ensures)
     (at-scope .scope .given .1) (sees (at-next-item2 .next-item2 .ensures) (at-second .second .given .1)) (at-write .write-constraint .ensures twoSides)
-    (at-written .written .given .1) (at-admit .admit .ensures)
+    (at-written .written .given .1) (at-put .put-record .ensures) (c .limit .ensures)
 
 pub write-constrain-spec : {M : Type 1} → statement M
 write-constrain-spec =
@@ -83,7 +83,9 @@ write-constrain-spec =
     (λ c. search needs)
     (λ c. search needs)
     returns-5
-    admit-requires
+    some-rows
+    (λ c κs. search needs)
+    (λ c κs. search needs)
     (λ c. search needs)
     (λ c. search needs)
     returns-6)

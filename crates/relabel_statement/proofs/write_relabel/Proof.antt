@@ -1,4 +1,5 @@
--- `relabel_statement::write_relabel` meets its contract: 5 by the class and the names of the expression; then what `admit` says. Assumes nothing.
+-- `relabel_statement::write_relabel` meets its contract: 5 by the class and the names of the expression; then the record, and what `limit` says. Assumes
+-- nothing.
 use Rattle.policy.specs.Words.{threeSides}
 use Rattle.items.proofs.Items.{sees}
 use Rattle.constraint_writer.proofs.WrittenRows.{told}
@@ -27,21 +28,21 @@ returns-4 c =
     name-undeclared (at-named .before .before .class-at .ensures) (at-named .named .given .1) (sees (at-item .before .before .next-item .ensures) (at-item .item .given .1))
     (at-write .write-constraint .ensures threeSides) (c .enum-told2 .given .1)
 
-admit-requires : tie.Need-admit-requires
-admit-requires c κs =
+some-rows : tie.Need-sub-put-record
+some-rows c =
     let at-written = c .before .before in
     let w = told (at-written .before .before .before .before .write-constraint .ensures threeSides) (at-written .written .given .1) in
     omega (arith, w .reads .some-row)
 
 returns-5 : tie.Need-returns-5
 returns-5 c =
-    let at-admit = c .before .before in
-    let at-written = at-admit .before .before .before in
+    let at-put = c .before .before .before in
+    let at-written = at-put .before .before .before in
     let at-write = at-written .before .before .before .before in
     let at-item = at-write .before .before .before in
     let at-named = at-item .before .before .before .before in
     answered (at-named .before .before .class-at .ensures) (at-named .named .given .1) (sees (at-item .before .before .next-item .ensures) (at-item .item .given .1))
-    (at-write .write-constraint .ensures threeSides) (at-written .written .given .1) (at-admit .admit .ensures)
+    (at-write .write-constraint .ensures threeSides) (at-written .written .given .1) (at-put .put-record .ensures) (c .limit .ensures)
 
 pub write-relabel-spec : {M : Type 1} → statement M
 write-relabel-spec =
@@ -60,7 +61,9 @@ write-relabel-spec =
     (λ c. search needs)
     (λ c. search needs)
     returns-4
-    admit-requires
+    some-rows
+    (λ c κs. search needs)
+    (λ c κs. search needs)
     (λ c. search needs)
     (λ c. search needs)
     returns-5)

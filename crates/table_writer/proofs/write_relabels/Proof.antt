@@ -21,10 +21,10 @@ returns c =
     record {
       says = λ p ok sizes at cs rs.
           let s = args .sizes in
-          let heads : at-past .past .result ≡ 4 * s .relabels = omega (arith, at-past .past .ensures (omega arith) (omega (arith, few p ok s sizes .relabels)) (omega arith)) in
+          let records : at-past .past .result ≡ 4 * s .relabels = omega (arith, at-past .past .ensures (omega arith) (omega (arith, few p ok s sizes .relabels)) (omega arith)) in
           let tails : at-past2 .past2 .result ≡ 6 * s .«relabel_rows» = omega (arith, at-past2 .past2 .ensures (omega arith) (omega (arith, few p ok s sizes .relabel-rows)) (omega arith)) in
           puts-then
-          (part-puts (args .constraints .now) 1280 (4 * s .relabels) (body 8 p) (at-copy .copy .ensures) (at-part .part .ensures) heads cs
+          (part-puts (args .constraints .now) 1280 (4 * s .relabels) (body 8 p) (at-copy .copy .ensures) (at-part .part .ensures) records cs
           (omega (arith, sizes .relabels, relabels-long p ok)))
           (part-puts (args .rows .now) 12288 (6 * s .«relabel_rows») (body 9 p) (c .before .before .copy2 .ensures) (at-part2 .part2 .ensures) tails rs
           (omega (arith, sizes .relabel-rows, relabel-rows-long p ok)))

@@ -21,11 +21,11 @@ returns c =
       says = λ p us from sizes at cs rs.
           let ok = from .accepted in
           let s = at-args .args .sizes in
-          let heads : at-past .past .result ≡ 10 * s .constraints = omega (arith, at-past .past .ensures (omega arith) (omega (arith, few p ok s sizes .constraints)) (omega arith)) in
+          let records : at-past .past .result ≡ 10 * s .constraints = omega (arith, at-past .past .ensures (omega arith) (omega (arith, few p ok s sizes .constraints)) (omega arith)) in
           let tails : at-past2 .past2 .result ≡ 6 * s .rows = omega (arith, at-past2 .past2 .ensures (omega arith) (omega (arith, few p ok s sizes .rows)) (omega arith)) in
           puts-then (transitions-puts p (at-write-transitions .write-transitions .ensures) ok (from .code) (from .role-sets) (from .type-sets))
           (puts-then
-          (copy-puts (10 * s .constraints) (body 5 p) (at-copy .copy .ensures) heads cs (omega (arith, sizes .constraints, constraints-long p ok)))
+          (copy-puts (10 * s .constraints) (body 5 p) (at-copy .copy .ensures) records cs (omega (arith, sizes .constraints, constraints-long p ok)))
           (copy-puts (6 * s .rows) (body 6 p) (c .before .before .copy2 .ensures) tails rs (omega (arith, sizes .rows, rows-long p ok)))
           (at .rows)) (at .constraints);
     }

@@ -1,7 +1,7 @@
--- `sound_names::most` meets its contract, test by test. Assumes nothing.
+-- `symbols::most` meets its contract, test by test. Assumes nothing.
 use borrow.Author.Tests.{lt-ltb, le-ltb, ne-eqb}
-use Rattle.sound_names.proofs.most.Statement.{statement}
-use Rattle.sound_names.proofs.most.Tie as tie
+use Rattle.symbols.proofs.most.Statement.{statement}
+use Rattle.symbols.proofs.most.Tie as tie
 
 returns : tie.Need-returns
 returns c = rw (c .if1 .taken)
