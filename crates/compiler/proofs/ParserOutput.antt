@@ -37,20 +37,20 @@ module _ (p : Policy) {table : List ℕ} {end sort r : ℕ} (f : Family) (s : de
 module _ {p : Policy} {lent now : Memory} {s : Progress} (h : Holds p [] lent now s) where
   -- the symbols end before their chains
   symbols-front : take (s .symbols) (now .symbols) ≡ symbolsOf p
-  symbols-front = front-of nameBytes (lent .symbols) (now .symbols) (h .symbols)
+  symbols-front = front-of nameBytes (lent .symbols) (now .symbols) (h .filled .symbols)
 
   pub symbols-held : declaring.Holds (now .symbols) (s .symbols) (declarations p)
   unfolding symbolsOf
   symbols-held = record {
     front = symbols-front;
-    inside = omega (arith, h .chained .below, h .chained .room);
+    inside = omega (arith, h .filled .chained .below, h .filled .chained .room);
     good = h .accepted .names;
-    chained = h .chained;
+    chained = h .filled .chained;
   }
 
   pub names-long : s .symbols ≡ length (body 0 p)
   unfolding symbolsOf sectionOf bodies imageOf
-  names-long = h .symbols .ends
+  names-long = h .filled .symbols .ends
 
   names-front : take (s .symbols) (now .symbols) ≡ body 0 p
   unfolding symbolsOf sectionOf bodies imageOf
@@ -58,32 +58,32 @@ module _ {p : Policy} {lent now : Memory} {s : Progress} (h : Holds p [] lent no
 
   constraints-front : take (10 * s .constraints) (now .constraints) ≡ body 5 p
   unfolding constraintsOf bodies imageOf
-  constraints-front = front-of constraintRoom (lent .constraints) (now .constraints) (h .constraints)
+  constraints-front = front-of constraintRoom (lent .constraints) (now .constraints) (h .filled .constraints)
 
   rows-front : take (6 * s .rows) (now .rows) ≡ body 6 p
   unfolding rowsOf bodies imageOf
-  rows-front = front-of rowRoom (lent .rows) (now .rows) (h .rows)
+  rows-front = front-of rowRoom (lent .rows) (now .rows) (h .filled .rows)
 
   relabels-front : take (4 * s .relabels) (drop constraintRoom (now .constraints)) ≡ body 8 p
   unfolding relabelsOf bodies imageOf
-  relabels-front = front (h .relabel-records)
+  relabels-front = front (h .filled .relabel-records)
 
   relabel-rows-front : take (6 * s .«relabel_rows») (drop rowRoom (now .rows)) ≡ body 9 p
   unfolding relabelRowsOf bodies imageOf
-  relabel-rows-front = front (h .relabel-rows)
+  relabel-rows-front = front (h .filled .relabel-rows)
 
   -- by the sizes of the table
   pub copied : {z : Sizes} → SizesOf p z → Copied p z (now .symbols) (now .constraints) (now .rows)
   copied sizes = record {
     names = ap (λ (n : ℕ). take n (now .symbols)) (sizes .names ∙ sym names-long) ∙ names-front;
-    constraints = ap (λ (n : ℕ). take (10 * n) (now .constraints)) (sizes .constraints ∙ sym (h .constraint-count)) ∙ constraints-front;
-    rows = ap (λ (n : ℕ). take (6 * n) (now .rows)) (sizes .rows ∙ sym (h .row-count)) ∙ rows-front;
-    relabels = ap (λ (n : ℕ). take (4 * n) (drop constraintRoom (now .constraints))) (sizes .relabels ∙ sym (h .relabel-count)) ∙ relabels-front;
-    relabel-rows = ap (λ (n : ℕ). take (6 * n) (drop rowRoom (now .rows))) (sizes .relabel-rows ∙ sym (h .relabel-row-count)) ∙ relabel-rows-front;
+    constraints = ap (λ (n : ℕ). take (10 * n) (now .constraints)) (sizes .constraints ∙ sym (h .filled .constraint-count)) ∙ constraints-front;
+    rows = ap (λ (n : ℕ). take (6 * n) (now .rows)) (sizes .rows ∙ sym (h .filled .row-count)) ∙ rows-front;
+    relabels = ap (λ (n : ℕ). take (4 * n) (drop constraintRoom (now .constraints))) (sizes .relabels ∙ sym (h .filled .relabel-count)) ∙ relabels-front;
+    relabel-rows = ap (λ (n : ℕ). take (6 * n) (drop rowRoom (now .rows))) (sizes .relabel-rows ∙ sym (h .filled .relabel-row-count)) ∙ relabel-rows-front;
   }
 
   pub code-taken : take (s .code) (now .code) ≡ codeOf p
-  code-taken = front (h .code)
+  code-taken = front (h .filled .code)
 
   pub symbols-in : {table : List ℕ} → now .symbols ≡ table → declaring.Holds table (s .symbols) (declarations p)
   symbols-in e = subst (λ (t : List ℕ). declaring.Holds t (s .symbols) (declarations p)) e symbols-held

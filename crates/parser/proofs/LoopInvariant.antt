@@ -80,19 +80,21 @@ unfolding symbolsOf sectionOf codeOf constraintsOf rowsOf relabelsOf relabelRows
 nothing-holds lent index scope = record {
   accepted = none-accepted;
   blocks = good-top;
-  symbols = empty;
-  chained = index;
-  scope = scope;
-  code = empty;
-  constraints = empty;
-  rows = empty;
-  relabel-records = empty;
-  relabel-rows = empty;
-  transition-count = refl;
-  constraint-count = refl;
-  row-count = refl;
-  relabel-count = refl;
-  relabel-row-count = refl;
+  filled = record {
+    symbols = empty;
+    chained = index;
+    scope = scope;
+    code = empty;
+    constraints = empty;
+    rows = empty;
+    relabel-records = empty;
+    relabel-rows = empty;
+    transition-count = refl;
+    constraint-count = refl;
+    row-count = refl;
+    relabel-count = refl;
+    relabel-row-count = refl;
+  };
 }
 
 no-blocks : blocksIn [] ≡ []
@@ -223,23 +225,28 @@ module _ {t : List ℕ} {at place next : ℕ} {lent now : Memory} {keys filter :
 -- the memory of the symbols with a scope of its own, and the same symbols and chains
 scoped-holds : {p : Policy} {path path' : List Name} {lent : Memory} {sy sy' co cs rs : List ℕ} {s : Progress} → Holds p path lent (memory sy co cs rs) s
     → SymbolsKept sy sy' → GoodPath path' → InScope sy' path' → Holds p path' lent (memory sy' co cs rs) s
-scoped-holds {p} {lent = lent} {s = s} h k good scope = record {
-  accepted = h .accepted;
-  blocks = good;
-  symbols = subst (λ (l : List ℕ). Starts (take nameBytes (lent .symbols)) (symbolsOf p) l (s .symbols)) (sym (symbols-front k nameBytes (omega arith))) (h .symbols);
-  chained = chained-kept k (h .chained);
-  scope = scope;
-  code = h .code;
-  constraints = h .constraints;
-  rows = h .rows;
-  relabel-records = h .relabel-records;
-  relabel-rows = h .relabel-rows;
-  transition-count = h .transition-count;
-  constraint-count = h .constraint-count;
-  row-count = h .row-count;
-  relabel-count = h .relabel-count;
-  relabel-row-count = h .relabel-row-count;
-}
+scoped-holds {p} {lent = lent} {s = s} h k good scope =
+    let g = h .filled in
+    record {
+      accepted = h .accepted;
+      blocks = good;
+      filled = record {
+        symbols = subst (λ (l : List ℕ). Starts (take nameBytes (lent .symbols)) (symbolsOf p) l (s .symbols))
+            (sym (symbols-front k nameBytes (omega arith))) (g .symbols);
+        chained = chained-kept k (g .chained);
+        scope = scope;
+        code = g .code;
+        constraints = g .constraints;
+        rows = g .rows;
+        relabel-records = g .relabel-records;
+        relabel-rows = g .relabel-rows;
+        transition-count = g .transition-count;
+        constraint-count = g .constraint-count;
+        row-count = g .row-count;
+        relabel-count = g .relabel-count;
+        relabel-row-count = g .relabel-row-count;
+      };
+    }
 
 -- the names of blocks with one part more
 blocks-more : (before : List Scoped) (x : Scoped) → blocksIn (before ++ (x ∷ [])) ≡ blocksIn before ++ keep (blockOf x) []
@@ -288,19 +295,7 @@ module _ {t : List ℕ} {at place next : ℕ} {lent now now' : Memory} {keys fil
           holds = record {
             accepted = statement-accepted (r .before) (r .sofar) (this r p) st (r .stands .holds .accepted) (r .stands .holds .blocks) (part-row r p .names) j;
             blocks = r .stands .holds .blocks;
-            symbols = g .symbols;
-            chained = g .chained;
-            scope = g .scope;
-            code = g .code;
-            constraints = g .constraints;
-            rows = g .rows;
-            relabel-records = g .relabel-records;
-            relabel-rows = g .relabel-rows;
-            transition-count = g .transition-count;
-            constraint-count = g .constraint-count;
-            row-count = g .row-count;
-            relabel-count = g .relabel-count;
-            relabel-row-count = g .relabel-row-count;
+            filled = g;
           };
           within = subst (λ (ns : List Name). Within t keys filter (now' .symbols) (r .path) ns o) (sym same-blocks) (in-scope (r .stands .within) (g .scope));
           left = left-by r p _ (after-statement (r .path) place (row r p) (no-block (row r p .here) plain)) (reads st) j
@@ -520,23 +515,27 @@ roomy e f g = rw (e, f, g)
 -- the symbols lent may be others after the room for the entries
 module _ (lent other c k r : List ℕ) (same : take nameBytes other ≡ take nameBytes lent) where
   pub lent-alike : (x : Read) (now : Memory) (y : Parsed) → Reads x (memory other c k r) now y → Reads x (memory lent c k r) now y
-  lent-alike (policy p) now (Parsed.Accepted s) h = record {
-    accepted = h .accepted;
-    blocks = h .blocks;
-    symbols = subst (λ (l : List ℕ). Starts l (symbolsOf p) (take nameBytes (now .symbols)) (s .symbols)) same (h .symbols);
-    chained = h .chained;
-    scope = h .scope;
-    code = h .code;
-    constraints = h .constraints;
-    rows = h .rows;
-    relabel-records = h .relabel-records;
-    relabel-rows = h .relabel-rows;
-    transition-count = h .transition-count;
-    constraint-count = h .constraint-count;
-    row-count = h .row-count;
-    relabel-count = h .relabel-count;
-    relabel-row-count = h .relabel-row-count;
-  }
+  lent-alike (policy p) now (Parsed.Accepted s) h =
+      let g = h .filled in
+      record {
+        accepted = h .accepted;
+        blocks = h .blocks;
+        filled = record {
+          symbols = subst (λ (l : List ℕ). Starts l (symbolsOf p) (take nameBytes (now .symbols)) (s .symbols)) same (g .symbols);
+          chained = g .chained;
+          scope = g .scope;
+          code = g .code;
+          constraints = g .constraints;
+          rows = g .rows;
+          relabel-records = g .relabel-records;
+          relabel-rows = g .relabel-rows;
+          transition-count = g .transition-count;
+          constraint-count = g .constraint-count;
+          row-count = g .row-count;
+          relabel-count = g .relabel-count;
+          relabel-row-count = g .relabel-row-count;
+        };
+      }
   lent-alike (policy p) now (Parsed.Refused m q) h = h
   lent-alike (refused n at) now (Parsed.Accepted s) h = h
   lent-alike (refused n at) now (Parsed.Refused m q) h = h

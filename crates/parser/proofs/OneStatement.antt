@@ -87,9 +87,9 @@ stated {t} {at} {place} {past} {unit} {before} {after} {s} {f} {k} x e u y wide 
       let step = subst (λ (n : ℕ). StepsAt t at n before after s k) (u below) y .says lent p path (one .0) h
       (record { names = names; uncut = deep; form = one .1 })
       (record {
-        code = λ st j. let l = room st (ap (judgeStatement path p) (one .1) ∙ j) in omega (arith, now-long (h .code));
-        constraints = rest-long constraintRoom 1536 (lent .constraints) (before .constraints) (h .relabel-records) (omega arith) many;
-        rows = rest-long rowRoom 18432 (lent .rows) (before .rows) (h .relabel-rows) (omega arith) long;
+        code = λ st j. let l = room st (ap (judgeStatement path p) (one .1) ∙ j) in omega (arith, now-long (h .filled .code));
+        constraints = rest-long constraintRoom 1536 (lent .constraints) (before .constraints) (h .filled .relabel-records) (omega arith) many;
+        rows = rest-long rowRoom 18432 (lent .rows) (before .rows) (h .filled .relabel-rows) (omega arith) long;
       }) in
       let answer = stated-by t at place past after (formed .1) lent p path (judgeStatement path p (some (one .0))) k step in
       subst (λ (o : Option Written). StatedBy (judgeStatement path p o) t at p path place lent after r) (sym (one .1))

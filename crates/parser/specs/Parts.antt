@@ -16,8 +16,7 @@ use Rattle.items.specs.Looks.{rowEnd}
 use Rattle.items.specs.declared.Item.{Item}
 use Rattle.statement_code.specs.Code.{statementCode, codeOf}
 use Rattle.scopes.specs.Scope.{SymbolsKept}
-use Rattle.statement_reader.specs.Memory.{Memory, Holds}
-use Rattle.statement_reader.specs.Steps.{Filled}
+use Rattle.statement_reader.specs.Memory.{Memory, Filled, Holds}
 use Rattle.statement_reader.specs.declared.Progress.{Progress}
 use Rattle.block_reader.specs.Within.{Within}
 use Rattle.block_reader.specs.declared.OpenBlocks.{OpenBlocks}

@@ -50,9 +50,9 @@ use Rattle.relabel_statement.specs.RelabelWrites as relabelling
 use Rattle.relabel_statement.specs.RelabelWrites.{WritesRelabel}
 use Rattle.constrain_statement.specs.declared.Constrained.{Constrained}
 use Rattle.constrain_statement.proofs.Constrained.{the-type}
-use Rattle.statement_reader.specs.Memory.{Memory, memory, symbolsOf, constraintRoom, rowRoom, Starts, Holds}
-use Rattle.statement_reader.specs.Steps.{codedKeyword, Filled, Stepped, RowIs, Room, Steps, withSymbols, declaredStep, withCode, codedStep, rowsFault, rowsStep, withRows}
-use Rattle.statement_reader.specs.Steps.{constrainedStep, withRelabel, relabelledStep}
+use Rattle.statement_reader.specs.Memory.{Memory, memory, symbolsOf, constraintRoom, rowRoom, Starts, Filled, Holds}
+use Rattle.statement_reader.specs.Steps.{codedKeyword, Stepped, RowIs, Room, Steps, withSymbols, declaredStep, withCode, codedStep}
+use Rattle.statement_reader.specs.Steps.{rowsFault, rowsStep, withRows, constrainedStep, withRelabel, relabelledStep}
 use Rattle.statement_reader.specs.declared.Progress.{Progress}
 use Rattle.statement_reader.specs.declared.Step.{Step}
 use Rattle.statement_reader.specs.declared.CodedStatement.{CodedStatement}
@@ -82,14 +82,14 @@ module _ {p : Policy} {path : List Name} {lent : Memory} {sy co cs rs : List ℕ
   table-holds : declaring.Holds sy (s .symbols) (declarations p)
   unfolding symbolsOf
   table-holds = record {
-    front = sym (take-take (s .symbols) nameBytes sy (h .chained .below)) ∙ front (h .symbols);
-    inside = omega (arith, h .chained .below, h .chained .room);
+    front = sym (take-take (s .symbols) nameBytes sy (h .filled .chained .below)) ∙ front (h .filled .symbols);
+    inside = omega (arith, h .filled .chained .below, h .filled .chained .room);
     good = h .accepted .names;
-    chained = h .chained;
+    chained = h .filled .chained;
   }
 
   names-long : length (take nameBytes sy) ≡ nameBytes
-  names-long = length-take-le nameBytes sy (omega (arith, h .chained .room))
+  names-long = length-take-le nameBytes sy (omega (arith, h .filled .chained .room))
 
   module _ (place : ℕ) where
     filled-declared : {sy' co' : List ℕ} {past to : ℕ} (d : Declaration) → declaring.Adds sy sy' (s .symbols) past (declarations p) d
@@ -98,19 +98,19 @@ module _ {p : Policy} {path : List Name} {lent : Memory} {sy co cs rs : List ℕ
     filled-declared d a w f =
         let l = line place (declare d) in
         record {
-          symbols = rw (symbols-more p l d refl) (put-behind (h .symbols) _ _ _ (a .written) (a .moved) (omega (arith, a .fits, names-long)));
+          symbols = rw (symbols-more p l d refl) (put-behind (h .filled .symbols) _ _ _ (a .written) (a .moved) (omega (arith, a .fits, names-long)));
           chained = rw (declared-more p l d refl) (a .chained);
-          scope = a .scope path (h .scope);
-          code = rw (code-last p l) (wrote-behind (h .code) _ _ _ w f);
-          constraints = rw (constraints-same p l refl) (h .constraints);
-          rows = rw (rows-same p l refl) (h .rows);
-          relabel-records = rw (relabel-records-same p l refl) (h .relabel-records);
-          relabel-rows = rw (relabel-rows-same p l refl) (h .relabel-rows);
-          transition-count = h .transition-count ∙ ap length (sym (transitions-same p l refl));
-          constraint-count = h .constraint-count ∙ ap length (sym (constrains-same p l refl));
-          row-count = h .row-count ∙ ap (rowCount constrainBody) (sym (constrains-same p l refl));
-          relabel-count = h .relabel-count ∙ ap length (sym (relabels-same p l refl));
-          relabel-row-count = h .relabel-row-count ∙ ap (rowCount relabelBody) (sym (relabels-same p l refl));
+          scope = a .scope path (h .filled .scope);
+          code = rw (code-last p l) (wrote-behind (h .filled .code) _ _ _ w f);
+          constraints = rw (constraints-same p l refl) (h .filled .constraints);
+          rows = rw (rows-same p l refl) (h .filled .rows);
+          relabel-records = rw (relabel-records-same p l refl) (h .filled .relabel-records);
+          relabel-rows = rw (relabel-rows-same p l refl) (h .filled .relabel-rows);
+          transition-count = h .filled .transition-count ∙ ap length (sym (transitions-same p l refl));
+          constraint-count = h .filled .constraint-count ∙ ap length (sym (constrains-same p l refl));
+          row-count = h .filled .row-count ∙ ap (rowCount constrainBody) (sym (constrains-same p l refl));
+          relabel-count = h .filled .relabel-count ∙ ap length (sym (relabels-same p l refl));
+          relabel-row-count = h .filled .relabel-row-count ∙ ap (rowCount relabelBody) (sym (relabels-same p l refl));
         }
 
     filled-coded : {co' : List ℕ} {to : ℕ} (st : Statement) → declared (line place st) ≡ none → constrained (line place st) ≡ none → relabelled (line place st) ≡ none
@@ -120,19 +120,19 @@ module _ {p : Policy} {path : List Name} {lent : Memory} {sy co cs rs : List ℕ
     filled-coded st d k v n e w f =
         let l = line place st in
         record {
-          symbols = rw (symbols-same p l d) (h .symbols);
-          chained = rw (declared-same p l d) (h .chained);
-          scope = h .scope;
-          code = rw (code-last p l) (wrote-behind (h .code) _ _ _ w f);
-          constraints = rw (constraints-same p l k) (h .constraints);
-          rows = rw (rows-same p l k) (h .rows);
-          relabel-records = rw (relabel-records-same p l v) (h .relabel-records);
-          relabel-rows = rw (relabel-rows-same p l v) (h .relabel-rows);
+          symbols = rw (symbols-same p l d) (h .filled .symbols);
+          chained = rw (declared-same p l d) (h .filled .chained);
+          scope = h .filled .scope;
+          code = rw (code-last p l) (wrote-behind (h .filled .code) _ _ _ w f);
+          constraints = rw (constraints-same p l k) (h .filled .constraints);
+          rows = rw (rows-same p l k) (h .filled .rows);
+          relabel-records = rw (relabel-records-same p l v) (h .filled .relabel-records);
+          relabel-rows = rw (relabel-rows-same p l v) (h .filled .relabel-rows);
           transition-count = e;
-          constraint-count = h .constraint-count ∙ ap length (sym (constrains-same p l k));
-          row-count = h .row-count ∙ ap (rowCount constrainBody) (sym (constrains-same p l k));
-          relabel-count = h .relabel-count ∙ ap length (sym (relabels-same p l v));
-          relabel-row-count = h .relabel-row-count ∙ ap (rowCount relabelBody) (sym (relabels-same p l v));
+          constraint-count = h .filled .constraint-count ∙ ap length (sym (constrains-same p l k));
+          row-count = h .filled .row-count ∙ ap (rowCount constrainBody) (sym (constrains-same p l k));
+          relabel-count = h .filled .relabel-count ∙ ap length (sym (relabels-same p l v));
+          relabel-row-count = h .filled .relabel-row-count ∙ ap (rowCount relabelBody) (sym (relabels-same p l v));
         }
 
     module _ (wide : 1536 ≤ length (lent .constraints)) (long : 18432 ≤ length (lent .rows)) where
@@ -159,24 +159,28 @@ module _ {p : Policy} {path : List Name} {lent : Memory} {sy co cs rs : List ℕ
           let fits = within maxConstraints maxRows (s .constraints) (s .rows + size e) (a .fits) in
           let constraint = recordOf c ps e (rowCount constrainBody (constrains p)) in
           let written : x ≡ put (take constraintRoom cs) (10 * s .constraints) (constraintBytes constraint) =
-          a .recorded ∙ ap (λ (n : ℕ). put (take constraintRoom cs) (10 * s .constraints) (constraintBytes (recordOf c ps e n))) (h .row-count) in
-          let counted : s .constraints + 1 ≡ length (constrains p ++ (k ∷ [])) = omega (arith, h .constraint-count, length-append (constrains p) (k ∷ [])) in
-          let numbered : next ≡ rowCount constrainBody (constrains p ++ (k ∷ [])) = omega (arith, a .next-row, h .row-count, rows-last constrainBody (constrains p) k) in
+          a .recorded ∙ ap (λ (n : ℕ). put (take constraintRoom cs) (10 * s .constraints) (constraintBytes (recordOf c ps e n))) (h .filled .row-count) in
+          let counted : s .constraints + 1 ≡ length (constrains p ++ (k ∷ [])) =
+          omega (arith, h .filled .constraint-count, length-append (constrains p) (k ∷ [])) in
+          let numbered : next ≡ rowCount constrainBody (constrains p ++ (k ∷ [])) =
+          omega (arith, a .next-row, h .filled .row-count, rows-last constrainBody (constrains p) k) in
           record {
-            symbols = rw (symbols-same p l refl) (h .symbols);
-            chained = rw (declared-same p l refl) (h .chained);
-            scope = h .scope;
-            code = rw (code-last p l, append-nil) (h .code);
-            constraints = rw (constraints-more p l k refl, u .is) (put-behind (h .constraints) (constraintBytes constraint) x (10 * (s .constraints + 1))
-                written (omega (arith, constraint-wide constraint)) (omega (arith, fits .1, records-first, now-long (h .constraints))));
-            rows = rw (rows-more p l k refl, v .is) (rows-behind (s .rows) next e (h .rows) (a .rows) (a .next-row) (omega (arith, fits .2, a .next-row, rows-first)));
-            relabel-records = rw (relabel-records-same p l refl, u .kept) (h .relabel-records);
-            relabel-rows = rw (relabel-rows-same p l refl, v .kept) (h .relabel-rows);
-            transition-count = h .transition-count ∙ ap length (sym (transitions-same p l refl));
+            symbols = rw (symbols-same p l refl) (h .filled .symbols);
+            chained = rw (declared-same p l refl) (h .filled .chained);
+            scope = h .filled .scope;
+            code = rw (code-last p l, append-nil) (h .filled .code);
+            constraints = rw (constraints-more p l k refl, u .is) (put-behind (h .filled .constraints) (constraintBytes constraint) x
+                (10 * (s .constraints + 1)) written (omega (arith, constraint-wide constraint))
+                (omega (arith, fits .1, records-first, now-long (h .filled .constraints))));
+            rows = rw (rows-more p l k refl, v .is) (rows-behind (s .rows) next e (h .filled .rows) (a .rows) (a .next-row)
+                (omega (arith, fits .2, a .next-row, rows-first)));
+            relabel-records = rw (relabel-records-same p l refl, u .kept) (h .filled .relabel-records);
+            relabel-rows = rw (relabel-rows-same p l refl, v .kept) (h .filled .relabel-rows);
+            transition-count = h .filled .transition-count ∙ ap length (sym (transitions-same p l refl));
             constraint-count = rw (constrains-more p l k refl) counted;
             row-count = rw (constrains-more p l k refl) numbered;
-            relabel-count = h .relabel-count ∙ ap length (sym (relabels-same p l refl));
-            relabel-row-count = h .relabel-row-count ∙ ap (rowCount relabelBody) (sym (relabels-same p l refl));
+            relabel-count = h .filled .relabel-count ∙ ap length (sym (relabels-same p l refl));
+            relabel-row-count = h .filled .relabel-row-count ∙ ap (rowCount relabelBody) (sym (relabels-same p l refl));
           }
 
       filled-relabelled : {cs' rs' z w x y : List ℕ} {next : ℕ} (c : ℕ) (e : Constraint Reference)
@@ -189,23 +193,25 @@ module _ {p : Policy} {path : List Name} {lent : Memory} {sy co cs rs : List ℕ
           let k : Relabel = record { class = c; body = e } in
           let fits = within maxRelabels maxRelabelRows (s .relabels) (s .«relabel_rows» + size e) (a .fits) in
           let relabel = relabelling.recordWith c (size e) in
-          let counted : s .relabels + 1 ≡ length (relabels p ++ (k ∷ [])) = omega (arith, h .relabel-count, length-append (relabels p) (k ∷ [])) in
-          let numbered : next ≡ rowCount relabelBody (relabels p ++ (k ∷ [])) = omega (arith, a .next-row, h .relabel-row-count, rows-last relabelBody (relabels p) k) in
+          let counted : s .relabels + 1 ≡ length (relabels p ++ (k ∷ [])) = omega (arith, h .filled .relabel-count, length-append (relabels p) (k ∷ [])) in
+          let numbered : next ≡ rowCount relabelBody (relabels p ++ (k ∷ [])) =
+          omega (arith, a .next-row, h .filled .relabel-row-count, rows-last relabelBody (relabels p) k) in
           record {
-            symbols = rw (symbols-same p l refl) (h .symbols);
-            chained = rw (declared-same p l refl) (h .chained);
-            scope = h .scope;
-            code = rw (code-last p l, append-nil) (h .code);
-            constraints = rw (constraints-same p l refl, u .kept) (h .constraints);
-            rows = rw (rows-same p l refl, v .kept) (h .rows);
-            relabel-records = rw (relabel-records-more p l k refl, u .is) (put-behind (h .relabel-records) (relabelBytes relabel) x (4 * (s .relabels + 1)) (a .recorded)
-                (omega (arith, relabel-wide relabel)) (omega (arith, fits .1, records-second, now-long (h .relabel-records))));
+            symbols = rw (symbols-same p l refl) (h .filled .symbols);
+            chained = rw (declared-same p l refl) (h .filled .chained);
+            scope = h .filled .scope;
+            code = rw (code-last p l, append-nil) (h .filled .code);
+            constraints = rw (constraints-same p l refl, u .kept) (h .filled .constraints);
+            rows = rw (rows-same p l refl, v .kept) (h .filled .rows);
+            relabel-records = rw (relabel-records-more p l k refl, u .is) (put-behind (h .filled .relabel-records) (relabelBytes relabel) x
+                (4 * (s .relabels + 1)) (a .recorded) (omega (arith, relabel-wide relabel))
+                (omega (arith, fits .1, records-second, now-long (h .filled .relabel-records))));
             relabel-rows =
                 rw (relabel-rows-more p l k refl, v .is)
-                (rows-behind (s .«relabel_rows») next e (h .relabel-rows) (a .rows) (a .next-row) (omega (arith, fits .2, a .next-row, rows-second)));
-            transition-count = h .transition-count ∙ ap length (sym (transitions-same p l refl));
-            constraint-count = h .constraint-count ∙ ap length (sym (constrains-same p l refl));
-            row-count = h .row-count ∙ ap (rowCount constrainBody) (sym (constrains-same p l refl));
+                (rows-behind (s .«relabel_rows») next e (h .filled .relabel-rows) (a .rows) (a .next-row) (omega (arith, fits .2, a .next-row, rows-second)));
+            transition-count = h .filled .transition-count ∙ ap length (sym (transitions-same p l refl));
+            constraint-count = h .filled .constraint-count ∙ ap length (sym (constrains-same p l refl));
+            row-count = h .filled .row-count ∙ ap (rowCount constrainBody) (sym (constrains-same p l refl));
             relabel-count = rw (relabels-more p l k refl) counted;
             relabel-row-count = rw (relabels-more p l k refl) numbered;
           }
@@ -247,7 +253,7 @@ module _ {t : List ℕ} {at place : ℕ} {k : Keyword} {sy sy' co co' cs rs : Li
           → RowIs (framesAt t at .here) (formed k (framesAt t at .here)) w → Room lent p path place w
           → Stepped (judgeStatement path p (some w)) p path place lent (memory sy' co' cs rs) (declaredStep r (withCode s to (s .transitions)))
       says r a lent p path w h row room =
-          go r (a .says (declarations p) path d (table-holds h) (h .scope) (h .blocks) (row .names) (row .form ∙ ap (λ (v : Written). some v) (o .1)))
+          go r (a .says (declarations p) path d (table-holds h) (h .filled .scope) (h .blocks) (row .names) (row .form ∙ ap (λ (v : Written). some v) (o .1)))
         where
           o : (d : Declaration) × (w ≡ declare d) × Wrote co (s .code) (declarationCode place d) co' to
           o = x .of w (formed-of k (framesAt t at .here) .has w (row .form))
@@ -295,7 +301,8 @@ module _ {p : Policy} {path : List Name} {lent : Memory} {sy co co' cs rs : List
       stepped-as p path place lent (memory sy co' cs rs) f refl
       (filled-coded h place st (ap (λ (x : Statement). declared (line place x)) i ∙ d) (ap (λ (x : Statement). constrained (line place x)) i ∙ k)
       (ap (λ (x : Statement). relabelled (line place x)) i ∙ o) (s .transitions)
-      (h .transition-count ∙ ap length (sym (transitions-same p (line place st) (ap (λ (x : Statement). transition (line place x)) i ∙ m)))) w (room f))
+      (h .filled .transition-count ∙ ap length (sym (transitions-same p (line place st) (ap (λ (x : Statement). transition (line place x)) i ∙ m)))) w
+      (room f))
 
   coded-sized : (kind : CodedStatement) → IsOf (codedKeyword kind) st → Stepped (judgeMaxima p st) p path place lent (memory sy co' cs rs) (codedStep kind (CodeWritten.Next to) s)
   coded-sized (CodedStatement.Set f) i = plain-step (attributeset (familyOf f) (i .0) (i .1)) (i .2) refl refl refl refl refl
@@ -314,7 +321,8 @@ module _ {p : Policy} {path : List Name} {lent : Memory} {sy co co' cs rs : List
       step : (b : Bool) → ltb (length (transitions p)) maxTransitions ≡ b
           → codedStep CodedStatement.Transition (CodeWritten.Next to) s ≡ cond b (Step.Read (withCode s to (s .transitions + 1))) (Step.Fault 6)
       step b e =
-          ap (λ (x : Bool). cond x (Step.Read (withCode s to (s .transitions + 1))) (Step.Fault 6)) (ap (λ (n : ℕ). ltb n maxTransitions) (h .transition-count) ∙ e)
+          ap (λ (x : Bool). cond x (Step.Read (withCode s to (s .transitions + 1))) (Step.Fault 6))
+          (ap (λ (n : ℕ). ltb n maxTransitions) (h .filled .transition-count) ∙ e)
 
       judged : (b : Bool) → ltb (length (transitions p)) maxTransitions ≡ b → judgeMaxima p st ≡ cond b (reads st) (fault 6)
       judged b e =
@@ -326,7 +334,7 @@ module _ {p : Policy} {path : List Name} {lent : Memory} {sy co co' cs rs : List
           stepped-as p path place lent (memory sy co' cs rs) (judged true e) (step true e)
           (filled-coded h place st (ap (λ (x : Statement). declared (line place x)) (i .4)) (ap (λ (x : Statement). constrained (line place x)) (i .4))
           (ap (λ (x : Statement). relabelled (line place x)) (i .4)) (s .transitions + 1)
-          (omega (arith, h .transition-count, count)) w (room (judged true e)))
+          (omega (arith, h .filled .transition-count, count)) w (room (judged true e)))
       go false e = stepped-as p path place lent (memory sy co' cs rs) (judged false e) (step false e) refl
 
 module _ {t : List ℕ} {at place : ℕ} {sy co co' cs rs : List ℕ} {s : Progress} (kind : CodedStatement) where
@@ -340,7 +348,8 @@ module _ {t : List ℕ} {at place : ℕ} {sy co co' cs rs : List ℕ} {s : Progr
       says lent p path w h row room =
           stepped-as p path place lent (memory sy co' cs rs) named refl
           (go (resolved (environmentOf (declarations p) path) w) refl r
-          (a .says (environmentOf (declarations p) path) w (holds-symbols (table-holds h) (h .scope)) (ap (formed (codedKeyword kind)) (row .uncut) ∙ row .form)))
+          (a .says (environmentOf (declarations p) path) w (holds-symbols (table-holds h) (h .filled .scope))
+          (ap (formed (codedKeyword kind)) (row .uncut) ∙ row .form)))
         where
           i : IsOf (codedKeyword kind) w
           i = formed-of (codedKeyword kind) (framesAt t at .here) .has w (row .form)
@@ -451,7 +460,7 @@ module _ (lent : Memory) (p : Policy) (path : List Name) (place : ℕ) {sy co cs
           ≡ cond (fitsWithin maxConstraints maxRows (s .constraints) (s .rows + size e)) (cond (leb (need e) maxStack) (reads (constrain c ps e)) (fault 7)) (fault 6)
       judged =
           ap₂ (λ (n m : ℕ). cond (fitsWithin maxConstraints maxRows n (m + size e)) (cond (leb (need e) maxStack) (reads (constrain c ps e)) (fault 7)) (fault 6))
-          (sym (h .constraint-count)) (sym (h .row-count))
+          (sym (h .filled .constraint-count)) (sym (h .filled .row-count))
 
   relabel-sized : RestLent constraintRoom cs cs' z x → RestLent rowRoom rs rs' w y
       → IsOf relabelK st → RelabelAnswers cs x rs y s r (some st)
@@ -478,7 +487,7 @@ module _ (lent : Memory) (p : Policy) (path : List Name) (place : ℕ) {sy co cs
           ≡ cond (fitsWithin maxRelabels maxRelabelRows (s .relabels) (s .«relabel_rows» + size e)) (cond (leb (need e) maxStack) (reads (validatetrans c e)) (fault 7)) (fault 6)
       judged =
           ap₂ (λ (n m : ℕ). cond (fitsWithin maxRelabels maxRelabelRows n (m + size e)) (cond (leb (need e) maxStack) (reads (validatetrans c e)) (fault 7)) (fault 6))
-          (sym (h .relabel-count)) (sym (h .relabel-row-count))
+          (sym (h .filled .relabel-count)) (sym (h .filled .relabel-row-count))
 
 module _ {t : List ℕ} {at place : ℕ} {sy co cs cs' rs rs' z w x y : List ℕ} {s : Progress} (r : Constrained) where
   -- `(constrain (C (P ...)) E)`: its record and its rows are in the first parts of their memories
@@ -492,8 +501,10 @@ module _ {t : List ℕ} {at place : ℕ} {sy co cs cs' rs rs' z w x y : List ℕ
       (λ path p w i. naming path p (constrain (i .0) (i .1) (i .2)) (i .3) refl) (λ y. y)
       (λ lent p path h wide long st j b. constrain-sized lent p path place r h wide long st u v j b)
       (λ lent p path w h wide long f.
-      a' .says (environmentOf (declarations p) path) w (holds-symbols (table-holds h) (h .scope)) (omega (arith, h .row-count, h .accepted .few-rows))
-      (omega (arith, records-first h place wide long, now-long (h .constraints))) (omega (arith, rows-first h place wide long, now-long (h .rows))) f)
+      a' .says (environmentOf (declarations p) path) w (holds-symbols (table-holds h) (h .filled .scope))
+      (omega (arith, h .filled .row-count, h .accepted .few-rows))
+      (omega (arith, records-first h place wide long, now-long (h .filled .constraints)))
+      (omega (arith, rows-first h place wide long, now-long (h .filled .rows))) f)
 
   -- `(validatetrans C E)`: in the second parts
   pub relabelled-steps : RestLent constraintRoom cs cs' z x → RestLent rowRoom rs rs' w y
@@ -506,5 +517,7 @@ module _ {t : List ℕ} {at place : ℕ} {sy co cs cs' rs rs' z w x y : List ℕ
       (λ path p w i. naming path p (validatetrans (i .0) (i .1)) (i .2) refl) (λ y. y)
       (λ lent p path h wide long st j b. relabel-sized lent p path place r h wide long st u v j b)
       (λ lent p path w h wide long f.
-      a' .says (environmentOf (declarations p) path) w (holds-symbols (table-holds h) (h .scope)) (omega (arith, h .relabel-row-count, h .accepted .few-relabel-rows))
-      (omega (arith, records-second h place wide long, now-long (h .relabel-records))) (omega (arith, rows-second h place wide long, now-long (h .relabel-rows))) f)
+      a' .says (environmentOf (declarations p) path) w (holds-symbols (table-holds h) (h .filled .scope))
+      (omega (arith, h .filled .relabel-row-count, h .accepted .few-relabel-rows))
+      (omega (arith, records-second h place wide long, now-long (h .filled .relabel-records)))
+      (omega (arith, rows-second h place wide long, now-long (h .filled .relabel-rows))) f)

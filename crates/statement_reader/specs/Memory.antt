@@ -62,11 +62,8 @@ pub record Starts (lent content now : List ℕ) (end : ℕ) : Type 0 where
   pub ends : end ≡ length content
   pub fits : length content ≤ length lent
 
--- the lent memory holds the statements of p, which keep every rule that faults 3 to 7 stand for, and the scope of the blocks that are open. The symbols end
--- before their index
-pub record Holds (p : Policy) (path : List Name) (lent now : Memory) (s : Progress) : Type 0 where
-  pub accepted : Accepted p
-  pub blocks : GoodPath path
+-- the lent memory holds what the statements of p leave there, and the scope of the blocks that are open. The symbols end before their index
+pub record Filled (p : Policy) (path : List Name) (lent now : Memory) (s : Progress) : Type 0 where
   pub symbols : Starts (take nameBytes (lent .symbols)) (symbolsOf p) (take nameBytes (now .symbols)) (s .symbols)
   pub chained : Chained (now .symbols) (s .symbols) (entries (declarations p))
   pub scope : InScope (now .symbols) path
@@ -80,3 +77,9 @@ pub record Holds (p : Policy) (path : List Name) (lent now : Memory) (s : Progre
   pub row-count : s .rows ≡ rowCount constrainBody (constrains p)
   pub relabel-count : s .relabels ≡ length (relabels p)
   pub relabel-row-count : s .«relabel_rows» ≡ rowCount relabelBody (relabels p)
+
+-- the same of statements that keep every rule that faults 3 to 7 stand for
+pub record Holds (p : Policy) (path : List Name) (lent now : Memory) (s : Progress) : Type 0 where
+  pub accepted : Accepted p
+  pub blocks : GoodPath path
+  pub filled : Filled p path lent now s

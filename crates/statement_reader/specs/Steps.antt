@@ -1,55 +1,35 @@
 -- What one statement adds to the lent memory, or its fault. The functions for the kinds of statements promise it. Assumes nothing.
-use Prim.Native.Nat.{ℕ, _+_, _-_, _*_, _≤_}
+use Prim.Native.Nat.{ℕ, _+_, _-_, _≤_}
 use mathlib.Core.Path.{_≡_}
 use mathlib.Core.Bool.{Bool, true, cond}
 use mathlib.Core.List.{List, [], _∷_, _++_}
 use mathlib.Core.Option.{Option, some}
 use lib.Dec.{ltb}
-use lib.ListN.{length, take, drop}
+use lib.ListN.{length}
 use Rattle.lexer.specs.Forms.{Forms, framesAt, trim, namesGood}
 use Rattle.policy.specs.Basics.{Name}
 use Rattle.lexer.specs.Scan.{maxLevel}
 use Rattle.policy.specs.Words as words
 use Rattle.policy.specs.Words.{setK, relationK, transitionK}
-use Rattle.policy.specs.Statements.{Written, Statement, Policy, declarations, transitions, constrains, constrainBody, relabels, relabelBody}
+use Rattle.policy.specs.Statements.{Written, Statement, Policy}
 use Rattle.policy.specs.Maxima.{maxTransitions, maxConstraints, maxRelabels}
 use Rattle.policy.specs.Grammar.{formed, written}
-use Rattle.policy.specs.Reading.{Judged, reads, opens, fault, judgeStatement, rowCount}
+use Rattle.policy.specs.Reading.{Judged, reads, opens, fault, judgeStatement}
 use Rattle.policy.specs.Answers.{familyOf, relationOf}
-use Rattle.policy.specs.Encode.{entries}
-use Rattle.name_chains.specs.Chains.{Chained}
-use Rattle.scopes.specs.Scope.{InScope}
 use Rattle.statement_code.specs.Code.{statementCode, codeOf}
 use Rattle.declarations.specs.declared.Declared.{Declared}
 use Rattle.statement_writer.specs.declared.CodeWritten.{CodeWritten}
 use Rattle.constrain_statement.specs.declared.Constrained.{Constrained}
-use Rattle.statement_reader.specs.Memory.{Memory, symbolsOf, constraintsOf, rowsOf, relabelsOf, relabelRowsOf, constraintRoom, rowRoom, Starts, Holds}
+use Rattle.statement_reader.specs.Memory.{Memory, Filled, Holds}
 use Rattle.statement_reader.specs.declared.Progress.{Progress}
 use Rattle.statement_reader.specs.declared.Step.{Step}
 use Rattle.statement_reader.specs.declared.CodedStatement.{CodedStatement}
-use Rattle.symbols.specs.Section.{nameBytes}
 
 -- the keyword that an enum of src/ stands for
 abbrev pub codedKeyword : CodedStatement → words.Keyword
 codedKeyword (CodedStatement.Set f) = setK (familyOf f)
 codedKeyword (CodedStatement.Relation r) = relationK (relationOf r)
 codedKeyword CodedStatement.Transition = transitionK
-
--- the lent memory holds what the statements of p leave there
-pub record Filled (p : Policy) (path : List Name) (lent now : Memory) (s : Progress) : Type 0 where
-  pub symbols : Starts (take nameBytes (lent .symbols)) (symbolsOf p) (take nameBytes (now .symbols)) (s .symbols)
-  pub chained : Chained (now .symbols) (s .symbols) (entries (declarations p))
-  pub scope : InScope (now .symbols) path
-  pub code : Starts (lent .code) (codeOf p) (now .code) (s .code)
-  pub constraints : Starts (take constraintRoom (lent .constraints)) (constraintsOf p) (take constraintRoom (now .constraints)) (10 * s .constraints)
-  pub rows : Starts (take rowRoom (lent .rows)) (rowsOf p) (take rowRoom (now .rows)) (6 * s .rows)
-  pub relabel-records : Starts (drop constraintRoom (lent .constraints)) (relabelsOf p) (drop constraintRoom (now .constraints)) (4 * s .relabels)
-  pub relabel-rows : Starts (drop rowRoom (lent .rows)) (relabelRowsOf p) (drop rowRoom (now .rows)) (6 * s .«relabel_rows»)
-  pub transition-count : s .transitions ≡ length (transitions p)
-  pub constraint-count : s .constraints ≡ length (constrains p)
-  pub row-count : s .rows ≡ rowCount constrainBody (constrains p)
-  pub relabel-count : s .relabels ≡ length (relabels p)
-  pub relabel-row-count : s .«relabel_rows» ≡ rowCount relabelBody (relabels p)
 
 -- one statement after those of p, in the blocks of a path: it is read, and the memory holds it too; or its fault is answered. A block is no statement
 abbrev pub Stepped : Judged → Policy → List Name → ℕ → Memory → Memory → Step → Type 0

@@ -139,8 +139,8 @@ module _ (t : List ℕ) (s : Sound t) where
     roleRoles = body 4 (omega (arith, laid .roleRoles .many, few (thingOf roles)));
     transitions = transitions-back;
     constraints =
-        with-rows constraintAt (assignRows 0) 6 (constraintRecords 0 (i .constraints)) (allRows i) (i .constraints) constraint-records-back refl (form .few-rows)
-        (laid .rows) (assign-back 0 (i .constraints));
+        with-rows constraintAt (assignRows 0) 6 (constraintRecords 0 (i .constraints)) (allRows i) (i .constraints) constraint-records-back refl
+        (form .few-rows) (laid .rows) (assign-back 0 (i .constraints));
     attributes = body 8 few-sets;
     relabels =
         with-rows relabelAt assignRelabels 9 (each relabelRecord (i .relabels)) (relabelRows i) (i .relabels) relabel-records-back refl (omega (arith, form .few-relabel-rows))

@@ -14,14 +14,14 @@ returns c = record {
         names = names-long h;
         users = things-counted p users s (c .before .before .before .before .count .ensures) refl;
         roles = things-counted p roles s (c .before .before .before .count2 .ensures) refl;
-        transitions = h .transition-count;
-        constraints = h .constraint-count;
-        rows = h .row-count;
+        transitions = h .filled .transition-count;
+        constraints = h .filled .constraint-count;
+        rows = h .filled .row-count;
         user-attributes = attributes-counted p users s (c .before .before .count3 .ensures) refl;
         role-attributes = attributes-counted p roles s (c .before .count4 .ensures) refl;
         type-attributes = attributes-counted p types s (c .count5 .ensures) refl;
-        relabels = h .relabel-count;
-        relabel-rows = h .relabel-row-count;
+        relabels = h .filled .relabel-count;
+        relabel-rows = h .filled .relabel-row-count;
       };
 }
 

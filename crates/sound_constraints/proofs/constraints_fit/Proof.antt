@@ -51,7 +51,8 @@ ahead : (c : tie.After-constraint-at Inv-loop μ-loop) →
     RecordTurn (asksConstraint n) (good n 6) (now (a .table))
     (constraintsFit n (each constraintAt (pieces (a .count) 10 (drop (a .constraints) (now (a .table)))))
     (pieces (a .rows) 6 (drop (a .start) (now (a .table)))))
-    (l .taken) (a .start + 6 * l .taken) (a .rows - l .taken) (each constraintAt (pieces (a .count - (l .next + 1)) 10 (drop (a .constraints + 10 * (l .next + 1)) (now (a .table)))))
+    (l .taken) (a .start + 6 * l .taken) (a .rows - l .taken)
+    (each constraintAt (pieces (a .count - (l .next + 1)) 10 (drop (a .constraints + 10 * (l .next + 1)) (now (a .table)))))
     (constraintOf (c .constraint-at .result))
 ahead c =
     let a = c .before .before .before .before .before .args in
