@@ -17,6 +17,7 @@ use Rattle.lexer.specs.declared.Scanned.{Scanned}
 use Rattle.lexer.proofs.Names.{part-in-word, part-byte, SoFar, letter-first, grown, one-too-many, finished}
 use Rattle.lexer.proofs.Scans.{halted}
 use Rattle.lexer.proofs.Ends.{rest}
+use Rattle.lexer.proofs.Variants.{by-class}
 use Rattle.policy.specs.Words.{dotless}
 use Rattle.policy.proofs.Dotless.{first-and-rest}
 use Rattle.before_laws.specs.Before as before
@@ -24,15 +25,7 @@ use Rattle.before_laws.specs.Before.{classBefore}
 
 -- but for the dot, the classes are those of document 01
 pub class-as-before : (k : ByteClass) → isDot k ≡ false → classBefore k ≡ k
-class-as-before Blank e = refl
-class-as-before LineFeed e = refl
-class-as-before Comment e = refl
-class-as-before Open e = refl
-class-as-before Close e = refl
-class-as-before Letter e = refl
-class-as-before Digit e = refl
-class-as-before Dot e = absurd (false≢true (sym e))
-class-as-before Wrong e = refl
+class-as-before k e = rw e at (by-class (λ k. cond (isDot k) Dot (classBefore k)) (λ k. k) refl k)
 
 -- ---- a run of bytes that a name is made of
 

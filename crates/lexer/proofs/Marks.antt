@@ -11,6 +11,7 @@ use Rattle.lexer.specs.Class.{is, starts, goesOn, isDot, inWord}
 use Rattle.lexer.specs.Answers.{markOf}
 use Rattle.lexer.specs.declared.ByteClass.{ByteClass}
 use Rattle.lexer.specs.declared.ByteClass.the-variants.{Blank, LineFeed, Comment, Open, Close, Letter, Digit, Dot, Wrong}
+use Rattle.lexer.proofs.Variants.{by-class}
 
 -- ---- a table that holds f at each place
 
@@ -39,15 +40,7 @@ classAt m =
     (cond (is "o" m) Open (cond (is "c" m) Close (cond (is "L" m) Letter (cond (is "D" m) Digit (cond (is "P" m) Dot Wrong)))))))
 
 class-of-mark : (x : ByteClass) → classAt (markOf x) ≡ x
-class-of-mark Blank = refl
-class-of-mark LineFeed = refl
-class-of-mark Comment = refl
-class-of-mark Open = refl
-class-of-mark Close = refl
-class-of-mark Letter = refl
-class-of-mark Digit = refl
-class-of-mark Dot = refl
-class-of-mark Wrong = refl
+class-of-mark x = by-class (λ x. classAt (markOf x)) (λ x. x) refl x
 
 -- a class whose mark is m
 pub marked : (x : ByteClass) (k m : ℕ) → k ≡ markOf x → k ≡ m → classAt m ≡ x
@@ -68,60 +61,16 @@ unmarked Wrong k e a b c d f g h i = refl
 
 -- the marks below `a` are those of the classes of which names are made
 pub capital : (x : ByteClass) (k : ℕ) → k ≡ markOf x → ltb k 97 ≡ inWord x
-capital x k e = ap (λ (m : ℕ). ltb m 97) e ∙ go x
-  where
-    go : (x : ByteClass) → ltb (markOf x) 97 ≡ inWord x
-    go Blank = refl
-    go LineFeed = refl
-    go Comment = refl
-    go Open = refl
-    go Close = refl
-    go Letter = refl
-    go Digit = refl
-    go Dot = refl
-    go Wrong = refl
+capital x k e = ap (λ (m : ℕ). ltb m 97) e ∙ by-class (λ x. ltb (markOf x) 97) inWord refl x
 
 -- the marks below `P` are those of the classes with which a part goes on
 pub part-mark : (x : ByteClass) (k : ℕ) → k ≡ markOf x → ltb k 80 ≡ goesOn x
-part-mark x k e = ap (λ (m : ℕ). ltb m 80) e ∙ go x
-  where
-    go : (x : ByteClass) → ltb (markOf x) 80 ≡ goesOn x
-    go Blank = refl
-    go LineFeed = refl
-    go Comment = refl
-    go Open = refl
-    go Close = refl
-    go Letter = refl
-    go Digit = refl
-    go Dot = refl
-    go Wrong = refl
+part-mark x k e = ap (λ (m : ℕ). ltb m 80) e ∙ by-class (λ x. ltb (markOf x) 80) goesOn refl x
 
 -- the mark `P` is that of the dot
 pub dot-mark : (x : ByteClass) (k : ℕ) → k ≡ markOf x → eqb k 80 ≡ isDot x
-dot-mark x k e = ap (λ (m : ℕ). eqb m 80) e ∙ go x
-  where
-    go : (x : ByteClass) → eqb (markOf x) 80 ≡ isDot x
-    go Blank = refl
-    go LineFeed = refl
-    go Comment = refl
-    go Open = refl
-    go Close = refl
-    go Letter = refl
-    go Digit = refl
-    go Dot = refl
-    go Wrong = refl
+dot-mark x k e = ap (λ (m : ℕ). eqb m 80) e ∙ by-class (λ x. eqb (markOf x) 80) isDot refl x
 
 -- the mark `L` is that of the class with which a part starts
 pub letter : (x : ByteClass) (k : ℕ) → k ≡ markOf x → eqb k 76 ≡ starts x
-letter x k e = ap (λ (m : ℕ). eqb m 76) e ∙ go x
-  where
-    go : (x : ByteClass) → eqb (markOf x) 76 ≡ starts x
-    go Blank = refl
-    go LineFeed = refl
-    go Comment = refl
-    go Open = refl
-    go Close = refl
-    go Letter = refl
-    go Digit = refl
-    go Dot = refl
-    go Wrong = refl
+letter x k e = ap (λ (m : ℕ). eqb m 76) e ∙ by-class (λ x. eqb (markOf x) 76) starts refl x

@@ -1,7 +1,7 @@
 -- Names: which byte is a dot, their parts read byte by byte, what a name that is under way asks of the bytes to come, how long names are, and their parts at
 -- the dots. Assumes nothing.
 use mathlib.Core.Path.{_≡_, refl, sym, ap, _∙_}
-use mathlib.Core.Bool.{Bool, true, false, not, _&&_, and-eq-true-iff, and-assoc, and-false, false≢true, cond}
+use mathlib.Core.Bool.{Bool, true, false, not, _&&_, _||_, and-eq-true-iff, and-assoc, and-false, false≢true, cond}
 use mathlib.Core.List.{List, [], _∷_, _++_, append-assoc, append-nil}
 use Prim.Native.Nat.{ℕ, suc, _+_, _≤_, _<_}
 use native.Mathlib.Omega.{arith}
@@ -12,65 +12,25 @@ use Rattle.lexer.specs.Class.{classOf, starts, goesOn, isDot, inWord, ma
 use Rattle.lexer.specs.Class.{isName, is, isBlank, isLetter, isDigit}
 use Rattle.lexer.specs.Answers.{partStarts}
 use Rattle.lexer.specs.declared.ByteClass.{ByteClass}
-use Rattle.lexer.specs.declared.ByteClass.the-variants.{Blank, LineFeed, Comment, Open, Close, Letter, Digit, Dot, Wrong}
+use Rattle.lexer.proofs.Variants.{by-class}
 
 -- ---- classes
 
 -- a dot starts no part; what starts a part is no dot; but for the dot, names are made of what goes on a part
 pub dot-starts-none : (k : ByteClass) → isDot k ≡ true → starts k ≡ false
-dot-starts-none Blank e = refl
-dot-starts-none LineFeed e = refl
-dot-starts-none Comment e = refl
-dot-starts-none Open e = refl
-dot-starts-none Close e = refl
-dot-starts-none Letter e = absurd (false≢true e)
-dot-starts-none Digit e = refl
-dot-starts-none Dot e = refl
-dot-starts-none Wrong e = refl
+dot-starts-none k e = rw e at (by-class (λ k. isDot k && starts k) (λ k. false) refl k)
 
 pub start-no-dot : (k : ByteClass) → starts k ≡ true → isDot k ≡ false
-start-no-dot Blank e = refl
-start-no-dot LineFeed e = refl
-start-no-dot Comment e = refl
-start-no-dot Open e = refl
-start-no-dot Close e = refl
-start-no-dot Letter e = refl
-start-no-dot Digit e = refl
-start-no-dot Dot e = absurd (false≢true e)
-start-no-dot Wrong e = refl
+start-no-dot k e = rw e at (by-class (λ k. starts k && isDot k) (λ k. false) refl k)
 
 pub dot-in-word : (k : ByteClass) → isDot k ≡ true → inWord k ≡ true
-dot-in-word Blank e = absurd (false≢true e)
-dot-in-word LineFeed e = absurd (false≢true e)
-dot-in-word Comment e = absurd (false≢true e)
-dot-in-word Open e = absurd (false≢true e)
-dot-in-word Close e = absurd (false≢true e)
-dot-in-word Letter e = refl
-dot-in-word Digit e = refl
-dot-in-word Dot e = refl
-dot-in-word Wrong e = absurd (false≢true e)
+dot-in-word k e = rw e at (by-class (λ k. isDot k && inWord k) isDot refl k)
 
 pub part-in-word : (k : ByteClass) → isDot k ≡ false → inWord k ≡ goesOn k
-part-in-word Blank e = refl
-part-in-word LineFeed e = refl
-part-in-word Comment e = refl
-part-in-word Open e = refl
-part-in-word Close e = refl
-part-in-word Letter e = refl
-part-in-word Digit e = refl
-part-in-word Dot e = absurd (false≢true (sym e))
-part-in-word Wrong e = refl
+part-in-word k e = rw e at (by-class (λ k. isDot k || inWord k) (λ k. isDot k || goesOn k) refl k)
 
 pub part-byte : (k : ByteClass) → goesOn k ≡ true → inWord k ≡ true
-part-byte Blank e = e
-part-byte LineFeed e = e
-part-byte Comment e = e
-part-byte Open e = e
-part-byte Close e = e
-part-byte Letter e = e
-part-byte Digit e = e
-part-byte Dot e = refl
-part-byte Wrong e = e
+part-byte k e = rw e at (by-class (λ k. goesOn k && inWord k) goesOn refl k)
 
 unless : (q : Bool) (j k : ByteClass) → isDot j ≡ false → isDot k ≡ false → isDot (cond q j k) ≡ false
 unless true j k e f = e
@@ -249,15 +209,7 @@ cut-at-dot (c ∷ w) b v d = go (isDot (classOf c)) (cut-at-dot w b v d)
 -- ---- a name of one part, for those that take no dot
 
 part-no-dot : (k : ByteClass) → goesOn k ≡ true → isDot k ≡ false
-part-no-dot Blank e = refl
-part-no-dot LineFeed e = refl
-part-no-dot Comment e = refl
-part-no-dot Open e = refl
-part-no-dot Close e = refl
-part-no-dot Letter e = refl
-part-no-dot Digit e = refl
-part-no-dot Dot e = absurd (false≢true e)
-part-no-dot Wrong e = refl
+part-no-dot k e = rw e at (by-class (λ k. goesOn k && isDot k) (λ k. false) refl k)
 
 dot-parts : (b : ℕ) (bs : List ℕ) (q : Bool) → isDot (classOf b) ≡ q → parts (b ∷ bs) ≡ elim q [ true ↦ [] ∷ parts bs | false ↦ onFirst b (parts bs) ]
 unfolding parts

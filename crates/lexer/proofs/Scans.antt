@@ -19,6 +19,7 @@ use Rattle.lexer.specs.declared.Scanned.{Scanned}
 use Rattle.lexer.specs.declared.Step.{Step}
 use Rattle.lexer.proofs.Ends.{bytes-there, over-comment, byte-there, byte-goes-on, name-word, name-over, name-not-bare}
 use Rattle.lexer.proofs.Names.{fits, no-part, SoFar, letter-first, dot-first, grown, one-too-many, spoiled, finished}
+use Rattle.lexer.proofs.Variants.{by-class}
 
 -- a text that is too long is fault 1, and only such a text
 pub too-long : (t : List ℕ) → maxText < length t → scan t ≡ Scanned.TooLong
@@ -207,15 +208,7 @@ module _ (t : List ℕ) (first from level at : ℕ) (x : InName t first from lev
       }
 
 start-goes : (k : ByteClass) → starts k ≡ true → inWord k ≡ true
-start-goes Blank e = absurd (false≢true e)
-start-goes LineFeed e = absurd (false≢true e)
-start-goes Comment e = absurd (false≢true e)
-start-goes Open e = absurd (false≢true e)
-start-goes Close e = absurd (false≢true e)
-start-goes Letter e = refl
-start-goes Digit e = refl
-start-goes Dot e = refl
-start-goes Wrong e = absurd (false≢true e)
+start-goes k e = rw e at (by-class (λ k. starts k && inWord k) starts refl k)
 
 part-goes : (bs : List ℕ) → partStarts bs ≡ true → wordGoesOn bs ≡ true
 part-goes [] e = e

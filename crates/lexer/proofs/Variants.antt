@@ -1,15 +1,33 @@
--- What an arm with several patterns tells of a byte's class: it is one of them. One law for every such arm. Assumes nothing.
-use mathlib.Core.Path.{_≡_, refl, subst⁻¹}
+-- What holds of every class of bytes is computed once for each; and what an arm with several patterns tells of a byte's class: it is one of them. A law for
+-- each of the two. Assumes nothing.
+use mathlib.Core.Path.{_≡_, refl, ap, subst⁻¹}
 use mathlib.Core.Bool.{Bool, true, false, not}
-use mathlib.Core.List.{List}
+use mathlib.Core.List.{List, [], _∷_}
 use Prim.Native.Nat.{ℕ}
 use lib.Dec.{T}
+use lib.ListN.{getD}
 use types.Run.{OneOf, miss}
 use mir.Val.{hasKey}
 use denote.Enum.Declared.{tagOf}
 use Rattle.lexer.specs.declared.ByteClass.{ByteClass}
 use Rattle.lexer.specs.declared.ByteClass.the-variants.{Blank, LineFeed, Comment, Open, Close, Letter, Digit, Dot, Wrong}
 use Rattle.lexer.proofs.ByteClass.{the-type}
+
+-- what f gives for each class
+abbrev atEach : {A : Type 0} → (ByteClass → A) → List A
+atEach f = f Blank ∷ f LineFeed ∷ f Comment ∷ f Open ∷ f Close ∷ f Letter ∷ f Digit ∷ f Dot ∷ f Wrong ∷ []
+
+-- functions that give the same for each are the same
+pub by-class : {A : Type 0} (f g : ByteClass → A) → atEach f ≡ atEach g → (k : ByteClass) → f k ≡ g k
+by-class {A} f g e Blank = ap (λ (l : List A). getD l 0 (f Blank)) e
+by-class {A} f g e LineFeed = ap (λ (l : List A). getD l 1 (f Blank)) e
+by-class {A} f g e Comment = ap (λ (l : List A). getD l 2 (f Blank)) e
+by-class {A} f g e Open = ap (λ (l : List A). getD l 3 (f Blank)) e
+by-class {A} f g e Close = ap (λ (l : List A). getD l 4 (f Blank)) e
+by-class {A} f g e Letter = ap (λ (l : List A). getD l 5 (f Blank)) e
+by-class {A} f g e Digit = ap (λ (l : List A). getD l 6 (f Blank)) e
+by-class {A} f g e Dot = ap (λ (l : List A). getD l 7 (f Blank)) e
+by-class {A} f g e Wrong = ap (λ (l : List A). getD l 8 (f Blank)) e
 
 -- the place of a class among the variants, as the check has it
 abbrev pub tag : ByteClass → ℕ

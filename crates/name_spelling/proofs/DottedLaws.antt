@@ -1,14 +1,14 @@
 -- The parts of a name with no dot, and of bytes that are no name. Assumes nothing.
 use mathlib.Core.Path.{_≡_, refl, ap, _∙_}
-use mathlib.Core.Bool.{Bool, true, false, and-false}
+use mathlib.Core.Bool.{Bool, true, false, _||_, and-false}
 use mathlib.Core.List.{List, [], _∷_, _++_}
 use Prim.Native.Nat.{ℕ, _≤_, _<_}
 use native.Mathlib.Omega.{arith}
 use lib.ListN.{length}
 use Rattle.lexer.specs.declared.ByteClass.{ByteClass}
-use Rattle.lexer.specs.declared.ByteClass.the-variants.{Blank, LineFeed, Comment, Open, Close, Letter, Digit, Dot, Wrong}
 use Rattle.lexer.specs.Class.{classOf, starts, goesOn, isDot, onFirst, parts, hasGoodParts}
 use Rattle.lexer.proofs.Names.{part-in-word, fits, partsFrom, dotted-from, some-part}
+use Rattle.lexer.proofs.Variants.{by-class}
 
 -- ---- how many parts there are
 
@@ -30,15 +30,7 @@ alone (b ∷ bs) h = go (isDot (classOf b)) h (alone bs)
 -- ---- a byte that no name has
 
 no-start : (k : ByteClass) → goesOn k ≡ false → starts k ≡ false
-no-start Blank e = refl
-no-start LineFeed e = refl
-no-start Comment e = refl
-no-start Open e = refl
-no-start Close e = refl
-no-start Letter e = e
-no-start Digit e = refl
-no-start Dot e = refl
-no-start Wrong e = refl
+no-start k e = rw e at (by-class (λ k. goesOn k || starts k) goesOn refl k)
 
 no-fit : (k : ByteClass) (fresh : Bool) → goesOn k ≡ false → isDot k ≡ false → fits fresh k ≡ false
 no-fit k true g d = no-start k g

@@ -227,27 +227,20 @@ pub fn constraints_fit(
     let mut next = 0;
     let mut taken = 0;
     while next < count {
-        let constraint = table_reader::constraint_at(table, constraints, next);
-        if constraint.first != taken {
+        let record = table_reader::constraint_at(table, constraints, next);
+        if record.first != taken {
             return false;
         }
-        if rows - taken < constraint.rows {
+        if rows - taken < record.rows {
             return false;
         }
-        if !fits_mask(constraint, counts, permissions) {
+        if !fits_mask(record, counts, permissions) {
             return false;
         }
-        if !rows_fit(
-            table,
-            start,
-            taken,
-            constraint.rows,
-            Component::COUNT,
-            counts,
-        ) {
+        if !rows_fit(table, start, taken, record.rows, Component::COUNT, counts) {
             return false;
         }
-        taken += constraint.rows;
+        taken += record.rows;
         next += 1;
     }
     taken == rows
@@ -271,24 +264,24 @@ pub fn relabels_fit(
     let mut next = 0;
     let mut taken = 0;
     while next < count {
-        let relabel = table_reader::relabel_at(table, relabels, next);
-        if rows - taken < relabel.rows {
+        let record = table_reader::relabel_at(table, relabels, next);
+        if rows - taken < record.rows {
             return false;
         }
-        if counts.classes <= relabel.class as usize {
+        if counts.classes <= record.class as usize {
             return false;
         }
         if !rows_fit(
             table,
             start,
             taken,
-            relabel.rows,
+            record.rows,
             Component::COUNT_OF_THREE,
             counts,
         ) {
             return false;
         }
-        taken += relabel.rows;
+        taken += record.rows;
         next += 1;
     }
     taken == rows

@@ -26,8 +26,8 @@ ghost use Rattle.policy.specs.Answers.{familyOf};
 ghost use Rattle.items.specs.Looks.{itemAt};
 ghost use Rattle.statement_writer.specs.ResolvedUnits.{WritesStatement};
 ghost use Rattle.statement_reader.specs.Memory.{memory, constraintRoom, rowRoom};
-ghost use Rattle.statement_reader.specs.Steps.{codedKeyword, Steps, StepsAt, declaredStep, withCode, codedStep, rowsFault, constrainedStep};
-ghost use Rattle.statement_reader.specs.Steps.{relabelledStep};
+ghost use Rattle.statement_reader.specs.Steps.{codedKeyword, Steps, StepsAt, declaredStep, withCode, codedStep};
+ghost use Rattle.statement_reader.specs.Steps.{rowsFault, constrainedStep, relabelledStep};
 
 // Room for the code: no statement has more units than bytes of the text.
 pub const CODE_UNITS: usize = Text::MAX + 1;
