@@ -7,7 +7,8 @@
 //! * questions: u32 length, table, u32 count, and for each question nine u64: its kind and eight arguments. Kind 5, the question
 //!   of relabelling (document 02, W-205), has eleven: 5, the class, then user, role and type of the old context, of the new one
 //!   and of the process. Its answer has the words of a change: `denied 6 constraint N consulted M`, where N is the number of the
-//!   validatetrans that fails.
+//!   validatetrans that fails. Each question has two lines of the same content: the other program asks it of the bytes, and of
+//!   a table that it tested once.
 //! * tries: u32 length, section 1 of the table of an accepted text, u32 count, and for each try (document 02, W-204) u32 number
 //!   of the family (0 users, 1 roles, 2 types, 3 classes, 4 + c the permissions of class c), u32 length, name. The name may
 //!   be any bytes. Each try has two lines of the same content: `chains found SORT NUMBER compared COUNT` or `chains missing
@@ -455,7 +456,8 @@ pub fn answer(layer: Layer, corpus: &[u8]) -> Result<Vec<String>, String> {
                     for place in 1..written_length(question[0]) {
                         question[place] = reader.number()?;
                     }
-                    lines.push(question_line(table, &question)?);
+                    let line = question_line(table, &question)?;
+                    lines.extend([line.clone(), line]);
                 }
             }
             Layer::Tries => {

@@ -58,7 +58,7 @@ fn relabellings_in_the_corpus() {
             let kind = number(at, 8);
             relabellings[edition] += (kind == 5) as usize;
             at += 8 * if kind == 5 { 11 } else { 9 };
-            lines += 1;
+            lines += 2;
         }
     }
     assert_eq!(lines, answer(Layer::Questions, &corpus).unwrap().len());

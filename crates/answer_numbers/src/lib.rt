@@ -1,6 +1,7 @@
 // Every answer as a struct of numbers, for other languages.
 //
-// Each function asks that the numbers fit into four bytes; `tegzhumbi_c` proves it of every answer that there is.
+// Each function says of numbers that fit into four bytes what it gives; `tegzhumbi_c` proves that those of every answer
+// of the library do.
 use policy::Change;
 use policy::Compiling;
 use policy::NewRole;
@@ -39,6 +40,19 @@ pub struct Part {
     pub length: u32,
 }
 
+// The greatest number that four bytes hold.
+const FOUR_BYTES_MAX: usize = 4_294_967_295;
+
+// A number in four bytes, where it fits; else the greatest that they hold.
+pub fn four_bytes(number: usize) -> u32
+    ensures { λ r. ⌜ (number < 4294967296 → r ≡ number) ⌝ }
+{
+    if FOUR_BYTES_MAX < number {
+        return FOUR_BYTES_MAX as u32;
+    }
+    number as u32
+}
+
 // The outcomes of a question.
 const GRANTED: u32 = 0;
 
@@ -47,39 +61,36 @@ const DENIED: u32 = 1;
 const REFUSED: u32 = 2;
 
 pub fn compiled_numbers(answer: Compiling) -> Compiled
-    requires { ⌜ CompiledFits (compiledNumbers (compilingOf answer)) ⌝ }
-    ensures { λ r. ⌜ r ≡ compiledNumbers (compilingOf answer) ⌝ }
+    ensures { λ r. ⌜ (CompiledFits (compiledNumbers (compilingOf answer)) → r ≡ compiledNumbers (compilingOf answer)) ⌝ }
 {
     match answer {
         Compiling::Accepted { length } => Compiled {
             number: 0,
-            place: length as u32,
+            place: four_bytes(length),
             line: 0,
         },
         Compiling::Refused(refusal) => Compiled {
-            number: refusal.number as u32,
-            place: refusal.place as u32,
-            line: refusal.line as u32,
+            number: four_bytes(refusal.number),
+            place: four_bytes(refusal.place),
+            line: four_bytes(refusal.line),
         },
     }
 }
 
 // Every refusal of a question is made here.
 fn refusal(number: usize) -> Answer
-    requires { ⌜ number < 4294967296 ⌝ }
-    ensures { λ r. ⌜ r ≡ answerOf 2 number 0 0 ⌝ }
+    ensures { λ r. ⌜ (number < 4294967296 → r ≡ answerOf 2 number 0 0) ⌝ }
 {
     Answer {
         outcome: REFUSED,
-        number: number as u32,
+        number: four_bytes(number),
         constraint: 0,
         consulted: 0,
     }
 }
 
 pub fn valid_numbers(answer: Validity) -> Answer
-    requires { ⌜ Fits (validNumbers (validityOf answer)) ⌝ }
-    ensures { λ r. ⌜ r ≡ validNumbers (validityOf answer) ⌝ }
+    ensures { λ r. ⌜ (Fits (validNumbers (validityOf answer)) → r ≡ validNumbers (validityOf answer)) ⌝ }
 {
     match answer {
         Validity::Valid => Answer {
@@ -99,19 +110,18 @@ pub fn valid_numbers(answer: Validity) -> Answer
 }
 
 pub fn change_numbers(answer: Change) -> Answer
-    requires { ⌜ Fits (changeNumbers (changeOf answer)) ⌝ }
-    ensures { λ r. ⌜ r ≡ changeNumbers (changeOf answer) ⌝ }
+    ensures { λ r. ⌜ (Fits (changeNumbers (changeOf answer)) → r ≡ changeNumbers (changeOf answer)) ⌝ }
 {
     match answer {
         Change::Granted { consulted } => Answer {
             outcome: GRANTED,
             number: 0,
             constraint: 0,
-            consulted: consulted as u32,
+            consulted: four_bytes(consulted),
         },
         Change::Denied { number } => Answer {
             outcome: DENIED,
-            number: number as u32,
+            number: four_bytes(number),
             constraint: 0,
             consulted: 0,
         },
@@ -121,22 +131,21 @@ pub fn change_numbers(answer: Change) -> Answer
             consulted,
         } => Answer {
             outcome: DENIED,
-            number: number as u32,
-            constraint: constraint as u32,
-            consulted: consulted as u32,
+            number: four_bytes(number),
+            constraint: four_bytes(constraint),
+            consulted: four_bytes(consulted),
         },
         Change::Refused { number } => refusal(number),
     }
 }
 
 pub fn new_role_numbers(answer: NewRole) -> Answer
-    requires { ⌜ Fits (newRoleNumbers (newRoleOf answer)) ⌝ }
-    ensures { λ r. ⌜ r ≡ newRoleNumbers (newRoleOf answer) ⌝ }
+    ensures { λ r. ⌜ (Fits (newRoleNumbers (newRoleOf answer)) → r ≡ newRoleNumbers (newRoleOf answer)) ⌝ }
 {
     match answer {
         NewRole::Role { number } => Answer {
             outcome: GRANTED,
-            number: number as u32,
+            number: four_bytes(number),
             constraint: 0,
             consulted: 0,
         },
@@ -145,17 +154,16 @@ pub fn new_role_numbers(answer: NewRole) -> Answer
 }
 
 pub fn part_numbers(place: Place) -> Part
-    requires { ⌜ PartFits (partNumbers (placeOf place)) ⌝ }
-    ensures { λ r. ⌜ r ≡ partNumbers (placeOf place) ⌝ }
+    ensures { λ r. ⌜ (PartFits (partNumbers (placeOf place)) → r ≡ partNumbers (placeOf place)) ⌝ }
 {
     match place {
         Place::Part { start, length } => Part {
             number: 0,
-            start: start as u32,
-            length: length as u32,
+            start: four_bytes(start),
+            length: four_bytes(length),
         },
         Place::Refused { number } => Part {
-            number: number as u32,
+            number: four_bytes(number),
             start: 0,
             length: 0,
         },

@@ -6,3 +6,4 @@ pub mod BoundedStack
 pub mod SameView
 pub mod ImageAnswers
 pub mod HeaderPlaces
+pub mod ClassWalkLaws

@@ -27,6 +27,11 @@ module _ {A : Type 0} (n : ℕ) (names holds : A → Bool) where
   unfolding firstFailing
   left-none {whole} {k} {i} l = ap (answers granted) (sym (add-zero k)) ∙ l .decides
 
+  -- others are left, and decide alike
+  pub left-moved : {whole : Answer} {k i j : ℕ} {xs ys : List A} → Left whole k i xs → firstFailing n names holds i xs ≡ firstFailing n names holds j ys
+      → Left whole k j ys
+  left-moved {whole} {k} l e = record { decides = ap (since k) (sym e) ∙ l .decides }
+
   module _ {whole : Answer} {k i : ℕ} {x : A} {xs : List A} (l : Left whole k i (x ∷ xs)) where
     pub left-skip : names x ≡ false → Left whole k (i + 1) xs
     unfolding firstFailing

@@ -1,8 +1,9 @@
 -- What the bytes of a table say of its constraints and of its validatetrans statements, whatever the bytes are. On the table of a well-formed image it
 -- is what the image says. Assumes nothing.
+use mathlib.Core.Path.{_≡_}
 use mathlib.Core.Bool.{Bool, _&&_, cond}
 use mathlib.Core.List.{List, [], _∷_}
-use Prim.Native.Nat.{ℕ, _+_, _*_, _/_, _%_}
+use Prim.Native.Nat.{ℕ, _+_, _-_, _*_, _/_, _%_, _≤_, _<_}
 use lib.Dec.{eqb, ltb}
 use lib.ListN.{getD, drop}
 use Rattle.bitset.specs.Sets.{bit, member}
@@ -13,6 +14,7 @@ use Rattle.policy.specs.Rows.{Row, View, top}
 use Rattle.policy.specs.Image.{width}
 use Rattle.policy.specs.Encode.{ConstraintRecord, RelabelRecord, sectionsOf}
 use Rattle.policy.specs.Sound.{constraintAt, relabelAt, editionIn, ofComp}
+use Rattle.policy.specs.Deciding.{firstFailing}
 use Rattle.table_reader.specs.Records.{records, rowAt, startIn, lengthIn}
 use Rattle.constraints.specs.Stack.{boundedRun}
 use Rattle.constraints.specs.declared.Bodies.{Bodies}
@@ -75,12 +77,28 @@ sidesOf on =
 abbrev pub constraintsIn : List ℕ → Bodies → List ConstraintRecord
 constraintsIn t b = records 10 constraintAt (b .count) (drop (b .statements) t)
 
+-- of n constraints that start at s those from number i on
+abbrev pub constraintsFrom : List ℕ → ℕ → ℕ → ℕ → List ConstraintRecord
+constraintsFrom t s n i = records 10 constraintAt (n - i) (drop (s + 10 * i) t)
+
 -- a constraint names the class and permission; it holds
 abbrev pub constraintNames : ℕ → ℕ → ConstraintRecord → Bool
 constraintNames c k h = eqb (h .class) c && bit (h .mask) k
 
 abbrev pub constraintHolds : List ℕ → Bodies → List ℕ → ConstraintRecord → Bool
 constraintHolds t b sides h = rowsHoldIn t b sides (h .first) (h .rows)
+
+-- those from number i to before r are of other classes than c: whatever the permission k is and whichever hold, those from r on decide as those from i on do
+pub record Passed (t : List ℕ) (s n c i r : ℕ) : Type 0 where
+  pub ahead : i ≤ r
+  pub within : i ≤ n → r ≤ n
+  pub decides : (k : ℕ) (holds : ConstraintRecord → Bool)
+      → firstFailing 4 (constraintNames c k) holds i (constraintsFrom t s n i) ≡ firstFailing 4 (constraintNames c k) holds r (constraintsFrom t s n r)
+
+-- and r is of class c, if there is such a constraint
+pub record NextOfClass (t : List ℕ) (s n c i r : ℕ) : Type 0 where
+  pub passed : Passed t s n c i r
+  pub of-class : r < n → constraintAt (drop (s + 10 * r) t) .class ≡ c
 
 -- VALIDATETRANS STATEMENTS
 

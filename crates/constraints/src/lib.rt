@@ -18,6 +18,7 @@ ghost use mathlib.Core.Path.{_≡_};
 ghost use mathlib.Core.Bool.{Bool};
 ghost use mathlib.Core.List.{List, []};
 ghost use lib.ListN.{getD};
+ghost use Rattle.bitset.specs.Sets.{bit};
 ghost use Rattle.policy.specs.Image.{width};
 ghost use Rattle.policy.specs.Rows.{notTop, andTop, orTop, top, opTest, isSame};
 ghost use Rattle.policy.specs.Deciding.{firstFailing};
@@ -25,7 +26,7 @@ ghost use Rattle.policy.specs.Answers.{familyOf, changeOf};
 ghost use Rattle.table_reader.specs.Records.{rowOf, constraintOf};
 ghost use Rattle.constraints.specs.Stack as stack;
 ghost use Rattle.constraints.specs.Stack.{code, boundedRunRow};
-ghost use Rattle.constraints.specs.TableConstraints.{bodiesIn, relabelCount, relabelBodiesIn, setStart, viewIn, rowsHoldIn};
+ghost use Rattle.constraints.specs.TableConstraints.{bodiesIn, relabelCount, relabelBodiesIn, setStart, viewIn, rowsHoldIn, NextOfClass};
 ghost use Rattle.constraints.specs.TableConstraints.{constraintsIn, constraintNames, constraintHolds, relabelsIn, relabelNames, relabelHolds};
 
 // Where the constraints of a table, or its validatetrans statements, start and how many there are; where their rows
@@ -279,13 +280,10 @@ fn evaluate(table: &[u8], bodies: Bodies, first: u16, count: u16, sides: &[usize
     values.result()
 }
 
-// Whether a constraint names the class and the permission.
-fn names(constraint: ConstraintRecord, class: usize, permission: usize) -> bool
-    ensures { λ r. ⌜ r ≡ constraintNames class permission (constraintOf constraint) ⌝ }
+// Whether a constraint's mask has the permission.
+fn has_permission(constraint: ConstraintRecord, permission: usize) -> bool
+    ensures { λ r. ⌜ r ≡ bit (constraintOf constraint .mask) permission ⌝ }
 {
-    if constraint.class as usize != class {
-        return false;
-    }
     if Permission::MAX <= permission {
         return false;
     }
@@ -293,6 +291,21 @@ fn names(constraint: ConstraintRecord, class: usize, permission: usize) -> bool
 }
 
 // ---- all statements
+
+// The number of the first constraint of the class from a number on, where so many constraints start at `start`; one past
+// the last where there is none. This walk passes the constraints of all other classes, so it reads nothing but classes.
+fn next_of_class(table: &[u8], start: u32, count: u32, class: usize, from: u32) -> u32
+    ensures { λ r. ⌜ NextOfClass (now (table .entry)) start count class from r ⌝ }
+{
+    let mut number = from;
+    while number < count {
+        if table_reader::constraint_class(table, start, number) as usize == class {
+            return number;
+        }
+        number += 1;
+    }
+    number
+}
 
 // The first constraint that names the class and the permission and fails for these sides, u1 u2 r1 r2 t1 t2 u3 r3 t3,
 // with its number; or granted. With it goes the number consulted: the constraints that name them, up to and including
@@ -309,12 +322,12 @@ pub fn first_failing(
     let start = bodies.statements;
     let count = bodies.count;
     let mut consulted = 0;
-    let mut next = 0;
+    let mut next = next_of_class(table, start, count, class, 0);
     while next < count {
         let number = next;
+        next = next_of_class(table, start, count, class, number + 1);
         let constraint = table_reader::constraint_at(table, start, number);
-        next += 1;
-        if !names(constraint, class, permission) {
+        if !has_permission(constraint, permission) {
             continue;
         }
         consulted += 1;

@@ -13,11 +13,14 @@ use Rattle.policy.specs.Questions.{entryNames, entryHolds, change, decided, cha
 use Rattle.policy.proofs.Lists.{both-true}
 use Rattle.table_laws.specs.SoundTable.{Sound}
 use Rattle.table_laws.proofs.SoundLaws.{sound-read}
-use Rattle.decisions.specs.TableAnswers.{declaresQuestion, isValidIn, setHas}
-use Rattle.table_names.specs.TableNames.{countsIn, asksRoleIn}
+use Rattle.policy.specs.declared.NameCounts.{NameCounts}
+use Rattle.table_names.specs.declared.SpecialNames.{SpecialNames}
+use Rattle.decisions.specs.TableAnswers.{declaresQuestion, isValidBy, setHas}
+use Rattle.decisions.specs.KnownNames.{Knows}
+use Rattle.table_names.specs.TableNames.{asksRoleBy}
 use Rattle.decisions.proofs.SoundLaws.{declared-numbers, role-role}
 use Rattle.decisions.proofs.ContextLaws.{is-valid-of}
-use Rattle.decisions.proofs.NameLaws.{declares-question, asks-role-of}
+use Rattle.decisions.proofs.NameLaws.{declares-question, asks-role-known}
 
 -- THE ROLE, in the order in which the code asks
 
@@ -42,7 +45,7 @@ role-asked false a b may d h = refl
 abbrev pub constraintsSay : Image → Question → Answer
 constraintsSay i q = firstFailing 4 (entryNames (q .class) (q .perm)) (entryHolds i (contextsOf q)) 0 (i .constraints)
 
-module _ (t : List ℕ) (s : Sound t) (q : Question) where
+module _ (t : List ℕ) (s : Sound t) {n : NameCounts} {x : SpecialNames} (known : Knows t n x) (q : Question) where
   -- the numbers of a declared question
   record Numbers : Type 0 where
     source : declaredContext (s .image .names) (q .source) ≡ true
@@ -69,23 +72,29 @@ module _ (t : List ℕ) (s : Sound t) (q : Question) where
       }
 
   -- may the role change
-  abbrev pub roleMayIn : Bool
-  roleMayIn = roleMay (asksRoleIn t (q .class) (q .perm)) (q .source .role) (q .target .role) (setHas t 3 16 (q .source .role) (q .target .role))
+  abbrev roleMayBy : Bool
+  roleMayBy = roleMay (asksRoleBy t x (q .class) (q .perm)) (q .source .role) (q .target .role) (setHas t 3 16 (q .source .role) (q .target .role))
 
-  pub change-of : changeOn t q ≡ decide (declaresQuestion t (countsIn t) q) (isValidIn t (q .source)) (isValidIn t (q .target)) roleMayIn (constraintsSay (s .image) q)
+  -- what the bytes say of the numbers, of the two contexts, of the role and of the rest
+  abbrev said : Answer
+  said = decide (declaresQuestion t n q) (isValidBy t x (q .source)) (isValidBy t x (q .target)) roleMayBy (constraintsSay (s .image) q)
+
+  declared : declaresQuestion t n q ≡ declaredQuestion (s .image .names) q
+  declared = ap (λ (n : NameCounts). declaresQuestion t n q) (known .counted .counts) ∙ declares-question t s q
+
+  pub change-of : changeOn t q ≡ said
   unfolding changeOn change ruledBy mayBecome decide
   change-of = ap (decided (λ i. change i q)) (sound-read t s) ∙ by (declaredQuestion (s .image .names) q) refl
     where
-      by : (b : Bool) → declaredQuestion (s .image .names) q ≡ b
-          → change (s .image) q ≡ decide (declaresQuestion t (countsIn t) q) (isValidIn t (q .source)) (isValidIn t (q .target)) roleMayIn (constraintsSay (s .image) q)
+      by : (b : Bool) → declaredQuestion (s .image .names) q ≡ b → change (s .image) q ≡ said
       by true e =
-          let n = numbers e in
-          let source = declared-numbers (s .image .names) (q .source) (n .source) in
+          let asked = numbers e in
+          let source = declared-numbers (s .image .names) (q .source) (asked .source) in
           sym (rw (
-            declares-question t s q,
-            is-valid-of t s (q .source) (n .source),
-            is-valid-of t s (q .target) (n .target),
-            asks-role-of t s (q .class) (q .perm) (n .class) (n .perm),
+            declared,
+            is-valid-of t s known (q .source) (asked .source),
+            is-valid-of t s known (q .target) (asked .target),
+            asks-role-known t s known (q .class) (q .perm) (asked .class) (asked .perm),
             role-role t s (q .target .role) (q .source .role) (source .role),
           ))
-      by false e = rw (declares-question t s q, e)
+      by false e = rw (declared, e)

@@ -24,8 +24,12 @@ use Rattle.table_laws.proofs.NameShown.{name-shown}
 use Rattle.table_laws.proofs.WellFormed.{formed}
 use Rattle.table_reader.proofs.SoundPlaces.{first-of}
 use Rattle.decisions.specs.TableAnswers.{declaresContexts, declaresQuestion}
-use Rattle.table_names.specs.TableNames.{countsIn, nameAt, permissionIn, isFoundName, hasName, asksRoleIn}
-use Rattle.decisions.proofs.SoundLaws.{names-of, classes-of, declares-context}
+use Rattle.policy.specs.declared.NameCounts.{NameCounts}
+use Rattle.table_names.specs.declared.SpecialNames.{SpecialNames}
+use Rattle.table_names.specs.TableNames.{countsIn, nameAt, permissionIn, isFoundName, hasName, asksRoleIn, isObjectIn, isObjectBy, asksRoleBy}
+use Rattle.decisions.specs.KnownNames.{Knows}
+use Rattle.soundness.proofs.SoundTable.{names-of, things-of, classes-of}
+use Rattle.decisions.proofs.SoundLaws.{declares-context}
 
 -- WHAT IS SHOWN
 
@@ -139,8 +143,24 @@ module _ (t : List ℕ) (s : Sound t) where
       ∙ ap (λ (o : Option Name). isNamed o w) (at-place (permissions ds c) k [] l)))
 
   -- "role is named `object_r`"
-  pub object-of : (r : ℕ) → r < count (thingOf roles) (s .image .names) → hasName t (nameAt t 1 r) objectR ≡ isObject (s .image .names) r
-  unfolding isObject count
+  pub object-of : (r : ℕ) → r < count (thingOf roles) (s .image .names) → isObjectIn t r ≡ isObject (s .image .names) r
+  unfolding isObject isObjectIn count
   object-of r h =
       let names = namesOf (thingOf roles) (s .image .names) in
       bears-by t (nameAt t 1 r) (getElem? names r) (role-at r) objectR ∙ ap (λ (o : Option Name). isNamed o objectR) (at-place names r [] h)
+
+-- WITH WHAT IS KNOWN
+
+module _ (t : List ℕ) (s : Sound t) {n : NameCounts} {x : SpecialNames} (known : Knows t n x) where
+  counts : n ≡ countsIn t
+  counts = known .counted .counts
+
+  pub object-known : (r : ℕ) → r < count (thingOf roles) (s .image .names) → isObjectBy t x r ≡ isObject (s .image .names) r
+  object-known r h =
+      known .object r (omega (arith, ap (λ (n : NameCounts). n .roles) counts, things-of t s (thingOf roles))) ∙ object-of t s r h
+
+  pub asks-role-known : (c k : ℕ) → c < length (classNames (s .image .names)) → k < length (permissions (s .image .names) c)
+      → asksRoleBy t x c k ≡ asksRole (s .image .names) c k
+  asks-role-known c k h l =
+      known .asks c k (omega (arith, ap (λ (n : NameCounts). n .classes) counts, classes-of t s)) (permission-found t s c k h ∙ lt-ltb k _ l)
+      ∙ asks-role-of t s c k h l

@@ -12,23 +12,28 @@ use Rattle.policy.specs.Questions.{rowsHold, relabel, decided, relabelOn}
 use Rattle.policy.proofs.Lists.{both-true}
 use Rattle.table_laws.specs.SoundTable.{Sound}
 use Rattle.table_laws.proofs.SoundLaws.{sound-read}
-use Rattle.table_names.specs.TableNames.{countsIn}
-use Rattle.decisions.specs.TableAnswers.{declaresContexts, declaresRelabelling, isValidIn}
-use Rattle.decisions.proofs.SoundLaws.{classes-of, declares-context}
+use Rattle.policy.specs.declared.NameCounts.{NameCounts}
+use Rattle.table_names.specs.declared.SpecialNames.{SpecialNames}
+use Rattle.decisions.specs.TableAnswers.{declaresContexts, declaresRelabelling, isValidBy}
+use Rattle.decisions.specs.KnownNames.{Knows}
+use Rattle.soundness.proofs.SoundTable.{classes-of}
+use Rattle.decisions.proofs.SoundLaws.{declares-context}
 use Rattle.decisions.proofs.ContextLaws.{is-valid-of}
 
 -- what the validatetrans statements of the image answer
 abbrev pub relabelsSay : Image → Relabelling → Answer
 relabelsSay i q = firstFailing 6 (λ x. eqb (x .class) (q .class)) (λ x. rowsHold i (relabelContexts q) (x .rows)) 0 (i .relabels)
 
-module _ (t : List ℕ) (s : Sound t) (q : Relabelling) where
-  declares-relabelling : declaresRelabelling (countsIn t) q ≡ declaredRelabel (s .image .names) q
+module _ (t : List ℕ) (s : Sound t) {n : NameCounts} {x : SpecialNames} (known : Knows t n x) (q : Relabelling) where
+  declares-relabelling : declaresRelabelling n q ≡ declaredRelabel (s .image .names) q
   unfolding declaresRelabelling declaresContexts declaredRelabel
-  declares-relabelling = rw (declares-context t s (q .old), declares-context t s (q .new), declares-context t s (q .process), classes-of t s)
+  declares-relabelling =
+      ap (λ (n : NameCounts). declaresRelabelling n q) (known .counted .counts)
+      ∙ rw (declares-context t s (q .old), declares-context t s (q .new), declares-context t s (q .process), classes-of t s)
 
   -- what the bytes say of the three contexts and of the rest
   abbrev said : Answer
-  said = decideRelabel (declaresRelabelling (countsIn t) q) (isValidIn t (q .old)) (isValidIn t (q .new)) (isValidIn t (q .process)) (relabelsSay (s .image) q)
+  said = decideRelabel (declaresRelabelling n q) (isValidBy t x (q .old)) (isValidBy t x (q .new)) (isValidBy t x (q .process)) (relabelsSay (s .image) q)
 
   pub relabel-of : relabelOn t q ≡ said
   unfolding relabelOn relabel ruledRelabel declaredRelabel decideRelabel
@@ -45,8 +50,8 @@ module _ (t : List ℕ) (s : Sound t) (q : Relabelling) where
           let one = both-true old new (two .0) in
           sym (rw (
             declares-relabelling,
-            is-valid-of t s (q .old) (one .0),
-            is-valid-of t s (q .new) (one .1),
-            is-valid-of t s (q .process) (two .1),
+            is-valid-of t s known (q .old) (one .0),
+            is-valid-of t s known (q .new) (one .1),
+            is-valid-of t s known (q .process) (two .1),
           ))
       by false e = rw (declares-relabelling, e)

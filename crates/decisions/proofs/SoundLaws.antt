@@ -1,79 +1,37 @@
 -- On a sound table the bytes say of contexts what the image says. Assumes nothing.
-use Prim.Native.Nat.{ℕ, _-_, _<_, _≤_}
+use Prim.Native.Nat.{ℕ, _<_, _≤_}
 use native.Mathlib.Omega.{arith}
-use mathlib.Core.Path.{_≡_, refl, ap, _∙_, subst}
-use mathlib.Core.Bool.{true, _&&_, false≢true}
+use mathlib.Core.Path.{_≡_, refl, ap, subst}
+use mathlib.Core.Bool.{true, _&&_}
 use mathlib.Core.List.{List, []}
-use mathlib.Core.Option.{Option, none, some}
 use lib.Dec.{ltb}
-use lib.ListN.{length, getD, take}
-use lib.Seq.{take-at}
+use lib.ListN.{length, getD}
 use borrow.Author.Tests.{ltb-true, lt-ltb}
 use Rattle.bitset.specs.Relations.{joined}
 use Rattle.bitset.specs.Sets.{member}
-use Rattle.byte_slices.specs.Parts.{part}
-use Rattle.policy.specs.Basics.{each}
-use Rattle.policy.specs.Statements.{users, roles, types, Sort, thingOf, Declaration, count, classNames}
+use Rattle.policy.specs.Statements.{users, roles, types, Sort, thingOf, Declaration, count}
 use Rattle.policy.specs.Meaning.{Context}
-use Rattle.policy.specs.Image.{Image}
-use Rattle.policy.specs.Encode.{sortCode, entryBytes, entries, bodies}
-use Rattle.policy.specs.Sound.{imageIn}
+use Rattle.policy.specs.Encode.{bodies}
 use Rattle.policy.specs.Deciding.{declaredContext}
 use Rattle.policy.specs.Questions.{inSet}
 use Rattle.policy.proofs.Lists.{both-true}
 use Rattle.policy.proofs.Counts.{few-of}
 use Rattle.policy.proofs.Sorts.{max-small}
-use Rattle.symbols.specs.Section.{between}
-use Rattle.symbols.proofs.HeldEntries.{entries-written}
-use Rattle.sound_constraints.specs.SoundRows.{isSome}
-use Rattle.table_laws.specs.SoundTable.{Bytes, Sound}
+use Rattle.table_laws.specs.SoundTable.{Sound}
 use Rattle.table_laws.proofs.Pieces.{Wide}
 use Rattle.table_laws.proofs.ImageReadBack.{Laid}
 use Rattle.table_laws.proofs.WellFormed.{formed}
 use Rattle.table_laws.proofs.WellFormedLaid.{well-formed-laid}
-use Rattle.table_laws.proofs.SoundLaws.{read-sound}
 use Rattle.table_reader.specs.Records.{startIn}
 use Rattle.table_reader.proofs.RecordLaws.{Stands, set-part}
-use Rattle.table_reader.proofs.SoundPlaces.{length-of, stands-of}
-use Rattle.soundness.specs.IsSound.{isSound}
+use Rattle.table_reader.proofs.SoundPlaces.{stands-of}
+use Rattle.soundness.proofs.SoundTable.{things-of}
 use Rattle.decisions.specs.TableAnswers.{declaresContext, setHas}
-use Rattle.table_names.specs.TableNames.{namesStart, namesEnd, namesIn, countIn, countsIn}
-use Rattle.symbols.specs.Lookup.{countSort}
-use Rattle.symbols.proofs.CountLaws.{count-things, count-classes}
-
--- a table that holds an image is sound
-pub sound-table : (t : List ℕ) → Bytes t → isSound t ≡ true → Sound t
-unfolding isSound
-sound-table t b h = by (imageIn t) refl h
-  where
-    by : (o : Option Image) → imageIn t ≡ o → isSome o ≡ true → Sound t
-    by none e h = absurd (false≢true h)
-    by (some i) e h = read-sound t b i e .0
+use Rattle.table_names.specs.TableNames.{countsIn}
 
 module _ (t : List ℕ) (s : Sound t) where
   laid-of : Laid (s .image)
   laid-of = well-formed-laid (s .image) (s .formed)
-
-  -- THE NAMES
-
-  names-stand : between t (namesStart t) (namesEnd t) ≡ joined (each entryBytes (entries (s .image .names)))
-  unfolding bodies part
-  names-stand =
-      let body = joined (each entryBytes (entries (s .image .names))) in
-      let stands : Stands t (namesStart t) body = stands-of t s 0 in
-      let long : namesEnd t - namesStart t ≡ length body = omega (arith, length-of t s 0 (s .known)) in
-      ap (λ (n : ℕ). part t (namesStart t) n) long
-      ∙ ap (take (length body)) (stands .here) ∙ take-at body (stands .rest) (length body) refl
-
-  -- the entries are those of the image's declarations
-  pub names-of : namesIn t ≡ entries (s .image .names)
-  names-of = entries-written t (namesStart t) (namesEnd t) (entries (s .image .names)) (laid-of .numbers) names-stand
-
-  pub things-of : (x : Sort) → countIn t (sortCode x) ≡ count x (s .image .names)
-  things-of x = ap (countSort (sortCode x)) names-of ∙ count-things x (s .image .names)
-
-  pub classes-of : countIn t 6 ≡ length (classNames (s .image .names))
-  classes-of = ap (countSort 6) names-of ∙ count-classes (s .image .names)
 
   pub few : (x : Sort) → count x (s .image .names) ≤ 512
   few x = omega (arith, few-of x (s .image .names) (formed (s .image) (s .formed) .names), max-small x)
@@ -82,7 +40,7 @@ module _ (t : List ℕ) (s : Sound t) where
 
   pub declares-context : (c : Context) → declaresContext (countsIn t) c ≡ declaredContext (s .image .names) c
   unfolding declaresContext declaredContext
-  declares-context c = rw (things-of (thingOf users), things-of (thingOf roles), things-of (thingOf types))
+  declares-context c = rw (things-of t s (thingOf users), things-of t s (thingOf roles), things-of t s (thingOf types))
 
   -- a set of a body
   set-of : (b w : ℕ) (ss : List (List ℕ)) → getD (bodies (s .image)) b [] ≡ joined ss → Wide w ss → length ss ≤ 512 → (k n : ℕ) → k < length ss

@@ -21,7 +21,7 @@ use Rattle.constraints.specs.declared.Bodies.{Bodies}
 use Rattle.constraints.specs.TableConstraints.{bodiesIn, relabelBodiesIn, sidesOf, constraintsIn, constraintNames, constraintHolds, relabelsIn}
 use Rattle.constraints.specs.TableConstraints.{relabelNames, relabelHolds}
 use Rattle.constraints.proofs.HeaderPlaces.{constraints-answer, relabels-answer}
-use Rattle.decisions.proofs.SoundLaws.{things-of}
+use Rattle.soundness.proofs.SoundTable.{things-of}
 
 module _ (t : List ℕ) (s : Sound t) where
   few-attributes : (f : Family) → countIn t (sortCode (attributeOf f)) ≤ 64

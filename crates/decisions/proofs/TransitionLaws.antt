@@ -28,7 +28,9 @@ use Rattle.table_reader.proofs.BodyRecords.{transitions-part}
 use Rattle.table_reader.proofs.SoundPlaces.{known-section, length-of, stands-of}
 use Rattle.decisions.specs.TableAnswers.{transitionsIn}
 use Rattle.table_names.specs.TableNames.{countIn}
-use Rattle.decisions.proofs.SoundLaws.{things-of, classes-of}
+use Rattle.soundness.proofs.SoundTable.{things-of, classes-of}
+use Rattle.policy.specs.declared.NameCounts.{NameCounts}
+use Rattle.decisions.specs.KnownNames.{Counts}
 
 -- ONE BY ONE
 
@@ -88,10 +90,9 @@ module _ (t : List ℕ) (s : Sound t) where
       ap (λ (n : ℕ). records 82 transitionAt n (drop (startIn t 4) t)) many ∙ transitions-part ms (laid .transitions) (stands-of t s 4)
 
   -- **New role**, by what the bytes say
-  pub new-role-of : (r y c : ℕ)
-      → newRoleOn t r y c
-      ≡ cond (ltb r (countIn t 1) && ltb y (countIn t 2) && ltb c (countIn t 6)) (answered (firstTransition r y c (transitionsIn t))) (refused 12 0)
+  pub new-role-of : {n : NameCounts} → Counts t n → (r y c : ℕ)
+      → newRoleOn t r y c ≡ cond (ltb r (n .roles) && ltb y (n .types) && ltb c (n .classes)) (answered (firstTransition r y c (transitionsIn t))) (refused 12 0)
   unfolding newRoleOn newRole
-  new-role-of r y c =
+  new-role-of counted r y c =
       asked-sound (λ i. newRole i r y c) t s
-      ∙ sym (rw (things-of t s (thingOf roles), things-of t s (thingOf types), classes-of t s, transitions-of))
+      ∙ sym (rw (counted .counts, things-of t s (thingOf roles), things-of t s (thingOf types), classes-of t s, transitions-of))

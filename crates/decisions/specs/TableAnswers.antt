@@ -7,13 +7,13 @@ use lib.ListN.{drop}
 use Rattle.bitset.specs.Sets.{member}
 use Rattle.byte_slices.specs.Parts.{part}
 use Rattle.policy.specs.Meaning.{Context}
-use Rattle.policy.specs.Words.{objectR}
 use Rattle.policy.specs.Image.{TransitionEntry}
 use Rattle.policy.specs.Sound.{transitionAt}
 use Rattle.policy.specs.Deciding.{Question, Relabelling}
 use Rattle.policy.specs.declared.NameCounts.{NameCounts}
 use Rattle.table_reader.specs.Records.{records, startIn, lengthIn}
-use Rattle.table_names.specs.TableNames.{nameAt, permissionIn, isFoundName, hasName}
+use Rattle.table_names.specs.declared.SpecialNames.{SpecialNames}
+use Rattle.table_names.specs.TableNames.{permissionIn, isFoundName, isObjectBy}
 
 -- "number not declared in the table": a context's numbers are declared
 unfoldable pub declaresContext : NameCounts → Context → Bool
@@ -40,9 +40,9 @@ setHas t b w k n = cond (ltb k 65536) (member (part t (startIn t b + w * k) w) n
 unfoldable pub isGivenIn : List ℕ → Context → Bool
 isGivenIn t c = setHas t 1 16 (c .user) (c .role) && setHas t 2 64 (c .role) (c .type)
 
--- or the "role is named `object_r`" (document 02, W-201); 1 is the sort of roles
-unfoldable pub isValidIn : List ℕ → Context → Bool
-isValidIn t c = isGivenIn t c || hasName t (nameAt t 1 (c .role)) objectR
+-- or the "role is named `object_r`" (document 02, W-201)
+unfoldable pub isValidBy : List ℕ → SpecialNames → Context → Bool
+isValidBy t x c = isGivenIn t c || isObjectBy t x (c .role)
 
 -- "1 source not valid; 2 target not valid", "1 old, 2 new": the denial of the first of two contexts that is not valid; 0 where both are
 abbrev pub contextDenial : Bool → Bool → ℕ
@@ -50,8 +50,8 @@ contextDenial false b = 1
 contextDenial true false = 2
 contextDenial true true = 0
 
-abbrev pub contextDenialIn : List ℕ → Context → Context → ℕ
-contextDenialIn t a b = contextDenial (isValidIn t a) (isValidIn t b)
+abbrev pub contextDenialBy : List ℕ → SpecialNames → Context → Context → ℕ
+contextDenialBy t x a b = contextDenial (isValidBy t x a) (isValidBy t x b)
 
 -- the nine numbers of three contexts, u1 u2 r1 r2 t1 t2 u3 r3 t3
 abbrev pub sidesOfThree : Context → Context → Context → List ℕ

@@ -1,7 +1,8 @@
-// Four questions on a sound table: valid context, new role, change, relabelling. All numbers are answered: 12 where one
-// is not declared, tried before anything else. The inner functions say what the bytes of any table say, but for the
-// constraints and the validatetrans statements, which speak of sound tables; that on a sound table all this is what
-// its image says, the four questions promise.
+// Four questions on a table whose names are counted: valid context, new role, change, relabelling. All numbers are
+// answered: 12 where one is not declared, tried before anything else. Every function takes every table and all counts.
+// The inner ones say what the bytes of any table say, but for the constraints and the validatetrans statements, which
+// speak of sound tables; that on a sound table, with its own counts, all this is what its image says, the four
+// questions promise.
 use policy::Attribute;
 use policy::Change;
 use policy::Component;
@@ -11,12 +12,11 @@ use policy::NewRole;
 use policy::Refusal;
 use policy::Role;
 use policy::Section;
-use policy::Sort;
 use policy::Transition;
 use policy::Type;
 use policy::Validity;
+use table_names::SpecialNames;
 ghost use mathlib.Core.Path.{_≡_};
-ghost use mathlib.Core.Bool.{true};
 ghost use mathlib.Core.List.{List};
 ghost use Prim.Native.Nat.{ℕ, _≤_, _<_};
 ghost use lib.Dec.{eqb};
@@ -26,11 +26,11 @@ ghost use Rattle.policy.specs.Deciding.{contextsOf, relabelContexts, firstFaili
 ghost use Rattle.policy.specs.Answers.{validityOf, changeOf, newRoleOf};
 ghost use Rattle.policy.specs.Questions.{matches, firstTransition, entryNames, entryHolds, rowsHold, validOn, newRoleOn, changeOn, relabelOn};
 ghost use Rattle.table_laws.specs.SoundTable.{Sound};
-ghost use Rattle.soundness.specs.IsSound.{isSound};
 ghost use Rattle.decisions.specs.Asked.{context, contextOf, question, relabelling};
-ghost use Rattle.decisions.specs.TableAnswers.{setHas, declaresContext, declaresContexts, isGivenIn, isValidIn, transitionsIn};
-ghost use Rattle.decisions.specs.TableAnswers.{declaresQuestion, declaresRelabelling, contextDenialIn, sidesOfThree};
-ghost use Rattle.table_names.specs.TableNames.{countsIn, isFoundName, permissionIn, asksRoleIn};
+ghost use Rattle.decisions.specs.TableAnswers.{setHas, declaresContext, declaresContexts, isGivenIn, isValidBy, transitionsIn};
+ghost use Rattle.decisions.specs.TableAnswers.{declaresQuestion, declaresRelabelling, contextDenialBy, sidesOfThree};
+ghost use Rattle.decisions.specs.KnownNames.{Counts, Knows};
+ghost use Rattle.table_names.specs.TableNames.{countsIn, isFoundName, permissionIn, asksRoleBy};
 
 // A context by its numbers. `kind` is the type: the language has another use for that word.
 pub struct Context {
@@ -90,34 +90,35 @@ fn is_given(table: &[u8], asked: Context) -> bool
     )
 }
 
-// The name of the role whose contexts are valid with every user and type.
-const OBJECT: [u8; 8] = *b"object_r";
-
-// Whether a context is valid. The name comes last, since it is found by a walk.
-fn is_valid(table: &[u8], asked: Context) -> bool
-    ensures { λ r. ⌜ r ≡ isValidIn (now (table .entry)) (contextOf asked) ⌝ }
+// Whether a context is valid. The name comes last, since it may be found by a walk.
+fn is_valid(table: &[u8], special: SpecialNames, asked: Context) -> bool
+    ensures { λ r. ⌜ r ≡ isValidBy (now (table .entry)) special (contextOf asked) ⌝ }
 {
     if is_given(table, asked) {
         return true;
     }
-    let word = OBJECT;
-    table_names::is_named(table, Sort::ROLE, asked.role, &word)
+    table_names::is_object(table, special, asked.role)
 }
 
 // **Valid context**: whether the role is among the user's, and the type, `kind`, among the role's, or the role is
-// `object_r`. The table is one that `isSound` finds sound.
-pub fn valid_in_sound(table: &[u8], user: usize, role: usize, kind: usize) -> Validity
-    requires { ⌜ isSound (now table) ≡ true ⌝ }
-    ensures { λ r. ⌜ validityOf r ≡ validOn (now (table .entry)) (context user role kind) ⌝ }
+// `object_r`.
+pub fn valid(
+    table: &[u8],
+    counts: NameCounts,
+    special: SpecialNames,
+    user: usize,
+    role: usize,
+    kind: usize,
+) -> Validity
+    ensures { λ r. ⌜ (Knows (now (table .entry)) counts special → validityOf r ≡ validOn (now (table .entry)) (context user role kind)) ⌝ }
 {
     let asked = Context { user, role, kind };
-    let counts = table_names::count_names(table);
     if !declares_context(counts, asked) {
         return Validity::Refused {
             number: Refusal::NUMBER_UNDECLARED,
         };
     }
-    if is_valid(table, asked) {
+    if is_valid(table, special, asked) {
         return Validity::Valid;
     }
     Validity::NotValid
@@ -159,11 +160,9 @@ fn first_transition(table: &[u8], role: usize, kind: usize, class: usize) -> usi
 
 // **New role**: that of the first transition for the role, the type and the class, else the role given. It is a
 // proposal; the change is still asked.
-pub fn new_role_in_sound(table: &[u8], role: usize, kind: usize, class: usize) -> NewRole
-    requires { ⌜ isSound (now table) ≡ true ⌝ }
-    ensures { λ r. ⌜ newRoleOf r ≡ newRoleOn (now (table .entry)) role kind class ⌝ }
+pub fn new_role(table: &[u8], counts: NameCounts, role: usize, kind: usize, class: usize) -> NewRole
+    ensures { λ r. ⌜ (Counts (now (table .entry)) counts → newRoleOf r ≡ newRoleOn (now (table .entry)) role kind class) ⌝ }
 {
-    let counts = table_names::count_names(table);
     if counts.roles <= role {
         return NewRole::Refused {
             number: Refusal::NUMBER_UNDECLARED,
@@ -200,13 +199,13 @@ fn declares_contexts(counts: NameCounts, source: Context, target: Context) -> bo
 const NO_DENIAL: usize = 0;
 
 // The denial of the first of the two that is not valid.
-fn context_denial(table: &[u8], source: Context, target: Context) -> usize
-    ensures { λ r. ⌜ r ≡ contextDenialIn (now (table .entry)) (contextOf source) (contextOf target) ⌝ }
+fn context_denial(table: &[u8], special: SpecialNames, source: Context, target: Context) -> usize
+    ensures { λ r. ⌜ r ≡ contextDenialBy (now (table .entry)) special (contextOf source) (contextOf target) ⌝ }
 {
-    if !is_valid(table, source) {
+    if !is_valid(table, special, source) {
         return Denial::SOURCE_NOT_VALID;
     }
-    if !is_valid(table, target) {
+    if !is_valid(table, special, target) {
         return Denial::TARGET_NOT_VALID;
     }
     NO_DENIAL
@@ -268,10 +267,17 @@ fn declares_question(
 
 // ---- change: the role
 
-// Whether the role stays, or may become the other, or nothing asks for it. The names come last, since they are found
+// Whether the role stays, or may become the other, or nothing asks for it. The names come last, since they may be found
 // by a walk.
-fn role_may(table: &[u8], source: usize, target: usize, class: usize, permission: usize) -> bool
-    ensures { λ r. ⌜ r ≡ roleMay (asksRoleIn (now (table .entry)) class permission) source target (setHas (now (table .entry)) 3 16 source target) ⌝ }
+fn role_may(
+    table: &[u8],
+    special: SpecialNames,
+    source: usize,
+    target: usize,
+    class: usize,
+    permission: usize,
+) -> bool
+    ensures { λ r. ⌜ r ≡ roleMay (asksRoleBy (now (table .entry)) special class permission) source target (setHas (now (table .entry)) 3 16 source target) ⌝ }
 {
     if source == target {
         return true;
@@ -285,7 +291,7 @@ fn role_may(table: &[u8], source: usize, target: usize, class: usize, permission
     ) {
         return true;
     }
-    !table_names::asks_role(table, class, permission)
+    !table_names::asks_role(table, special, class, permission)
 }
 
 // ---- change: the constraints
@@ -310,52 +316,36 @@ fn ask_constraints(
     constraints::first_failing(table, bodies, class, permission, &sides)
 }
 
-// **Change** on a table whose names are counted, and of which it is known whether the class, if it is declared, has
-// the permission: denials 1 to 3 in their order, then the constraints, with the number consulted.
-pub fn change_in_counted(
+// **Change**, where it is known whether the class, if it is declared, has the permission: denials 1 to 3 in their
+// order, then the constraints, with the number consulted.
+pub fn change(
     table: &[u8],
     counts: NameCounts,
+    special: SpecialNames,
     has: bool,
     source: Context,
     target: Context,
     class: usize,
     permission: usize,
 ) -> Change
-    requires { ⌜ (isSound (now table) ≡ true) × (counts ≡ countsIn (now table))
-        × (class < counts .classes → has ≡ isFoundName (permissionIn (now table) class permission)) ⌝ }
-    ensures { λ r. ⌜ changeOf r ≡ changeOn (now (table .entry)) (question source target class permission) ⌝ }
+    ensures { λ r. ⌜ (Knows (now (table .entry)) counts special → (class < counts .classes → has ≡ isFoundName (permissionIn (now (table .entry)) class permission))
+        → changeOf r ≡ changeOn (now (table .entry)) (question source target class permission)) ⌝ }
 {
     if !declares_question(counts, has, source, target, class) {
         return Change::Refused {
             number: Refusal::NUMBER_UNDECLARED,
         };
     }
-    let denial = context_denial(table, source, target);
+    let denial = context_denial(table, special, source, target);
     if denial != NO_DENIAL {
         return Change::Denied { number: denial };
     }
-    if !role_may(table, source.role, target.role, class, permission) {
+    if !role_may(table, special, source.role, target.role, class, permission) {
         return Change::Denied {
             number: Denial::ROLE_MAY_NOT_CHANGE,
         };
     }
     ask_constraints(table, counts, source, target, class, permission)
-}
-
-// The same on a table that is only known to be sound.
-pub fn change_in_sound(
-    table: &[u8],
-    source: Context,
-    target: Context,
-    class: usize,
-    permission: usize,
-) -> Change
-    requires { ⌜ isSound (now table) ≡ true ⌝ }
-    ensures { λ r. ⌜ changeOf r ≡ changeOn (now (table .entry)) (question source target class permission) ⌝ }
-{
-    let counts = table_names::count_names(table);
-    let has = table_names::declares_permission(table, class, permission);
-    change_in_counted(table, counts, has, source, target, class, permission)
 }
 
 // ---- relabelling
@@ -398,48 +388,33 @@ fn ask_relabels(
     constraints::first_failing_relabel(table, bodies, class, &sides)
 }
 
-// Whether something of the class may be given the new context in place of the old one by the process, on a table whose
-// names are counted: denials 1, 2 and 5 in their order, then the validatetrans statements of the class, with the number
-// asked. The role may become any other: no role allow is asked.
-pub fn relabel_in_counted(
+// Whether something of the class may be given the new context in place of the old one by the process: denials 1, 2 and
+// 5 in their order, then the validatetrans statements of the class, with the number asked. The role may become any
+// other: no role allow is asked.
+pub fn relabel(
     table: &[u8],
     counts: NameCounts,
+    special: SpecialNames,
     class: usize,
     old: Context,
     new: Context,
     process: Context,
 ) -> Change
-    requires { ⌜ (isSound (now table) ≡ true) × (counts ≡ countsIn (now table)) ⌝ }
-    ensures { λ r. ⌜ changeOf r ≡ relabelOn (now (table .entry)) (relabelling class old new process) ⌝ }
+    ensures { λ r. ⌜ (Knows (now (table .entry)) counts special → changeOf r ≡ relabelOn (now (table .entry)) (relabelling class old new process)) ⌝ }
 {
     if !declares_relabelling(counts, class, old, new, process) {
         return Change::Refused {
             number: Refusal::NUMBER_UNDECLARED,
         };
     }
-    let denial = context_denial(table, old, new);
+    let denial = context_denial(table, special, old, new);
     if denial != NO_DENIAL {
         return Change::Denied { number: denial };
     }
-    if !is_valid(table, process) {
+    if !is_valid(table, special, process) {
         return Change::Denied {
             number: Denial::PROCESS_NOT_VALID,
         };
     }
     ask_relabels(table, counts, class, old, new, process)
-}
-
-// The same on a table that is only known to be sound.
-pub fn relabel_in_sound(
-    table: &[u8],
-    class: usize,
-    old: Context,
-    new: Context,
-    process: Context,
-) -> Change
-    requires { ⌜ isSound (now table) ≡ true ⌝ }
-    ensures { λ r. ⌜ changeOf r ≡ relabelOn (now (table .entry)) (relabelling class old new process) ⌝ }
-{
-    let counts = table_names::count_names(table);
-    relabel_in_counted(table, counts, class, old, new, process)
 }

@@ -1,14 +1,15 @@
 // Valid context, change, relabelling and new role, asked of any bytes and in any numbers: 11 where the bytes are no
 // sound table, else what the table answers, 12 where a number is not declared. No lent memory is written to.
 //
-// Each asks first whether the table is sound, which goes over all of it. A caller that knows a table to be sound asks
-// `decisions` instead.
+// Each asks first whether the table is sound, which goes over all of it. A caller that found a table to be sound once
+// asks `sound_questions` instead.
 use decisions::Context;
 use policy::Change;
 use policy::NewRole;
 use policy::Refusal;
 use policy::Validity;
 use sound_names::Counted;
+use table_names::SpecialNames;
 ghost use mathlib.Core.Path.{_≡_};
 ghost use Rattle.policy.specs.Questions.{validOn, newRoleOn, changeOn, relabelOn};
 ghost use Rattle.policy.specs.Answers.{validityOf, newRoleOf, changeOf};
@@ -19,12 +20,14 @@ ghost use Rattle.decisions.specs.Asked.{context, question, relabelling};
 pub fn valid(table: &[u8], user: usize, role: usize, kind: usize) -> Validity
     ensures { λ r. ⌜ validityOf r ≡ validOn (now (table .entry)) (context user role kind) ⌝ }
 {
-    if !soundness::sound(table) {
+    let mut permissions = [0usize; policy::Class::MAX];
+    let counted = soundness::count(table, &mut permissions);
+    let Counted::Sound(counts) = counted else {
         return Validity::Refused {
             number: Refusal::NOT_SOUND,
         };
-    }
-    decisions::valid_in_sound(table, user, role, kind)
+    };
+    decisions::valid(table, counts, SpecialNames::Unknown, user, role, kind)
 }
 
 // **Change**: granted or denied, with the number consulted.
@@ -45,7 +48,16 @@ pub fn change(
         };
     };
     let has = permission < sound_constraints::permissions_of(&permissions, class);
-    decisions::change_in_counted(table, counts, has, source, target, class, permission)
+    decisions::change(
+        table,
+        counts,
+        SpecialNames::Unknown,
+        has,
+        source,
+        target,
+        class,
+        permission,
+    )
 }
 
 // Whether the process may give something of the class the new context in place of the old one: granted or denied, with
@@ -60,17 +72,27 @@ pub fn relabel(table: &[u8], class: usize, old: Context, new: Context, process: 
             number: Refusal::NOT_SOUND,
         };
     };
-    decisions::relabel_in_counted(table, counts, class, old, new, process)
+    decisions::relabel(
+        table,
+        counts,
+        SpecialNames::Unknown,
+        class,
+        old,
+        new,
+        process,
+    )
 }
 
 // **New role**: that of the first matching transition, else the role given.
 pub fn new_role(table: &[u8], role: usize, kind: usize, class: usize) -> NewRole
     ensures { λ r. ⌜ newRoleOf r ≡ newRoleOn (now (table .entry)) role kind class ⌝ }
 {
-    if !soundness::sound(table) {
+    let mut permissions = [0usize; policy::Class::MAX];
+    let counted = soundness::count(table, &mut permissions);
+    let Counted::Sound(counts) = counted else {
         return NewRole::Refused {
             number: Refusal::NOT_SOUND,
         };
-    }
-    decisions::new_role_in_sound(table, role, kind, class)
+    };
+    decisions::new_role(table, counts, role, kind, class)
 }

@@ -1,9 +1,15 @@
-// Asks the questions of a corpus on standard input, and writes a line for each answer. A case is the length of a
-// table, 4 bytes, little endian, the table, the number of its questions, 4 bytes, and for each question its kind and
-// eight numbers, or ten for a relabelling, 8 bytes each. The corpus ends with the input, or with a case that is cut
-// short or longer than the memory here.
+// Asks the questions of a corpus on standard input, each in two ways, and writes a line for each answer: of any bytes,
+// and of a table that was tested once, with its summary. A case is the length of a table, 4 bytes, little endian, the
+// table, the number of its questions, 4 bytes, and for each question its kind and eight numbers, or ten for a
+// relabelling, 8 bytes each. The corpus ends with the input, or with a case that is cut short or longer than the memory
+// here.
 use corpus::Next;
 use decisions::Context;
+use policy::Change;
+use policy::NewRole;
+use policy::Place;
+use policy::Refusal;
+use policy::Validity;
 
 // The greatest length of a case's table: more than the longest table has.
 const CASE_MAX: usize = 262_144;
@@ -13,6 +19,17 @@ const CASES: usize = 1_000_000;
 
 // The most numbers that a question has: its kind, and what it asks. Only a relabelling has so many.
 const NUMBERS: usize = 11;
+
+// The kinds of questions.
+const VALID: usize = 0;
+
+const CHANGE: usize = 1;
+
+const NEW_ROLE: usize = 2;
+
+const NAME: usize = 3;
+
+const ENTRY: usize = 4;
 
 const RELABEL: usize = 5;
 
@@ -41,6 +58,8 @@ fn context(user: usize, role: usize, kind: usize) -> Context {
     Context { user, role, kind }
 }
 
+// ---- of any bytes
+
 fn ask_change(table: &[u8], numbers: &[usize; NUMBERS]) {
     let source = context(numbers[1], numbers[2], numbers[3]);
     let target = context(numbers[4], numbers[5], numbers[6]);
@@ -57,29 +76,115 @@ fn ask_relabel(table: &[u8], numbers: &[usize; NUMBERS]) {
 // Asks a question by its kind and shows the answer; answers whether there is such a kind.
 fn ask(table: &[u8], numbers: &[usize; NUMBERS]) -> bool {
     match numbers[0] {
-        0 => answer_show::show_validity(questions::valid(
+        VALID => answer_show::show_validity(questions::valid(
             table,
             numbers[1],
             numbers[2],
             numbers[3],
         )),
-        1 => ask_change(table, numbers),
-        2 => answer_show::show_new_role(questions::new_role(
+        CHANGE => ask_change(table, numbers),
+        NEW_ROLE => answer_show::show_new_role(questions::new_role(
             table,
             numbers[1],
             numbers[2],
             numbers[3],
         )),
-        3 => answer_show::show_place(table_parts::name_place(table, numbers[1], numbers[2])),
-        4 => answer_show::show_place(table_parts::entry_place(table, numbers[1], numbers[2])),
+        NAME => answer_show::show_place(table_parts::name_place(table, numbers[1], numbers[2])),
+        ENTRY => answer_show::show_place(table_parts::entry_place(table, numbers[1], numbers[2])),
         RELABEL => ask_relabel(table, numbers),
         _ => return false,
     }
     true
 }
 
-// Reads so many questions, asks each of the table and shows the answer; answers whether there were as many.
+// ---- of a table that was tested once
+
+fn ask_tested_change(
+    table: &[u8],
+    summary: &[u32; table_summary::NUMBERS],
+    numbers: &[usize; NUMBERS],
+) {
+    let source = context(numbers[1], numbers[2], numbers[3]);
+    let target = context(numbers[4], numbers[5], numbers[6]);
+    answer_show::show_change(sound_questions::change(
+        table,
+        summary,
+        source,
+        target,
+        numbers[7],
+        numbers[8],
+    ));
+}
+
+fn ask_tested_relabel(
+    table: &[u8],
+    summary: &[u32; table_summary::NUMBERS],
+    numbers: &[usize; NUMBERS],
+) {
+    let old = context(numbers[2], numbers[3], numbers[4]);
+    let new = context(numbers[5], numbers[6], numbers[7]);
+    let process = context(numbers[8], numbers[9], numbers[10]);
+    answer_show::show_change(sound_questions::relabel(
+        table,
+        summary,
+        numbers[1],
+        old,
+        new,
+        process,
+    ));
+}
+
+// Asks a question of a sound table by its kind and shows the answer.
+fn ask_tested(table: &[u8], summary: &[u32; table_summary::NUMBERS], numbers: &[usize; NUMBERS]) {
+    match numbers[0] {
+        VALID => answer_show::show_validity(sound_questions::valid(
+            table,
+            summary,
+            numbers[1],
+            numbers[2],
+            numbers[3],
+        )),
+        CHANGE => ask_tested_change(table, summary, numbers),
+        NEW_ROLE => answer_show::show_new_role(sound_questions::new_role(
+            table,
+            summary,
+            numbers[1],
+            numbers[2],
+            numbers[3],
+        )),
+        NAME => answer_show::show_place(table_parts::name_place_in_sound(
+            table,
+            numbers[1],
+            numbers[2],
+        )),
+        ENTRY => answer_show::show_place(table_parts::entry_place_in_sound(
+            table,
+            numbers[1],
+            numbers[2],
+        )),
+        _ => ask_tested_relabel(table, summary, numbers),
+    }
+}
+
+// Shows that a table is not sound, in the words of the question that was to be asked of it.
+fn show_unsound(kind: usize) {
+    let number = Refusal::NOT_SOUND;
+    match kind {
+        VALID => answer_show::show_validity(Validity::Refused { number }),
+        NEW_ROLE => answer_show::show_new_role(NewRole::Refused { number }),
+        NAME => answer_show::show_place(Place::Refused { number }),
+        ENTRY => answer_show::show_place(Place::Refused { number }),
+        _ => answer_show::show_change(Change::Refused { number }),
+    }
+}
+
+// ---- the corpus
+
+// Reads so many questions, asks each of the table in both ways and shows the answers; answers whether there were as
+// many.
 fn ask_all(table: &[u8], count: usize) -> bool {
+    let mut summary = [0u32; table_summary::NUMBERS];
+    let sound = table_summary::summarize(table, &mut summary);
     let mut numbers = [0usize; NUMBERS];
     let mut left = count;
     while 0 < left {
@@ -88,6 +193,11 @@ fn ask_all(table: &[u8], count: usize) -> bool {
         }
         if !ask(table, &numbers) {
             return false;
+        }
+        if sound {
+            ask_tested(table, &summary, &numbers);
+        } else {
+            show_unsound(numbers[0]);
         }
         left -= 1;
     }

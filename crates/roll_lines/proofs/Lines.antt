@@ -19,8 +19,9 @@ use Rattle.policy.specs.Questions.{Part, nameOn, entryOn}
 use Rattle.policy.specs.Roll.{decimal, rollLine, rollLines}
 use Rattle.table_laws.specs.SoundTable.{Bytes}
 use Rattle.table_laws.specs.Shown.{orTwelve, recordsIn}
+use Rattle.table_laws.proofs.SoundLaws.{sound-read}
+use Rattle.soundness.proofs.SoundTable.{sound-table}
 use Rattle.table_parts.specs.ShownPart.{shownPart}
-use Rattle.table_parts.proofs.HeldImage.{held}
 use Rattle.text_writer.specs.WrittenText.{Appends}
 use Rattle.text_writer.proofs.Digits.{few-digits}
 use Rattle.roll_lines.specs.LineWrites.{thingsIn, Printable, PutsLines}
@@ -81,13 +82,14 @@ module _ (t : List ℕ) (sort body : ℕ) (kind of before : List ℕ) (at : ℕ)
 
       pub number-few : n < 128
       number-few =
-          let s = held t b (printable .sound) in
-          omega (arith, place-within (thingsIn (s .image) sort) n _ (name-here (s .image) (s .read)), things-few (s .image) (s .formed) sort)
+          let s = sound-table t b (printable .sound) in
+          omega (arith, place-within (thingsIn (s .image) sort) n _ (name-here (s .image) (sound-read t s)), things-few (s .image) (s .formed) sort)
 
       name-few : length (part t (p .start) (p .size)) ≤ 64
       name-few =
-          let s = held t b (printable .sound) in
-          all-place (λ (w : Name). length w ≤ 64) (thingsIn (s .image) sort) n _ (things-short (s .image) (s .formed) sort) (name-here (s .image) (s .read))
+          let s = sound-table t b (printable .sound) in
+          all-place (λ (w : Name). length w ≤ 64) (thingsIn (s .image) sort) n _ (things-short (s .image) (s .formed) sort)
+          (name-here (s .image) (sound-read t s))
 
       module _ {name set : List ℕ} (named : name ≡ part t (p .start) (p .size)) (its : set ≡ shownPart (entryOn t body n) t) where
         pub line-room : end + (length kind + (length name + (length of + 21))) ≤ length now

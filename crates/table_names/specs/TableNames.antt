@@ -1,13 +1,13 @@
 -- What the names of a table say, body 1, whatever the bytes are. On a sound table it is what the image says. Assumes nothing.
 use Prim.Native.Nat.{ℕ, _+_, _*_, _<_}
 use mathlib.Core.Path.{_≡_}
-use mathlib.Core.Bool.{Bool, true, false, _&&_, cond}
+use mathlib.Core.Bool.{Bool, true, false, _&&_, _||_, cond}
 use mathlib.Core.List.{List}
-use lib.Dec.{ltb}
+use lib.Dec.{eqb, ltb}
 use lib.ListN.{getD}
 use Rattle.byte_slices.specs.Parts.{part}
 use Rattle.policy.specs.Basics.{Name, same, any}
-use Rattle.policy.specs.Words.{processWord, transitionWords}
+use Rattle.policy.specs.Words.{processWord, transitionWords, objectR}
 use Rattle.policy.specs.Encode.{NameEntry}
 use Rattle.policy.specs.Deciding.{Reply, answered, refused}
 use Rattle.policy.specs.Questions.{Part, nameFrom}
@@ -15,6 +15,8 @@ use Rattle.symbols.specs.Section.{entriesAt}
 use Rattle.symbols.specs.Lookup.{countSort}
 use Rattle.table_reader.specs.Records.{startIn, lengthIn}
 use Rattle.policy.specs.declared.NameCounts.{NameCounts}
+use Rattle.table_names.specs.declared.SpecialNumbers.{SpecialNumbers}
+use Rattle.table_names.specs.declared.SpecialNames.{SpecialNames}
 
 -- where body 1 starts and ends, as the header says, and its entries
 abbrev pub namesStart : List ℕ → ℕ
@@ -68,3 +70,19 @@ hasOneName t r ws = any (hasName t r) ws
 -- "class `process`, permission `transition` or `dyntransition`"; 6 is the sort of classes
 unfoldable pub asksRoleIn : List ℕ → ℕ → ℕ → Bool
 asksRoleIn t c k = hasName t (nameAt t 6 c) processWord && hasOneName t (permissionIn t c k) transitionWords
+
+-- W-201: "a context whose role is named `object_r`"; 1 is the sort of roles
+unfoldable pub isObjectIn : List ℕ → ℕ → Bool
+isObjectIn t r = hasName t (nameAt t 1 r) objectR
+
+-- the same where the numbers of these names may be known
+abbrev pub isObjectBy : List ℕ → SpecialNames → ℕ → Bool
+isObjectBy t SpecialNames.Unknown r = isObjectIn t r
+isObjectBy t (SpecialNames.Known n) r = eqb r (n .object)
+
+abbrev pub asksRoleByNumber : SpecialNumbers → ℕ → ℕ → Bool
+asksRoleByNumber n c k = eqb c (n .process) && (eqb k (n .transition) || eqb k (n .dyntransition))
+
+abbrev pub asksRoleBy : List ℕ → SpecialNames → ℕ → ℕ → Bool
+asksRoleBy t SpecialNames.Unknown c k = asksRoleIn t c k
+asksRoleBy t (SpecialNames.Known n) c k = asksRoleByNumber n c k

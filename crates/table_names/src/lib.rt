@@ -1,5 +1,5 @@
-// What the names of a table say, whatever the bytes are: how many there are of each sort, and whether a thing has a
-// word for its name.
+// What the names of a table say, whatever the bytes are: how many there are of each sort, whether a thing has a word
+// for its name, and which numbers have the names that are treated apart.
 use policy::Class;
 use policy::NameCounts;
 use policy::Permission;
@@ -11,7 +11,8 @@ ghost use mathlib.Core.Path.{_≡_};
 ghost use lib.ListN.{replicate};
 ghost use Rattle.policy.specs.Words.{transitionWords};
 ghost use Rattle.symbols.specs.Lookup.{replyOf};
-ghost use Rattle.table_names.specs.TableNames.{namesStart, namesEnd, countsIn, Tallied, isFoundName, nameAt, permissionIn, hasName, hasOneName, asksRoleIn};
+ghost use Rattle.table_names.specs.TableNames.{namesStart, namesEnd, countsIn, Tallied, nameAt, permissionIn, hasName, hasOneName, asksRoleIn};
+ghost use Rattle.table_names.specs.TableNames.{isObjectBy, asksRoleByNumber, asksRoleBy};
 
 // Where the names start, as the header says.
 pub fn names_start(table: &[u8]) -> usize
@@ -121,28 +122,17 @@ fn permission_name(table: &[u8], class: usize, permission: usize) -> NamePlace
     name_place(table, Sort::PERMISSION, number)
 }
 
-// Whether a class has a permission.
-pub fn declares_permission(table: &[u8], class: usize, permission: usize) -> bool
-    ensures { λ r. ⌜ r ≡ isFoundName (permissionIn (now (table .entry)) class permission) ⌝ }
-{
-    let k = permission_name(table, class, permission);
-    match k {
-        NamePlace::At {
-            start: _s,
-            length: _n,
-        } => true,
-        NamePlace::Nowhere => false,
-    }
-}
+// ---- the names that are treated apart
 
-// ---- the words of denial 3
+// The name of the role whose contexts are valid with every user and type.
+pub const OBJECT: [u8; 8] = *b"object_r";
 
-// The words of denial 3.
-const PROCESS: [u8; 7] = *b"process";
+// The class and its permissions at which a change of role must be allowed.
+pub const PROCESS: [u8; 7] = *b"process";
 
-const TRANSITION: [u8; 10] = *b"transition";
+pub const TRANSITION: [u8; 10] = *b"transition";
 
-const DYNTRANSITION: [u8; 13] = *b"dyntransition";
+pub const DYNTRANSITION: [u8; 13] = *b"dyntransition";
 
 // Whether a permission is `transition` or `dyntransition`.
 fn is_transition(table: &[u8], class: usize, permission: usize) -> bool
@@ -157,8 +147,8 @@ fn is_transition(table: &[u8], class: usize, permission: usize) -> bool
     is_word(table, place, &dyntransition)
 }
 
-// Whether the class and the permission are those at which a change of role must be allowed.
-pub fn asks_role(table: &[u8], class: usize, permission: usize) -> bool
+// Whether the class and the permission have the names at which a change of role must be allowed.
+fn asks_role_by_name(table: &[u8], class: usize, permission: usize) -> bool
     ensures { λ r. ⌜ r ≡ asksRoleIn (now (table .entry)) class permission ⌝ }
 {
     let word = PROCESS;
@@ -166,4 +156,57 @@ pub fn asks_role(table: &[u8], class: usize, permission: usize) -> bool
         return false;
     }
     is_transition(table, class, permission)
+}
+
+// ---- the same by numbers that are known
+
+// The numbers of the names that are treated apart: of the role `object_r`, of the class `process`, and of its
+// permissions `transition` and `dyntransition`. Where there is no such name, a number that nothing has.
+pub struct SpecialNumbers {
+    pub object: usize,
+    pub process: usize,
+    pub transition: usize,
+    pub dyntransition: usize,
+}
+
+// Whether these numbers are known. Where they are not, the names are looked at, each by a walk.
+pub enum SpecialNames {
+    Unknown,
+    Known(SpecialNumbers),
+}
+
+// Whether a role is the one whose contexts are valid with every user and type.
+pub fn is_object(table: &[u8], special: SpecialNames, role: usize) -> bool
+    ensures { λ r. ⌜ r ≡ isObjectBy (now (table .entry)) special role ⌝ }
+{
+    match special {
+        SpecialNames::Unknown => {
+            let word = OBJECT;
+            is_named(table, Sort::ROLE, role, &word)
+        }
+        SpecialNames::Known(numbers) => role == numbers.object,
+    }
+}
+
+// Whether the numbers are those of the class and of one of its two permissions.
+fn asks_role_by_number(numbers: SpecialNumbers, class: usize, permission: usize) -> bool
+    ensures { λ r. ⌜ r ≡ asksRoleByNumber numbers class permission ⌝ }
+{
+    if class != numbers.process {
+        return false;
+    }
+    if permission == numbers.transition {
+        return true;
+    }
+    permission == numbers.dyntransition
+}
+
+// Whether the class and the permission are those at which a change of role must be allowed.
+pub fn asks_role(table: &[u8], special: SpecialNames, class: usize, permission: usize) -> bool
+    ensures { λ r. ⌜ r ≡ asksRoleBy (now (table .entry)) special class permission ⌝ }
+{
+    match special {
+        SpecialNames::Unknown => asks_role_by_name(table, class, permission),
+        SpecialNames::Known(numbers) => asks_role_by_number(numbers, class, permission),
+    }
 }

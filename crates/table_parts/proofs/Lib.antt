@@ -1,5 +1,5 @@
 -- Laws for the proofs of this crate.
-pub mod HeldImage
+pub mod AskedTable
 pub mod RecordLaws
 pub mod EntriesOn
 pub mod ShownLaws

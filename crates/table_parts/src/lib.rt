@@ -1,6 +1,7 @@
 // The questions name of and entry: where a name or an entry is in a table, and the part of the lent table itself. The
-// functions whose names end in `in_sound` are for a caller that knows the table to be sound; the others answer for
-// every table, 11 before 12.
+// functions whose names end in `in_sound` are for a caller that found the table to be sound; of other bytes they answer
+// something. The others answer for every table, 11 before 12.
+use policy::Attribute;
 use policy::Constraint;
 use policy::Place;
 use policy::Refusal;
@@ -27,8 +28,7 @@ ghost use Rattle.table_parts.specs.ShownPart.{shownPart};
 
 // Where the name of a sort and number is in a sound table.
 pub fn name_place_in_sound(table: &[u8], sort: usize, number: usize) -> Place
-    requires { ⌜ isSound (now table) ≡ true ⌝ }
-    ensures { λ r. ⌜ placeOf r ≡ nameOn (now (table .entry)) sort number ⌝ }
+    ensures { λ r. ⌜ (isSound (now (table .entry)) ≡ true → placeOf r ≡ nameOn (now (table .entry)) sort number) ⌝ }
 {
     let found = table_names::name_place(table, sort, number);
     match found {
@@ -91,18 +91,18 @@ fn set_place(start: usize, users: usize, roles: usize, types: usize, place: usiz
     )
 }
 
-// The set of an attribute at a place of body 8 of a sound table.
+// The set of an attribute at a place of body 8 of a sound table. Such a table has no more attributes than may be
+// declared.
 fn attribute_place(table: &[u8], place: usize) -> Place
-    requires { ⌜ isSound (now table) ≡ true ⌝ }
-    ensures { λ r. ⌜ placeOf r ≡ entryOn (now (table .entry)) 8 place ⌝ }
+    ensures { λ r. ⌜ (isSound (now (table .entry)) ≡ true → placeOf r ≡ entryOn (now (table .entry)) 8 place) ⌝ }
 {
     let counts = table_names::count_names(table);
     let start = table_reader::body_start(table, Section::ATTRIBUTE_SETS) as usize;
     set_place(
         start,
-        counts.user_attributes,
-        counts.role_attributes,
-        counts.type_attributes,
+        byte_slices::least(counts.user_attributes, Attribute::MAX),
+        byte_slices::least(counts.role_attributes, Attribute::MAX),
+        byte_slices::least(counts.type_attributes, Attribute::MAX),
         place,
     )
 }
@@ -132,8 +132,7 @@ const NAMES: usize = Section::NAMES as usize + 1;
 // Where the entry of a body from 2 on and its place there is in a sound table. Where the table's edition has no such
 // section, there is no such body.
 pub fn entry_place_in_sound(table: &[u8], body: usize, place: usize) -> Place
-    requires { ⌜ isSound (now table) ≡ true ⌝ }
-    ensures { λ r. ⌜ placeOf r ≡ entryOn (now (table .entry)) body place ⌝ }
+    ensures { λ r. ⌜ (isSound (now (table .entry)) ≡ true → placeOf r ≡ entryOn (now (table .entry)) body place) ⌝ }
 {
     let sections = table_reader::sections_of(table_reader::edition(table)) as usize;
     if body <= NAMES || sections < body {

@@ -68,6 +68,17 @@ pub fn u32_at(table: &[u8], at: usize) -> u32
     little_endian::get4(table, at) as u32
 }
 
+// The class of the constraint of this number, where the constraints of 10 bytes start at `start`. A walk asks for it
+// before the other fields.
+pub fn constraint_class(table: &[u8], start: u32, number: u32) -> u16
+    ensures { λ r. ⌜ r ≡ constraintAt (drop (start + 10 * number) (now (table .entry))) .class ⌝ }
+{
+    u16_at(
+        table,
+        start as usize + Constraint::BYTES * (number as usize),
+    )
+}
+
 // The constraint of this number, where the constraints of 10 bytes start at `start`.
 pub fn constraint_at(table: &[u8], start: u32, number: u32) -> ConstraintRecord
     ensures { λ r. ⌜ constraintOf r ≡ constraintAt (drop (start + 10 * number) (now (table .entry))) ⌝ }

@@ -1,6 +1,7 @@
 -- THE NUMBERS OF EVERY ANSWER FIT INTO FOUR BYTES, for every text, every table and all numbers. Assumes nothing.
 use Prim.Native.Nat.{ℕ, _≤_}
 use native.Mathlib.Omega.{arith}
+use mathlib.Core.Path.{_≡_, sym, ap, subst, _∙_}
 use mathlib.Core.Bool.{Bool, true, false, cond}
 use mathlib.Core.Option.{Option, none, some}
 use mathlib.Core.List.{List}
@@ -14,6 +15,10 @@ use Rattle.policy.specs.Outcome.{Input, Outcome, accepted, rejected, outcome}
 use Rattle.bound_laws.proofs.Outcomes.{SmallOutcome, outcome-small}
 use Rattle.bound_laws.proofs.Answers.{SmallVerdict, change-small, relabel-small, SmallRole, new-role-small, SmallPart, name-part-small, entry-part-small}
 use Rattle.answer_numbers.specs.Numbers.{CompiledFits, Fits, PartFits, compiledNumbers, validNumbers, verdictNumbers, changeNumbers, newRoleNumbers, partNumbers}
+
+-- an answer as numbers is the definition's answer as numbers, where these fit
+pub told : {A N : Type 0} (Fit : N → Type 0) (numbers : A → N) {r : N} {a b : A} → (Fit (numbers a) → r ≡ numbers a) → Fit (numbers b) → a ≡ b → r ≡ numbers b
+told Fit numbers h f e = h (subst (λ x. Fit (numbers x)) (sym e) f) ∙ ap numbers e
 
 small-fits : (o : Outcome) → SmallOutcome o → CompiledFits (compiledNumbers o)
 small-fits (accepted n) s = record { number = omega arith; place = omega arith; line = omega arith }

@@ -2,7 +2,7 @@
 use mathlib.Core.Path.{sym, ap, _∙_}
 use mathlib.Core.Bool.{not}
 use Rattle.decisions.specs.TableAnswers.{setHas}
-use Rattle.table_names.specs.TableNames.{asksRoleIn}
+use Rattle.table_names.specs.TableNames.{asksRoleBy}
 use Rattle.decisions.proofs.ChangeLaws.{role-stays, role-allowed, role-asked}
 use borrow.Author.Needs.{needs}
 use Rattle.decisions.proofs.role_may.Statement.{statement}
@@ -12,7 +12,7 @@ returns : tie.Need-returns
 returns c =
     let a = c .before .before .args in
     let t = a .table .now in
-    let asks = asksRoleIn t (a .class) (a .permission) in
+    let asks = asksRoleBy t (a .special) (a .class) (a .permission) in
     let may = setHas t 3 16 (a .source) (a .target) in
     role-stays asks (a .source) (a .target) may (c .if1 .taken)
 
@@ -20,7 +20,7 @@ returns-2 : tie.Need-returns-2
 returns-2 c =
     let a = c .before .before .before .before .args in
     let t = a .table .now in
-    let asks = asksRoleIn t (a .class) (a .permission) in
+    let asks = asksRoleBy t (a .special) (a .class) (a .permission) in
     let may = setHas t 3 16 (a .source) (a .target) in
     role-allowed asks (a .source) (a .target) may (sym (c .before .set-has .ensures) ∙ c .if2 .taken)
 
@@ -28,7 +28,7 @@ returns-3 : tie.Need-returns-3
 returns-3 c =
     let a = c .before .before .before .before .before .args in
     let t = a .table .now in
-    let asks = asksRoleIn t (a .class) (a .permission) in
+    let asks = asksRoleBy t (a .special) (a .class) (a .permission) in
     let may = setHas t 3 16 (a .source) (a .target) in
     ap not (c .asks-role .ensures) ∙ role-asked asks (a .source) (a .target) may (c .before .before .before .if1 .left)
     (sym (c .before .before .set-has .ensures) ∙ c .before .if2 .left)

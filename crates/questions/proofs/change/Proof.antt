@@ -5,7 +5,7 @@ use lib.Dec.{ltb}
 use borrow.Author.Needs.{needs}
 use Rattle.table_laws.proofs.ListLaws.{all-places}
 use Rattle.soundness.proofs.AnswerLaws.{unsound-by}
-use Rattle.decisions.proofs.CountedLaws.{is-sound, counts-are, permissions-length, has-permission}
+use Rattle.decisions.proofs.CountedLaws.{names-known, permissions-length, has-permission}
 use Rattle.questions.proofs.Unsound.{change-unsound}
 use Rattle.questions.proofs.change.Statement.{statement}
 use Rattle.questions.proofs.change.Tie as tie
@@ -22,23 +22,19 @@ slice-aggregate-permissions-of c =
     let bytes = all-places (λ k. k < 256) t 0 (λ i l. at-table .shared-slice-known .given i .fits) in
     sym (permissions-length t bytes (at-count .count .ensures) (at-counted .counted .given .1))
 
-change-in-counted-requires : tie.Need-change-in-counted-requires
-change-in-counted-requires c κs =
-    let at-counted = c .before .before .before in
+returns-2 : tie.Need-returns-2
+returns-2 c =
+    let at-permissions-of = c .before in
+    let at-counted = at-permissions-of .before .before .before in
     let at-count = at-counted .before .before in
     let at-table = at-count .before .before in
     let a = at-table .before .args in
     let t = a .table .now in
     let bytes = all-places (λ k. k < 256) t 0 (λ i l. at-table .shared-slice-known .given i .fits) in
     let told = at-count .count .ensures in
-    let is = at-counted .counted .given .1 in (
-      is-sound t bytes told is,
-      counts-are t bytes told is,
-      λ l. ap (ltb (a .permission)) (c .permissions-of .ensures) ∙ has-permission t bytes told is (a .class) (a .permission) l,
-    )
-
-returns-2 : tie.Need-returns-2
-returns-2 c = c .change-in-counted .ensures
+    let is = at-counted .counted .given .1 in
+    c .change .ensures (names-known t bytes told is)
+    (λ l. ap (ltb (a .permission)) (at-permissions-of .permissions-of .ensures) ∙ has-permission t bytes told is (a .class) (a .permission) l)
 
 pub change-spec : {M : Type 1} → statement M
 change-spec =
@@ -50,5 +46,5 @@ change-spec =
     returns
     slice-aggregate-permissions-of
     (λ c κs. search needs)
-    change-in-counted-requires
+    (λ c κs. search needs)
     returns-2)

@@ -4,10 +4,10 @@ use Rattle.questions_cases.proofs.ask_all.Statement.{statement}
 use Rattle.questions_cases.proofs.ask_all.Tie as tie
 
 abbrev Inv-loop : tie.InvT-loop
-Inv-loop table count numbers₀ left₀ numbers left = Unit {0}
+Inv-loop table count summary sound numbers₀ left₀ numbers left = Unit {0}
 
 abbrev μ-loop : tie.MeasureT-loop
-μ-loop table count numbers₀ left₀ numbers left = left
+μ-loop table count summary sound numbers₀ left₀ numbers left = left
 
 pub ask-all-spec : {M : Type 1} → statement M
 ask-all-spec =
@@ -15,11 +15,15 @@ ask-all-spec =
     (tie.spec
     Inv-loop
     μ-loop
+    (λ c κs. search needs)
+    (λ c. search needs)
+    (λ c κs. search needs)
     (λ c. search needs)
     (λ c κs. search needs)
     (λ c. search needs)
     (λ c κs. search needs)
     (λ c. search needs)
+    (λ c κs. search needs)
     (λ c. search needs)
     (λ c. search needs)
     (λ c. search needs)

@@ -20,67 +20,54 @@ loop-holds c = none-put _ _ _ _ _ _ _
 
 returns : tie.Need-returns Inv-loop μ-loop
 returns c =
-    let at-shared-slice-known = c .before .before .before .before .before .before .before in
-    let at-args = at-shared-slice-known .before in
-    lines-put _ _ _ _ _ _ _ (all-places (λ k. k < 256) (at-args .args .table .now) 0 (λ i l. at-shared-slice-known .shared-slice-known .given i .fits))
-    (at-args .pre) (c .before .before .before .loop .inv) (ap placeOf (sym (c .enum-told .given .1)) ∙ c .before .before .name-place-in-sound .ensures)
+    let at-name = c .before .before in
+    let at-loop = at-name .before in
+    let at-bytes = at-loop .before .before .before .before in
+    let at-args = at-bytes .before in
+    let bytes = all-places (λ k. k < 256) (at-args .args .table .now) 0 (λ i l. at-bytes .shared-slice-known .given i .fits) in
+    let missed = ap placeOf (sym (c .enum-told .given .1)) ∙ at-name .name-place-in-sound .ensures (at-args .pre .sound) in
+    lines-put _ _ _ _ _ _ _ bytes (at-args .pre) (at-loop .loop .inv) missed
 
 put-line-requires : tie.Need-put-line-requires Inv-loop μ-loop
 put-line-requires c κs =
     let at-place = c .before .before .before .before in
-    let at-name-place-in-sound = at-place .before .before in
-    let at-loop = at-name-place-in-sound .before in
-    let at-shared-slice-known = at-loop .before .before .before .before in
-    let at-args = at-shared-slice-known .before in (
-      line-room _ _ _ _ _ _ _ (all-places (λ k. k < 256) (at-args .args .table .now) 0 (λ i l. at-shared-slice-known .shared-slice-known .given i .fits))
-          (at-args .pre) (at-loop .loop .inv) (ap placeOf (sym (at-place .place .given .1)) ∙ at-name-place-in-sound .name-place-in-sound .ensures)
-          (c .before .before .part .ensures) (c .before .set-at .ensures),
-      set-room _ _ _ _ _ _ _
-          (all-places (λ k. k < 256) (at-args .args .table .now) 0 (λ i l. at-shared-slice-known .shared-slice-known .given i .fits)) (at-args .pre)
-          (at-loop .loop .inv) (ap placeOf (sym (at-place .place .given .1)) ∙ at-name-place-in-sound .name-place-in-sound .ensures)
-          (c .before .before .part .ensures) (c .before .set-at .ensures),
+    let at-name = at-place .before .before in
+    let at-loop = at-name .before in
+    let at-bytes = at-loop .before .before .before .before in
+    let at-args = at-bytes .before in
+    let bytes = all-places (λ k. k < 256) (at-args .args .table .now) 0 (λ i l. at-bytes .shared-slice-known .given i .fits) in
+    let found = ap placeOf (sym (at-place .place .given .1)) ∙ at-name .name-place-in-sound .ensures (at-args .pre .sound) in (
+      line-room _ _ _ _ _ _ _ bytes (at-args .pre) (at-loop .loop .inv) found (c .before .before .part .ensures) (c .before .set-at .ensures),
+      set-room _ _ _ _ _ _ _ bytes (at-args .pre) (at-loop .loop .inv) found (c .before .before .part .ensures) (c .before .set-at .ensures),
     )
 
-add-number : tie.Need-add-number Inv-loop μ-loop
-add-number c =
+-- a number that has a name is below 128
+few : (c : tie.After-slice-known2 Inv-loop μ-loop) →
     let at-place = c .before .before .before .before .before .before .before in
-    let at-name-place-in-sound = at-place .before .before in
-    let at-loop = at-name-place-in-sound .before in
-    let at-shared-slice-known = at-loop .before .before .before .before in
-    let at-args = at-shared-slice-known .before in
-    omega (
-      arith,
-      number-few _ _ _ _ _ _ _
-          (all-places (λ k. k < 256) (at-args .args .table .now) 0 (λ i l. at-shared-slice-known .shared-slice-known .given i .fits)) (at-args .pre)
-          (at-loop .loop .inv) (ap placeOf (sym (at-place .place .given .1)) ∙ at-name-place-in-sound .name-place-in-sound .ensures),
-    )
-
-loop-less : tie.Need-loop-less Inv-loop μ-loop
-loop-less c =
+    at-place .before .before .before .loop .number < 128
+few c =
     let at-place = c .before .before .before .before .before .before .before in
-    let at-name-place-in-sound = at-place .before .before in
-    let at-loop = at-name-place-in-sound .before in
-    let at-shared-slice-known = at-loop .before .before .before .before in
-    let at-args = at-shared-slice-known .before in
-    omega (
-      arith,
-      number-few _ _ _ _ _ _ _
-          (all-places (λ k. k < 256) (at-args .args .table .now) 0 (λ i l. at-shared-slice-known .shared-slice-known .given i .fits)) (at-args .pre)
-          (at-loop .loop .inv) (ap placeOf (sym (at-place .place .given .1)) ∙ at-name-place-in-sound .name-place-in-sound .ensures),
-    )
+    let at-name = at-place .before .before in
+    let at-loop = at-name .before in
+    let at-bytes = at-loop .before .before .before .before in
+    let at-args = at-bytes .before in
+    let bytes = all-places (λ k. k < 256) (at-args .args .table .now) 0 (λ i l. at-bytes .shared-slice-known .given i .fits) in
+    let found = ap placeOf (sym (at-place .place .given .1)) ∙ at-name .name-place-in-sound .ensures (at-args .pre .sound) in
+    number-few _ _ _ _ _ _ _ bytes (at-args .pre) (at-loop .loop .inv) found
 
 loop-again : tie.Need-loop-again Inv-loop μ-loop
 loop-again c =
-    let at-set-at = c .before .before .before .before in
-    let at-part = at-set-at .before in
+    let at-set = c .before .before .before .before in
+    let at-part = at-set .before in
     let at-place = at-part .before .before in
-    let at-name-place-in-sound = at-place .before .before in
-    let at-loop = at-name-place-in-sound .before in
-    let at-shared-slice-known = at-loop .before .before .before .before in
-    let at-args = at-shared-slice-known .before in
-    line-put _ _ _ _ _ _ _ (all-places (λ k. k < 256) (at-args .args .table .now) 0 (λ i l. at-shared-slice-known .shared-slice-known .given i .fits))
-    (at-args .pre) (at-loop .loop .inv) (ap placeOf (sym (at-place .place .given .1)) ∙ at-name-place-in-sound .name-place-in-sound .ensures)
-    (at-part .part .ensures) (at-set-at .set-at .ensures) (c .before .before .put-line .ensures)
+    let at-name = at-place .before .before in
+    let at-loop = at-name .before in
+    let at-bytes = at-loop .before .before .before .before in
+    let at-args = at-bytes .before in
+    let bytes = all-places (λ k. k < 256) (at-args .args .table .now) 0 (λ i l. at-bytes .shared-slice-known .given i .fits) in
+    let found = ap placeOf (sym (at-place .place .given .1)) ∙ at-name .name-place-in-sound .ensures (at-args .pre .sound) in
+    line-put _ _ _ _ _ _ _ bytes (at-args .pre) (at-loop .loop .inv) found (at-part .part .ensures) (at-set .set-at .ensures)
+    (c .before .before .put-line .ensures)
 
 pub put-lines-spec : {M : Type 1} → statement M
 put-lines-spec =
@@ -97,6 +84,6 @@ put-lines-spec =
     (λ c κs. search needs)
     (λ c κs. search needs)
     put-line-requires
-    add-number
-    loop-less
+    (λ c. omega (arith, few c))
+    (λ c. omega (arith, few c))
     loop-again)

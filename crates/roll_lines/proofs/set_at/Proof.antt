@@ -6,10 +6,14 @@ use Rattle.roll_lines.proofs.set_at.Statement.{statement}
 use Rattle.roll_lines.proofs.set_at.Tie as tie
 
 returns : tie.Need-returns
-returns c = rw (← c .before .before .before .before .entry-place-in-sound .ensures, c .before .before .place .given .1) (c .part .ensures)
+returns c =
+    let at-place = c .before .before .before .before in
+    rw (← at-place .entry-place-in-sound .ensures (at-place .before .before .pre), c .before .before .place .given .1) (c .part .ensures)
 
 returns-2 : tie.Need-returns-2
-returns-2 c = rw (← c .before .before .before .entry-place-in-sound .ensures, c .before .enum-told .given .1) (c .part2 .ensures ∙ no-bytes _ _)
+returns-2 c =
+    let at-place = c .before .before .before in
+    rw (← at-place .entry-place-in-sound .ensures (at-place .before .before .pre), c .before .enum-told .given .1) (c .part2 .ensures ∙ no-bytes _ _)
 
 pub set-at-spec : {M : Type 1} → statement M
 set-at-spec =

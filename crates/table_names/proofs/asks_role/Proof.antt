@@ -1,28 +1,13 @@
--- `table_names::asks_role` meets its contract: the class, then the permission. Assumes nothing.
-use mathlib.Core.Path.{_≡_, sym, _∙_}
-use mathlib.Core.Bool.{true, false}
-use borrow.Author.Tests.{not-true, not-false}
-use Rattle.policy.specs.Words.{processWord}
-use Rattle.table_names.specs.TableNames.{nameAt, hasName, asksRoleIn}
+-- `table_names::asks_role` meets its contract: by the names, or by the numbers. Assumes nothing.
 use borrow.Author.Needs.{needs}
 use Rattle.table_names.proofs.asks_role.Statement.{statement}
 use Rattle.table_names.proofs.asks_role.Tie as tie
 
 returns : tie.Need-returns
-unfolding asksRoleIn
-returns c =
-    let start = c .before .before .before .before in
-    let t = start .args .table .now in
-    let other : hasName t (nameAt t 6 (start .args .class)) processWord ≡ false = sym (c .before .is-named .ensures) ∙ not-true _ (c .if1 .taken) in
-    rw other
+returns c = rw (c .before .enum-told .given .1) (c .asks-role-by-name .ensures)
 
 returns-2 : tie.Need-returns-2
-unfolding asksRoleIn
-returns-2 c =
-    let start = c .before .before .before .before .before in
-    let t = start .args .table .now in
-    let is : hasName t (nameAt t 6 (start .args .class)) processWord ≡ true = sym (c .before .before .is-named .ensures) ∙ not-false _ (c .before .if1 .left) in
-    rw is (c .is-transition .ensures)
+returns-2 c = rw (c .before .before .special .given .1) (c .asks-role-by-number .ensures)
 
 pub asks-role-spec : {M : Type 1} → statement M
 asks-role-spec =
@@ -30,6 +15,7 @@ asks-role-spec =
     (tie.spec
     (λ c. search needs)
     (λ c κs. search needs)
-    returns
+    (λ c. search needs)
     (λ c κs. search needs)
+    returns
     returns-2)

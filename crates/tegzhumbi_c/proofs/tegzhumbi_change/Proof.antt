@@ -1,19 +1,16 @@
 -- `tegzhumbi_change` meets its contract: the numbers of the library's answer, which fit. Assumes nothing.
-use mathlib.Core.Path.{ap, _∙_}
-use Rattle.answer_numbers.specs.Numbers.{changeNumbers}
+use mathlib.Core.Path.{_∙_}
+use Rattle.answer_numbers.specs.Numbers.{Fits, changeNumbers}
 use Rattle.policy.proofs.SameQuestions.{same-change}
-use Rattle.tegzhumbi_c.proofs.FourBytes.{change-fits}
+use Rattle.tegzhumbi_c.proofs.FourBytes.{told, change-fits}
 use borrow.Author.Needs.{needs}
 use Rattle.tegzhumbi_c.proofs.tegzhumbi_change.Statement.{statement}
 use Rattle.tegzhumbi_c.proofs.tegzhumbi_change.Tie as tie
 
-change-numbers-requires : tie.Need-change-numbers-requires
-change-numbers-requires c κs = rw (c .change .ensures) (change-fits _ _)
-
 returns : tie.Need-returns
 returns c =
-    c .change-numbers .ensures
-    ∙ ap changeNumbers (c .before .change .ensures ∙ same-change _ _ (c .before .before .before .context-of .ensures) (c .before .before .context-of2 .ensures) _)
+    told Fits changeNumbers (c .change-numbers .ensures) (change-fits _ _)
+    (c .before .change .ensures ∙ same-change _ _ (c .before .before .before .context-of .ensures) (c .before .before .context-of2 .ensures) _)
 
 pub tegzhumbi-change-spec : {M : Type 1} → statement M
-tegzhumbi-change-spec = tie.close (tie.spec (λ c κs. search needs) (λ c κs. search needs) (λ c κs. search needs) change-numbers-requires returns)
+tegzhumbi-change-spec = tie.close (tie.spec (λ c κs. search needs) (λ c κs. search needs) (λ c κs. search needs) (λ c κs. search needs) returns)

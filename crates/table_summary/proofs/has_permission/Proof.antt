@@ -1,0 +1,22 @@
+-- `table_summary::has_permission` meets its contract: the count of a class is after the eleven first numbers. Assumes nothing.
+use native.Mathlib.Omega.{arith}
+use borrow.Author.Needs.{needs}
+use Rattle.table_summary.proofs.has_permission.Statement.{statement}
+use Rattle.table_summary.proofs.has_permission.Tie as tie
+
+returns : tie.Need-returns
+returns c = λ h. absurd (omega (arith, c .if1 .taken))
+
+returns-2 : tie.Need-returns-2
+returns-2 c = λ h. rw (c .wide .ensures)
+
+pub has-permission-spec : {M : Type 1} → statement M
+has-permission-spec =
+    tie.close
+    (tie.spec
+    returns
+    (λ c. search needs)
+    (λ c. search needs)
+    (λ c. search needs)
+    (λ c κs. search needs)
+    returns-2)
