@@ -72,7 +72,8 @@ impl<'t> Table<'t> {
     /// ```
     pub fn new(bytes: &'t [u8]) -> Result<Table<'t>, Unsound> {
         let summary = linked::summarize(bytes).ok_or(Unsound)?;
-        // What is after a table is not summarized, so the summary fits the table's own bytes too.
+        // The summary is that of the table's own bytes, whatever is after them: proved, as
+        // `summary-of-own-bytes` in crates/table_summary/proofs/OwnBytes.antt.
         let bytes = &bytes[..length_of(bytes)];
         Ok(Table { bytes, summary })
     }

@@ -39,6 +39,13 @@ pub struct Context {
     pub kind: usize,
 }
 
+// What is known of the names of a table: how many there are of each sort, and the numbers of those that are treated
+// apart, if they were looked up.
+pub struct KnownNames {
+    pub counts: NameCounts,
+    pub special: SpecialNames,
+}
+
 // Whether a context's numbers are declared.
 fn declares_context(counts: NameCounts, asked: Context) -> bool
     ensures { λ r. ⌜ r ≡ declaresContext counts (contextOf asked) ⌝ }
@@ -102,17 +109,12 @@ fn is_valid(table: &[u8], special: SpecialNames, asked: Context) -> bool
 
 // **Valid context**: whether the role is among the user's, and the type, `kind`, among the role's, or the role is
 // `object_r`.
-pub fn valid(
-    table: &[u8],
-    counts: NameCounts,
-    special: SpecialNames,
-    user: usize,
-    role: usize,
-    kind: usize,
-) -> Validity
-    ensures { λ r. ⌜ (Knows (now (table .entry)) counts special → validityOf r ≡ validOn (now (table .entry)) (context user role kind)) ⌝ }
+pub fn valid(table: &[u8], names: KnownNames, user: usize, role: usize, kind: usize) -> Validity
+    ensures { λ r. ⌜ (Knows (now (table .entry)) (names .counts) (names .special) → validityOf r ≡ validOn (now (table .entry)) (context user role kind)) ⌝ }
 {
     let asked = Context { user, role, kind };
+    let counts = names.counts;
+    let special = names.special;
     if !declares_context(counts, asked) {
         return Validity::Refused {
             number: Refusal::NUMBER_UNDECLARED,
@@ -320,17 +322,18 @@ fn ask_constraints(
 // order, then the constraints, with the number consulted.
 pub fn change(
     table: &[u8],
-    counts: NameCounts,
-    special: SpecialNames,
+    names: KnownNames,
     has: bool,
     source: Context,
     target: Context,
     class: usize,
     permission: usize,
 ) -> Change
-    ensures { λ r. ⌜ (Knows (now (table .entry)) counts special → (class < counts .classes → has ≡ isFoundName (permissionIn (now (table .entry)) class permission))
+    ensures { λ r. ⌜ (Knows (now (table .entry)) (names .counts) (names .special) → (class < names .counts .classes → has ≡ isFoundName (permissionIn (now (table .entry)) class permission))
         → changeOf r ≡ changeOn (now (table .entry)) (question source target class permission)) ⌝ }
 {
+    let counts = names.counts;
+    let special = names.special;
     if !declares_question(counts, has, source, target, class) {
         return Change::Refused {
             number: Refusal::NUMBER_UNDECLARED,
@@ -393,15 +396,16 @@ fn ask_relabels(
 // other: no role allow is asked.
 pub fn relabel(
     table: &[u8],
-    counts: NameCounts,
-    special: SpecialNames,
+    names: KnownNames,
     class: usize,
     old: Context,
     new: Context,
     process: Context,
 ) -> Change
-    ensures { λ r. ⌜ (Knows (now (table .entry)) counts special → changeOf r ≡ relabelOn (now (table .entry)) (relabelling class old new process)) ⌝ }
+    ensures { λ r. ⌜ (Knows (now (table .entry)) (names .counts) (names .special) → changeOf r ≡ relabelOn (now (table .entry)) (relabelling class old new process)) ⌝ }
 {
+    let counts = names.counts;
+    let special = names.special;
     if !declares_relabelling(counts, class, old, new, process) {
         return Change::Refused {
             number: Refusal::NUMBER_UNDECLARED,

@@ -67,7 +67,7 @@ use Rattle.statement_reader.specs.Steps.{nothingRead}
 use Rattle.statement_reader.specs.declared.Progress.{Progress}
 use Rattle.statement_reader.proofs.MemoryLaws.{empty}
 use Rattle.parser.specs.Parses.{Reads, Parses, ParsesCleared}
-use Rattle.parser.specs.Parts.{StatedBy, StatedAhead, States, Inside, EnteredBy, EnteredAhead, Enters, behindOf}
+use Rattle.parser.specs.Parts.{StatedBy, StatedAhead, States, Inside, EnteredBy, EnteredAhead, Enters, placeAfter}
 use Rattle.parser.specs.declared.Parsed.{Parsed}
 use Rattle.parser.specs.declared.Stated.{Stated}
 use Rattle.parser.specs.declared.Entered.{Entered}
@@ -335,27 +335,27 @@ rows-among [] r = omega arith
 rows-among (b ∷ path) r = omega (arith, rows-among path (out r), around-weight (r .around))
 
 -- the word that a block starts with, where it stands, and what is beneath it
-pub record Word (t : List ℕ) (next start behind : ℕ) (w : Name) : Type 0 where
-  pub frames : framesAt t next ≡ record { here = word start w (framesAt t behind .here); around = framesAt t behind .around }
-  pub far : next + 5 ≤ behind
+pub record Word (t : List ℕ) (next start past : ℕ) (w : Name) : Type 0 where
+  pub frames : framesAt t next ≡ record { here = word start w (framesAt t past .here); around = framesAt t past .around }
+  pub far : next + 5 ≤ past
   pub is : same w blockWord ≡ true
 
 module _ {t : List ℕ} {at place next : ℕ} {lent : Memory} {sy sy' co cs rs keys keys' filter filter' : List ℕ} {s : Progress} {o : OpenBlocks}
     (r : Rest t at lent (memory sy co cs rs) keys filter s o) (p : Opens t at place next) (clean : scan t ≡ Scanned.Clean)
-    {start behind : ℕ} {w : Name} (b : Word t next start behind w) {k : Entered} (y : Enters t behind keys keys' filter filter' sy sy' o k) where
-  block-row : row r p .here ≡ word start w (framesAt t behind .here)
+    {start past : ℕ} {w : Name} (b : Word t next start past w) {k : Entered} (y : Enters t past keys keys' filter filter' sy sy' o k) where
+  block-row : row r p .here ≡ word start w (framesAt t past .here)
   block-row = ap (λ (f : Frames). f .here) (b .frames)
 
-  header-is : blockIn (row r p .here) ≡ headerIn (framesAt t behind .here)
-  header-is = ap blockIn block-row ∙ ap (λ (c : Bool). cond c (headerIn (framesAt t behind .here)) none) (b .is)
+  header-is : blockIn (row r p .here) ≡ headerIn (framesAt t past .here)
+  header-is = ap blockIn block-row ∙ ap (λ (c : Bool). cond c (headerIn (framesAt t past .here)) none) (b .is)
 
-  opening-is : judge (r .before) (r .sofar) (this r p) ≡ judgeBlock (r .path) (blocksIn (r .before)) (headerIn (framesAt t behind .here))
+  opening-is : judge (r .before) (r .sofar) (this r p) ≡ judgeBlock (r .path) (blocksIn (r .before)) (headerIn (framesAt t past .here))
   opening-is =
       judge-block (r .before) (r .sofar) (this r p) (ap isBlock block-row ∙ b .is) ∙ ap (judgeBlock (r .path) (blocksIn (r .before))) header-is
 
-  behind-names : namesGood (framesAt t behind .here) ≡ true
+  behind-names : namesGood (framesAt t past .here) ≡ true
   unfolding namesGood
-  behind-names = both-true (isName w) (namesGood (framesAt t behind .here)) (sym (ap namesGood block-row) ∙ part-row r p .names) .1
+  behind-names = both-true (isName w) (namesGood (framesAt t past .here)) (sym (ap namesGood block-row) ∙ part-row r p .names) .1
 
   -- there is room for one block more: each takes up eight bytes
   block-room : o .count < 8192
@@ -372,22 +372,22 @@ module _ {t : List ℕ} {at place next : ℕ} {lent : Memory} {sy sy' co cs rs k
         clean-short t clean,
       )
 
-  entered : EnteredBy (judgeBlock (r .path) (blocksIn (r .before)) (headerIn (framesAt t behind .here))) t behind keys' filter' sy sy' (r .path) (blocksIn (r .before)) o k
+  entered : EnteredBy (judgeBlock (r .path) (blocksIn (r .before)) (headerIn (framesAt t past .here))) t past keys' filter' sy sy' (r .path) (blocksIn (r .before)) o k
   entered = y .says (r .path) (blocksIn (r .before)) (r .stands .within) behind-names (omega (arith, clean-short t clean)) block-room
 
   header-refused : {n : ℕ} → k ≡ Entered.Fault n → Reads (whole t) lent (memory sy' co cs rs) (Parsed.Refused n place)
-  header-refused {n} e = go (judgeBlock (r .path) (blocksIn (r .before)) (headerIn (framesAt t behind .here))) refl
-      (subst (EnteredBy (judgeBlock (r .path) (blocksIn (r .before)) (headerIn (framesAt t behind .here))) t behind keys' filter' sy sy' (r .path)
+  header-refused {n} e = go (judgeBlock (r .path) (blocksIn (r .before)) (headerIn (framesAt t past .here))) refl
+      (subst (EnteredBy (judgeBlock (r .path) (blocksIn (r .before)) (headerIn (framesAt t past .here))) t past keys' filter' sy sy' (r .path)
       (blocksIn (r .before)) o) e entered)
     where
-      go : (j : Judged) → judgeBlock (r .path) (blocksIn (r .before)) (headerIn (framesAt t behind .here)) ≡ j
-          → EnteredBy j t behind keys' filter' sy sy' (r .path) (blocksIn (r .before)) o (Entered.Fault n) → Reads (whole t) lent (memory sy' co cs rs) (Parsed.Refused n place)
+      go : (j : Judged) → judgeBlock (r .path) (blocksIn (r .before)) (headerIn (framesAt t past .here)) ≡ j
+          → EnteredBy j t past keys' filter' sy sy' (r .path) (blocksIn (r .before)) o (Entered.Fault n) → Reads (whole t) lent (memory sy' co cs rs) (Parsed.Refused n place)
       go (reads st) i g = absurd g
       go opens i g = absurd g
       go (fault m) i g = refuses r p m n (opening-is ∙ i) g (memory sy' co cs rs)
 
-  inside-on : {q : OpenBlocks} {place-in : ℕ} → behind < place-in → judgeBlock (r .path) (blocksIn (r .before)) (headerIn (framesAt t behind .here)) ≡ opens
-      → Inside t behind keys' filter' sy sy' (r .path) (blocksIn (r .before)) o q place-in → Rest t place-in lent (memory sy' co cs rs) keys' filter' s q
+  inside-on : {q : OpenBlocks} {place-in : ℕ} → past < place-in → judgeBlock (r .path) (blocksIn (r .before)) (headerIn (framesAt t past .here)) ≡ opens
+      → Inside t past keys' filter' sy sy' (r .path) (blocksIn (r .before)) o q place-in → Rest t place-in lent (memory sy' co cs rs) keys' filter' s q
   unfolding weight
   inside-on {q} {place-in} far i g =
       let f = framesAt t place-in in
@@ -416,14 +416,14 @@ module _ {t : List ℕ} {at place next : ℕ} {lent : Memory} {sy sy' co cs rs k
       }
 
   header-read : {q : OpenBlocks} {place-in : ℕ} → k ≡ Entered.Inside place-in q → Rest t place-in lent (memory sy' co cs rs) keys' filter' s q
-  header-read {q} {place-in} e = go (judgeBlock (r .path) (blocksIn (r .before)) (headerIn (framesAt t behind .here))) refl
-      (subst (EnteredBy (judgeBlock (r .path) (blocksIn (r .before)) (headerIn (framesAt t behind .here))) t behind keys' filter' sy sy' (r .path)
+  header-read {q} {place-in} e = go (judgeBlock (r .path) (blocksIn (r .before)) (headerIn (framesAt t past .here))) refl
+      (subst (EnteredBy (judgeBlock (r .path) (blocksIn (r .before)) (headerIn (framesAt t past .here))) t past keys' filter' sy sy' (r .path)
       (blocksIn (r .before)) o) e entered)
     where
-      go : (j : Judged) → judgeBlock (r .path) (blocksIn (r .before)) (headerIn (framesAt t behind .here)) ≡ j
-          → EnteredBy j t behind keys' filter' sy sy' (r .path) (blocksIn (r .before)) o (Entered.Inside place-in q) → Rest t place-in lent (memory sy' co cs rs) keys' filter' s q
+      go : (j : Judged) → judgeBlock (r .path) (blocksIn (r .before)) (headerIn (framesAt t past .here)) ≡ j
+          → EnteredBy j t past keys' filter' sy sy' (r .path) (blocksIn (r .before)) o (Entered.Inside place-in q) → Rest t place-in lent (memory sy' co cs rs) keys' filter' s q
       go (reads st) i g = absurd g
-      go opens i g = inside-on (subst (EnteredAhead t behind) e (y .ahead) .0) i g
+      go opens i g = inside-on (subst (EnteredAhead t past) e (y .ahead) .0) i g
       go (fault m) i g = absurd g
 
 -- the word that an item tells is one
@@ -445,7 +445,7 @@ five-letters = refl
 pub record BlockWord (t : List ℕ) (next : ℕ) (first : Item) : Type 0 where
   pub start : ℕ
   pub name : Name
-  pub word : Word t next start (behindOf first) name
+  pub word : Word t next start (placeAfter first) name
 
 pub block-word : (t : List ℕ) (next : ℕ) (first : Item) → first ≡ itemAt t next → startsBlock first ≡ true → BlockWord t next first
 unfolding itemAt
@@ -464,8 +464,8 @@ block-word t next Item.End e h = absurd (false≢true h)
 
 module _ {t : List ℕ} {at place next : ℕ} {lent : Memory} {sy sy' co cs rs keys keys' filter filter' : List ℕ} {s : Progress} {o : OpenBlocks}
     (r : Rest t at lent (memory sy co cs rs) keys filter s o) (p : Opens t at place next) (clean : scan t ≡ Scanned.Clean)
-    {first : Item} (w : BlockWord t next first) {behind : ℕ} (d : behind ≡ behindOf first) {k : Entered} (y : Enters t behind keys keys' filter filter' sy sy' o k) where
-  there : Word t next (w .start) behind (w .name)
+    {first : Item} (w : BlockWord t next first) {past : ℕ} (d : past ≡ placeAfter first) {k : Entered} (y : Enters t past keys keys' filter filter' sy sy' o k) where
+  there : Word t next (w .start) past (w .name)
   there = subst (λ (n : ℕ). Word t next (w .start) n (w .name)) (sym d) (w .word)
 
   pub header-on : {q : OpenBlocks} {place-in : ℕ} → k ≡ Entered.Inside place-in q → Rest t place-in lent (memory sy' co cs rs) keys' filter' s q

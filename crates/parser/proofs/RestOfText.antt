@@ -124,16 +124,16 @@ block-whole path s v n w g b i h = (
     parts = header-name n w (g .here) b h .1;
     shut = i .shut;
     names = both-true (isName w) (namesGood (g .here)) (both-true (isName v) (namesGood (word n w (g .here))) (i .names) .1) .1;
-    deep = ap (λ (f : Forms). behind (behind f)) (i .deep);
+    deep = ap (λ (f : Forms). after (after f)) (i .deep);
   },
   i .after,
 )
   where
-    behind : Forms → Forms
-    behind closed = closed
-    behind ended = ended
-    behind (word s b f) = f
-    behind (part p f g) = g
+    after : Forms → Forms
+    after closed = closed
+    after ended = ended
+    after (word s b f) = f
+    after (part p f g) = g
 
 -- what is left to read in it
 pub block-left : (path : List Name) (s : ℕ) (v : Name) (n : ℕ) (w : Name) (g : Frames) (b : Name) → resumed (b ∷ path) (header s v n w g) ≡ resumed (b ∷ path) g

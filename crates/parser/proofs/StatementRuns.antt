@@ -20,7 +20,7 @@ use Rattle.statement_reader.specs.Steps.{nothingRead}
 use Rattle.statement_reader.specs.declared.Progress.{Progress}
 use Rattle.parser.specs.Remaining.{whole, Rest}
 use Rattle.parser.specs.Parses.{Reads}
-use Rattle.parser.specs.Parts.{Enters, behindOf}
+use Rattle.parser.specs.Parts.{Enters, placeAfter}
 use Rattle.parser.specs.Runs.{BlockNext, CloseNext, RunBy, RunAhead, Runs}
 use Rattle.parser.specs.declared.Entered.{Entered}
 use Rattle.parser.specs.declared.Parsed.{Parsed}
@@ -29,7 +29,7 @@ use Rattle.parser.proofs.LoopInvariant.{starts, opens-at, block-word, h
 
 -- the place after the word `block` lies ahead and in the text
 pub block-ahead : (t : List ℕ) (at : ℕ) {place next : ℕ} {i : Item} (first : Item) → i ≡ itemAt t at → i ≡ Item.Open place next → first ≡ itemAt t next
-    → startsBlock first ≡ true → (at < behindOf first) × (behindOf first ≤ length t)
+    → startsBlock first ≡ true → (at < placeAfter first) × (placeAfter first ≤ length t)
 block-ahead t at (Item.Word s n k q) e f g h =
     let l = sees e f .ahead in
     let w = sees g refl .ahead in
@@ -51,11 +51,11 @@ module _ {t : List ℕ} {lent : Memory} {sy sy' co cs rs keys keys' filter filte
     (clean : scan t ≡ Scanned.Clean) (b : BlockNext t lent (memory sy co cs rs) keys filter o place at s) (y : Enters t at keys keys' filter filter' sy sy' o k) where
   pub block-entered : {inside : ℕ} {q : OpenBlocks} → k ≡ Entered.Inside inside q → Rest t inside lent (memory sy' co cs rs) keys' filter' s q
   block-entered e =
-      header-on (b .rest) (opens-at clean (b .opens) refl) clean (block-word t (b .next) (b .first) (b .first-is) (b .starts)) (b .behind) y e
+      header-on (b .rest) (opens-at clean (b .opens) refl) clean (block-word t (b .next) (b .first) (b .first-is) (b .starts)) (b .after-first) y e
 
   pub block-refused : {n : ℕ} → k ≡ Entered.Fault n → Reads (whole t) lent (memory sy' co cs rs) (Parsed.Refused n place)
   block-refused e =
-      header-stops (b .rest) (opens-at clean (b .opens) refl) clean (block-word t (b .next) (b .first) (b .first-is) (b .starts)) (b .behind) y e
+      header-stops (b .rest) (opens-at clean (b .opens) refl) clean (block-word t (b .next) (b .first) (b .first-is) (b .starts)) (b .after-first) y e
 
 -- the close of one
 pub block-closed : {t : List ℕ} {lent : Memory} {sy sy' co cs rs keys filter : List ℕ} {o o' : OpenBlocks} {next : ℕ} {s : Progress}

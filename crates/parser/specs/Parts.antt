@@ -78,8 +78,8 @@ pub record Enters (t : List ℕ) (at : ℕ) (keys keys' filter filter' sy sy' : 
   pub ahead : EnteredAhead t at r
 
 -- the place after an item
-abbrev pub behindOf : Item → ℕ
-behindOf (Item.Word s n k q) = q
-behindOf (Item.Open p q) = q
-behindOf (Item.Close q) = q
-behindOf Item.End = 0
+abbrev pub placeAfter : Item → ℕ
+placeAfter (Item.Word s n k q) = q
+placeAfter (Item.Open p q) = q
+placeAfter (Item.Close q) = q
+placeAfter Item.End = 0

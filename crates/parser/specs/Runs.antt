@@ -15,7 +15,7 @@ use Rattle.statement_reader.specs.Memory.{Memory}
 use Rattle.statement_reader.specs.declared.Progress.{Progress}
 use Rattle.parser.specs.Remaining.{whole, Rest}
 use Rattle.parser.specs.Parses.{Reads}
-use Rattle.parser.specs.Parts.{behindOf}
+use Rattle.parser.specs.Parts.{placeAfter}
 use Rattle.parser.specs.declared.Parsed.{Parsed}
 use Rattle.parser.specs.declared.Run.{Run}
 
@@ -28,7 +28,7 @@ pub record BlockNext (t : List ℕ) (lent now : Memory) (keys filter : List ℕ)
   pub opens : Item.Open place next ≡ itemAt t here
   pub first-is : first ≡ itemAt t next
   pub starts : startsBlock first ≡ true
-  pub behind : at ≡ behindOf first
+  pub after-first : at ≡ placeAfter first
 
 -- or the close of one
 pub record CloseNext (t : List ℕ) (lent now : Memory) (keys filter : List ℕ) (o : OpenBlocks) (next : ℕ) (s : Progress) : Type 0 where

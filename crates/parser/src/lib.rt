@@ -22,7 +22,7 @@ ghost use Prim.Native.Nat.{ℕ, _<_};
 ghost use Rattle.items.specs.Looks.{itemAt};
 ghost use Rattle.statement_reader.specs.Memory.{memory};
 ghost use Rattle.parser.specs.Parses.{Parses, ParsesCleared};
-ghost use Rattle.parser.specs.Parts.{States, Enters, behindOf};
+ghost use Rattle.parser.specs.Parts.{States, Enters, placeAfter};
 ghost use Rattle.parser.specs.Runs.{Runs, ParsesAfter};
 ghost use Rattle.statement_reader.specs.Steps.{nothingRead};
 
@@ -165,8 +165,8 @@ fn enter(
 }
 
 // The place after the first item of a block, which is the word `block`.
-fn behind(first: Item) -> usize
-    ensures { λ r. ⌜ r ≡ behindOf first ⌝ }
+fn place_after(first: Item) -> usize
+    ensures { λ r. ⌜ r ≡ placeAfter first ⌝ }
 {
     match first {
         Item::Word { next, .. } => next,
@@ -201,7 +201,7 @@ fn read_statements(
                 if grammar::starts_block(first) {
                     return Run::Block {
                         place,
-                        at: behind(first),
+                        at: place_after(first),
                         progress,
                     };
                 }

@@ -15,7 +15,8 @@ eqb-turned x y = by (eqb x y) refl
     by true h = sym (eq-eqb y x (sym (eqb-true x y h)))
     by false h = sym (ne-eqb y x (λ e. eqb-false x y h (sym e)))
 
-same-turned : (v w : Name) → same v w ≡ same w v
+-- which of two names comes first does not matter
+pub same-turned : (v w : Name) → same v w ≡ same w v
 unfolding same
 same-turned [] [] = refl
 same-turned [] (y ∷ w) = refl

@@ -4,7 +4,9 @@
 // Each asks first whether the table is sound, which goes over all of it. A caller that found a table to be sound once
 // asks `sound_questions` instead.
 use decisions::Context;
+use decisions::KnownNames;
 use policy::Change;
+use policy::NameCounts;
 use policy::NewRole;
 use policy::Refusal;
 use policy::Validity;
@@ -14,6 +16,17 @@ ghost use mathlib.Core.Path.{_≡_};
 ghost use Rattle.policy.specs.Questions.{validOn, newRoleOn, changeOn, relabelOn};
 ghost use Rattle.policy.specs.Answers.{validityOf, newRoleOf, changeOf};
 ghost use Rattle.decisions.specs.Asked.{context, question, relabelling};
+ghost use Rattle.table_names.specs.declared.SpecialNames.{SpecialNames};
+
+// What the test of a table tells of its names. Those that are treated apart are not looked up: few questions need them.
+fn counted_names(counts: NameCounts) -> KnownNames
+    ensures { λ r. ⌜ (r .counts ≡ counts) × (r .special ≡ SpecialNames.Unknown) ⌝ }
+{
+    KnownNames {
+        counts,
+        special: SpecialNames::Unknown,
+    }
+}
 
 // **Valid context**: whether the role is among the user's, and the type, `kind`, among the role's, or the role is
 // named `object_r`.
@@ -27,7 +40,7 @@ pub fn valid(table: &[u8], user: usize, role: usize, kind: usize) -> Validity
             number: Refusal::NOT_SOUND,
         };
     };
-    decisions::valid(table, counts, SpecialNames::Unknown, user, role, kind)
+    decisions::valid(table, counted_names(counts), user, role, kind)
 }
 
 // **Change**: granted or denied, with the number consulted.
@@ -50,8 +63,7 @@ pub fn change(
     let has = permission < sound_constraints::permissions_of(&permissions, class);
     decisions::change(
         table,
-        counts,
-        SpecialNames::Unknown,
+        counted_names(counts),
         has,
         source,
         target,
@@ -72,15 +84,7 @@ pub fn relabel(table: &[u8], class: usize, old: Context, new: Context, process: 
             number: Refusal::NOT_SOUND,
         };
     };
-    decisions::relabel(
-        table,
-        counts,
-        SpecialNames::Unknown,
-        class,
-        old,
-        new,
-        process,
-    )
+    decisions::relabel(table, counted_names(counts), class, old, new, process)
 }
 
 // **New role**: that of the first matching transition, else the role given.

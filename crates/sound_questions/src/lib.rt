@@ -2,6 +2,7 @@
 // no walk over its names. They give the answers of `questions`, said in each contract; asked of other bytes, or with
 // other numbers for a summary, they end, write nothing and answer something.
 use decisions::Context;
+use decisions::KnownNames;
 use policy::Change;
 use policy::NewRole;
 use policy::Validity;
@@ -9,7 +10,17 @@ ghost use mathlib.Core.Path.{_≡_};
 ghost use Rattle.policy.specs.Questions.{validOn, newRoleOn, changeOn, relabelOn};
 ghost use Rattle.policy.specs.Answers.{validityOf, newRoleOf, changeOf};
 ghost use Rattle.decisions.specs.Asked.{context, question, relabelling};
-ghost use Rattle.table_summary.specs.Summary.{Summarized};
+ghost use Rattle.table_summary.specs.Summary.{Summarized, countsFrom, specialFrom};
+
+// What a summary says of the names.
+fn names_of(summary: &[u32; table_summary::NUMBERS]) -> KnownNames
+    ensures { λ r. ⌜ (r .counts ≡ countsFrom (now (summary .entry))) × (r .special ≡ specialFrom (now (summary .entry))) ⌝ }
+{
+    KnownNames {
+        counts: table_summary::counts_of(summary),
+        special: table_summary::special_of(summary),
+    }
+}
 
 // **Valid context**: whether the role is among the user's, and the type, `kind`, among the role's, or the role is
 // named `object_r`.
@@ -22,14 +33,7 @@ pub fn valid(
 ) -> Validity
     ensures { λ r. ⌜ (Summarized (now (table .entry)) (now (summary .entry)) → validityOf r ≡ validOn (now (table .entry)) (context user role kind)) ⌝ }
 {
-    decisions::valid(
-        table,
-        table_summary::counts_of(summary),
-        table_summary::special_of(summary),
-        user,
-        role,
-        kind,
-    )
+    decisions::valid(table, names_of(summary), user, role, kind)
 }
 
 // **Change**: granted or denied, with the number consulted.
@@ -46,8 +50,7 @@ pub fn change(
 {
     decisions::change(
         table,
-        table_summary::counts_of(summary),
-        table_summary::special_of(summary),
+        names_of(summary),
         table_summary::has_permission(summary, class, permission),
         source,
         target,
@@ -69,15 +72,7 @@ pub fn relabel(
     ensures { λ r. ⌜ (Summarized (now (table .entry)) (now (summary .entry))
         → changeOf r ≡ relabelOn (now (table .entry)) (relabelling class old new process)) ⌝ }
 {
-    decisions::relabel(
-        table,
-        table_summary::counts_of(summary),
-        table_summary::special_of(summary),
-        class,
-        old,
-        new,
-        process,
-    )
+    decisions::relabel(table, names_of(summary), class, old, new, process)
 }
 
 // **New role**: that of the first matching transition, else the role given.

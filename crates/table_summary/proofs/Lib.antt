@@ -3,3 +3,4 @@ pub mod PlaceLaws
 pub mod NamesDiffer
 pub mod FoundNumbers
 pub mod SummaryLaws
+pub mod OwnBytes

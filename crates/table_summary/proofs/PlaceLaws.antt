@@ -1,7 +1,7 @@
 -- The place of a name among names of which no two are the same, as a number: a place is that number exactly where the name at it is the one. Assumes nothing.
 use Prim.Native.Nat.{ℕ, zero, suc, _+_, _<_, _≤_}
 use native.Mathlib.Omega.{arith}
-use mathlib.Core.Path.{_≡_, refl, sym, ap, subst, _∙_}
+use mathlib.Core.Path.{_≡_, refl, sym, ap, _∙_}
 use mathlib.Core.Bool.{Bool, true, false, cond, false≢true}
 use mathlib.Core.List.{List, [], _∷_}
 use mathlib.Core.Option.{Option, none, some}
@@ -9,7 +9,8 @@ use lib.Dec.{eqb}
 use lib.ListN.{length, getD}
 use borrow.Author.Tests.{eq-eqb, ne-eqb, eqb-true, eqb-false}
 use Rattle.policy.specs.Basics.{Name, same, any, isIn, differ, next, indexOf}
-use Rattle.policy.proofs.Lists.{neither, same-is, same-tests}
+use Rattle.policy.proofs.Lists.{neither, same-is}
+use Rattle.policy.proofs.Differing.{same-turned}
 use Rattle.policy.proofs.IfAny.{IfAny}
 use Rattle.policy.proofs.Environments.{index-below}
 use Rattle.table_summary.specs.Summary.{placeOr}
@@ -76,14 +77,9 @@ index-at w (x ∷ xs) (suc r) d l = by (same w x) refl (index-at w xs r (first-a
         ∙ sym (ap (λ (v : Name). same v (getD xs r [])) (same-is w x e) ∙ other-name x xs r (first-apart x xs d .0) (omega arith))
     by false e ih = at-next r (indexOf w xs) ∙ ih
 
-turned : (v w : Name) → same v w ≡ true → same w v ≡ true
-turned v w h =
-    let e = same-is v w h in
-    subst (λ (u : Name). same u v ≡ true) e (subst (λ (u : Name). same v u ≡ true) (sym e) h)
-
 -- r is the number exactly where the name at r is the one
 pub place-is : (m : ℕ) (w : Name) (xs : List Name) (r : ℕ) → differ xs ≡ true → length xs ≤ m → r < length xs → eqb r (placeOr m w xs) ≡ same (getD xs r []) w
-place-is m w xs r d h l = by (indexOf w xs) ∙ index-at w xs r d l ∙ same-tests _ _ (turned w (getD xs r [])) (turned (getD xs r []) w)
+place-is m w xs r d h l = by (indexOf w xs) ∙ index-at w xs r d l ∙ same-turned w (getD xs r [])
   where
     by : (o : Option ℕ) → eqb r (orNumber m o) ≡ isAt r o
     by none = ne-eqb r m (λ e. omega arith)

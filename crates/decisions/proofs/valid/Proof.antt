@@ -11,7 +11,7 @@ use Rattle.decisions.proofs.valid.Tie as tie
 
 returns : tie.Need-returns
 returns c = λ known.
-    let at-slice = c .before .before in
+    let at-slice = c .before .before .before in
     let start = at-slice .before in
     let t = start .args .table .now in
     let s = sound-table t (all-places (λ k. k < 256) t 0 (λ i l. at-slice .shared-slice-known .given i .fits)) (known .counted .sound) in
@@ -19,7 +19,7 @@ returns c = λ known.
 
 returns-2 : tie.Need-returns-2
 returns-2 c = λ known.
-    let at-slice = c .before .before .before .before in
+    let at-slice = c .before .before .before .before .before in
     let start = at-slice .before in
     let t = start .args .table .now in
     let s = sound-table t (all-places (λ k. k < 256) t 0 (λ i l. at-slice .shared-slice-known .given i .fits)) (known .counted .sound) in
@@ -28,7 +28,7 @@ returns-2 c = λ known.
 
 returns-3 : tie.Need-returns-3
 returns-3 c = λ known.
-    let at-slice = c .before .before .before .before in
+    let at-slice = c .before .before .before .before .before in
     let start = at-slice .before in
     let t = start .args .table .now in
     let s = sound-table t (all-places (λ k. k < 256) t 0 (λ i l. at-slice .shared-slice-known .given i .fits)) (known .counted .sound) in

@@ -46,9 +46,9 @@ returns c =
         opens = sym opens ∙ looked;
         first-is = first .next-item2 .ensures;
         starts = starts;
-        behind = c .behind .ensures;
+        after-first = c .place-after .ensures;
       };
-      ahead = (omega (arith, turn .loop .inv .0, far .0, c .behind .ensures), omega (arith, far .1, c .behind .ensures));
+      ahead = (omega (arith, turn .loop .inv .0, far .0, c .place-after .ensures), omega (arith, far .1, c .place-after .ensures));
     }
 
 loop-less : tie.Need-loop-less Inv-loop μ-loop

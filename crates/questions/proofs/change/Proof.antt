@@ -24,7 +24,8 @@ slice-aggregate-permissions-of c =
 
 returns-2 : tie.Need-returns-2
 returns-2 c =
-    let at-permissions-of = c .before in
+    let given = c .before .counted-names .ensures in
+    let at-permissions-of = c .before .before in
     let at-counted = at-permissions-of .before .before .before in
     let at-count = at-counted .before .before in
     let at-table = at-count .before .before in
@@ -33,8 +34,8 @@ returns-2 c =
     let bytes = all-places (λ k. k < 256) t 0 (λ i l. at-table .shared-slice-known .given i .fits) in
     let told = at-count .count .ensures in
     let is = at-counted .counted .given .1 in
-    c .change .ensures (names-known t bytes told is)
-    (λ l. ap (ltb (a .permission)) (at-permissions-of .permissions-of .ensures) ∙ has-permission t bytes told is (a .class) (a .permission) l)
+    c .change .ensures (rw (given .0, given .1) (names-known t bytes told is))
+    (rw (given .0) (λ l. ap (ltb (a .permission)) (at-permissions-of .permissions-of .ensures) ∙ has-permission t bytes told is (a .class) (a .permission) l))
 
 pub change-spec : {M : Type 1} → statement M
 change-spec =
@@ -45,6 +46,7 @@ change-spec =
     (λ c. search needs)
     returns
     slice-aggregate-permissions-of
+    (λ c κs. search needs)
     (λ c κs. search needs)
     (λ c κs. search needs)
     returns-2)

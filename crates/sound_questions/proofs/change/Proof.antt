@@ -9,14 +9,14 @@ use Rattle.sound_questions.proofs.change.Tie as tie
 
 returns : tie.Need-returns
 returns c = λ summary.
-    let at-counts = c .before .before .before in
-    let at-table = at-counts .before in
+    let said = c .before .before .names-of .ensures in
+    let at-table = c .before .before .before in
     let a = at-table .before .args in
     let t = a .table .now in
     let bytes = all-places (λ k. k < 256) t 0 (λ i l. at-table .shared-slice-known .given i .fits) in
-    c .change .ensures (rw (at-counts .counts-of .ensures, c .before .before .special-of .ensures) (knows t _ bytes summary))
-    (rw (at-counts .counts-of .ensures) (λ l.
+    c .change .ensures (rw (said .0, said .1) (knows t _ bytes summary))
+    (rw (said .0) (λ l.
     c .before .has-permission .ensures (class-known t _ bytes summary (a .class) l) ∙ permission-known t _ bytes summary (a .class) (a .permission) l))
 
 pub change-spec : {M : Type 1} → statement M
-change-spec = tie.close (tie.spec (λ c κs. search needs) (λ c κs. search needs) (λ c κs. search needs) (λ c κs. search needs) returns)
+change-spec = tie.close (tie.spec (λ c κs. search needs) (λ c κs. search needs) (λ c κs. search needs) returns)

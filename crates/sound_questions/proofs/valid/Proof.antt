@@ -8,11 +8,11 @@ use Rattle.sound_questions.proofs.valid.Tie as tie
 
 returns : tie.Need-returns
 returns c = λ summary.
-    let at-counts = c .before .before in
-    let at-table = at-counts .before in
+    let said = c .before .names-of .ensures in
+    let at-table = c .before .before in
     let t = at-table .before .args .table .now in
     let bytes = all-places (λ k. k < 256) t 0 (λ i l. at-table .shared-slice-known .given i .fits) in
-    c .valid .ensures (rw (at-counts .counts-of .ensures, c .before .special-of .ensures) (knows t _ bytes summary))
+    c .valid .ensures (rw (said .0, said .1) (knows t _ bytes summary))
 
 pub valid-spec : {M : Type 1} → statement M
-valid-spec = tie.close (tie.spec (λ c κs. search needs) (λ c κs. search needs) (λ c κs. search needs) returns)
+valid-spec = tie.close (tie.spec (λ c κs. search needs) (λ c κs. search needs) returns)
