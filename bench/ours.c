@@ -3,7 +3,7 @@
  * usage: ours compile|sound|summarize|change|relabel|sound-change|sound-relabel FILE TIMES
  * change asks a granted change of the first user's first context, on class 1 (the first after process), permission 0: all its constraints
  * are consulted. relabel asks a granted relabelling of a file of that class, with that context for all three. The same with sound- in front is asked of the
- * table that was tested once, with its summary; since the clock itself takes a third of so short a time, the time is that of BATCH questions, by their
+ * table that was tested once, with its summary; since the clock itself takes as long as some of them, the time is that of BATCH questions, by their
  * number. Prints the answer and, as its last word, the best time of one run in nanoseconds. */
 #include <stdio.h>
 #include <stdlib.h>

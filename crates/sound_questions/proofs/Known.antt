@@ -7,7 +7,7 @@ use mathlib.Core.List.{List, []}
 use lib.Dec.{eqb, ltb}
 use lib.ListN.{length, getD}
 use lib.Seq.{getD-append-add}
-use borrow.Author.Tests.{eqb-true, ltb-true}
+use borrow.Author.Tests.{eqb-true, ltb-true, lt-ltb}
 use Rattle.bitset.proofs.SetLaws.{getD-tabulate}
 use Rattle.lexer.specs.Spell.{bytes}
 use Rattle.policy.specs.Basics.{Name, same, any, isIn}
@@ -119,9 +119,9 @@ module _ (t s : List ℕ) (all : Bytes t) (h : Summarized t s) where
   knows = record { counted = record { sound = found-sound; counts = counts }; object = object-known; asks = asks-known }
 
   -- a declared class has the permissions below their count
-  pub permission-known : (c k : ℕ) → c < countsFrom s .classes → ltb k (getD s (11 + c) 0) ≡ isFoundName (permissionIn t c k)
+  counted-permission : (c k : ℕ) → c < countsFrom s .classes → ltb k (getD s (11 + c) 0) ≡ isFoundName (permissionIn t c k)
   unfolding summaryOf
-  permission-known c k l =
+  counted-permission c k l =
       let class : c < length (classNames names) = omega (arith, l, classes-are) in
       ap (ltb k)
       (ap (λ (l : List ℕ). getD l (11 + c) 0) numbers
@@ -129,5 +129,7 @@ module _ (t s : List ℕ) (all : Bytes t) (h : Summarized t s) where
       ∙ getD-tabulate 32 (λ c. length (permissions names c)) c 0 (class-below t held c class))
       ∙ sym (permission-found t held c k class)
 
-  pub class-known : (c : ℕ) → c < countsFrom s .classes → c < 32
-  class-known c l = class-below t held c (omega (arith, l, classes-are))
+  -- as the summary is asked for it
+  pub permission-known : (c k : ℕ) → c < countsFrom s .classes → (ltb c 32 && ltb k (getD s (11 + c) 0)) ≡ isFoundName (permissionIn t c k)
+  permission-known c k l =
+      ap (λ (b : Bool). b && ltb k (getD s (11 + c) 0)) (lt-ltb c 32 (class-below t held c (omega (arith, l, classes-are)))) ∙ counted-permission c k l

@@ -99,7 +99,7 @@ fn is_word(table: &[u8], place: NamePlace, word: &[u8]) -> bool
 }
 
 // Whether the name of a sort and number is a word.
-pub fn is_named(table: &[u8], sort: usize, number: usize, word: &[u8]) -> bool
+fn is_named(table: &[u8], sort: usize, number: usize, word: &[u8]) -> bool
     ensures { λ r. ⌜ r ≡ hasName (now (table .entry)) (nameAt (now (table .entry)) sort number) (now (word .entry)) ⌝ }
 {
     let place = name_place(table, sort, number);

@@ -11,6 +11,7 @@ use symbols::NameFamily;
 use table_names::SpecialNames;
 use table_names::SpecialNumbers;
 ghost use mathlib.Core.Path.{_≡_};
+ghost use mathlib.Core.Bool.{_&&_};
 ghost use mathlib.Core.List.{_++_};
 ghost use Prim.Native.Nat.{_+_, _<_};
 ghost use lib.Dec.{ltb};
@@ -206,7 +207,7 @@ pub fn special_of(summary: &[u32; NUMBERS]) -> SpecialNames
 
 // Whether a class has a permission, by its place; no class past the greatest number of classes has one.
 pub fn has_permission(summary: &[u32; NUMBERS], class: usize, permission: usize) -> bool
-    ensures { λ r. ⌜ (class < 32 → r ≡ ltb permission (getD (now (summary .entry)) (11 + class) 0)) ⌝ }
+    ensures { λ r. ⌜ r ≡ (ltb class 32 && ltb permission (getD (now (summary .entry)) (11 + class) 0)) ⌝ }
 {
     if Class::MAX <= class {
         return false;
