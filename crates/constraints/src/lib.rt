@@ -292,8 +292,9 @@ fn has_permission(constraint: ConstraintRecord, permission: usize) -> bool
 
 // ---- all statements
 
-// The number of the first constraint of the class from a number on, where so many constraints start at `start`; one past
-// the last where there is none. This walk passes the constraints of all other classes, so it reads nothing but classes.
+// The number of the first constraint of the class from a number on, where so many constraints start at `start`; one
+// past the last where there is none. This walk passes the constraints of all other classes, so it reads nothing but
+// classes.
 fn next_of_class(table: &[u8], start: u32, count: u32, class: usize, from: u32) -> u32
     ensures { λ r. ⌜ NextOfClass (now (table .entry)) start count class from r ⌝ }
 {

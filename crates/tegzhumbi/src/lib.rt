@@ -15,8 +15,8 @@
 //     let answer = tegzhumbi::change(&memory, source, source, Class(0), Permission(0));
 //     // Change::Granted { consulted }, or a denial with its number, or a refusal, 11 or 12
 //
-// Each question tests the table first. A server that tests it once keeps its summary (`table_summary::summarize`) and asks
-// with that (`sound_questions`).
+// Each question tests the table first. A server that tests it once keeps its summary (`table_summary::summarize`) and
+// asks with that (`sound_questions`).
 ghost use mathlib.Core.Path.{_≡_};
 ghost use Rattle.policy.specs.Outcome.{ofText};
 ghost use Rattle.policy.specs.Questions.{validOn, newRoleOn, changeOn, relabelOn, nameOn, entryOn};

@@ -26,7 +26,8 @@ Inv-loop table bodies class permission sides start count consulted₀ next₀ co
     × (consulted ≤ next)
     × (next < bodies .count → constraintAt (drop (bodies .statements + 10 * next) table) .class ≡ class)
     × Left 4 (constraintNames class permission) (constraintHolds table bodies sides)
-    (firstFailing 4 (constraintNames class permission) (constraintHolds table bodies sides) 0 (constraintsIn table bodies)) consulted next (constraintsFrom table (bodies .statements) (bodies .count) next)
+    (firstFailing 4 (constraintNames class permission) (constraintHolds table bodies sides) 0 (constraintsIn table bodies)) consulted next
+    (constraintsFrom table (bodies .statements) (bodies .count) next)
 
 abbrev μ-loop : tie.MeasureT-loop
 μ-loop table bodies class permission sides start count consulted₀ next₀ consulted next = bodies .count - next

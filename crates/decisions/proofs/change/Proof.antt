@@ -29,7 +29,8 @@ returns-2 c = λ known has.
     let t = start .args .table .now in
     let s = sound-table t (all-places (λ k. k < 256) t 0 (λ i l. at-slice .shared-slice-known .given i .fits)) (known .counted .sound) in
     sym (change-of t s known _ ∙ rw (sym (at-if1 .before .declares-question .ensures t (start .args .permission) has) ∙ not-false _ (at-if1 .if1 .left))
-    (sym (context-denied t (start .args .names .special) (contextOf (start .args .source)) (contextOf (start .args .target)) (c .before .context-denial .ensures) (c .if2 .taken) _ _ change-tests _ _)))
+    (sym (context-denied t (start .args .names .special) (contextOf (start .args .source)) (contextOf (start .args .target))
+    (c .before .context-denial .ensures) (c .if2 .taken) _ _ change-tests _ _)))
 
 returns-3 : tie.Need-returns-3
 unfolding decide

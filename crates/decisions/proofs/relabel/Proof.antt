@@ -29,7 +29,8 @@ returns-2 c = λ known.
     let t = start .args .table .now in
     let s = sound-table t (all-places (λ k. k < 256) t 0 (λ i l. at-slice .shared-slice-known .given i .fits)) (known .counted .sound) in
     sym (relabel-of t s known _ ∙ rw (sym (at-if1 .before .declares-relabelling .ensures) ∙ not-false _ (at-if1 .if1 .left))
-    (sym (context-denied t (start .args .names .special) (contextOf (start .args .old)) (contextOf (start .args .new)) (c .before .context-denial .ensures) (c .if2 .taken) _ _ relabel-tests _ _)))
+    (sym (context-denied t (start .args .names .special) (contextOf (start .args .old)) (contextOf (start .args .new))
+    (c .before .context-denial .ensures) (c .if2 .taken) _ _ relabel-tests _ _)))
 
 returns-3 : tie.Need-returns-3
 unfolding decideRelabel

@@ -58,7 +58,8 @@ ahead c =
     let a = c .before .before .before .before .before .args in
     let l = c .before .before .loop in
     let n = totalsIn (a .counts) (now (a .permissions)) in
-    record-turn 10 constraintAt constraint-front (asksConstraint n) (good n 6) (now (a .table)) (l .taken) (a .constraints + 10 * l .next) (a .count - l .next) (a .start + 6 * l .taken) (a .rows - l .taken) (l .inv .2)
+    record-turn 10 constraintAt constraint-front (asksConstraint n) (good n 6) (now (a .table)) (l .taken) (a .constraints + 10 * l .next)
+    (a .count - l .next) (a .start + 6 * l .taken) (a .rows - l .taken) (l .inv .2)
     (a .constraints + 10 * (l .next + 1)) (a .count - (l .next + 1)) (omega arith) (omega arith) (constraintOf (c .constraint-at .result)) (c .constraint-at .ensures)
 
 returns : tie.Need-returns Inv-loop μ-loop
@@ -101,7 +102,8 @@ returns-5 c =
     let l = c .before .loop in
     let a = c .before .before .before .before .args in
     let n = totalsIn (a .counts) (a .permissions .now) in
-    take-end 10 constraintAt constraint-front (asksConstraint n) (good n 6) (a .table .now) (l .taken) (a .constraints + 10 * l .next) (a .count - l .next) (a .start + 6 * l .taken) (a .rows - l .taken) (l .inv .2)
+    take-end 10 constraintAt constraint-front (asksConstraint n) (good n 6) (a .table .now) (l .taken) (a .constraints + 10 * l .next)
+    (a .count - l .next) (a .start + 6 * l .taken) (a .rows - l .taken) (l .inv .2)
     (a .rows) (omega arith) (omega arith) (omega arith)
 
 pub constraints-fit-spec : {M : Type 1} → statement M
