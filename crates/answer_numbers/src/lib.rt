@@ -2,6 +2,7 @@
 //
 // Each function says of numbers that fit into four bytes what it gives; `tegzhumbi_c` proves that those of every answer
 // of the library do.
+#![tactic(auto)]
 ghost use Rattle.std.specs.Prelude.{◌≡◌, ◌<◌};
 ghost use Rattle.policy.specs.Answers.{compiling_of, validity_of, new_role_of, change_of, place_of};
 ghost use Rattle.answer_numbers.specs.Numbers.{answer_of, compiled_numbers, valid_numbers, change_numbers, new_role_numbers, part_numbers, CompiledFits, Fits, PartFits};
@@ -11,7 +12,7 @@ use policy::{Change, Compiling, NewRole, Place, Validity};
 // What compiling a text answers: the number 0, the length of its table and the line 0; or a refusal's number, place
 // and line.
 #[repr(C)]
-#[derive(Drop)]
+#[derive(Clone, Copy)]
 pub struct Compiled {
     pub number: u32,
     pub place: u32,
@@ -22,7 +23,7 @@ pub struct Compiled {
 // is that of the denial or the refusal, or the new role; `constraint` that of the statement that fails, for denials 4
 // and 6; `consulted` says how many statements were asked.
 #[repr(C)]
-#[derive(Drop)]
+#[derive(Clone, Copy)]
 pub struct Answer {
     pub outcome: u32,
     pub number: u32,
@@ -32,7 +33,7 @@ pub struct Answer {
 
 // Where a part of a table starts and how long it is, with the number 0; or a refusal's number.
 #[repr(C)]
-#[derive(Drop)]
+#[derive(Clone, Copy)]
 pub struct Part {
     pub number: u32,
     pub start: u32,

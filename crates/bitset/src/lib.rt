@@ -4,6 +4,7 @@
 // byte is in no set, and to insert it changes nothing. Of what other crates call, only to count asks for something:
 // that eight times the bytes are a usize. Two sets are combined and compared by `set_operators`; sets that are in a
 // larger slice are the matter of `set_rows`, but for `clear_at`, which is here because `complement` needs it.
+#![tactic(auto)]
 ghost use Rattle.std.specs.Prelude.{◌≡◌, ◌+◌, ◌*◌, ◌≤◌, ◌<◌, length};
 ghost use Rattle.std.specs.Int.Count.{ones};
 ghost use Rattle.bitset.specs.Sets as sets;

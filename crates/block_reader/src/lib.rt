@@ -3,6 +3,7 @@
 // declared and used. The keys have every block that was opened, also those that are closed. Beside them a filter has
 // the marks of these, so that a new block is compared with those before it only where it shares all its marks with
 // others.
+#![tactic(auto)]
 ghost use Rattle.std.specs.Prelude.{◌≡◌, ◌-◌};
 ghost use Rattle.block_reader.specs.Within.{none_open, OpensBlock, ClosesBlock};
 
@@ -19,7 +20,7 @@ pub const FILTER: usize = 1_024;
 
 // Where the reader is: how many blocks were opened so far, the number of the innermost one that is open, or 0,
 // and how many are open.
-#[derive(Drop)]
+#[derive(Clone, Copy)]
 pub struct OpenBlocks {
     pub count: usize,
     pub block: usize,
@@ -27,7 +28,7 @@ pub struct OpenBlocks {
 }
 
 // What opening a block comes to: where the reader stands then, or a fault, 4 or 6.
-#[derive(Drop)]
+#[derive(Clone, Copy)]
 pub enum Opened {
     Read(OpenBlocks),
     Fault(usize),

@@ -1,1 +1,2 @@
 // Theorems alone: they are in proofs/.
+#![tactic(auto)]

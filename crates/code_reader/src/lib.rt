@@ -3,6 +3,7 @@
 //
 // A family has at most 64 attributes. What is kept of each is a set of 64 bytes, one after the other, 4,096 bytes for
 // a family.
+#![tactic(auto)]
 ghost use Rattle.std.specs.Prelude.{◌≡◌, ◌+◌, ◌*◌, ◌<◌, length, get_or, drop};
 ghost use Rattle.code_reader.specs.Reading.{operands_of, is_relation, step_of};
 ghost use Rattle.code_reader.specs.AttributeSets.{added};
@@ -14,7 +15,7 @@ use statement_code::Unit;
 pub const FAMILY_BYTES: usize = Attribute::MAX * Type::SET_BYTES;
 
 // The place of a fault, or none.
-#[derive(Drop)]
+#[derive(Clone, Copy)]
 pub enum Found {
     At(usize),
     Nowhere,
@@ -89,7 +90,7 @@ pub fn add_row(rows: &mut [u8; FAMILY_BYTES], a: u16, set: &[u8; Type::SET_BYTES
 // ---- a role transition
 
 // The operands of a role transition: two references, the class and the new role.
-#[derive(Drop)]
+#[derive(Clone, Copy)]
 pub struct CodedTransition {
     pub roles: u16,
     pub types: u16,

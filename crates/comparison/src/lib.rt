@@ -1,4 +1,5 @@
 // What the long comparison asks from outside: the library's answers as numbers.
+#![tactic(auto)]
 ghost use Rattle.std.specs.Prelude.{◌≡◌};
 ghost use Rattle.lexer.specs.Scan.{scan, verdict_of};
 ghost use Rattle.comparison.specs.Numbers.{number_of, place_of};
@@ -8,7 +9,7 @@ use policy::Refusal;
 
 // A fault by its number and place; both are 0 where there is none.
 #[repr(C)]
-#[derive(Drop)]
+#[derive(Clone, Copy)]
 pub struct Fault {
     pub number: u64,
     pub place: u64,

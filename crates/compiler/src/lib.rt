@@ -1,5 +1,6 @@
 // The passes in their order: text and lent memory in, the answer out. What one pass leaves for the next is in local
 // arrays, and the lent memory is written to only when all refusals are past.
+#![tactic(auto)]
 ghost use Rattle.std.specs.Prelude.{◌≡◌, cond, ◌≤◌, eqb, length, take};
 ghost use Rattle.policy.specs.Outcome.{of_text, compiled, line_at, refusal_of};
 ghost use Rattle.policy.specs.Answers.{refusal_in};
@@ -16,7 +17,7 @@ use statement_reader::{CODE_UNITS, Progress, RECORD_BYTES, ROW_BYTES};
 use table_writer::Sizes;
 
 // What the passes come to: the length of the table that was written, or a fault's number and place.
-#[derive(Drop)]
+#[derive(Clone, Copy)]
 enum Passed {
     Written { length: usize },
     Refused { number: usize, place: usize },

@@ -1,5 +1,6 @@
 // `(constrain (C (P ...)) E)` with its names resolved: the record of body 6 and the rows of body 7 as they will be
 // in the table; faults 5, 6 and 7. Its form is known to be good where this is called.
+#![tactic(auto)]
 ghost use Rattle.std.specs.Prelude.{◌≡◌, ◌||◌, ◌%◌, eqb};
 ghost use Rattle.bitset.specs.Sets.{bit, from_bits};
 ghost use Rattle.policy.specs.Encode.{constraint_bytes};
@@ -16,7 +17,7 @@ use symbols::{Found, NameFamily};
 
 // The number of the row after the statement's rows; or the fault: a name is not declared, 5; a maximum is passed, 6;
 // the stack need is, 7.
-#[derive(Drop)]
+#[derive(Clone, Copy)]
 pub enum Constrained {
     Next(usize),
     Undeclared,
@@ -25,7 +26,7 @@ pub enum Constrained {
 }
 
 // The number of a class that a statement names, and the place after its name; or it is not declared.
-#[derive(Drop)]
+#[derive(Clone, Copy)]
 pub enum NamedClass {
     Is { class: usize, next: usize },
     Undeclared,
@@ -33,7 +34,7 @@ pub enum NamedClass {
 
 // A bit for each permission of a row of them, and the place after the row's close; or one of them is not a permission
 // of the class.
-#[derive(Drop)]
+#[derive(Clone, Copy)]
 enum PermissionMask {
     Mask { mask: u32, next: usize },
     Undeclared,
@@ -41,7 +42,7 @@ enum PermissionMask {
 
 // What a constraint is asked of: a class and a bit for each of its permissions; and the place after both. Or a name
 // is not declared.
-#[derive(Drop)]
+#[derive(Clone, Copy)]
 enum ClassAndPermissions {
     Of {
         class: usize,

@@ -1,4 +1,5 @@
 // The form of a constraint expression.
+#![tactic(auto)]
 ghost use Rattle.std.specs.Prelude.{◌≡◌, not};
 ghost use Rattle.lexer.specs.Forms.{frames_at, trim};
 ghost use Rattle.policy.specs.Basics.{Name};
@@ -18,7 +19,7 @@ use words::{NameKind, Word};
 
 // How a constraint expression begins: how many operands its operator joins, 0 for a comparison; the number of its
 // first word; and where it goes on.
-#[derive(Drop)]
+#[derive(Clone, Copy)]
 struct Head {
     wanted: usize,
     word: usize,

@@ -1,4 +1,5 @@
 // Writes the rows of a constraint expression, with its names resolved, and tells its stack need.
+#![tactic(auto)]
 ghost use Rattle.std.specs.Prelude.{◌≡◌, [], ◌∷◌, max};
 ghost use Rattle.lexer.specs.Forms.{frames_at, trim};
 ghost use Rattle.policy.specs.Words.{expression_word, op_of, Sides, three_sides, component_of};
@@ -17,14 +18,14 @@ use words::Word;
 
 // The place past the close of the expression, the number of the row after its rows and its stack need; or that a name
 // of it is not declared.
-#[derive(Drop)]
+#[derive(Clone, Copy)]
 pub enum RowsWritten {
     Next { at: usize, row: usize, need: usize },
     Undeclared,
 }
 
 // What a side is compared with: the kind of the row, and the number of a thing or an attribute.
-#[derive(Drop)]
+#[derive(Clone, Copy)]
 enum Operand {
     Is { kind: u8, number: usize },
     Undeclared,

@@ -1,5 +1,6 @@
 // The constraints of a table and its validatetrans statements: rows run on a stack of five, and the first statement
 // that fails. Every function answers for every table, sound or not, and for all numbers.
+#![tactic(auto)]
 ghost use Rattle.std.specs.Prelude.{◌≡◌, Bool, List, [], slice_index};
 ghost use Rattle.bitset.specs.Sets.{bit};
 ghost use Rattle.policy.specs.Image.{width};
@@ -21,7 +22,7 @@ use table_reader::{ConstraintRecord, RowRecord};
 // Where the constraints of a table, or its validatetrans statements, start and how many there are; where their rows
 // start; where the sets of attributes start, and how many of userattributes and of roleattributes come before the
 // others.
-#[derive(Drop)]
+#[derive(Clone, Copy)]
 pub struct Bodies {
     pub statements: u32,
     pub count: u32,
@@ -75,7 +76,7 @@ pub fn locate_relabels(table: &[u8], user_attributes: u16, role_attributes: u16)
 // ---- the stack
 
 // A stack of at most five Booleans: the top is bit 0, and a 1 is above the oldest.
-#[derive(Drop)]
+#[derive(Clone, Copy)]
 struct Stack {
     bits: u8,
 }

@@ -5,7 +5,7 @@ ghost use Rattle.std.specs.Prelude.{◌≡◌, ◌+◌, ◌*◌, ◌<◌, length
 use libc::STDIN_FILENO;
 
 // The next number, or that the input ends before it.
-#[derive(Drop)]
+#[derive(Clone, Copy)]
 pub enum Next {
     Number(usize),
     End,

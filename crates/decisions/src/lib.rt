@@ -3,6 +3,7 @@
 // The inner ones say what the bytes of any table say, but for the constraints and the validatetrans statements, which
 // speak of sound tables; that on a sound table, with its own counts, all this is what its image says, the four
 // questions promise.
+#![tactic(auto)]
 ghost use Rattle.std.specs.Prelude.{◌≡◌, List, ℕ, ◌≤◌, ◌<◌, eqb, drop};
 ghost use Rattle.policy.specs.Sound.{transition_at};
 ghost use Rattle.policy.specs.Deciding.{contexts_of, relabel_contexts, first_failing, role_may};
@@ -22,7 +23,7 @@ use policy::{
 use table_names::SpecialNames;
 
 // A context by its numbers. `kind` is the type: the language has another use for that word.
-#[derive(Drop)]
+#[derive(Clone, Copy)]
 pub struct Context {
     pub user: usize,
     pub role: usize,
@@ -31,7 +32,7 @@ pub struct Context {
 
 // What is known of the names of a table: how many there are of each sort, and the numbers of those that are treated
 // apart, if they were looked up.
-#[derive(Drop)]
+#[derive(Clone, Copy)]
 pub struct KnownNames {
     pub counts: NameCounts,
     pub special: SpecialNames,

@@ -1,5 +1,6 @@
 // Declarations of names and classes, put into the symbol table under their full names: faults 4 and 6. The form of a
 // statement is known to be good where it is declared here, so that a row that should be of names is one.
+#![tactic(auto)]
 ghost use Rattle.std.specs.Prelude.{◌≡◌, [], ◌∷◌, ◌≤◌, ◌<◌, length};
 ghost use Rattle.lexer.specs.Forms.{frames_at};
 ghost use Rattle.policy.specs.Encode.{name_entry, permission_entries};
@@ -21,7 +22,7 @@ use symbols::Found;
 pub const SYMBOL_BYTES: usize = scopes::SYMBOL_BYTES;
 
 // What declaring a name comes to: the new end of the symbols, fault 4, or fault 6.
-#[derive(Drop)]
+#[derive(Clone, Copy)]
 pub enum Declared {
     Next(usize),
     DeclaredAgain,
@@ -29,14 +30,14 @@ pub enum Declared {
 }
 
 // What the symbols say of a name: its family has it, or else how many its sort has.
-#[derive(Drop)]
+#[derive(Clone, Copy)]
 enum NameStatus {
     Declared,
     Undeclared(usize),
 }
 
 // The place past the entries that were written, or that there is no room for them.
-#[derive(Drop)]
+#[derive(Clone, Copy)]
 enum Added {
     Past(usize),
     NoRoom,

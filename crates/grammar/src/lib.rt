@@ -1,4 +1,5 @@
 // The forms of the statements and blocks: fault 3.
+#![tactic(auto)]
 ghost use Rattle.std.specs.Prelude.{◌≡◌, ℕ, ◌-◌};
 ghost use Rattle.lexer.specs.Forms.{frames_at, trim};
 ghost use Rattle.lexer.specs.Scan.{max_level};
@@ -16,7 +17,7 @@ use words::{NameKind, Word};
 
 // What a statement is by its first word: it declares a thing, an attribute or a class, fills an attribute, relates
 // two names, is a role transition, a constraint or a rule for relabelling. Or the word is no keyword.
-#[derive(Drop)]
+#[derive(Clone, Copy)]
 pub enum Keyword {
     Thing(Family),
     Attribute(Family),
@@ -30,7 +31,7 @@ pub enum Keyword {
 }
 
 // What a part of a statement holds.
-#[derive(Drop)]
+#[derive(Clone, Copy)]
 enum Content {
     Permissions,
     Set,
@@ -39,7 +40,7 @@ enum Content {
 
 // What follows a keyword: so many names of a kind; a name and permissions; a name and a set expression; a class with
 // permissions and a constraint expression; a class and a constraint expression. Or the word is no keyword.
-#[derive(Drop)]
+#[derive(Clone, Copy)]
 enum Shape {
     Names(NameKind, usize),
     Class,
@@ -50,7 +51,7 @@ enum Shape {
 }
 
 // The name of a block, by the place of its first byte and its length, or that the block is of no form.
-#[derive(Drop)]
+#[derive(Clone, Copy)]
 pub enum Header {
     Name { start: usize, len: usize },
     Bad,

@@ -1,1 +1,2 @@
 // Theorems alone: they are in proofs/, and the one definition that they add in specs/.
+#![tactic(auto)]

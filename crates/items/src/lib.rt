@@ -1,4 +1,5 @@
 // The items of a text, one after the other, and the rows that are of names alone.
+#![tactic(auto)]
 ghost use Rattle.std.specs.Prelude.{◌≡◌};
 ghost use Rattle.lexer.specs.Forms.{frames_at};
 ghost use Rattle.policy.specs.Grammar.{row_of, parts_alone};
@@ -11,7 +12,7 @@ use lexer::Token;
 use words::NameKind;
 
 // What is at a place: a word with its number, a parenthesis, or the end of the text; and the place after it.
-#[derive(Drop)]
+#[derive(Clone, Copy)]
 pub enum Item {
     Word {
         start: usize,
@@ -30,14 +31,14 @@ pub enum Item {
 }
 
 // The place after the close of the row that was read, or that its form is wrong.
-#[derive(Drop)]
+#[derive(Clone, Copy)]
 pub enum Parsed {
     Next(usize),
     Bad,
 }
 
 // How many operands or names there must be.
-#[derive(Drop)]
+#[derive(Clone, Copy)]
 pub enum Wanted {
     OneOrMore,
     Exactly(usize),

@@ -1,4 +1,5 @@
 // The lexer: what each byte of a text is, the scan for faults 1 and 2, and the tokens.
+#![tactic(auto)]
 ghost use Rattle.std.specs.Prelude.{◌≡◌, ℕ, ◌≤◌, length, drop};
 ghost use Rattle.lexer.specs.Class.{class_of, starts, goes_on, is_dot, ends_comment};
 ghost use Rattle.lexer.specs.Scan as spec;
@@ -7,7 +8,7 @@ ghost use Rattle.lexer.specs.Token.{token_at};
 ghost use Rattle.lexer.specs.Answers.{mark_of, Classes, word_goes_on, part_starts, bare_dot, name_goes_on, counted_from, comment_end, word_end, state_of};
 
 // A text: how many bytes it may have.
-#[derive(Drop)]
+#[derive(Clone, Copy)]
 pub struct Text;
 
 impl Text {
@@ -15,7 +16,7 @@ impl Text {
 }
 
 // A name: how many bytes it may have, a dot in front not counted, and the byte between its parts.
-#[derive(Drop)]
+#[derive(Clone, Copy)]
 pub struct Name;
 
 impl Name {
@@ -25,7 +26,7 @@ impl Name {
 }
 
 // A level of parentheses: how deep it may lie.
-#[derive(Drop)]
+#[derive(Clone, Copy)]
 pub struct Level;
 
 impl Level {
@@ -34,7 +35,7 @@ impl Level {
 
 // What a byte is. A line feed is a blank that also ends a comment. A dot is between the parts of a name or in front
 // of it.
-#[derive(Drop)]
+#[derive(Clone, Copy)]
 pub enum ByteClass {
     Blank,
     LineFeed,
@@ -48,7 +49,7 @@ pub enum ByteClass {
 }
 
 // What the scan says of a text: no fault, fault 1, or fault 2 at a place.
-#[derive(Drop)]
+#[derive(Clone, Copy)]
 pub enum Scanned {
     Clean,
     TooLong,
@@ -56,7 +57,7 @@ pub enum Scanned {
 }
 
 // A parenthesis by its place, a word by the place of its first byte and its length, or the end of the text.
-#[derive(Drop)]
+#[derive(Clone, Copy)]
 pub enum Token {
     Open(usize),
     Close(usize),
@@ -65,7 +66,7 @@ pub enum Token {
 }
 
 // What a byte between names does: it leads to a level, starts a comment or a name, or is a fault.
-#[derive(Drop)]
+#[derive(Clone, Copy)]
 enum Step {
     Level(usize),
     Comment,

@@ -2,6 +2,7 @@
 // for each family and length a chain of its entries, in order of declaration. A try walks one chain and compares each
 // name in it, up to the hit, and tells how many it compared. A finished table has no index: there a try walks all
 // entries, and compares those of the family and length.
+#![tactic(auto)]
 ghost use Rattle.std.specs.Prelude.{◌≡◌, ◌+◌, ◌<◌, ◌≤◌, length};
 ghost use Rattle.byte_slices.specs.Parts.{part};
 ghost use Rattle.policy.specs.Encode.{name_entry};
@@ -18,7 +19,7 @@ use policy::NameEntry;
 use symbols::{Entry, Found, NameFamily};
 
 // What a try found, and how many entries it compared byte by byte.
-#[derive(Drop)]
+#[derive(Clone, Copy)]
 pub struct Tried {
     pub found: Found,
     pub compared: usize,

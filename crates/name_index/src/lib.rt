@@ -3,6 +3,7 @@
 // The index is words of 8 bytes. The entry k has the words 2k and 2k + 1: the first eight bytes of its name, and its
 // link. A link names the next entry of its chain, and a chain its first and its last, by the number of the entry's
 // first word, 2k: that is where a try reads on.
+#![tactic(auto)]
 ghost use Rattle.std.specs.Prelude.{◌≡◌, ◌+◌, ◌<◌, ◌≤◌, length};
 ghost use Rattle.name_index.specs.Index.{front_of, word_in, chain_in, chain_word, link_in, link_word, ChainFits, LinkFits, put_word, put_node, put_next, put_last, put_more, index_bytes};
 
@@ -51,7 +52,7 @@ fn set_word(symbols: &mut [u8], k: usize, n: usize)
 // ---- chains and links
 
 // A chain: how many entries it has, and the first words of its first and its last entry.
-#[derive(Drop)]
+#[derive(Clone, Copy)]
 pub struct Chain {
     pub count: usize,
     pub first: usize,
@@ -89,7 +90,7 @@ fn chain_word(chain: Chain) -> usize
 
 // The link of an entry: the first word of the next entry of its chain, the entry's sort and number, and the place of
 // its name.
-#[derive(Drop)]
+#[derive(Clone, Copy)]
 pub struct Link {
     pub next: usize,
     pub sort: usize,

@@ -1,5 +1,6 @@
 // The names in a row of the text: the next one, how many there are, and whether one occurs twice, as a class's
 // permissions must not.
+#![tactic(auto)]
 ghost use Rattle.std.specs.Prelude.{◌≡◌, not, false, ◌+◌, ◌≤◌, length, set};
 ghost use Rattle.byte_slices.specs.Parts.{part};
 ghost use Rattle.lexer.specs.Forms.{frames_at};
@@ -10,7 +11,7 @@ ghost use Rattle.name_rows.specs.WordRows.{words_in, is_among_first, may_be_amon
 use lexer::Token;
 
 // The word that is next in a row, or that there is none.
-#[derive(Drop)]
+#[derive(Clone, Copy)]
 pub enum NextWord {
     At { start: usize, len: usize },
     Missing,

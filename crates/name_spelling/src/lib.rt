@@ -1,5 +1,6 @@
 // How a name of a table is spelt: which bytes and how many parts it has, and whether a part is a reserved word. One
 // pass tests and hashes its bytes.
+#![tactic(auto)]
 ghost use Rattle.std.specs.Prelude.{◌≡◌, true, not, ◌&&◌, ◌≤◌, ◌<◌, ltb, length, get_or};
 ghost use Rattle.lexer.specs.Answers.{Classes};
 ghost use Rattle.lexer.specs.Class.{class_of, starts, goes_on, is_part};
@@ -12,7 +13,7 @@ ghost use Rattle.name_spelling.specs.Spelling.{may_be_reserved, hash_if, PartRea
 pub const NO_NAME: usize = 4_294_967_296;
 
 // A part that was read: the hash of the name up to its end, and the place after it.
-#[derive(Drop)]
+#[derive(Clone, Copy)]
 struct Part {
     hash: usize,
     end: usize,
@@ -21,7 +22,7 @@ struct Part {
 // ---- reserved words
 
 // A byte as a bit among 64: the bit of half its number, which few others share.
-#[derive(Drop)]
+#[derive(Clone, Copy)]
 struct Ending;
 
 impl Ending {

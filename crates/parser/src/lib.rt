@@ -1,5 +1,6 @@
 // From a clean text to its statements: symbols, statement code, constraints and rows in lent memory, or the first
 // fault 3 to 7 with its place. Blocks leave nothing in that memory but the full names of what is declared in them.
+#![tactic(auto)]
 ghost use Rattle.std.specs.Prelude.{◌≡◌, ◌&&◌, leb, length, ℕ, ◌<◌};
 ghost use Rattle.items.specs.Looks.{item_at};
 ghost use Rattle.statement_reader.specs.Memory.{memory};
@@ -17,21 +18,21 @@ use policy::Refusal;
 use statement_reader::{CODE_UNITS, Progress, RECORD_BYTES, ROW_BYTES, Step};
 
 // The statements are read, or the number of the first fault and its place.
-#[derive(Drop)]
+#[derive(Clone, Copy)]
 pub enum Parsed {
     Accepted(Progress),
     Refused { number: usize, place: usize },
 }
 
 // A statement is read, and the place after it; or the number of its fault.
-#[derive(Drop)]
+#[derive(Clone, Copy)]
 enum Stated {
     Next(usize, Progress),
     Fault(usize),
 }
 
 // A block is opened, and the place after its name; or the number of its fault.
-#[derive(Drop)]
+#[derive(Clone, Copy)]
 enum Entered {
     Inside(usize, OpenBlocks),
     Fault(usize),
@@ -39,7 +40,7 @@ enum Entered {
 
 // A run of statements is read, and what comes after it: a block, by its place and the place after the word `block`;
 // the close of a block, by the place after it; or the end. Or the first fault, by its number and place.
-#[derive(Drop)]
+#[derive(Clone, Copy)]
 enum Run {
     Block {
         place: usize,

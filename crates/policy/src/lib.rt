@@ -1,8 +1,9 @@
 // What all crates share: the numbers of things with their maxima, the families and sorts of names, the numbers that
 // are in a table, and the answers. What the documents say of them is in specs/.
+#![tactic(auto)]
 
 // The number of a user, from 0 in text order.
-#[derive(Drop)]
+#[derive(Clone, Copy)]
 pub struct User(pub u64);
 
 impl User {
@@ -14,7 +15,7 @@ impl User {
 }
 
 // The number of a role.
-#[derive(Drop)]
+#[derive(Clone, Copy)]
 pub struct Role(pub u64);
 
 impl Role {
@@ -24,7 +25,7 @@ impl Role {
 }
 
 // The number of a type.
-#[derive(Drop)]
+#[derive(Clone, Copy)]
 pub struct Type(pub u64);
 
 impl Type {
@@ -34,7 +35,7 @@ impl Type {
 }
 
 // The number of an attribute in its family.
-#[derive(Drop)]
+#[derive(Clone, Copy)]
 pub struct Attribute(pub u64);
 
 impl Attribute {
@@ -43,7 +44,7 @@ impl Attribute {
 }
 
 // The number of a class.
-#[derive(Drop)]
+#[derive(Clone, Copy)]
 pub struct Class(pub u64);
 
 impl Class {
@@ -51,7 +52,7 @@ impl Class {
 }
 
 // The place of a permission in its class.
-#[derive(Drop)]
+#[derive(Clone, Copy)]
 pub struct Permission(pub u64);
 
 impl Permission {
@@ -60,7 +61,7 @@ impl Permission {
 }
 
 // The number of a role transition.
-#[derive(Drop)]
+#[derive(Clone, Copy)]
 pub struct Transition(pub u64);
 
 impl Transition {
@@ -78,7 +79,7 @@ impl Transition {
 }
 
 // The number of a constraint.
-#[derive(Drop)]
+#[derive(Clone, Copy)]
 pub struct Constraint(pub u64);
 
 impl Constraint {
@@ -102,7 +103,7 @@ impl Constraint {
 }
 
 // The number of a validatetrans statement, which says when a file may be relabelled.
-#[derive(Drop)]
+#[derive(Clone, Copy)]
 pub struct Relabel(pub u64);
 
 impl Relabel {
@@ -124,7 +125,7 @@ impl Relabel {
 }
 
 // The number of a constraint row, over all constraints.
-#[derive(Drop)]
+#[derive(Clone, Copy)]
 pub struct Row(pub u64);
 
 impl Row {
@@ -160,7 +161,7 @@ impl Row {
 }
 
 // A component of a context, as a row has it.
-#[derive(Drop)]
+#[derive(Clone, Copy)]
 pub struct Component;
 
 impl Component {
@@ -189,7 +190,7 @@ impl Component {
 }
 
 // The operator of a comparison, as a row has it.
-#[derive(Drop)]
+#[derive(Clone, Copy)]
 pub struct Operator;
 
 impl Operator {
@@ -210,7 +211,7 @@ impl Operator {
 }
 
 // A block: how deep blocks may nest.
-#[derive(Drop)]
+#[derive(Clone, Copy)]
 pub struct Block;
 
 impl Block {
@@ -218,7 +219,7 @@ impl Block {
 }
 
 // A full name, which is the names of the blocks around it and its own: how many parts it may have.
-#[derive(Drop)]
+#[derive(Clone, Copy)]
 pub struct FullName;
 
 impl FullName {
@@ -226,7 +227,7 @@ impl FullName {
 }
 
 // What a name is declared as, by the number that is in a table.
-#[derive(Drop)]
+#[derive(Clone, Copy)]
 pub struct Sort;
 
 impl Sort {
@@ -254,7 +255,7 @@ impl Sort {
 }
 
 // How many names of each sort there are; those of permissions are counted by class.
-#[derive(Drop)]
+#[derive(Clone, Copy)]
 pub struct NameCounts {
     pub users: usize,
     pub roles: usize,
@@ -267,7 +268,7 @@ pub struct NameCounts {
 
 // A table: the edition that is written, how many sections it has, and the bytes of its header: the edition and the
 // number of sections, and for each section its offset and its length.
-#[derive(Drop)]
+#[derive(Clone, Copy)]
 pub struct Table;
 
 impl Table {
@@ -287,7 +288,7 @@ impl Table {
 }
 
 // An entry of the names: the sort, the number, the length of the name, and the name.
-#[derive(Drop)]
+#[derive(Clone, Copy)]
 pub struct NameEntry;
 
 impl NameEntry {
@@ -300,7 +301,7 @@ impl NameEntry {
 }
 
 // The sections of a table, counted from 0: body 1 is the first one's bytes.
-#[derive(Drop)]
+#[derive(Clone, Copy)]
 pub struct Section;
 
 impl Section {
@@ -328,7 +329,7 @@ impl Section {
 }
 
 // Users with userattributes, roles with roleattributes, types with typeattributes.
-#[derive(Drop)]
+#[derive(Clone, Copy)]
 pub enum Family {
     Users,
     Roles,
@@ -336,14 +337,14 @@ pub enum Family {
 }
 
 // Which sides a constraint expression may name: the two of a change, or the three of a relabelling.
-#[derive(Drop)]
+#[derive(Clone, Copy)]
 pub enum Sides {
     Two,
     Three,
 }
 
 // What gives roles to users, types to roles, and to roles the roles that they may become.
-#[derive(Drop)]
+#[derive(Clone, Copy)]
 pub enum Relation {
     UserRole,
     RoleType,
@@ -351,7 +352,7 @@ pub enum Relation {
 }
 
 // A refusal of a text: its number, 1 to 10, its place, and the line of a place in the text, else 0.
-#[derive(Drop)]
+#[derive(Clone, Copy)]
 pub struct Refusal {
     pub number: usize,
     pub place: usize,
@@ -387,7 +388,7 @@ impl Refusal {
 
 // The numbers of the denials of a change and of a relabelling. A statement that fails comes with its number. Of a
 // relabelling the source is the old context and the target the new one.
-#[derive(Drop)]
+#[derive(Clone, Copy)]
 pub struct Denial;
 
 impl Denial {
@@ -405,14 +406,14 @@ impl Denial {
 }
 
 // What compiling a text answers: the length of its table, or a refusal.
-#[derive(Drop)]
+#[derive(Clone, Copy)]
 pub enum Compiling {
     Accepted { length: usize },
     Refused(Refusal),
 }
 
 // Whether a context is valid; or a refusal, 11 or 12.
-#[derive(Drop)]
+#[derive(Clone, Copy)]
 pub enum Validity {
     Valid,
     NotValid,
@@ -422,7 +423,7 @@ pub enum Validity {
 // What a change question, or one of relabelling, answers: granted; denial 1, 2, 3 or 5; denial 4 or 6 with the number
 // of the statement that fails; or a refusal, 11 or 12. `consulted` counts the statements that were asked; where it is
 // missing it is 0.
-#[derive(Drop)]
+#[derive(Clone, Copy)]
 pub enum Change {
     Granted {
         consulted: usize,
@@ -441,14 +442,14 @@ pub enum Change {
 }
 
 // The role that a transition proposes, or the role given; or a refusal, 11 or 12.
-#[derive(Drop)]
+#[derive(Clone, Copy)]
 pub enum NewRole {
     Role { number: usize },
     Refused { number: usize },
 }
 
 // Where a name or an entry is in the lent table; or a refusal, 11 or 12.
-#[derive(Drop)]
+#[derive(Clone, Copy)]
 pub enum Place {
     Part { start: usize, length: usize },
     Refused { number: usize },

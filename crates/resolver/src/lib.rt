@@ -1,4 +1,5 @@
 // From the code of the statements alone: the final set of every attribute, and faults 8 and 9 in their order.
+#![tactic(auto)]
 ghost use Rattle.std.specs.Prelude.{◌≡◌};
 ghost use Rattle.policy.specs.Answers.{family_of};
 ghost use Rattle.policy.specs.Basics.{or_else};
@@ -38,7 +39,7 @@ fn resolve_family(
 }
 
 // What becomes of a text without fault 1 to 7.
-#[derive(Drop)]
+#[derive(Clone, Copy)]
 pub enum Resolved {
     Cycle(usize),
     Clash(usize),

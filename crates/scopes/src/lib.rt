@@ -2,6 +2,7 @@
 // block: the scope. What is declared gets that name and a dot in front. A use is tried as a full name in the
 // innermost block, then in the blocks around it, and last at the whole-text level; the first hit of the family
 // decides.
+#![tactic(auto)]
 ghost use Rattle.std.specs.Prelude.{◌≡◌, true, ◌+◌, ◌<◌, ◌≤◌, length};
 ghost use Rattle.byte_slices.specs.Parts.{part};
 ghost use Rattle.policy.specs.Names.{has_dot_in_front};
@@ -19,7 +20,7 @@ pub const SYMBOL_BYTES: usize = name_index::SYMBOL_BYTES + 1 + lexer::Name::MAX;
 const SCOPE: usize = name_index::SYMBOL_BYTES;
 
 // A full name that was put together: its length, or that it is longer than a name may be.
-#[derive(Drop)]
+#[derive(Clone, Copy)]
 pub enum ComposedName {
     Length(usize),
     TooLong,

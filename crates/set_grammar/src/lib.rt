@@ -1,4 +1,5 @@
 // The form of a set expression.
+#![tactic(auto)]
 ghost use Rattle.std.specs.Prelude.{◌≡◌};
 ghost use Rattle.lexer.specs.Forms.{frames_at, trim};
 ghost use Rattle.policy.specs.Words.{set_word};
@@ -13,7 +14,7 @@ use lexer::Token;
 use words::{NameKind, Word};
 
 // How many operands a set expression must have, and where they begin.
-#[derive(Drop)]
+#[derive(Clone, Copy)]
 struct SetStart {
     wanted: Wanted,
     next: usize,

@@ -1,6 +1,7 @@
 // Set expressions with their names resolved: the part of the statement code that stands for one set expression. Its
 // form is known to be good where this is called; what is found out here is whether its names are declared, and its
 // units are written on the way.
+#![tactic(auto)]
 ghost use Rattle.std.specs.Prelude.{◌≡◌};
 ghost use Rattle.policy.specs.Words.{set_word};
 ghost use Rattle.words.specs.Numbers.{word_of};
@@ -14,14 +15,14 @@ use symbols::Found;
 use words::Word;
 
 // The unit of a reference to what a name of a family stands for, or that none is declared.
-#[derive(Drop)]
+#[derive(Clone, Copy)]
 pub enum NameUnit {
     Unit(u16),
     Missing,
 }
 
 // The operator of a set expression, and where its operands begin.
-#[derive(Drop)]
+#[derive(Clone, Copy)]
 struct SetStart {
     operator: u16,
     next: usize,
@@ -29,7 +30,7 @@ struct SetStart {
 
 // The place past the close of the set expression and the place past its units, or that one of its names is not
 // declared.
-#[derive(Drop)]
+#[derive(Clone, Copy)]
 pub enum SetWritten {
     Next { at: usize, to: usize },
     Undeclared,

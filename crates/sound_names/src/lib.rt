@@ -1,6 +1,7 @@
 // Whether body 1 of a table, its names, is sound, and how many things of each sort it names. The walk keeps counts of
 // what is declared so far, and a filter of the names so far: a name without its marks is new, and only of the few
 // others are the entries before it asked.
+#![tactic(auto)]
 ghost use Rattle.std.specs.Prelude.{◌≡◌, false, not, ◌+◌, ◌≤◌, length};
 ghost use Rattle.symbols.specs.Section.{between, entries_at};
 ghost use Rattle.symbols.specs.Lookup.{first_named};
@@ -13,7 +14,7 @@ use policy::{FullName, NameCounts, NameEntry, Sort};
 use symbols::{Entry, Found};
 
 // How many things of each sort a sound body 1 names.
-#[derive(Drop)]
+#[derive(Clone, Copy)]
 pub enum Counted {
     Sound(NameCounts),
     Unsound,

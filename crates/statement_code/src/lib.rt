@@ -1,5 +1,6 @@
 // The units of the statement code that the parser writes and the resolver reads, and how one is written; what they
 // stand for is in specs/.
+#![tactic(auto)]
 ghost use Rattle.std.specs.Prelude.{◌≡◌, ◌≤◌};
 ghost use Rattle.policy.specs.Answers.{family_of, relation_of};
 ghost use Rattle.statement_code.specs.Code.{family_number, relation_number};
@@ -8,7 +9,7 @@ ghost use Rattle.statement_code.specs.UnitWrites.{Stored};
 use policy::{Family, Relation};
 
 // A unit of the code.
-#[derive(Drop)]
+#[derive(Clone, Copy)]
 pub struct Unit(pub u16);
 
 impl Unit {

@@ -1,5 +1,6 @@
 // One statement whose form is good: its names are entered or looked up, and what it says is put into the lent memory;
 // or its fault 4 to 7.
+#![tactic(auto)]
 ghost use Rattle.std.specs.Prelude.{◌≡◌, List, ℕ, ◌+◌, ◌≤◌, length};
 ghost use Rattle.policy.specs.Words.{declare_k, class_k, constrain_k, relabel_k};
 ghost use Rattle.policy.specs.Statements.{thing_of, attribute_of};
@@ -28,7 +29,7 @@ pub const RECORD_BYTES: usize = Constraint::MAX_BODY_BYTES + Relabel::MAX_BODY_B
 pub const ROW_BYTES: usize = Row::MAX_BODY_BYTES + Relabel::MAX_ROWS_BODY_BYTES;
 
 // How far the lent memory is filled, and how many transitions, constraints and validatetrans statements there are.
-#[derive(Drop)]
+#[derive(Clone, Copy)]
 pub struct Progress {
     pub symbols: usize,
     pub code: usize,
@@ -40,14 +41,14 @@ pub struct Progress {
 }
 
 // One statement is read, or the number of its fault.
-#[derive(Drop)]
+#[derive(Clone, Copy)]
 pub enum Step {
     Read(Progress),
     Fault(usize),
 }
 
 // The statements that have their names in the statement code.
-#[derive(Drop)]
+#[derive(Clone, Copy)]
 enum CodedStatement {
     Set(Family),
     Relation(Relation),

@@ -1,6 +1,7 @@
 // Attribute sets, relations and role transitions with their names resolved, written as statement code: fault 5. The
 // form of a statement is known to be good where these functions are called; what is found out here is whether its
 // names are declared, and its units are written on the way.
+#![tactic(auto)]
 ghost use Rattle.std.specs.Prelude.{◌≡◌, [], ◌∷◌};
 ghost use Rattle.policy.specs.Answers.{family_of, relation_of};
 ghost use Rattle.policy.specs.Statements.{from_of, to_of};
@@ -17,7 +18,7 @@ use statement_code::Unit;
 use symbols::Found;
 
 // The place after the units written, or fault 5: a name is not declared before, or is of the wrong sort.
-#[derive(Drop)]
+#[derive(Clone, Copy)]
 pub enum CodeWritten {
     Next(usize),
     Undeclared,
@@ -25,7 +26,7 @@ pub enum CodeWritten {
 
 // What a name of a statement may stand for: a thing or an attribute of a family; an attribute of it and no thing; a
 // class; a role and no attribute.
-#[derive(Drop)]
+#[derive(Clone, Copy)]
 enum Kind {
     Reference(Family),
     Attribute(Family),
@@ -34,7 +35,7 @@ enum Kind {
 }
 
 // The place after the names that were read and the place after their units, or that one of them is not declared.
-#[derive(Drop)]
+#[derive(Clone, Copy)]
 enum NamesWritten {
     Next { at: usize, to: usize },
     Undeclared,

@@ -2,6 +2,7 @@
 // its name's length in 1, and the name's bytes. The memory is the caller's; the same functions serve the compiler and
 // finished tables. Parts that reach past the end of a slice are cut there, so that the searches ask nothing of their
 // caller; what writes asks for room.
+#![tactic(auto)]
 ghost use Rattle.std.specs.Prelude.{◌≡◌, ◌+◌, ◌-◌, ◌*◌, ◌<◌, ◌≤◌, length};
 ghost use Rattle.byte_slices.specs.Parts.{part};
 ghost use Rattle.policy.specs.Basics as basics;
@@ -14,7 +15,7 @@ ghost use Rattle.symbols.specs.Append.{Room, Appended};
 use policy::{NameEntry, Sort};
 
 // What is at a place of a section: an entry, with the place past it; the section's end; or bytes that are no entry.
-#[derive(Drop)]
+#[derive(Clone, Copy)]
 pub enum Entry {
     Named {
         sort: usize,
@@ -26,14 +27,14 @@ pub enum Entry {
 }
 
 // What a name was declared as.
-#[derive(Drop)]
+#[derive(Clone, Copy)]
 pub enum Found {
     At { sort: usize, number: usize },
     Missing,
 }
 
 // Where the bytes of a name stand.
-#[derive(Drop)]
+#[derive(Clone, Copy)]
 pub enum NamePlace {
     At { start: usize, length: usize },
     Nowhere,
@@ -99,7 +100,7 @@ pub fn same(a: &[u8], i: usize, b: &[u8], j: usize, len: usize) -> bool
 
 // The families of names by number: users, roles and types as their sorts, then the classes, and after them the
 // permissions of each class.
-#[derive(Drop)]
+#[derive(Clone, Copy)]
 pub struct NameFamily;
 
 impl NameFamily {

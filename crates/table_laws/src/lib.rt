@@ -4,3 +4,4 @@
 // ImageOnly: only the table of a well-formed image is read as that image.
 // TableBytes, ImageBytes: every element of a table is a byte.
 // QuestionLaws: the parts that name-of and entry answer hold the name and the record.
+#![tactic(auto)]

@@ -1,5 +1,6 @@
 // What the names of a table say, whatever the bytes are: how many there are of each sort, whether a thing has a word
 // for its name, and which numbers have the names that are treated apart.
+#![tactic(auto)]
 ghost use Rattle.std.specs.Prelude.{◌≡◌, replicate};
 ghost use Rattle.policy.specs.Words.{transition_words};
 ghost use Rattle.symbols.specs.Lookup.{reply_of};
@@ -157,7 +158,7 @@ fn asks_role_by_name(table: &[u8], class: usize, permission: usize) -> bool
 
 // The numbers of the names that are treated apart: of the role `object_r`, of the class `process`, and of its
 // permissions `transition` and `dyntransition`. Where there is no such name, a number that nothing has.
-#[derive(Drop)]
+#[derive(Clone, Copy)]
 pub struct SpecialNumbers {
     pub object: usize,
     pub process: usize,
@@ -166,7 +167,7 @@ pub struct SpecialNumbers {
 }
 
 // Whether these numbers are known. Where they are not, the names are looked at, each by a walk.
-#[derive(Drop)]
+#[derive(Clone, Copy)]
 pub enum SpecialNames {
     Unknown,
     Known(SpecialNumbers),

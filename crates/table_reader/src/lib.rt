@@ -1,5 +1,6 @@
 // Numbers and records in the bytes of a table, little endian. Every function answers for every table and every place:
 // past the end all bytes read 0.
+#![tactic(auto)]
 ghost use Rattle.std.specs.Prelude.{◌≡◌, ◌+◌, ◌-◌, ◌*◌, length, take, drop};
 ghost use Rattle.policy.specs.Basics.{unle};
 ghost use Rattle.policy.specs.Answers.{family_of};
@@ -10,7 +11,7 @@ ghost use Rattle.table_reader.specs.Records.{row_at, row_of, constraint_of, rela
 use policy::{Component, Constraint, Family, Relabel, Row, Table};
 
 // A constraint of body 6: its class, its permission mask, its first row and how many rows it has.
-#[derive(Drop)]
+#[derive(Clone, Copy)]
 pub struct ConstraintRecord {
     pub class: u16,
     pub mask: u32,
@@ -19,14 +20,14 @@ pub struct ConstraintRecord {
 }
 
 // A statement of body 9: its class, and how many rows of body 10 it takes up after those before it.
-#[derive(Drop)]
+#[derive(Clone, Copy)]
 pub struct RelabelRecord {
     pub class: u16,
     pub rows: u16,
 }
 
 // A row of body 7 or 10.
-#[derive(Drop)]
+#[derive(Clone, Copy)]
 pub struct RowRecord {
     pub kind: u8,
     pub component: u8,

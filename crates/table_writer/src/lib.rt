@@ -1,4 +1,5 @@
 // Puts a table together: its length, its header, and its bodies one after the other.
+#![tactic(auto)]
 ghost use Rattle.std.specs.Prelude.{◌≡◌, ◌+◌, ◌*◌, ◌≤◌};
 ghost use Rattle.policy.specs.Basics.{le};
 ghost use Rattle.table_writer.specs.PutBytes.{Puts, pair};
@@ -9,7 +10,7 @@ use code_reader::FAMILY_BYTES;
 use policy::{Constraint, Relabel, Relation, Role, Row, Section, Table, Transition, Type, User};
 
 // How many of each a table has, and how many bytes its names take.
-#[derive(Drop)]
+#[derive(Clone, Copy)]
 pub struct Sizes {
     pub names: usize,
     pub users: usize,
@@ -25,7 +26,7 @@ pub struct Sizes {
 }
 
 // Where the bodies after the first start, and where the last ends. The sets of attributes are one body of three parts.
-#[derive(Drop)]
+#[derive(Clone, Copy)]
 struct Starts {
     user_roles: usize,
     role_types: usize,

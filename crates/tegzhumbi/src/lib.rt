@@ -17,6 +17,7 @@
 //
 // Each question tests the table first. A server that tests it once keeps its summary (`table_summary::summarize`) and
 // asks with that (`sound_questions`).
+#![tactic(auto)]
 ghost use Rattle.std.specs.Prelude.{◌≡◌};
 ghost use Rattle.policy.specs.Outcome.{of_text};
 ghost use Rattle.policy.specs.Questions.{valid_on, new_role_on, change_on, relabel_on, name_on, entry_on};
@@ -33,7 +34,7 @@ pub use policy::{
 };
 
 // A context by its numbers; `kind` is the type's.
-#[derive(Drop)]
+#[derive(Clone, Copy)]
 pub struct Context {
     pub user: User,
     pub role: Role,
@@ -174,7 +175,7 @@ pub fn entry_place(table: &[u8], body: usize, place: usize) -> Place
 }
 
 // What compiling a text and asking its table comes to: the text's refusal, or the answer to the change.
-#[derive(Drop)]
+#[derive(Clone, Copy)]
 pub enum Decision {
     Refused(Refusal),
     Answered(Change),

@@ -1,4 +1,5 @@
 // The keywords and the reserved words, by their numbers; and which words may be names.
+#![tactic(auto)]
 ghost use Rattle.std.specs.Prelude.{◌≡◌, ◌≤◌, ◌<◌, ◌+◌, length, take, drop};
 ghost use Rattle.policy.specs.Basics.{is_in, unle};
 ghost use Rattle.policy.specs.Words.{reserved, is_reserved, dotless};
@@ -9,7 +10,7 @@ ghost use Rattle.words.specs.Keys.{number_by};
 use little_endian::{FOUR_ON, get2, get4, get8, wide};
 
 // The number of a word: its place in the table of words, from 1.
-#[derive(Drop)]
+#[derive(Clone, Copy)]
 pub struct Word;
 
 impl Word {
@@ -102,14 +103,14 @@ impl Word {
 
 // What a name may be: any name, or one part, which has no dot, as names that are declared, names of blocks and
 // permissions are.
-#[derive(Drop)]
+#[derive(Clone, Copy)]
 pub enum NameKind {
     Name,
     Part,
 }
 
 // Letters of the words as numbers, little endian, so that up to eight are compared at once.
-#[derive(Drop)]
+#[derive(Clone, Copy)]
 struct Letters;
 
 impl Letters {
