@@ -1,0 +1,96 @@
+-- `constraints::first_failing` meets its contract. The loop's invariant: the constraints that are left, after those consulted, decide as all do, and the
+-- first of them is of the class. Each way through a turn is one law of ScanLaws. The measure is the number of constraints left. Assumes nothing.
+use Rattle.std.proofs.Common.{◌≡◌, ◌+◌, ◌-◌, ◌*◌, ◌∷◌, sym, ap, ◌∙◌, add-zero, arith, eq-eqb}
+use native.Mathlib.Nat.{sub-zero}
+use borrow.Author.Tests.{not-true, not-false}
+use Rattle.policy.specs.Encode.{ConstraintRecord}
+use Rattle.policy.specs.Sound.{constraint_at}
+use Rattle.policy.specs.Deciding.{first_failing}
+use Rattle.table_reader.specs.Records.{constraint_of}
+use Rattle.table_reader.proofs.RecordLaws.{records-none}
+use Rattle.constraints.specs.TableConstraints.{constraints_in, constraints_from, constraint_names, constraint_holds}
+use Rattle.constraints.proofs.ScanLaws.{Left, left-all, left-moved, left-skip, left-pass, left-fail, left-none}
+use Rattle.constraints.proofs.ClassWalkLaws.{constraints-first}
+use Rattle.constraints.proofs.first_failing.Goals as goal
+
+-- the constraint that is read is the first of those left
+ahead : (c : tie.After-constraint-at invariant-loop decreases-loop) →
+    let at-loop = c.before.before.before in
+    let a = at-loop.before.before.before.before.args in
+    let l = at-loop.loop in
+    let n = constraint_names a.class a.permission in
+    let h = constraint_holds a.table.now a.bodies a.sides.now in
+    Left 4 n h (first_failing 4 n h 0 (constraints_in a.table.now a.bodies)) l.consulted l.next
+    (constraint_of c.constraint-at.result ∷ constraints_from a.table.now a.bodies.statements a.bodies.count (l.next + 1))
+ahead c =
+    let at_test = c.before.before in
+    let at-loop = at_test.before in
+    let a = at-loop.before.before.before.before.args in
+    let l = at-loop.loop in
+    rw c.constraint-at.ensures (rw (constraints-first a.table.now a.bodies.statements a.bodies.count l.next at_test.loop-test.true) at l.invariant.3)
+
+-- its class is the one asked for, so that its mask says whether it names the permission
+named : (c : tie.After-has-permission invariant-loop decreases-loop) →
+    let a = c.before.before.before.before.before.before.before.before.args in
+    constraint_names a.class a.permission (constraint_of c.before.constraint-at.result) ≡ c.has-permission.result
+named c =
+    let at_test = c.before.before.before in
+    let read = ap (λ (h : ConstraintRecord). h.class) c.before.constraint-at.ensures in
+    rw (eq-eqb _ _ (read ∙ at_test.before.loop.invariant.2 at_test.loop-test.true)) (sym c.has-permission.ensures)
+
+pub loop-next-init : goal.loop-next-init
+loop-next-init c =
+    let found = c.next_of_class-next.ensures in (
+      found.passed.within (omega arith),
+      omega arith,
+      found.of-class,
+      left-moved _ _ _ (rw (sub-zero, add-zero) (left-all _ _ _ _)) (found.passed.decides _ _),
+    )
+
+pub overflow_add-number : goal.overflow_add-number
+overflow_add-number c = omega arith
+
+pub loop-next-smaller-then-not-has_permission : goal.loop-next-smaller-then-not-has_permission
+loop-next-smaller-then-not-has_permission c = omega (arith, c.next_of_class-next-in-loop-next.ensures.passed.ahead)
+
+pub loop-next-preserved-then-not-has_permission : goal.loop-next-preserved-then-not-has_permission
+loop-next-preserved-then-not-has_permission c =
+    let found = c.next_of_class-next-in-loop-next.ensures in (
+      found.passed.within (omega arith),
+      omega (arith, found.passed.ahead),
+      found.of-class,
+      left-moved _ _ _ (left-skip _ _ _ (ahead c.before.before) (named c.before ∙ not-true _ c.if-not-has_permission.true-raw)) (found.passed.decides _ _),
+    )
+
+pub overflow_add-consulted : goal.overflow_add-consulted
+overflow_add-consulted c = omega arith
+
+pub overflow_cast-result : goal.overflow_cast-result
+overflow_cast-result c = omega arith
+
+pub returns-then-not-evaluate : goal.returns-then-not-evaluate
+returns-then-not-evaluate c =
+    left-fail _ _ _ (ahead at-if1.before.before) (named at-if1.before ∙ not-false _ c.if-not-has_permission.false-raw)
+    (sym c.evaluate.ensures ∙ not-true _ c.if-not-evaluate.true-raw)
+
+pub loop-next-smaller : goal.loop-next-smaller
+loop-next-smaller c = omega (arith, c.next_of_class-next-in-loop-next.ensures.passed.ahead)
+
+pub loop-next-preserved : goal.loop-next-preserved
+loop-next-preserved c =
+    let found = c.next_of_class-next-in-loop-next.ensures in (
+      found.passed.within (omega arith),
+      omega (arith, found.passed.ahead),
+      found.of-class,
+      left-moved _ _ _
+          (left-pass _ _ _ (ahead at-if1.before.before) (named at-if1.before ∙ not-false _ c.if-not-has_permission.false-raw)
+          (sym c.evaluate.ensures ∙ not-false _ c.if-not-evaluate.false-raw))
+          (found.passed.decides _ _),
+    )
+
+pub returns : goal.returns
+returns c =
+    let l = c.loop-next in
+    let a = c.args in
+    let at = a.bodies.statements + 10 * l.next in
+    left-none _ _ _ (rw (records-none 10 constraint_at a.table.now at (a.bodies.count - l.next) (omega arith)) at l.invariant.3)

@@ -1,0 +1,31 @@
+-- `grammar::only_part` meets its contract. Assumes nothing.
+use mathlib.Core.Path.{refl, ◌∙◌}
+use mathlib.Core.Bool.{false}
+use mathlib.Core.List.{[], ◌∷◌}
+use borrow.Author.Rules.{rules}
+use Rattle.grammar.specs.Shapes.{only_part}
+use Rattle.items.proofs.Items.{sees, by_part, too-deep, alike}
+use Rattle.items.proofs.Rows.{told, refuse, after-part}
+use Rattle.items.proofs.Rows.{trim-closed}
+use Rattle.grammar.proofs.only_part.Goals as goal
+
+pub returns-then-levels-eq0 : goal.returns-then-levels-eq0
+returns-then-levels-eq0 c = refuse (too-deep (only_part _) _ (sees c.next_item-item.ensures c.in-Open.is) c.if-levels-eq0.true)
+
+pub enum_told-1 : goal.enum_told-1
+enum_told-1 c = search rules
+
+pub returns-in-Next : goal.returns-in-Next
+returns-in-Next c =
+    let l = sees c.next_item-item.ensures
+    c.in-Open.is in
+    let g = told c.content_form-inner.ensures c.in-Next.is in
+    after-part l g (by_part (only_part _) _ _ l g.end c.if-levels-eq0.false ∙ rw g.good (trim-closed _ _)) c.close_form.ensures
+
+pub returns-in-Bad : goal.returns-in-Bad
+returns-in-Bad c =
+    let l = sees c.next_item-item.ensures c.in-Open.is in
+    refuse (by_part (only_part _) _ _ l refl c.if-levels-eq0.false ∙ rw (told c.content_form-inner.ensures c.in-Bad.is))
+
+pub returns-in-Word : goal.returns-in-Word
+returns-in-Word c = refuse (alike (only_part _) (λ f. false) _ _ _ (0 ∷ 2 ∷ 3 ∷ []) _ (λ s b f. refl, tt, refl, refl) c.next_item-item.ensures c.in-Word.keys2)

@@ -1,0 +1,23 @@
+-- `lexer::comment_end` meets its contract: the first byte from the place reached on that ends a comment is the first from
+-- the place asked on. Assumes nothing.
+use Prim.Native.Nat.{◌-◌}
+use mathlib.Core.Path.{refl, sym, ◌∙◌}
+use Rattle.lexer.specs.Class.{ends_comment}
+use Rattle.lexer.proofs.Ends.{told, found, further, none_left}
+use Rattle.lexer.proofs.comment_end.Goals as goal
+
+pub loop-i-init : goal.loop-i-init
+loop-i-init c = refl
+
+pub returns-then-ends_comment : goal.returns-then-ends_comment
+returns-then-ends_comment c =
+    sym (found _ ends_comment _ (told ends_comment c.class_in.ensures c.ends_comment.ensures c.if-ends_comment.true)
+    c.loop-i-test.true) ∙ c.loop-i.invariant
+
+pub loop-i-preserved : goal.loop-i-preserved
+loop-i-preserved c =
+    sym (further _ ends_comment _ (told ends_comment c.class_in.ensures c.ends_comment.ensures c.if-ends_comment.false)
+    c.loop-i-test.true) ∙ c.loop-i.invariant
+
+pub returns : goal.returns
+returns c = sym (none_left _ ends_comment _ c.loop-i-test.false) ∙ c.loop-i.invariant

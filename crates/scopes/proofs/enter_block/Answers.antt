@@ -1,0 +1,30 @@
+-- `scopes::enter_block` meets its contract: the full name that was put together becomes the scope. Assumes nothing.
+use native.Mathlib.Omega.{arith}
+use mathlib.Core.Path.{refl}
+use Rattle.byte_slices.specs.Parts.{part}
+use Rattle.scopes.proofs.OpenAndClose.{not_entered, short, lent-all, entered}
+use Rattle.scopes.proofs.enter_block.Goals as goal
+
+pub returns-in_default : goal.returns-in_default
+returns-in_default c =
+    not_entered c.args.symbols.now (part c.args.text.now c.args.from c.args.len) c.requires c.full_name-named.ensures c.in_default.is
+
+pub copy-requires : goal.copy-requires
+copy-requires c =
+    let told = c.in-Length.given in
+    let t = c.args.symbols.now in
+    let w = part c.args.text.now c.args.from c.args.len in
+    let few = short t w c.requires c.full_name-named.ensures told.0.0 told.1 refl in
+    (omega arith, omega (arith, lent-all t w c.requires c.full_name-named.ensures told.0.0 told.1 refl))
+
+pub overflow_cast-symbols : goal.overflow_cast-symbols
+overflow_cast-symbols c =
+    let told = c.in-Length.given in
+    let w = part c.args.text.now c.args.from c.args.len in
+    omega (arith, short c.args.symbols.now w c.requires c.full_name-named.ensures told.0.0 told.1 refl)
+
+pub returns : goal.returns
+returns c =
+    let told = c.in-Length.given in
+    let w = part c.args.text.now c.args.from c.args.len in
+    entered c.args.symbols.now w c.requires c.full_name-named.ensures told.0.0 told.1 refl c.copy.ensures

@@ -1,0 +1,25 @@
+-- `statement_writer::number_of` meets its contract: what the search finds, if it is of the sort. Assumes nothing.
+use borrow.Author.Rules.{rules}
+use Rattle.statement_writer.proofs.NumberLaws.{numbers, other-sort, too_large, of-the-sort}
+use Rattle.statement_writer.proofs.number_of.Goals as goal
+
+pub returns-then-s-sort : goal.returns-then-s-sort
+returns-then-s-sort c =
+    numbers c.family_of-family.ensures c.lookup-found.ensures
+    (rw c.in-At.is (other-sort _ _ c.in-At.number c.if-s-sort.true))
+
+pub returns-then-number : goal.returns-then-number
+returns-then-number c =
+    numbers c.family_of-family.ensures c.lookup-found.ensures
+    (rw c.in-At.is (too_large _ _ _ c.if-s-sort.false c.if-number.true))
+
+pub enum_told-1 : goal.enum_told-1
+enum_told-1 c = search rules
+
+pub returns-else-number : goal.returns-else-number
+returns-else-number c =
+    numbers c.family_of-family.ensures c.lookup-found.ensures
+    (rw c.in-At.is (of-the-sort _ _ _ c.if-s-sort.false c.if-number.false))
+
+pub returns-in-Missing : goal.returns-in-Missing
+returns-in-Missing c = numbers c.family_of-family.ensures c.lookup-found.ensures (rw c.in-Missing.is)

@@ -1,0 +1,33 @@
+-- `statement_writer::write_name` meets its contract: a word that names something of the kind, or not. Assumes nothing.
+use borrow.Author.Rules.{rules}
+use native.Mathlib.Omega.{arith}
+use mathlib.Core.Path.{refl}
+use mathlib.Core.List.{[], ◌∷◌}
+use mathlib.Core.Option.{none}
+use Rattle.items.proofs.Frames.{sees}
+use Rattle.items.proofs.Items.{alike}
+use Rattle.statement_writer.specs.NameKinds.{first_unit}
+use Rattle.statement_writer.proofs.RowNames.{no_word, no_name, one_name}
+use Rattle.statement_writer.proofs.write_name.Goals as goal
+
+pub returns-in_default : goal.returns-in_default
+returns-in_default c =
+    no_word λ env levels. alike (first_unit env _) (λ f. none) _ _ _ (1 ∷ 2 ∷ 3 ∷ []) levels (tt, λ x f g. refl, refl, refl) c.next_item-item.ensures c.in_default.keys2
+
+pub overflow_add-end : goal.overflow_add-end
+overflow_add-end c = omega (arith, (sees c.next_item-item.ensures c.in-Word.is).ahead.3)
+
+pub slice_bounds-name-end : goal.slice_bounds-name-end
+slice_bounds-name-end c = omega (arith, (sees c.next_item-item.ensures c.in-Word.is).ahead.3)
+
+pub enum_told-1 : goal.enum_told-1
+enum_told-1 c = search rules
+
+pub returns-in_default-referred : goal.returns-in_default-referred
+returns-in_default-referred c =
+    no_name (sees c.next_item-item.ensures c.in-Word.is) c.name_unit-referred.ensures c.in_default-referred.is
+
+pub returns : goal.returns
+returns c =
+    one_name (sees c.next_item-item.ensures c.in-Word.is) c.name_unit-referred.ensures
+    c.in-Unit.is c.put_unit-u.ensures

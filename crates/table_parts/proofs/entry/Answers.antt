@@ -1,0 +1,9 @@
+-- `table_parts::entry` meets its contract: the part at the entry's place. Assumes nothing.
+use mathlib.Core.Path.{ap, ◌∙◌}
+use Rattle.policy.specs.Deciding.{Reply}
+use Rattle.policy.specs.Questions.{Part}
+use Rattle.table_parts.specs.ShownPart.{shown_part}
+use Rattle.table_parts.proofs.entry.Goals as goal
+
+pub returns : goal.returns
+returns c = c.part_at.ensures ∙ ap (λ (r : Reply Part). shown_part r c.args.table.now) c.entry_place.ensures
