@@ -3,6 +3,7 @@ use Rattle.items.proofs.Items.{sees}
 use Rattle.constrain_statement.proofs.ClassLaws.{class-told}
 use Rattle.constrain_statement.proofs.PermissionLaws.{no-class, part-missing, permission-undeclared, close-missing, scoped}
 use native.Mathlib.Omega.{arith}
+use borrow.Enum.Refused.{opened}
 use Rattle.constrain_statement.proofs.class_and_permissions.Goals as goal
 
 pub returns-in_default : goal.returns-in_default
@@ -10,7 +11,7 @@ returns-in_default c = no-class c.class_at-named.ensures c.in_default.is
 
 pub returns-in_default-second : goal.returns-in_default-second
 returns-in_default-second c =
-    part-missing c.class_at-named.ensures c.in-Is.is c.next_item-second.ensures c.in_default-second.keys2
+    part-missing c.class_at-named.ensures c.in-Is.is c.next_item-second.ensures (opened c.in_default-second.in_default-second-own.keys2)
 
 pub overflow_add-class : goal.overflow_add-class
 overflow_add-class c =
@@ -25,7 +26,7 @@ pub returns-in_default-last : goal.returns-in_default-last
 returns-in_default-last c =
     close-missing c.class_at-named.ensures c.in-Is.is
     (sees c.next_item-second.ensures c.in-Open.is) c.permission_mask-masked.ensures c.in-Mask.is
-    c.next_item-last.ensures c.in_default-last.keys2
+    c.next_item-last.ensures (opened c.in_default-last.in_default-last-own.keys2)
 
 pub returns : goal.returns
 returns c =

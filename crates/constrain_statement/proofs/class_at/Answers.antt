@@ -2,10 +2,11 @@
 use Rattle.items.proofs.Items.{sees}
 use Rattle.constrain_statement.proofs.ClassLaws.{word-missing, class-undeclared, class-too-far, class-found}
 use native.Mathlib.Omega.{arith}
+use borrow.Enum.Refused.{opened}
 use Rattle.constrain_statement.proofs.class_at.Goals as goal
 
 pub returns-in_default : goal.returns-in_default
-returns-in_default c = word-missing c.next_item-first.ensures c.in_default.keys2
+returns-in_default c = word-missing c.next_item-first.ensures (opened c.in_default.in_default-own.keys2)
 
 pub overflow_add-end : goal.overflow_add-end
 overflow_add-end c = omega (arith, (sees c.next_item-first.ensures c.in-Word.is).ahead.3)

@@ -37,4 +37,4 @@ pub returns-in-Close : goal.returns-in-Close
 returns-in-Close c = finished c.loop-start.invariant (sees c.next_item-item.ensures c.in-Close.is)
 
 pub returns-in-Open : goal.returns-in-Open
-returns-in-Open c = no_names c.loop-start.invariant c.next_item-item.ensures c.in-Open.keys3
+returns-in-Open c = no_names c.loop-start.invariant c.next_item-item.ensures c.in-Open.in-Open-own.keys3

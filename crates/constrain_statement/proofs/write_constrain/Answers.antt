@@ -5,13 +5,14 @@ use Rattle.items.proofs.Items.{sees}
 use Rattle.constraint_writer.proofs.WrittenRows.{told}
 use Rattle.constrain_statement.proofs.Answers.{past-rows, scope-missing, scope-undeclared, expression-missing, name-undeclared, answered}
 use native.Mathlib.Omega.{arith}
+use borrow.Enum.Refused.{opened}
 use Rattle.constrain_statement.proofs.write_constrain.Goals as goal
 
 pub returns-then-row-gt-MAX : goal.returns-then-row-gt-MAX
 returns-then-row-gt-MAX c = past-rows c.if-row-gt-MAX.true
 
 pub returns-in_default : goal.returns-in_default
-returns-in_default c = scope-missing c.next_item-first.ensures c.in_default.keys2
+returns-in_default c = scope-missing c.next_item-first.ensures (opened c.in_default.in_default-own.keys2)
 
 pub returns-in_default-scope : goal.returns-in_default-scope
 returns-in_default-scope c =
@@ -20,7 +21,7 @@ returns-in_default-scope c =
 pub returns-in_default-second : goal.returns-in_default-second
 returns-in_default-second c =
     expression-missing (sees c.next_item-first.ensures c.in-Open.is) c.class_and_permissions-scope.ensures
-    c.in-Of.is c.next_item-second.ensures c.in_default-second.keys2
+    c.in-Of.is c.next_item-second.ensures (opened c.in_default-second.in_default-second-own.keys2)
 
 pub returns-in_default-written : goal.returns-in_default-written
 returns-in_default-written c =

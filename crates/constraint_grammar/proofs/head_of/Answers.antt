@@ -13,4 +13,4 @@ pub returns-in-Open : goal.returns-in-Open
 returns-in-Open c =
     let at = c.args.at in
     rw (← c.next_item-item.ensures)
-    (among (1 ∷ 2 ∷ 3 ∷ []) (λ (r : Item). head_by 0 0 at ≡ head_of at r) (tt, λ p q. refl, λ q. refl, refl) c.next_item-item.result c.in-Open.keys2)
+    (among (1 ∷ 2 ∷ 3 ∷ []) (λ (r : Item). head_by 0 0 at ≡ head_of at r) (tt, λ p q. refl, λ q. refl, refl) c.next_item-item.result c.in-Open.in-Open-own.keys2)

@@ -23,4 +23,4 @@ returns-else-compares c =
     refuse (ap (second_side _ _ _) l.here ∙ rw bad)
 
 pub returns-in-Open : goal.returns-in-Open
-returns-in-Open c = refuse (alike-here (second_side _ _ _) (λ f. false) _ _ _ (1 ∷ 2 ∷ 3 ∷ []) (tt, λ x f g. refl, refl, refl) c.next_item-item.ensures c.in-Open.keys2)
+returns-in-Open c = refuse (alike-here (second_side _ _ _) (λ f. false) _ _ _ (1 ∷ 2 ∷ 3 ∷ []) (tt, λ x f g. refl, refl, refl) c.next_item-item.ensures c.in-Open.in-Open-own.keys2)

@@ -6,21 +6,22 @@ use Rattle.constraint_writer.proofs.RowBytes.{all-kept}
 use Rattle.constraint_writer.proofs.Operands.{compares-told}
 use Rattle.constraint_writer.proofs.WrittenRows.{no-form}
 use Rattle.constraint_writer.proofs.Comparisons.{first-missing, second-missing, close-missing, not-declared, compared-row}
+use borrow.Enum.Refused.{opened}
 use Rattle.constraint_writer.proofs.comparison.Goals as goal
 
 pub returns-in_default : goal.returns-in_default
 returns-in_default c =
-    no-form (all-kept _ _) (first-missing _ _ _ c.next_item-first.ensures c.in_default.keys2)
+    no-form (all-kept _ _) (first-missing _ _ _ c.next_item-first.ensures (opened c.in_default.in_default-own.keys2))
 
 pub returns-in_default-second : goal.returns-in_default-second
 returns-in_default-second c =
-    no-form (all-kept _ _) (second-missing _ (sees c.next_item-first.ensures c.in-Word.is) c.next_item-second.ensures c.in_default-second.keys2)
+    no-form (all-kept _ _) (second-missing _ (sees c.next_item-first.ensures c.in-Word.is) c.next_item-second.ensures (opened c.in_default-second.in_default-second-own.keys2))
 
 pub returns-in_default-last : goal.returns-in_default-last
 returns-in_default-last c =
     no-form (all-kept _ _)
     (close-missing _ (sees c.next_item-first.ensures c.in-Word.is)
-    (sees c.next_item-second.ensures c.in-Word-second.is) c.next_item-last.ensures c.in_default-last.keys2)
+    (sees c.next_item-second.ensures c.in-Word-second.is) c.next_item-last.ensures (opened c.in_default-last.in_default-last-own.keys2))
 
 pub overflow_add-end : goal.overflow_add-end
 overflow_add-end c =

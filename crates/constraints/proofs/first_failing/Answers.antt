@@ -12,31 +12,28 @@ use Rattle.constraints.specs.TableConstraints.{constraints_in, constraints_from,
 use Rattle.constraints.proofs.ScanLaws.{Left, left-all, left-moved, left-skip, left-pass, left-fail, left-none}
 use Rattle.constraints.proofs.ClassWalkLaws.{constraints-first}
 use Rattle.constraints.proofs.first_failing.Goals as goal
+use Rattle.constraints.proofs.first_failing.Goals.{After-constraint_at-constraint, After-has_permission}
 
 -- the constraint that is read is the first of those left
-ahead : (c : tie.After-constraint-at invariant-loop decreases-loop) →
-    let at-loop = c.before.before.before in
-    let a = at-loop.before.before.before.before.args in
-    let l = at-loop.loop in
+ahead : (c : After-constraint_at-constraint) →
+    let a = c.args in
+    let l = c.loop-next in
     let n = constraint_names a.class a.permission in
     let h = constraint_holds a.table.now a.bodies a.sides.now in
     Left 4 n h (first_failing 4 n h 0 (constraints_in a.table.now a.bodies)) l.consulted l.next
-    (constraint_of c.constraint-at.result ∷ constraints_from a.table.now a.bodies.statements a.bodies.count (l.next + 1))
+    (constraint_of c.constraint_at-constraint.result ∷ constraints_from a.table.now a.bodies.statements a.bodies.count (l.next + 1))
 ahead c =
-    let at_test = c.before.before in
-    let at-loop = at_test.before in
-    let a = at-loop.before.before.before.before.args in
-    let l = at-loop.loop in
-    rw c.constraint-at.ensures (rw (constraints-first a.table.now a.bodies.statements a.bodies.count l.next at_test.loop-test.true) at l.invariant.3)
+    let a = c.args in
+    let l = c.loop-next in
+    rw c.constraint_at-constraint.ensures (rw (constraints-first a.table.now a.bodies.statements a.bodies.count l.next c.loop-next-test.true) at l.invariant.3)
 
 -- its class is the one asked for, so that its mask says whether it names the permission
-named : (c : tie.After-has-permission invariant-loop decreases-loop) →
-    let a = c.before.before.before.before.before.before.before.before.args in
-    constraint_names a.class a.permission (constraint_of c.before.constraint-at.result) ≡ c.has-permission.result
+named : (c : After-has_permission) →
+    let a = c.args in
+    constraint_names a.class a.permission (constraint_of c.constraint_at-constraint.result) ≡ c.has_permission.result
 named c =
-    let at_test = c.before.before.before in
-    let read = ap (λ (h : ConstraintRecord). h.class) c.before.constraint-at.ensures in
-    rw (eq-eqb _ _ (read ∙ at_test.before.loop.invariant.2 at_test.loop-test.true)) (sym c.has-permission.ensures)
+    let read = ap (λ (h : ConstraintRecord). h.class) c.constraint_at-constraint.ensures in
+    rw (eq-eqb _ _ (read ∙ c.loop-next.invariant.2 c.loop-next-test.true)) (sym c.has_permission.ensures)
 
 pub loop-next-init : goal.loop-next-init
 loop-next-init c =
@@ -59,7 +56,7 @@ loop-next-preserved-then-not-has_permission c =
       found.passed.within (omega arith),
       omega (arith, found.passed.ahead),
       found.of-class,
-      left-moved _ _ _ (left-skip _ _ _ (ahead c.before.before) (named c.before ∙ not-true _ c.if-not-has_permission.true-raw)) (found.passed.decides _ _),
+      left-moved _ _ _ (left-skip _ _ _ (ahead (goal.at.loop-next-preserved-then-not-has_permission c).After-constraint_at-constraint) (named (goal.at.loop-next-preserved-then-not-has_permission c).After-has_permission ∙ not-true _ c.if-not-has_permission.true-raw)) (found.passed.decides _ _),
     )
 
 pub overflow_add-consulted : goal.overflow_add-consulted
@@ -70,7 +67,7 @@ overflow_cast-result c = omega arith
 
 pub returns-then-not-evaluate : goal.returns-then-not-evaluate
 returns-then-not-evaluate c =
-    left-fail _ _ _ (ahead at-if1.before.before) (named at-if1.before ∙ not-false _ c.if-not-has_permission.false-raw)
+    left-fail _ _ _ (ahead (goal.at.returns-then-not-evaluate c).After-constraint_at-constraint) (named (goal.at.returns-then-not-evaluate c).After-has_permission ∙ not-false _ c.if-not-has_permission.false-raw)
     (sym c.evaluate.ensures ∙ not-true _ c.if-not-evaluate.true-raw)
 
 pub loop-next-smaller : goal.loop-next-smaller
@@ -83,7 +80,7 @@ loop-next-preserved c =
       omega (arith, found.passed.ahead),
       found.of-class,
       left-moved _ _ _
-          (left-pass _ _ _ (ahead at-if1.before.before) (named at-if1.before ∙ not-false _ c.if-not-has_permission.false-raw)
+          (left-pass _ _ _ (ahead (goal.at.loop-next-preserved c).After-constraint_at-constraint) (named (goal.at.loop-next-preserved c).After-has_permission ∙ not-false _ c.if-not-has_permission.false-raw)
           (sym c.evaluate.ensures ∙ not-false _ c.if-not-evaluate.false-raw))
           (found.passed.decides _ _),
     )

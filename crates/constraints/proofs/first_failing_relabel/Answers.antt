@@ -11,32 +11,31 @@ use Rattle.table_reader.proofs.RecordLaws.{records-step, records-none}
 use Rattle.constraints.specs.TableConstraints.{runs_from, relabels_in, relabel_names, relabel_holds}
 use Rattle.constraints.proofs.ScanLaws.{Left, left-all, left-skip, left-pass, left-fail, left-none}
 use Rattle.constraints.proofs.first_failing_relabel.Goals as goal
+use Rattle.constraints.proofs.first_failing_relabel.Goals.{After-wrapping_add_u16-row}
 
 -- at a turn: the statement read is the first of those left, and the next has its rows after it
-ahead : (c : tie.After-wrapping-add-u16 invariant-loop decreases-loop) →
-    let at-loop = c.before.before.before in
-    let a = at-loop.before.before.before.args in
-    let l = at-loop.loop in
+ahead : (c : After-wrapping_add_u16-row) →
+    let a = c.args in
+    let l = c.loop-next in
     let n = relabel_names a.class in
     let h = relabel_holds a.table.now a.bodies a.sides.now in
-    let read = c.before.relabel-at.result in
+    let read = c.relabel_at-statement.result in
     Left 6 n h (first_failing 6 n h 0 (relabels_in a.table.now a.bodies)) l.asked l.next
     (record { class = read.class; first = l.row; rows = read.rows }
-    ∷ runs_from c.wrapping-add-u16.result (records 4 relabel_at (a.bodies.count - (l.next + 1)) (drop (a.bodies.statements + 4 * (l.next + 1)) a.table.now)))
+    ∷ runs_from c.wrapping_add_u16-row.result (records 4 relabel_at (a.bodies.count - (l.next + 1)) (drop (a.bodies.statements + 4 * (l.next + 1)) a.table.now)))
 unfolding runs_from
 ahead c =
-    let at-loop = c.before.before.before in
-    let a = at-loop.before.before.before.args in
-    let l = at-loop.loop in
+    let a = c.args in
+    let l = c.loop-next in
     let from = a.bodies.statements + 4 * (l.next + 1) in
     let n = relabel_names a.class in
     let h = relabel_holds a.table.now a.bodies a.sides.now in
     let later = records 4 relabel_at (a.bodies.count - (l.next + 1)) (drop from a.table.now) in
-    rw c.wrapping-add-u16.ensures (
+    rw c.wrapping_add_u16-row.ensures (
     subst
     (λ (x : RelabelRecord). Left 6 n h (first_failing 6 n h 0 (relabels_in a.table.now a.bodies)) l.asked l.next
     (record { class = x.class; first = l.row; rows = x.rows } ∷ runs_from ((l.row + x.rows) % 65536) later))
-    (sym c.before.relabel-at.ensures)
+    (sym c.relabel_at-statement.ensures)
     (rw (records-step 4 relabel_at a.table.now (a.bodies.statements + 4 * l.next) from (a.bodies.count - l.next) (a.bodies.count - (l.next + 1))
     (omega arith) (omega arith)) at l.invariant.2)
     )
@@ -52,7 +51,7 @@ loop-next-smaller-then-statement-class c = omega arith
 
 pub loop-next-preserved-then-statement-class : goal.loop-next-preserved-then-statement-class
 loop-next-preserved-then-statement-class c =
-    let a = ahead c.before.before in (omega arith, omega arith, left-skip _ _ _ a (ne_eqb _ _ c.if-statement-class.true))
+    let a = ahead (goal.at.loop-next-preserved-then-statement-class c).After-wrapping_add_u16-row in (omega arith, omega arith, left-skip _ _ _ a (ne_eqb _ _ c.if-statement-class.true))
 
 pub overflow_add-asked : goal.overflow_add-asked
 overflow_add-asked c = omega arith
@@ -62,7 +61,7 @@ overflow_cast-result c = omega arith
 
 pub returns-then-not-evaluate : goal.returns-then-not-evaluate
 returns-then-not-evaluate c =
-    left-fail _ _ _ (ahead at-if1.before.before) (eq-eqb _ _ c.if-statement-class.false) (sym c.evaluate.ensures ∙ not-true _ c.if-not-evaluate.true-raw)
+    left-fail _ _ _ (ahead (goal.at.returns-then-not-evaluate c).After-wrapping_add_u16-row) (eq-eqb _ _ c.if-statement-class.false) (sym c.evaluate.ensures ∙ not-true _ c.if-not-evaluate.true-raw)
 
 pub loop-next-smaller : goal.loop-next-smaller
 loop-next-smaller c = omega arith
@@ -72,7 +71,7 @@ loop-next-preserved c =
     (
       omega arith,
       omega arith,
-      left-pass _ _ _ (ahead at-if1.before.before) (eq-eqb _ _ c.if-statement-class.false) (sym c.evaluate.ensures ∙ not-false _ c.if-not-evaluate.false-raw),
+      left-pass _ _ _ (ahead (goal.at.loop-next-preserved c).After-wrapping_add_u16-row) (eq-eqb _ _ c.if-statement-class.false) (sym c.evaluate.ensures ∙ not-false _ c.if-not-evaluate.false-raw),
     )
 
 pub returns : goal.returns

@@ -7,10 +7,11 @@ use Rattle.policy.specs.Grammar.{header_in}
 use Rattle.items.proofs.Items.{sees, alike-here}
 use Rattle.items.proofs.Rows.{told}
 use Rattle.grammar.proofs.BlockLaws.{unnamed, named, not-alone}
+use borrow.Enum.Refused.{opened}
 use Rattle.grammar.proofs.block_form.Goals as goal
 
 pub returns-in_default : goal.returns-in_default
-returns-in_default c = record { is = alike-here header_in (λ f. none) _ _ _ (1 ∷ 2 ∷ 3 ∷ []) (tt, λ x f g. refl, refl, refl) c.next_item-item.ensures c.in_default.keys2 }
+returns-in_default c = record { is = alike-here header_in (λ f. none) _ _ _ (1 ∷ 2 ∷ 3 ∷ []) (tt, λ x f g. refl, refl, refl) c.next_item-item.ensures (opened c.in_default.in_default-own.keys2) }
 
 pub is_name-requires : goal.is_name-requires
 is_name-requires c = (sees c.next_item-item.ensures c.in-Word.is).ahead.3

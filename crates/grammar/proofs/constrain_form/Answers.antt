@@ -27,4 +27,4 @@ returns-in-Bad c =
     refuse (by_part class_and_constraint _ _ l refl c.if-levels-eq0.false ∙ rw (told c.name_and_part-class.ensures c.in-Bad.is))
 
 pub returns-in-Word : goal.returns-in-Word
-returns-in-Word c = refuse (alike class_and_constraint (λ f. false) _ _ _ (0 ∷ 2 ∷ 3 ∷ []) _ (λ s b f. refl, tt, refl, refl) c.next_item-item.ensures c.in-Word.keys2)
+returns-in-Word c = refuse (alike class_and_constraint (λ f. false) _ _ _ (0 ∷ 2 ∷ 3 ∷ []) _ (λ s b f. refl, tt, refl, refl) c.next_item-item.ensures c.in-Word.in-Word-own.keys2)

@@ -91,7 +91,7 @@ returns-in-39 c = rw c.in-39.is
 pub returns-in_default : goal.returns-in_default
 returns-in_default c =
     let n = c.args.number in
-    let other = c.in_default.rest in
+    let other = c.in_default.in_default-own.rest in
     let past-24 = another n 24 c.if-number-le-LAST_RESERVED.false other.0.0.0.0.0.0.0.0.0.0.0.0.0.0.0.1 in
     let past-25 = another n 25 past-24 other.0.0.0.0.0.0.0.0.0.0.0.0.0.0.1 in
     let past-26 = another n 26 past-25 other.0.0.0.0.0.0.0.0.0.0.0.0.0.1 in

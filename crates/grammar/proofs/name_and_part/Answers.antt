@@ -27,4 +27,4 @@ returns-else-is_name c =
 pub returns-in-Open : goal.returns-in-Open
 returns-in-Open c =
     let kind = c.args.kind in
-    refuse (alike (name_and_part kind _) (λ f. false) _ _ _ (1 ∷ 2 ∷ 3 ∷ []) _ (tt, λ x f g. refl, refl, refl) c.next_item-item.ensures c.in-Open.keys2)
+    refuse (alike (name_and_part kind _) (λ f. false) _ _ _ (1 ∷ 2 ∷ 3 ∷ []) _ (tt, λ x f g. refl, refl, refl) c.next_item-item.ensures c.in-Open.in-Open-own.keys2)

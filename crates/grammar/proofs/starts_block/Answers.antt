@@ -10,4 +10,4 @@ pub returns-in-Word : goal.returns-in-Word
 returns-in-Word c = rw c.in-Word.is
 
 pub returns-in-Open : goal.returns-in-Open
-returns-in-Open c = among (1 ∷ 2 ∷ 3 ∷ []) (λ k. false ≡ starts_block k) (tt, λ p q. refl, λ q. refl, refl) c.args.first c.in-Open.keys2
+returns-in-Open c = among (1 ∷ 2 ∷ 3 ∷ []) (λ k. false ≡ starts_block k) (tt, λ p q. refl, λ q. refl, refl) c.args.first c.in-Open.in-Open-own.keys2

@@ -20,4 +20,4 @@ returns-in-Word c = λ at e.
     after-word l (statement-row 31 l _ (c.shape_of-shape.ensures ∙ ap shape_of (sym c.keyword_of.ensures))) c.shape_form.ensures
 
 pub returns-in-Open : goal.returns-in-Open
-returns-in-Open c = λ at e. refuse (alike is_written (λ f. false) _ _ _ (1 ∷ 2 ∷ 3 ∷ []) 31 (tt, λ x f g. refl, refl, refl) e c.in-Open.keys2)
+returns-in-Open c = λ at e. refuse (alike is_written (λ f. false) _ _ _ (1 ∷ 2 ∷ 3 ∷ []) 31 (tt, λ x f g. refl, refl, refl) e c.in-Open.in-Open-own.keys2)

@@ -83,4 +83,4 @@ returns-in-Close c =
 pub returns-in-Open : goal.returns-in-Open
 returns-in-Open c =
     let kind = c.args.kind in
-    refuse (sym c.loop-start.invariant.2 ∙ no_name kind _ _ c.next-token.result (reads c.next-token.ensures refl) c.in-Open.keys3)
+    refuse (sym c.loop-start.invariant.2 ∙ no_name kind _ _ c.next-token.result (reads c.next-token.ensures refl) c.in-Open.in-Open-own.keys3)

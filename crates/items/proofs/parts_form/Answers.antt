@@ -48,4 +48,4 @@ unfolding parts_alone
 returns-in-Word c =
     refuse
     (sym c.loop-next.invariant.2
-    ∙ alike-here parts_alone (λ f. false) _ _ _ (0 ∷ 3 ∷ []) (λ s b f. refl, tt, tt, refl) c.next_item-item.ensures c.in-Word.keys3)
+    ∙ alike-here parts_alone (λ f. false) _ _ _ (0 ∷ 3 ∷ []) (λ s b f. refl, tt, tt, refl) c.next_item-item.ensures c.in-Word.in-Word-own.keys3)

@@ -28,6 +28,6 @@ returns-in-80 c = marked _ _ _ c.mark_in-mark.ensures c.in-80.is
 
 pub returns-in_default : goal.returns-in_default
 returns-in_default c =
-    let r = c.in_default.rest in
+    let r = c.in_default.in_default-own.rest in
     unmarked _ _ c.mark_in-mark.ensures r.0.0.0.0.0.0.0.1 r.0.0.0.0.0.0.1 r.0.0.0.0.0.1 r.0.0.0.0.1
     r.0.0.0.1 r.0.0.1 r.0.1 r.1

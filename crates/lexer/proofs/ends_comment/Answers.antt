@@ -5,6 +5,7 @@ use mathlib.Core.List.{[], ◌∷◌}
 use borrow.Author.Rules.{rules}
 use Rattle.lexer.specs.Class.{ends_comment}
 use Rattle.lexer.proofs.Variants.{among}
+use borrow.Enum.Refused.{opened}
 use Rattle.lexer.proofs.ends_comment.Goals as goal
 
 pub enum_told-1 : goal.enum_told-1
@@ -16,4 +17,4 @@ returns-in-LineFeed c = sym (ap ends_comment c.in-LineFeed.is)
 pub returns-in_default : goal.returns-in_default
 returns-in_default c =
     among (0 ∷ 2 ∷ 3 ∷ 4 ∷ 5 ∷ 6 ∷ 7 ∷ 8 ∷ []) (λ k. false ≡ ends_comment k) (refl, tt, refl, refl, refl, refl, refl, refl, refl)
-    c.args.class c.in_default.keys2
+    c.args.class (opened c.in_default.in_default-own.keys2)

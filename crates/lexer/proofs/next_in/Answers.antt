@@ -17,7 +17,7 @@ loop-i-init c = refl
 
 pub loop-i-preserved-in-Blank : goal.loop-i-preserved-in-Blank
 loop-i-preserved-in-Blank c =
-    ap first_of (sym (turn _ c.loop-i.i _ _ c.loop-i-test.true c.class_in-class.ensures (blank-like c.loop-i.i c.class_in-class.result c.in-Blank.keys1)))
+    ap first_of (sym (turn _ c.loop-i.i _ _ c.loop-i-test.true c.class_in-class.ensures (blank-like c.loop-i.i c.class_in-class.result c.in-Blank.in-Blank-own.keys1)))
     ∙ c.loop-i.invariant
 
 pub enum_told-1 : goal.enum_told-1
@@ -53,7 +53,7 @@ returns-in-Letter c =
     rw c.word_end-end.ensures
     (sym (word-here c.args.text.now c.loop-i.i)
     ∙ ap first_of (sym (turn _ c.loop-i.i _ _ c.loop-i-test.true c.class_in-class.ensures
-    (name-like c.loop-i.i c.class_in-class.result c.in-Letter.keys5)))
+    (name-like c.loop-i.i c.class_in-class.result c.in-Letter.in-Letter-own.keys5)))
     ∙ c.loop-i.invariant)
 
 pub returns : goal.returns

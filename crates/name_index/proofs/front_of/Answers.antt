@@ -8,29 +8,30 @@ use Rattle.byte_slices.proofs.PartLaws.{length-part-le}
 use Rattle.little_endian.proofs.NumberLaws.{fits_more}
 use Rattle.name_index.proofs.Words.{front-short, front-is, front-joins}
 use Rattle.name_index.proofs.front_of.Goals as goal
+use Rattle.name_index.proofs.front_of.Goals.{After-number-2, After-part-first}
 
 -- after the first four bytes there are at most four
-rest-short : (c : tie.After-part) → length (take (length c.part.result.now - 4) (drop 4 c.part.result.now)) ≤ 4
+rest-short : (c : After-part-first) → length (take (length c.part-first.result.now - 4) (drop 4 c.part-first.result.now)) ≤ 4
 unfolding part
 rest-short c =
-    let first = c.part.result.now in
-    omega (arith, length-part-le first 4 (length first - 4), front-short c.before.before.args.name.now first c.part.ensures)
+    let first = c.part-first.result.now in
+    omega (arith, length-part-le first 4 (length first - 4), front-short c.args.name.now first c.part-first.ensures)
 
-rest-fits : (c : tie.After-number2) → c.number2.result < 4294967296
-rest-fits c = fits_more _ 4 _ c.number2.ensures.1 (rest-short c.before.before.before.before)
+rest-fits : (c : After-number-2) → c.number-2.result < 4294967296
+rest-fits c = fits_more _ 4 _ c.number-2.ensures.1 (rest-short c.before.before.before.before)
 
 pub returns-then-first-lt4 : goal.returns-then-first-lt4
 returns-then-first-lt4 c =
     c.number.ensures.0 ∙ front-is c.args.name.now c.part-first.result.now c.part-first.ensures
 
 pub number-requires-2 : goal.number-requires-2
-number-requires-2 c = omega (arith, rest-short c.before.before.before)
+number-requires-2 c = omega (arith, rest-short (goal.at.number-requires-2 c).After-part-first)
 
 pub overflow_mul-result : goal.overflow_mul-result
-overflow_mul-result c = omega (arith, rest-fits c)
+overflow_mul-result c = omega (arith, rest-fits (goal.at.overflow_mul-result c).After-number-2)
 
 pub overflow_add-result : goal.overflow_add-result
-overflow_add-result c = omega (arith, rest-fits c, c.get4.ensures.1)
+overflow_add-result c = omega (arith, rest-fits (goal.at.overflow_add-result c).After-number-2, c.get4.ensures.1)
 
 pub returns : goal.returns
 returns c =

@@ -5,6 +5,7 @@ use Rattle.items.proofs.Items.{sees}
 use Rattle.constraint_writer.proofs.WrittenRows.{told}
 use Rattle.relabel_statement.proofs.RelabelAnswers.{past-rows, class-undeclared, expression-missing, name-undeclared, answered}
 use native.Mathlib.Omega.{arith}
+use borrow.Enum.Refused.{opened}
 use Rattle.relabel_statement.proofs.write_relabel.Goals as goal
 
 pub returns-then-row-gt-MAX_ROWS : goal.returns-then-row-gt-MAX_ROWS
@@ -15,7 +16,7 @@ returns-in_default c = class-undeclared c.class_at-named.ensures c.in_default.is
 
 pub returns-in_default-item : goal.returns-in_default-item
 returns-in_default-item c =
-    expression-missing c.class_at-named.ensures c.in-Is.is c.next_item-item.ensures c.in_default-item.keys2
+    expression-missing c.class_at-named.ensures c.in-Is.is c.next_item-item.ensures (opened c.in_default-item.in_default-item-own.keys2)
 
 pub returns-in_default-written : goal.returns-in_default-written
 returns-in_default-written c =

@@ -6,20 +6,15 @@ use Rattle.policy.specs.Answers.{place_of}
 use Rattle.table_laws.proofs.ListLaws.{all-places}
 use Rattle.roll_lines.proofs.Lines.{none-put, number-few, line-room, set_room, line-put, lines-put}
 use Rattle.roll_lines.proofs.put_lines.Goals as goal
+use Rattle.roll_lines.proofs.put_lines.Goals.{After-slice_known-in-loop-start-1}
 
 -- a number that has a name is below 128
-few : (c : tie.After-slice-known2 invariant-loop decreases-loop) →
-    let at_place = c.before.before.before.before.before.before.before in
-    at_place.before.before.before.loop.number < 128
+few : (c : After-slice_known-in-loop-start-1) →
+    c.loop-start.number < 128
 few c =
-    let at_place = c.before.before.before.before.before.before.before in
-    let at_name = at_place.before.before in
-    let at-loop = at_name.before in
-    let at-bytes = at-loop.before.before.before.before in
-    let at-args = at-bytes.before in
-    let bytes = all-places (λ k. k < 256) at-args.args.table.now 0 (λ i l. (at-bytes.shared-slice-known.given i).fits) in
-    let found = ap place_of (sym at_place.place.given.1) ∙ at_name.name-place-in-sound.ensures at-args.requires.sound in
-    number-few _ _ _ _ _ _ _ bytes at-args.requires at-loop.loop.invariant found
+    let bytes = all-places (λ k. k < 256) c.args.table.now 0 (λ i l. (c.shared_slice_known-1.given i).fits) in
+    let found = ap place_of (sym c.in-Part.is) ∙ c.name_place_in_sound-place.ensures c.requires.sound in
+    number-few _ _ _ _ _ _ _ bytes c.requires c.loop-start.invariant found
 
 pub loop-start-init : goal.loop-start-init
 loop-start-init c = none-put _ _ _ _ _ _ _
@@ -39,10 +34,10 @@ put_line-end-requires c =
     )
 
 pub overflow_add-number : goal.overflow_add-number
-overflow_add-number c = omega (arith, few c)
+overflow_add-number c = omega (arith, few (goal.at.overflow_add-number c).After-slice_known-in-loop-start-1)
 
 pub loop-start-smaller : goal.loop-start-smaller
-loop-start-smaller c = omega (arith, few c)
+loop-start-smaller c = omega (arith, few (goal.at.loop-start-smaller c).After-slice_known-in-loop-start-1)
 
 pub loop-start-preserved : goal.loop-start-preserved
 loop-start-preserved c =

@@ -7,6 +7,7 @@ use lib.ListN.{length, set, length-set}
 use Rattle.byte_slices.specs.Parts.{part, put}
 use Rattle.scopes.proofs.Composed.{alone-too-long, alone, inner-too-long, length_front, inner}
 use Rattle.scopes.proofs.compose.Goals as goal
+use Rattle.scopes.proofs.compose.Goals.{After-slice_known-3-1}
 
 pub returns-then-long-gt-MAX : goal.returns-then-long-gt-MAX
 returns-then-long-gt-MAX c =
@@ -30,7 +31,7 @@ copy-requires-3 c =
     (simp length-set (omega (arith, long)), omega arith)
 
 pub shape_of-into : goal.shape_of-into
-shape_of-into c = (returns-4 c).long
+shape_of-into c = (returns-4 (goal.at.shape_of-into c).After-slice_known-3-1).long
 
 pub returns : goal.returns
 returns c =

@@ -18,5 +18,5 @@ returns-in-2052 c p = absurd (false≢true p)
 
 pub returns-in_default : goal.returns-in_default
 returns-in_default c =
-    let no = c.in_default.rest in
+    let no = c.in_default.in_default-own.rest in
     λ p. (omega arith, λ a b. simp (ne_eqb _ _ no.1, ne_eqb _ _ no.0.1, ne_eqb _ _ no.0.0.1))

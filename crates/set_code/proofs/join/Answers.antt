@@ -19,5 +19,5 @@ returns-in-2052 c = rw c.in-2052.is c.exclusive_or.ensures
 pub returns-in_default : goal.returns-in_default
 unfolding joined_by union_of
 returns-in_default c =
-    let no = c.in_default.rest in
+    let no = c.in_default.in_default-own.rest in
     simp (ne_eqb _ _ no.1, ne_eqb _ _ no.0.1, ne_eqb _ _ no.0.0.1) c.union.ensures

@@ -13,5 +13,5 @@ returns-in-2050 c = rw c.in-2050.is
 
 pub returns-in_default : goal.returns-in_default
 returns-in_default c =
-    let no = c.in_default.rest in
+    let no = c.in_default.in_default-own.rest in
     simp (ne_eqb _ _ no.1, ne_eqb _ _ no.0.1, ne_eqb _ _ no.0.0.1)

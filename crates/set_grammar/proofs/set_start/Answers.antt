@@ -23,4 +23,4 @@ pub returns-in-Open : goal.returns-in-Open
 returns-in-Open c =
     let at = c.args.at in
     rw (← c.next_item-item.ensures)
-    (among (1 ∷ 2 ∷ 3 ∷ []) (λ (r : Item). begun Wanted.OneOrMore at ≡ start_of at r) (tt, λ p q. refl, λ q. refl, refl) c.next_item-item.result c.in-Open.keys2)
+    (among (1 ∷ 2 ∷ 3 ∷ []) (λ (r : Item). begun Wanted.OneOrMore at ≡ start_of at r) (tt, λ p q. refl, λ q. refl, refl) c.next_item-item.result c.in-Open.in-Open-own.keys2)

@@ -51,4 +51,4 @@ returns-in_default c = go (ltb 5 n) refl
     go true e = sym (others n (ltb-true 5 n e))
     go false e =
         let h = ltb-false 5 n e in
-        sym (other n (omega (arith, c.in_default.rest.1, c.in_default.rest.0.1, c.in_default.rest.0.0.1, c.in_default.rest.0.0.0.1, c.in_default.rest.0.0.0.0.1)))
+        sym (other n (omega (arith, c.in_default.in_default-own.rest.1, c.in_default.in_default-own.rest.0.1, c.in_default.in_default-own.rest.0.0.1, c.in_default.in_default-own.rest.0.0.0.1, c.in_default.in_default-own.rest.0.0.0.0.1)))

@@ -20,4 +20,4 @@ returns-else-operator-eq-UNION c =
 
 pub returns-in-Open : goal.returns-in-Open
 unfolding set_in
-returns-in-Open c = starts_other λ n. alike set_in unworded _ _ _ (1 ∷ 2 ∷ 3 ∷ []) n (tt, (λ x f g. refl), refl, refl) c.next_item-item.ensures c.in-Open.keys2
+returns-in-Open c = starts_other λ n. alike set_in unworded _ _ _ (1 ∷ 2 ∷ 3 ∷ []) n (tt, (λ x f g. refl), refl, refl) c.next_item-item.ensures c.in-Open.in-Open-own.keys2

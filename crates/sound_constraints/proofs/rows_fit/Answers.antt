@@ -12,19 +12,20 @@ use Rattle.sound_constraints.proofs.RowLaws.{RowTurn, row-turn, rows_end, rows-f
 use borrow.Author.Rules.{rules}
 use native.Mathlib.Omega.{arith}
 use Rattle.sound_constraints.proofs.rows_fit.Goals as goal
+use Rattle.sound_constraints.proofs.rows_fit.Goals.{After-row_at-row}
 
 -- at a turn: the row read is the first of those left
-ahead : (c : tie.After-row-at invariant-loop decreases-loop) →
-    let a = c.before.before.before.before.args in
-    let l = c.before.before.loop in
+ahead : (c : After-row_at-row) →
+    let a = c.args in
+    let l = c.loop-left in
     let good = fits_row a.components (things_of a.counts) (attributes_of a.counts) in
     RowTurn good a.table.now (rows_fit good (pieces a.count 6 (drop (a.start + 6 * a.first) a.table.now)) 0) (a.start + 6 * l.number) l.depth
-    (pieces (l.left - 1) 6 (drop (a.start + 6 * (l.number + 1)) a.table.now)) (row_of c.row-at.result)
+    (pieces (l.left - 1) 6 (drop (a.start + 6 * (l.number + 1)) a.table.now)) (row_of c.row_at-row.result)
 ahead c =
-    let a = c.before.before.before.before.args in
-    let l = c.before.before.loop in
+    let a = c.args in
+    let l = c.loop-left in
     row-turn (fits_row a.components (things_of a.counts) (attributes_of a.counts)) a.table.now (a.start + 6 * l.number) l.left l.depth l.invariant.2
-    (a.start + 6 * (l.number + 1)) (l.left - 1) (omega arith) (omega arith) (row_of c.row-at.result) c.row-at.ensures
+    (a.start + 6 * (l.number + 1)) (l.left - 1) (omega arith) (omega arith) (row_of c.row_at-row.result) c.row_at-row.ensures
 
 pub loop-left-init : goal.loop-left-init
 loop-left-init c = (refl, search rules, refl)
@@ -39,16 +40,16 @@ pub overflow_add-place-in-loop-left : goal.overflow_add-place-in-loop-left
 overflow_add-place-in-loop-left c = omega arith
 
 pub returns-then-byte-ne0 : goal.returns-then-byte-ne0
-returns-then-byte-ne0 c = rows-fourth (ahead c.before.before) (λ e. c.if-byte-ne0.true (c.byte.ensures ∙ e))
+returns-then-byte-ne0 c = rows-fourth (ahead (goal.at.returns-then-byte-ne0 c).After-row_at-row) (λ e. c.if-byte-ne0.true (c.byte.ensures ∙ e))
 
 pub returns-then-not-fits_row : goal.returns-then-not-fits_row
 returns-then-not-fits_row c =
-    rows-bad (ahead c.before.before.before.before) (sym c.byte.ensures ∙ c.if-byte-ne0.false)
+    rows-bad (ahead (goal.at.returns-then-not-fits_row c).After-row_at-row) (sym c.byte.ensures ∙ c.if-byte-ne0.false)
     (sym c.fits_row.ensures ∙ not-true _ c.if-not-fits_row.true-raw)
 
 pub returns-then-depth-eq0 : goal.returns-then-depth-eq0
 returns-then-depth-eq0 c =
-    rows-deep (ahead c.before.before.before.before.before.before)
+    rows-deep (ahead (goal.at.returns-then-depth-eq0 c).After-row_at-row)
     (sym c.byte.ensures ∙ c.if-byte-ne0.false)
     (sym c.fits_row.ensures ∙ not-false _ c.if-not-fits_row.false-raw) (sym c.depth_after-depth.ensures ∙ c.if-depth-eq0.true)
 
@@ -65,7 +66,7 @@ pub loop-left-preserved : goal.loop-left-preserved
 loop-left-preserved c = (
   omega arith,
   omega arith,
-  rows_next (ahead c.before.before.before.before.before.before)
+  rows_next (ahead (goal.at.loop-left-preserved c).After-row_at-row)
       (sym c.byte.ensures ∙ c.if-byte-ne0.false)
       (sym c.fits_row.ensures ∙ not-false _ c.if-not-fits_row.false-raw) c.depth_after-depth.result
       c.depth_after-depth.ensures c.if-depth-eq0.false,

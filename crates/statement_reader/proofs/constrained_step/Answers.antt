@@ -4,12 +4,13 @@ use borrow.Author.Tests.{lt-ltb, le-ltb}
 use Rattle.policy.specs.Maxima.{max_constraints}
 use Rattle.statement_reader.specs.Steps.{with_rows}
 use Rattle.statement_reader.proofs.StepLaws.{not_written}
+use borrow.Enum.Refused.{opened}
 use Rattle.statement_reader.proofs.constrained_step.Goals as goal
 
 pub returns-in_default : goal.returns-in_default
 returns-in_default c =
     let a = c.args in
-    rw c.rows_fault.ensures (not_written (ltb a.progress.constraints max_constraints) (with_rows a.progress) a.written c.in_default.keys2)
+    rw c.rows_fault.ensures (not_written (ltb a.progress.constraints max_constraints) (with_rows a.progress) a.written (opened c.in_default.in_default-own.keys2))
 
 pub returns-then-count-ge-MAX : goal.returns-then-count-ge-MAX
 returns-then-count-ge-MAX c = rw (c.rows_fault-then-count-ge-MAX.ensures, c.in-Next.is, le-ltb _ _ c.if-count-ge-MAX.true)

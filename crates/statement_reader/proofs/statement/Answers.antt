@@ -3,10 +3,11 @@ use mathlib.Core.Path.{ap, ◌∙◌}
 use Rattle.items.proofs.Items.{sees}
 use Rattle.grammar.specs.Shapes.{keyword_in}
 use Rattle.statement_reader.proofs.ByKeyword.{no_word, no-keyword, by-keyword}
+use borrow.Enum.Refused.{opened}
 use Rattle.statement_reader.proofs.statement.Goals as goal
 
 pub returns-in_default : goal.returns-in_default
-returns-in_default c = λ at e. no_word _ e c.in_default.keys2
+returns-in_default c = λ at e. no_word _ e (opened c.in_default.in_default-own.keys2)
 
 pub returns-in-Thing : goal.returns-in-Thing
 returns-in-Thing c =

@@ -15,4 +15,4 @@ from-role Relation.RoleType h = refl
 from-role Relation.RoleAllow h = refl
 
 pub returns-in-RoleType : goal.returns-in-RoleType
-returns-in-RoleType c = from-role c.args.relation c.in-RoleType.keys2
+returns-in-RoleType c = from-role c.args.relation c.in-RoleType.in-RoleType-own.keys2

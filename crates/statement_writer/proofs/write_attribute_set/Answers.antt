@@ -8,6 +8,7 @@ use Rattle.items.proofs.Items.{alike}
 use Rattle.set_writer.specs.declared.SetWritten.{SetWritten}
 use Rattle.lexer.proofs.Trim.{starts_part}
 use Rattle.statement_writer.proofs.SetStatements.{no-attribute, no_part, set-coded}
+use borrow.Enum.Refused.{opened}
 use Rattle.statement_writer.proofs.write_attribute_set.Goals as goal
 
 pub enum_told-1 : goal.enum_told-1
@@ -29,7 +30,7 @@ pub returns-in_default-item : goal.returns-in_default-item
 returns-in_default-item c =
     no_part c.family_number-number.ensures.0 c.write_head-u.ensures c.write_name-name.ensures
     c.in-Next.is
-    (alike starts_part (λ f. false) _ _ _ (0 ∷ 2 ∷ 3 ∷ []) _ (λ s w f. refl, tt, refl, refl) c.next_item-item.ensures c.in_default-item.keys2)
+    (alike starts_part (λ f. false) _ _ _ (0 ∷ 2 ∷ 3 ∷ []) _ (λ s w f. refl, tt, refl, refl) c.next_item-item.ensures (opened c.in_default-item.in_default-item-own.keys2))
 
 pub shape_of-code-in-Next-set : goal.shape_of-code-in-Next-set
 shape_of-code-in-Next-set c =

@@ -8,11 +8,12 @@ use Rattle.items.proofs.Frames.{sees}
 use Rattle.items.proofs.Items.{alike}
 use Rattle.statement_writer.specs.NameKinds.{first_unit}
 use Rattle.statement_writer.proofs.RowNames.{no_word, no_name, one_name}
+use borrow.Enum.Refused.{opened}
 use Rattle.statement_writer.proofs.write_name.Goals as goal
 
 pub returns-in_default : goal.returns-in_default
 returns-in_default c =
-    no_word λ env levels. alike (first_unit env _) (λ f. none) _ _ _ (1 ∷ 2 ∷ 3 ∷ []) levels (tt, λ x f g. refl, refl, refl) c.next_item-item.ensures c.in_default.keys2
+    no_word λ env levels. alike (first_unit env _) (λ f. none) _ _ _ (1 ∷ 2 ∷ 3 ∷ []) levels (tt, λ x f g. refl, refl, refl) c.next_item-item.ensures (opened c.in_default.in_default-own.keys2)
 
 pub overflow_add-end : goal.overflow_add-end
 overflow_add-end c = omega (arith, (sees c.next_item-item.ensures c.in-Word.is).ahead.3)

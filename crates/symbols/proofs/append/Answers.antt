@@ -8,17 +8,17 @@ use Rattle.byte_slices.specs.Parts.{part}
 use Rattle.byte_slices.proofs.PartLaws.{length-part-le}
 use Rattle.symbols.proofs.AppendLaws.{long-begun, long-headed, long-appended, appended}
 use Rattle.symbols.proofs.append.Goals as goal
+use Rattle.symbols.proofs.append.Goals.{After-part-name}
 
 -- the name is no longer than was asked for
 short : (w x : List ℕ) (o n : ℕ) → w ≡ part x o n → length w ≤ n
 short w x o n e = subst (λ (v : List ℕ). length v ≤ n) (sym e) (length-part-le x o n)
 
 -- so there is room for it
-room : (c : tie.After-part)
-    → c.before.before.before.args.end + 4 + length c.part.result.now ≤ length c.before.before.before.args.table.now
+room : (c : After-part-name)
+    → c.args.end + 4 + length c.part-name.result.now ≤ length c.args.table.now
 room c =
-    let s = c.before.before.before in
-    omega (arith, short _ s.args.text.now s.args.from s.args.len c.part.ensures, s.requires.room)
+    omega (arith, short _ c.args.text.now c.args.from c.args.len c.part-name.ensures, c.requires.room)
 
 pub put2-requires : goal.put2-requires
 put2-requires c = simp length-set (omega arith)
@@ -31,22 +31,22 @@ overflow_cast-table-2 c =
 pub bounds-table-end-2 : goal.bounds-table-end-2
 bounds-table-end-2 c =
     let a = c.args in
-    omega (arith, long-begun a.table.now a.end a.sort a.number c.part-name.result.now (room at_part) _ c.put2.ensures)
+    omega (arith, long-begun a.table.now a.end a.sort a.number c.part-name.result.now (room (goal.at.bounds-table-end-2 c).After-part-name) _ c.put2.ensures)
 
 pub copy-requires : goal.copy-requires
 copy-requires c =
     let a = c.args in
-    let fits = room at_part in
+    let fits = room (goal.at.copy-requires c).After-part-name in
     (omega (arith, fits, long-headed a.table.now a.end a.sort a.number c.part-name.result.now fits _ c.put2.ensures), omega arith)
 
 pub shape_of-table : goal.shape_of-table
 shape_of-table c =
     let a = c.args in
-    long-appended a.table.now a.end a.sort a.number c.part-name.result.now (room at_part) _ c.put2.ensures _
+    long-appended a.table.now a.end a.sort a.number c.part-name.result.now (room (goal.at.shape_of-table c).After-part-name) _ c.put2.ensures _
     c.copy.ensures
 
 pub returns : goal.returns
 returns c =
     let a = c.args in
-    appended a.table.now a.end a.sort a.number c.part-name.result.now (room at_part) _ c.put2.ensures _
+    appended a.table.now a.end a.sort a.number c.part-name.result.now (room (goal.at.returns c).After-part-name) _ c.put2.ensures _
     c.copy.ensures _ c.part-name.ensures

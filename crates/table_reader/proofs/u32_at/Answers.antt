@@ -9,17 +9,18 @@ use Rattle.byte_slices.proofs.PartLaws.{length-part-le}
 use Rattle.policy.specs.Basics.{unle}
 use Rattle.little_endian.proofs.NumberLaws.{fits_more}
 use Rattle.table_reader.proofs.u32_at.Goals as goal
+use Rattle.table_reader.proofs.u32_at.Goals.{After-part}
 
-short : (c : tie.After-part) → length c.part.result.now ≤ 4
+short : (c : After-part) → length c.part.result.now ≤ 4
 short c =
-    let a = c.before.before.before.before.args in
+    let a = c.args in
     subst (λ (l : List ℕ). length l ≤ 4) (sym c.part.ensures) (length-part-le a.table.now a.at 4)
 
 pub number-requires : goal.number-requires
-number-requires c = omega (arith, short c)
+number-requires c = omega (arith, short (goal.at.number-requires c).After-part)
 
 pub overflow_cast-result : goal.overflow_cast-result
-overflow_cast-result c = omega (arith, fits_more (length c.part.result.now) 4 c.number.result c.number.ensures.1 (short c.before))
+overflow_cast-result c = omega (arith, fits_more (length c.part.result.now) 4 c.number.result c.number.ensures.1 (short (goal.at.overflow_cast-result c).After-part))
 
 pub returns-then-bytes_from-lt4 : goal.returns-then-bytes_from-lt4
 unfolding part

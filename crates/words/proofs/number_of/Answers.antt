@@ -55,7 +55,7 @@ returns-in-16 c =
 pub returns-in_default : goal.returns-in_default
 unfolding computing
 returns-in_default c =
-    let r = c.in_default.rest in
+    let r = c.in_default.in_default-own.rest in
     let q = r.0.0.0.0.0 in
     rw (ne_eqb _ _ q.0.0.0.0.1, ne_eqb _ _ q.0.0.0.1, ne_eqb _ _ q.0.0.1, ne_eqb _ _ q.0.1, ne_eqb _ _ q.1)
     at (rw (ne_eqb _ _ r.0.0.0.0.1, ne_eqb _ _ r.0.0.0.1, ne_eqb _ _ r.0.0.1, ne_eqb _ _ r.0.1, ne_eqb _ _ r.1)

@@ -17,4 +17,4 @@ returns-in-461229747298 c = rw c.in-461229747298.is
 
 pub returns-in_default : goal.returns-in_default
 unfolding computing
-returns-in_default c = let r = c.in_default.rest in rw (ne_eqb _ _ r.0.0.1, ne_eqb _ _ r.0.1, ne_eqb _ _ r.1)
+returns-in_default c = let r = c.in_default.in_default-own.rest in rw (ne_eqb _ _ r.0.0.1, ne_eqb _ _ r.0.1, ne_eqb _ _ r.1)

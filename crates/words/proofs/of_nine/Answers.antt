@@ -21,4 +21,4 @@ returns-else-low-eq-CONSTRAI c = rw (c.in-110.is, ne_eqb _ _ c.if-low-eq-CONSTRA
 
 pub returns-in_default : goal.returns-in_default
 unfolding computing
-returns-in_default c = let r = c.in_default.rest in rw (ne_eqb _ _ r.0.1, ne_eqb _ _ r.1)
+returns-in_default c = let r = c.in_default.in_default-own.rest in rw (ne_eqb _ _ r.0.1, ne_eqb _ _ r.1)

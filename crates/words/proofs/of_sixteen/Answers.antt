@@ -21,4 +21,4 @@ returns-in-8247344779284740468 c = rw (c.if-high-ne-IBUTESET.false, c.in-8247344
 
 pub returns-in_default : goal.returns-in_default
 unfolding computing
-returns-in_default c = let r = c.in_default.rest in rw (c.if-high-ne-IBUTESET.false, ne_eqb _ _ r.0.0.1, ne_eqb _ _ r.0.1, ne_eqb _ _ r.1)
+returns-in_default c = let r = c.in_default.in_default-own.rest in rw (c.if-high-ne-IBUTESET.false, ne_eqb _ _ r.0.0.1, ne_eqb _ _ r.0.1, ne_eqb _ _ r.1)

@@ -30,5 +30,5 @@ returns-in-8247344779284740468 c = rw (c.if-high-ne-IBUTE.false, c.in-8247344779
 pub returns-in_default : goal.returns-in_default
 unfolding computing
 returns-in_default c =
-    let r = c.in_default.rest in
+    let r = c.in_default.in_default-own.rest in
     rw (c.if-high-ne-IBUTE.false, ne_eqb _ _ r.0.0.1, ne_eqb _ _ r.0.1, ne_eqb _ _ r.1)

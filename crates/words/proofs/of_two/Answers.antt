@@ -66,7 +66,7 @@ returns-in-12904 c = rw c.in-12904.is
 pub returns-in_default : goal.returns-in_default
 unfolding computing
 returns-in_default c =
-    let r = c.in_default.rest in
+    let r = c.in_default.in_default-own.rest in
     let q = r.0.0.0.0.0 in
     let p = q.0.0.0.0.0 in
     rw (ne_eqb _ _ p.0.0.0.0.1, ne_eqb _ _ p.0.0.0.1, ne_eqb _ _ p.0.0.1, ne_eqb _ _ p.0.1, ne_eqb _ _ p.1)
