@@ -1,6 +1,6 @@
 -- The block around and the own name say the full name: a full name was opened exactly where these were. Assumes nothing.
 use mathlib.Core.Path.{◌≡◌, refl, sym, ap, ap₂, subst, ◌∙◌}
-use mathlib.Core.Bool.{Bool, true, cond, or-true, false≢true}
+use mathlib.Core.Bool.{Bool, true, cond, or-true, false≢true, ◌||◌}
 use mathlib.Core.List.{List, [], ◌∷◌}
 use mathlib.Core.Logic.{◌⊎◌, inl, inr}
 use Prim.Native.Nat.{ℕ, zero, suc, ◌-◌, ◌%◌, ◌<◌, ◌≤◌}
@@ -201,7 +201,8 @@ opened-full (b ∷ bs) (another q r n o) p w e = by (λ t. opened-full bs o p w 
     by f (inr t) =
         let z = f t in
         let eq = ap (λ (x : List Name). full x w) (path-before b bs p (omega (arith, z.0))) in
-        (omega (arith, z.0), rw (eq, z.1) (or-true (same (full (path_of bs p) w) (full (path_of bs b.parent) b.name))))
+        let first = same (full (path_of bs p) w) (full (path_of bs b.parent) b.name) in
+        (omega (arith, z.0), subst (λ (x : Name). is_in x (full_names (b ∷ bs)) ≡ true) (sym eq) (ap (λ (v : Bool). first || v) z.1 ∙ or-true first))
 
 -- so `add` says no exactly where the full name was opened before
 pub opened-exactly : (bs : List Block) → Opening bs → (p : ℕ) (w : Name) → p ≤ length bs → dotless w ≡ true

@@ -167,6 +167,6 @@ module _ {t : List ℕ} {at : ℕ} {table : List ℕ} {before : List ℕ} {count
               subst (λ (o : Option Statement). Answers o before after count rowsBefore rowsAfter row b)
               (sym (ap (resolved env) s.written ∙ resolves env s.class s.permissions s.body c i.expression i.refers))
               (admitted max_constraints max_rows 10 _ before after count rowsBefore rowsAfter row n deep i.expression p i.count (λ h. omega (arith, h, long)) rows_long
-              i.bytes (ap₂ (λ (m k : ℕ). constraint_bytes (record_with class m row k)) c.mask-is (rows_of row n (size i.expression) i.count))
+              i.bytes (ap₂ (λ (m k : ℕ). constraint_bytes (record_with class m row k)) c.mask_is (rows_of row n (size i.expression) i.count))
               stored b m.says);
         }

@@ -1,7 +1,7 @@
 -- Demand 3 of the definitions: what is accepted gives a table that answers as its statements do. Three steps are put together: reading leaves
 -- an accepted policy, the image of one is well-formed and answers as the statements do, and a table of a well-formed image is read back.
 -- Assumes nothing.
-use Prim.Native.Nat.{ℕ}
+use Prim.Native.Nat.{ℕ, ◌+◌}
 use native.Mathlib.Omega.{arith}
 use mathlib.Core.Path.{◌≡◌, refl, sym, ap, ◌∙◌}
 use mathlib.Core.Logic.{◌↔◌}

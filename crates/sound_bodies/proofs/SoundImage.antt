@@ -273,10 +273,14 @@ module _ (ds : List Declaration) (ps : List ℕ) (of-class : PermissionsOf ds ps
   counts_same = λ i. record { things = λ f. things f i; attributes = λ f. attributes f i; classes = length (class_names ds); permissions = λ x. get_or ps x 0 }
     where
       things : (f : Family) → things_of (counts_of ds) f ≡ count (thing_of f) ds
-      things f = elim f [ users ↦ refl | roles ↦ refl | types ↦ refl ]
+      things users = refl
+      things roles = refl
+      things types = refl
 
       attributes : (f : Family) → attributes_of (counts_of ds) f ≡ count (attribute_of f) ds
-      attributes f = elim f [ users ↦ refl | roles ↦ refl | types ↦ refl ]
+      attributes users = refl
+      attributes roles = refl
+      attributes types = refl
 
   constraint-same : fits_constraint lent ≡ fits_constraint (totals_of ds)
   constraint-same = λ i e. mask-counted e.class e.mask i && every (fits_row 6 (totals_of ds).things (totals_of ds).attributes) e.rows && balanced e.rows 0

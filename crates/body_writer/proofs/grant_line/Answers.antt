@@ -9,7 +9,7 @@ use Rattle.body_writer.proofs.grant_line.Goals as goal
 pub returns-then-width-le-SET_BYTES : goal.returns-then-width-le-SET_BYTES
 returns-then-width-le-SET_BYTES c =
     let a = c.args in
-    rw (c.grant_row.ensures, thing-alone a.from-sets.now a.from (omega arith))
+    rw (c.grant_row.ensures, thing-alone a.from_sets.now a.from (omega arith))
 
 pub slice_bounds-grant_at-end : goal.slice_bounds-grant_at-end
 slice_bounds-grant_at-end c = sym (ap length c.reference.ensures ∙ length-set_of 64 _)

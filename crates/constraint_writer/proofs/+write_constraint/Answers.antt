@@ -26,7 +26,7 @@ returns-in_default t c n =
 pub comparison-requires : goal.comparison-requires
 comparison-requires t c =
     let l = sees c.next_item-first.ensures c.in-Word.is in
-    omega (arith, l.ahead.0, c.requires.1)
+    omega (arith, l.ahead.0, c.requires)
 
 pub returns-then-kind-eq-TWO_SIDES : goal.returns-then-kind-eq-TWO_SIDES
 returns-then-kind-eq-TWO_SIDES t c n =
@@ -49,7 +49,7 @@ returns-then-levels-eq0 t c n =
 pub write_constraint-operand-requires : goal.write_constraint-operand-requires
 write_constraint-operand-requires t c =
     let l = sees c.next_item-item.ensures c.in-Open.is in
-    (omega arith, omega (arith, c.loop-inside.invariant.few, c.loop-inside.invariant.ahead, l.ahead.0, l.ahead.1, c.requires.1))
+    (omega arith, omega (arith, c.loop-inside.invariant.few, c.loop-inside.invariant.ahead, l.ahead.0, l.ahead.1, c.requires))
 
 pub shape_of-rows-in_default-operand : goal.shape_of-rows-in_default-operand
 shape_of-rows-in_default-operand t c =
@@ -90,7 +90,7 @@ loop-inside-preserved t c =
 pub overflow_add-row : goal.overflow_add-row
 overflow_add-row t c =
     let l = sees c.next_item-item.ensures c.in-Close.is in
-    omega (arith, c.loop-inside.invariant.few, c.loop-inside.invariant.ahead, l.ahead.0, l.ahead.1, c.requires.1)
+    omega (arith, c.loop-inside.invariant.few, c.loop-inside.invariant.ahead, l.ahead.0, l.ahead.1, c.requires)
 
 pub shape_of-rows-in-Close : goal.shape_of-rows-in-Close
 shape_of-rows-in-Close t c = c.put_row.ensures.kept.long ∙ c.loop-inside.invariant.kept.long

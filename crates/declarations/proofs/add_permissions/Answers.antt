@@ -27,7 +27,7 @@ add-added-requires c =
 
 pub shape_of-symbols-in_default-added : goal.shape_of-symbols-in_default-added
 shape_of-symbols-in_default-added c =
-    c.add-added.auto.0 ∙ so-far-long c.loop-start.invariant
+    c.add-added.auto.symbols ∙ so-far-long c.loop-start.invariant
 
 pub returns-in_default-added : goal.returns-in_default-added
 returns-in_default-added c =

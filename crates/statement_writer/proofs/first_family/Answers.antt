@@ -7,6 +7,7 @@ use Rattle.policy.specs.Statements.{roles, from_of}
 use Rattle.policy.specs.Answers.{relation_of}
 use Rattle.policy.specs.declared.Relation.{Relation}
 use Rattle.policy.specs.contracts.Relation.{the_type}
+use borrow.Enum.Refused.{opened}
 use Rattle.statement_writer.proofs.first_family.Goals as goal
 
 from-role : (k : Relation) → OneOf (1 ∷ 2 ∷ []) (tag_of the_type k) → roles ≡ from_of (relation_of k)
@@ -15,4 +16,4 @@ from-role Relation.RoleType h = refl
 from-role Relation.RoleAllow h = refl
 
 pub returns-in-RoleType : goal.returns-in-RoleType
-returns-in-RoleType c = from-role c.args.relation c.in-RoleType.in-RoleType-own.keys2
+returns-in-RoleType c = from-role c.args.relation (opened c.in-RoleType.in-RoleType-own.keys2)

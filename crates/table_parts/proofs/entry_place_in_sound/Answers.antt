@@ -13,6 +13,7 @@ use Rattle.table_laws.proofs.SoundLaws.{sound-edition}
 use Rattle.soundness.proofs.SoundTable.{sound-table}
 use Rattle.table_parts.proofs.EntriesOn.{one_width, entry-body, entry_first, entry_past}
 use Rattle.table_parts.proofs.entry_place_in_sound.Goals as goal
+use Rattle.table_parts.proofs.entry_place_in_sound.Goals.{then-body-le-NAMES-via-then-body-le-NAMES, then-body-le-NAMES-via-else-body-le-NAMES+then-sections-body}
 
 pub returns-then-body-le-NAMES : goal.returns-then-body-le-NAMES
 returns-then-body-le-NAMES c sound =
@@ -21,8 +22,8 @@ returns-then-body-le-NAMES c sound =
     let h = sound-table t (all-places (λ k. k < 256) t 0 (λ i l. (c.shared_slice_known-1.given i).fits)) sound in
     let many = c.sections_of-sections.ensures ∙ ap sections_of (c.edition.ensures ∙ sound-edition t h) in
     elim c.then-body-le-NAMES.branch [
-      then-body-le-NAMES-1 w ↦ entry_first h a.body a.place w.if-body-le-NAMES.true
-      | then-body-le-NAMES-2 w ↦ entry_past h a.body a.place (omega (arith, many, ltb-true c.sections_of-sections.result a.body w.if-sections-body.true-raw))
+      then-body-le-NAMES-via-then-body-le-NAMES w ↦ entry_first h a.body a.place w.if-body-le-NAMES.true
+      | then-body-le-NAMES-via-else-body-le-NAMES+then-sections-body w ↦ entry_past h a.body a.place (omega (arith, many, ltb-true c.sections_of-sections.result a.body w.if-sections-body.true-raw))
     ]
 
 pub overflow_cast-section : goal.overflow_cast-section
