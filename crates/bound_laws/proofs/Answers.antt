@@ -81,6 +81,8 @@ small n k a l m h = record { verdict = by a.verdict h.fails; consulted = omega (
   where
     by : (v : Verdict) → FailsBelow n v → SmallVerdict v
     by granted f = tt
+    by (denied _) f = elim f [ ]
+    by (refuses _ _) f = elim f [ ]
     by (fails m j) f = (f.0, omega (arith, f.1))
 
 tests-small : (n : ℕ) (f : Bool → Bool → Bool → Bool → Answer → Answer) → FourTests n f → n ≤ 5 → (d s t r : Bool) (rest : Answer) → SmallAnswer rest

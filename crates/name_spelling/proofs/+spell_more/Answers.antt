@@ -36,7 +36,7 @@ spell_more-hash-requires t c =
     let a = c.args in
     let starts = sym c.starts_part.ensures ∙ not-false _ c.if-not-starts_part.false-raw in
     let part = is-part a.table.now (a.dot + 1) a.past _ _ c.requires.3 starts x in
-    (omega (arith, c.requires.0, c.if-left-eq0.false), (c.requires.0, x.read.ahead, c.if-end-past.true, c.requires.3, x.read.small, part))
+    (omega (arith, c.if-left-eq0.false), (c.requires.0, x.read.ahead, c.if-end-past.true, c.requires.3, x.read.small, part))
 
 pub unless_reserved-hash-requires : goal.unless_reserved-hash-requires
 unless_reserved-hash-requires t c =
