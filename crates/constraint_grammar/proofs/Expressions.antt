@@ -21,7 +21,7 @@ use Rattle.items.specs.declared.Item.{Item}
 use Rattle.items.specs.declared.Parsed.{Parsed}
 use Rattle.items.specs.declared.Wanted.{Wanted}
 use Rattle.items.proofs.Items.{Looked, sees, by_word, by-close, by_end, alike-open}
-use Rattle.items.proofs.Counts.{one_more, one_less, no_more, of_one, of_two}
+use Rattle.items.proofs.Counts.{one_more, one_less, no_more, of_one_lem, of_two_lem}
 use Rattle.constraint_grammar.specs.Comparisons.{both_sides}
 use Rattle.constraint_grammar.specs.Heads.{joins_of, head_by, head_of}
 use Rattle.constraint_grammar.specs.declared.Head.{Head}
@@ -77,7 +77,7 @@ module _ (sides : Sides) where
       → joining (joins_of (expression_word w)) f ≡ is_some (connected sides w f (expression_word w) (expressions sides f))
   operator-by w f =
       by-operator (λ o. (joins_of o ≡ 0 → ⊥) → joining (joins_of o) f ≡ is_some (connected sides w f o (expressions sides f))) (λ e. absurd (e refl))
-      (λ e. of_one not_e (expressions sides f)) (λ e. of_two and_e (expressions sides f)) (λ e. of_two or_e (expressions sides f)) w
+      (λ e. of_one_lem not_e (expressions sides f)) (λ e. of_two_lem and_e (expressions sides f)) (λ e. of_two_lem or_e (expressions sides f)) w
 
   module _ (w : Name) (s k : ℕ) (f : Forms) (e : number_of w ≡ k) where
     by_number : joins_of (expression_word w) ≡ joins_of (expression_word (word_of k))

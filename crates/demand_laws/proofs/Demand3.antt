@@ -87,7 +87,7 @@ module _ (x : Input) (p : Policy) (read : policy_of x ≡ policy p) (rest : List
 unrefused : {A : Type 0} (m : ℕ) (names truth : A → Bool) (i : ℕ) (xs : List A) → is_refusal (first_failing m names truth i xs).verdict ≡ false
 unfolding first_failing
 unrefused m names truth i [] = refl
-unrefused m names truth i (x ∷ xs) = by (names x) (truth x) (first_failing m names truth _ xs) (unrefused m names truth _ xs)
+unrefused m names truth i (x ∷ xs) = by (names x) (truth x) (first_failing m names truth (i + 1) xs) (unrefused m names truth (i + 1) xs)
   where
     by : (n b : Bool) (later : Answer) → is_refusal later.verdict ≡ false → is_refusal (consult m n b i later).verdict ≡ false
     by false b later h = h

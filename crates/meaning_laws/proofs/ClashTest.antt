@@ -100,6 +100,7 @@ module _ (p : Policy) (ok : Accepted p) where
   line-exactly l d before = go (transition l) refl
     where
       none_of : (xs : Policy) → transition l ≡ none → Some (LinesClash p l) xs → ⊥
+      none_of [] e h = elim h [ ]
       none_of (k ∷ xs) e (inl h) = none-ne-some h.0 (sym e ∙ h.2)
       none_of (k ∷ xs) e (inr h) = none_of xs e h
 

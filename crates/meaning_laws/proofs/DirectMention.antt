@@ -92,6 +92,9 @@ mentions-exactly (l ∷ p) f a b = rw (kept-mentions (set_for f a l) (gather (se
 -- what an S of declared names mentions is declared
 S-declared : (ds : List Declaration) (f : Family) (b : ℕ) (s : SetExpr Reference) → SetIn ds f s → MentionsS b s → b < count (attribute_of f) ds
 S-declared ds f b (name_s (attribute a)) h e = subst (λ (y : ℕ). y < count (attribute_of f) ds) (sym e) h
+S-declared ds f b (name_s (thing _)) h e = elim e [ ]
+S-declared ds f b all_s h e = elim e [ ]
+S-declared ds f b empty_s h e = elim e [ ]
 S-declared ds f b (not_s x) h e = S-declared ds f b x h e
 S-declared ds f b (and_s x y) h (inl e) = S-declared ds f b x h.0 e
 S-declared ds f b (and_s x y) h (inr e) = S-declared ds f b y h.1 e

@@ -47,6 +47,7 @@ module _ {A : Type 0} where
 
   -- what follows for one of them from a property of one and a property of all
   pub some_of : {R : Type 0} (P Q : A → Type 0) → ((x : A) → P x → Q x → R) → (xs : List A) → Some P xs → All Q xs → R
+  some_of P Q h [] e qs = elim e [ ]
   some_of P Q h (x ∷ xs) (inl e) qs = h x e qs.0
   some_of P Q h (x ∷ xs) (inr e) qs = some_of P Q h xs e qs.1
 

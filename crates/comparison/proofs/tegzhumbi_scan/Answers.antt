@@ -5,9 +5,6 @@ use Rattle.comparison.proofs.tegzhumbi_scan.Goals as goal
 
 -- src/lib.rt:21:9
 -- src/lib.rt:23:27
-pub enum_told-1 : goal.enum_told-1
-enum_told-1 c = search rules
-
 -- src/lib.rt:26:20
 -- src/lib.rt:28:24
 -- src/lib.rt:16:1

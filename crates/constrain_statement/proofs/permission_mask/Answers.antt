@@ -15,9 +15,6 @@ overflow_add-end c = omega (arith, (sees c.next_item-item.ensures c.in-Word.is).
 pub slice_bounds-name-end : goal.slice_bounds-name-end
 slice_bounds-name-end c = omega (arith, (sees c.next_item-item.ensures c.in-Word.is).ahead.3)
 
-pub enum_told-1 : goal.enum_told-1
-enum_told-1 c = search rules
-
 pub returns-in_default : goal.returns-in_default
 returns-in_default c =
     let l = sees c.next_item-item.ensures c.in-Word.is in

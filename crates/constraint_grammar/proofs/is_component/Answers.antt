@@ -2,9 +2,6 @@
 use borrow.Author.Rules.{rules}
 use Rattle.constraint_grammar.proofs.is_component.Goals as goal
 
-pub enum_told-1 : goal.enum_told-1
-enum_told-1 c = search rules
-
 pub returns-in-Two : goal.returns-in-Two
 returns-in-Two c = rw c.in-Two.is c.is_of_two_sides.ensures
 

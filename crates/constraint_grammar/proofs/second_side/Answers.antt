@@ -5,6 +5,7 @@ use mathlib.Core.List.{[], ◌∷◌}
 use Rattle.constraint_grammar.specs.Comparisons.{second_side}
 use Rattle.items.proofs.Items.{sees, alike-here}
 use Rattle.items.proofs.Rows.{refuse, after-word}
+use borrow.Enum.Refused.{opened}
 use Rattle.constraint_grammar.proofs.second_side.Goals as goal
 
 pub is_name-named-requires : goal.is_name-named-requires
@@ -23,4 +24,4 @@ returns-else-compares c =
     refuse (ap (second_side _ _ _) l.here ∙ rw bad)
 
 pub returns-in-Open : goal.returns-in-Open
-returns-in-Open c = refuse (alike-here (second_side _ _ _) (λ f. false) _ _ _ (1 ∷ 2 ∷ 3 ∷ []) (tt, λ x f g. refl, refl, refl) c.next_item-item.ensures c.in-Open.in-Open-own.keys2)
+returns-in-Open c = refuse (alike-here (second_side _ _ _) (λ f. false) _ _ _ (1 ∷ 2 ∷ 3 ∷ []) (tt, λ x f g. refl, refl, refl) c.next_item-item.ensures (opened c.in-Open.in-Open-own.keys2))

@@ -31,9 +31,6 @@ pub slice_bounds-name-end : goal.slice_bounds-name-end
 slice_bounds-name-end c =
     omega (arith, (sees c.next_item-second.ensures c.in-Word-second.is).ahead.3)
 
-pub enum_told-1 : goal.enum_told-1
-enum_told-1 c = search rules
-
 pub returns-in_default-operand : goal.returns-in_default-operand
 returns-in_default-operand c =
     let l = sees c.next_item-first.ensures c.in-Word.is in

@@ -11,9 +11,6 @@ returns-then-sort-lt-FIRST_ATTRIBUTE c =
     a-thing _ _ _ _ _ c.component_of.ensures c.if-component_of-ne-NO_COMPONENT.false _ c.family_of.ensures _ c.lookup-found.ensures _ _
     c.in-At.is c.if-sort-lt-FIRST_ATTRIBUTE.true
 
-pub enum_told-1 : goal.enum_told-1
-enum_told-1 c = search rules
-
 pub returns-else-sort-lt-FIRST_ATTRIBUTE : goal.returns-else-sort-lt-FIRST_ATTRIBUTE
 returns-else-sort-lt-FIRST_ATTRIBUTE c =
     an-attribute _ _ _ _ _ c.component_of.ensures c.if-component_of-ne-NO_COMPONENT.false _ c.family_of.ensures _ c.lookup-found.ensures _ _

@@ -31,7 +31,7 @@ ahead c =
     let n = relabel_names a.class in
     let h = relabel_holds a.table.now a.bodies a.sides.now in
     let later = records 4 relabel_at (a.bodies.count - (l.next + 1)) (drop from a.table.now) in
-    rw c.wrapping_add_u16-row.ensures (
+    rw c.wrapping_add_u16-row.ensures.value (
     subst
     (λ (x : RelabelRecord). Left 6 n h (first_failing 6 n h 0 (relabels_in a.table.now a.bodies)) l.asked l.next
     (record { class = x.class; first = l.row; rows = x.rows } ∷ runs_from ((l.row + x.rows) % 65536) later))

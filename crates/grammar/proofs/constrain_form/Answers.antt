@@ -6,13 +6,11 @@ use borrow.Author.Rules.{rules}
 use Rattle.grammar.specs.Shapes.{class_and_constraint}
 use Rattle.items.proofs.Items.{sees, by_part, too-deep, alike}
 use Rattle.items.proofs.Rows.{told, refuse, after-part}
+use borrow.Enum.Refused.{opened}
 use Rattle.grammar.proofs.constrain_form.Goals as goal
 
 pub returns-then-levels-eq0 : goal.returns-then-levels-eq0
 returns-then-levels-eq0 c = refuse (too-deep class_and_constraint _ (sees c.next_item-item.ensures c.in-Open.is) c.if-levels-eq0.true)
-
-pub enum_told-1 : goal.enum_told-1
-enum_told-1 c = search rules
 
 pub returns-in-Next : goal.returns-in-Next
 returns-in-Next c =
@@ -27,4 +25,4 @@ returns-in-Bad c =
     refuse (by_part class_and_constraint _ _ l refl c.if-levels-eq0.false ∙ rw (told c.name_and_part-class.ensures c.in-Bad.is))
 
 pub returns-in-Word : goal.returns-in-Word
-returns-in-Word c = refuse (alike class_and_constraint (λ f. false) _ _ _ (0 ∷ 2 ∷ 3 ∷ []) _ (λ s b f. refl, tt, refl, refl) c.next_item-item.ensures c.in-Word.in-Word-own.keys2)
+returns-in-Word c = refuse (alike class_and_constraint (λ f. false) _ _ _ (0 ∷ 2 ∷ 3 ∷ []) _ (λ s b f. refl, tt, refl, refl) c.next_item-item.ensures (opened c.in-Word.in-Word-own.keys2))

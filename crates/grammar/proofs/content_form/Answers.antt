@@ -3,9 +3,6 @@ use borrow.Author.Rules.{rules}
 use Rattle.items.proofs.Counts.{trim-names}
 use Rattle.grammar.proofs.content_form.Goals as goal
 
-pub enum_told-1 : goal.enum_told-1
-enum_told-1 c = search rules
-
 pub returns-in-Permissions : goal.returns-in-Permissions
 returns-in-Permissions c = rw (c.in-Permissions.is, trim-names) c.names_form.ensures
 

@@ -5,6 +5,7 @@ use mathlib.Core.List.{[], ◌∷◌}
 use Rattle.grammar.specs.Shapes.{name_and_part}
 use Rattle.items.proofs.Items.{sees, by_word, alike}
 use Rattle.items.proofs.Rows.{refuse, after-word}
+use borrow.Enum.Refused.{opened}
 use Rattle.grammar.proofs.name_and_part.Goals as goal
 
 pub is_name-requires : goal.is_name-requires
@@ -27,4 +28,4 @@ returns-else-is_name c =
 pub returns-in-Open : goal.returns-in-Open
 returns-in-Open c =
     let kind = c.args.kind in
-    refuse (alike (name_and_part kind _) (λ f. false) _ _ _ (1 ∷ 2 ∷ 3 ∷ []) _ (tt, λ x f g. refl, refl, refl) c.next_item-item.ensures c.in-Open.in-Open-own.keys2)
+    refuse (alike (name_and_part kind _) (λ f. false) _ _ _ (1 ∷ 2 ∷ 3 ∷ []) _ (tt, λ x f g. refl, refl, refl) c.next_item-item.ensures (opened c.in-Open.in-Open-own.keys2))

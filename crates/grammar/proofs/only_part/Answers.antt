@@ -7,13 +7,11 @@ use Rattle.grammar.specs.Shapes.{only_part}
 use Rattle.items.proofs.Items.{sees, by_part, too-deep, alike}
 use Rattle.items.proofs.Rows.{told, refuse, after-part}
 use Rattle.items.proofs.Rows.{trim-closed}
+use borrow.Enum.Refused.{opened}
 use Rattle.grammar.proofs.only_part.Goals as goal
 
 pub returns-then-levels-eq0 : goal.returns-then-levels-eq0
 returns-then-levels-eq0 c = refuse (too-deep (only_part _) _ (sees c.next_item-item.ensures c.in-Open.is) c.if-levels-eq0.true)
-
-pub enum_told-1 : goal.enum_told-1
-enum_told-1 c = search rules
 
 pub returns-in-Next : goal.returns-in-Next
 returns-in-Next c =
@@ -28,4 +26,4 @@ returns-in-Bad c =
     refuse (by_part (only_part _) _ _ l refl c.if-levels-eq0.false ∙ rw (told c.content_form-inner.ensures c.in-Bad.is))
 
 pub returns-in-Word : goal.returns-in-Word
-returns-in-Word c = refuse (alike (only_part _) (λ f. false) _ _ _ (0 ∷ 2 ∷ 3 ∷ []) _ (λ s b f. refl, tt, refl, refl) c.next_item-item.ensures c.in-Word.in-Word-own.keys2)
+returns-in-Word c = refuse (alike (only_part _) (λ f. false) _ _ _ (0 ∷ 2 ∷ 3 ∷ []) _ (λ s b f. refl, tt, refl, refl) c.next_item-item.ensures (opened c.in-Word.in-Word-own.keys2))

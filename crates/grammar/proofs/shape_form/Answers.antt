@@ -5,9 +5,6 @@ use Rattle.items.proofs.Rows.{refuse}
 use Rattle.items.proofs.Counts.{trim-names}
 use Rattle.grammar.proofs.shape_form.Goals as goal
 
-pub enum_told-1 : goal.enum_told-1
-enum_told-1 c = search rules
-
 pub returns-in-Names : goal.returns-in-Names
 returns-in-Names c = rw (c.in-Names.is, trim-names) c.names_form.ensures
 

@@ -9,6 +9,7 @@ use Rattle.items.proofs.Items.{sees, alike}
 use Rattle.items.proofs.Rows.{refuse, after-word}
 use Rattle.grammar.specs.Shapes.{shape_of}
 use Rattle.grammar.proofs.Statements.{statement-row}
+use borrow.Enum.Refused.{opened}
 use Rattle.grammar.proofs.statement_form.Goals as goal
 
 abbrev is_written : Forms → Bool
@@ -20,4 +21,4 @@ returns-in-Word c = λ at e.
     after-word l (statement-row 31 l _ (c.shape_of-shape.ensures ∙ ap shape_of (sym c.keyword_of.ensures))) c.shape_form.ensures
 
 pub returns-in-Open : goal.returns-in-Open
-returns-in-Open c = λ at e. refuse (alike is_written (λ f. false) _ _ _ (1 ∷ 2 ∷ 3 ∷ []) 31 (tt, λ x f g. refl, refl, refl) e c.in-Open.in-Open-own.keys2)
+returns-in-Open c = λ at e. refuse (alike is_written (λ f. false) _ _ _ (1 ∷ 2 ∷ 3 ∷ []) 31 (tt, λ x f g. refl, refl, refl) e (opened c.in-Open.in-Open-own.keys2))

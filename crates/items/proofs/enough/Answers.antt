@@ -2,9 +2,6 @@
 use borrow.Author.Rules.{rules}
 use Rattle.items.proofs.enough.Goals as goal
 
-pub enum_told-1 : goal.enum_told-1
-enum_told-1 c = search rules
-
 pub returns-in-OneOrMore : goal.returns-in-OneOrMore
 returns-in-OneOrMore c = rw c.in-OneOrMore.is
 

@@ -29,9 +29,6 @@ overflow_add-result-in-Word c =
           c.in-Word.is).ahead,
     )
 
-pub enum_told-1 : goal.enum_told-1
-enum_told-1 c = search rules
-
 pub returns-in-Open : goal.returns-in-Open
 unfolding item_at
 returns-in-Open c = ap (item_of _) (sym c.in-Open.is ∙ c.next-token.ensures)

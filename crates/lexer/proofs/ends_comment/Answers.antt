@@ -8,9 +8,6 @@ use Rattle.lexer.proofs.Variants.{among}
 use borrow.Enum.Refused.{opened}
 use Rattle.lexer.proofs.ends_comment.Goals as goal
 
-pub enum_told-1 : goal.enum_told-1
-enum_told-1 c = search rules
-
 pub returns-in-LineFeed : goal.returns-in-LineFeed
 returns-in-LineFeed c = sym (ap ends_comment c.in-LineFeed.is)
 

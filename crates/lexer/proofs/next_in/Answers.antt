@@ -20,9 +20,6 @@ loop-i-preserved-in-Blank c =
     ap first_of (sym (turn _ c.loop-i.i _ _ c.loop-i-test.true c.class_in-class.ensures (blank-like c.loop-i.i c.class_in-class.result c.in-Blank.in-Blank-own.keys1)))
     ∙ c.loop-i.invariant
 
-pub enum_told-1 : goal.enum_told-1
-enum_told-1 c = search rules
-
 pub loop-i-smaller : goal.loop-i-smaller
 loop-i-smaller c =
     omega (arith, c.comment_end-i.ensures, ahead c.args.text.now ends_comment (c.loop-i.i + 1))

@@ -35,9 +35,6 @@ returns-then-text-at c =
 pub text-preserved-in-Level : goal.text-preserved-in-Level
 text-preserved-in-Level c = (search rules, stepped (goal.at.text-preserved-in-Level c).After-step_between-step _ c.in-Level.is)
 
-pub enum_told-1 : goal.enum_told-1
-enum_told-1 c = search rules
-
 pub text-smaller-in-Comment : goal.text-smaller-in-Comment
 text-smaller-in-Comment c =
     omega (arith, c.comment_end-at.ensures, ahead c.args.text.now ends_comment (c.text.at + 1))

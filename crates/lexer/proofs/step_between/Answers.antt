@@ -5,9 +5,6 @@ use borrow.Author.Tests.{lt-ltb, le-ltb, eq-eqb, ne_eqb}
 use Rattle.lexer.specs.Scan.{max_level}
 use Rattle.lexer.proofs.step_between.Goals as goal
 
-pub enum_told-1 : goal.enum_told-1
-enum_told-1 c = search rules
-
 pub returns-then-level-lt-MAX : goal.returns-then-level-lt-MAX
 returns-then-level-lt-MAX c = λ at. rw (c.in-Open.is, lt-ltb c.args.level max_level (omega arith))
 

@@ -14,6 +14,7 @@ use Rattle.policy.specs.Outcome.{line_feeds}
 use Rattle.policy.proofs.LineFeeds.{feed-here, no-feed-here}
 use Rattle.byte_slices.proofs.PartLaws.{take-cut}
 use Rattle.lines.proofs.line_of.Goals as goal
+use Rattle.lines.proofs.line_of.Goals.{then-text-i-eq-LINE_FEED, else-text-i-eq-LINE_FEED}
 
 pub returns-then-place-gt-MAX : goal.returns-then-place-gt-MAX
 returns-then-place-gt-MAX c = rw (lt-leb c.args.place 65535 c.if-place-gt-MAX.true) refl
@@ -28,10 +29,10 @@ loop-i-preserved c =
     let i = c.loop-i.i in
     let was = c.loop-i.invariant in
     let more : (c.if-text-i-eq-LINE_FEED.line ≡ 1 + line_feeds (take (i + 1) text)) × (c.if-text-i-eq-LINE_FEED.line ≤ 1 + (i + 1)) =
-    ⊎_elim
-    (λ w. (rw add-one (omega (arith, w.1, was.3, feed-here text i (omega arith) w.0.taken)), omega (arith, w.1, was.4)))
-    (λ w. (rw add-one (omega (arith, w.1, was.3, no-feed-here text i (omega arith) w.0.left)), omega (arith, w.1, was.4)))
-    c.if-text-i-eq-LINE_FEED.branch in
+    elim c.if-text-i-eq-LINE_FEED.branch [
+      then-text-i-eq-LINE_FEED w ↦ (rw add-one (omega (arith, was.3, feed-here text i (omega arith) w.if-text-i-eq-LINE_FEED.true)), omega (arith, was.4))
+      | else-text-i-eq-LINE_FEED w ↦ (rw add-one (omega (arith, was.3, no-feed-here text i (omega arith) w.if-text-i-eq-LINE_FEED.false)), omega (arith, was.4))
+    ] in
     (search rules, search rules, search rules, more.0, more.1)
 
 pub returns : goal.returns

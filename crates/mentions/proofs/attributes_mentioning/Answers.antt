@@ -4,12 +4,12 @@ use native.Mathlib.Omega.{arith}
 use mathlib.Core.Bool.{Bool}
 use mathlib.Core.List.{List}
 use mathlib.Core.Path.{◌≡◌, sym, ap, ◌∙◌}
-use mathlib.Core.Logic.{⊎_elim}
 use Rattle.bitset.specs.Sets.{inserted}
 use Rattle.set_code.specs.Evaluation.{sets_in}
 use Rattle.mentions.specs.Closure.{column_of}
 use Rattle.mentions.proofs.ColumnLaws.{filled, filled_none, filled_more, filled-over}
 use Rattle.mentions.proofs.attributes_mentioning.Goals as goal
+use Rattle.mentions.proofs.attributes_mentioning.Goals.{then-contains_at, else-contains_at}
 
 pub loop-a-init : goal.loop-a-init
 loop-a-init c = (omega arith, c.clear.ensures ∙ filled_none (λ x. sets_in _ x _) _ c.clear-arg-1.given.0.1)
@@ -22,10 +22,10 @@ loop-a-preserved c =
     let test : ℕ → Bool = λ x. sets_in args.rows.now x args.k in
     let has = sym c.contains_at.ensures in (
       omega arith,
-      ⊎_elim
-          (λ t. t.3 ∙ t.2.ensures ∙ ap (λ (s : List ℕ). inserted s a) c.loop-a.invariant.1 ∙ filled_more test a (has ∙ t.0.taken))
-          (λ t. t.1 ∙ c.loop-a.invariant.1 ∙ filled-over test a (has ∙ t.0.left))
-          c.if-contains_at.branch,
+      elim c.if-contains_at.branch [
+        then-contains_at w ↦ w.out-is ∙ w.insert.ensures ∙ ap (λ (s : List ℕ). inserted s a) c.loop-a.invariant.1 ∙ filled_more test a (has ∙ w.if-contains_at.true)
+        | else-contains_at w ↦ w.out-is ∙ c.loop-a.invariant.1 ∙ filled-over test a (has ∙ w.if-contains_at.false)
+      ],
     )
 
 pub returns : goal.returns

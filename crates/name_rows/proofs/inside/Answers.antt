@@ -8,9 +8,6 @@ use Rattle.name_rows.proofs.inside.Goals as goal
 pub overflow_add-result : goal.overflow_add-result
 overflow_add-result c = omega (arith, (seen _ _ _ _ c.next-token.ensures c.in-Open.is).ahead)
 
-pub enum_told-1 : goal.enum_told-1
-enum_told-1 c = search rules
-
 pub returns-in-Open : goal.returns-in-Open
 returns-in-Open c = a-part _ _ _ c.next-token.ensures _ c.in-Open.is
 

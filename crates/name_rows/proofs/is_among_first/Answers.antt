@@ -9,9 +9,6 @@ use Rattle.name_rows.proofs.is_among_first.Goals as goal
 pub loop-left-init : goal.loop-left-init
 loop-left-init c = refl
 
-pub enum_told-1 : goal.enum_told-1
-enum_told-1 c = search rules
-
 pub returns-in_default : goal.returns-in_default
 returns-in_default c =
     not-among-none _ _ c.loop-left.left _ (told c.word_at-other.ensures c.in_default.is).is ∙

@@ -3,9 +3,6 @@ use borrow.Author.Rules.{rules}
 use Rattle.name_rows.proofs.Rows.{a_word, open-no-word, close-no-word, end-no-word}
 use Rattle.name_rows.proofs.word_at.Goals as goal
 
-pub enum_told-1 : goal.enum_told-1
-enum_told-1 c = search rules
-
 pub returns-in-Word : goal.returns-in-Word
 returns-in-Word c = a_word _ _ _ c.next-token.ensures _ _ c.in-Word.is
 

@@ -7,13 +7,13 @@ use Rattle.name_spelling.proofs.spell.Goals as goal
 
 pub returns-then-past-from-gt-MAX : goal.returns-then-past-from-gt-MAX
 returns-then-past-from-gt-MAX c =
-    too_long c.args.table.now c.args.from c.args.past c.args.most-parts c.requires.1 c.requires.2 c.if-past-from-gt-MAX.true
+    too_long c.args.table.now c.args.from c.args.past c.args.most_parts c.requires.1 c.requires.2 c.if-past-from-gt-MAX.true
 
 pub returns-then-not-starts_part : goal.returns-then-not-starts_part
 returns-then-not-starts_part c =
     let a = c.args in
-    sym (no_start a.table.now a.most-parts a.from a.past 0 c.requires.2 (sym c.starts_part.ensures ∙ not-true _ c.if-not-starts_part.true-raw))
-    ∙ by_parts a.table.now a.from a.past a.most-parts c.requires.1 c.requires.2 c.if-past-from-gt-MAX.false
+    sym (no_start a.table.now a.most_parts a.from a.past 0 c.requires.2 (sym c.starts_part.ensures ∙ not-true _ c.if-not-starts_part.true-raw))
+    ∙ by_parts a.table.now a.from a.past a.most_parts c.requires.1 c.requires.2 c.if-past-from-gt-MAX.false
 
 pub read_part-part-requires : goal.read_part-part-requires
 read_part-part-requires c =
@@ -33,8 +33,8 @@ returns-then-end-past c =
     let a = c.args in
     let starts = sym c.starts_part.ensures ∙ not-false _ c.if-not-starts_part.false-raw in
     c.spell_more.ensures
-    ∙ sym (goes-behind a.table.now a.from a.past 0 _ c.requires.2 starts x a.most-parts c.requires.3 c.if-end-past.true)
-    ∙ by_parts a.table.now a.from a.past a.most-parts c.requires.1 c.requires.2 c.if-past-from-gt-MAX.false
+    ∙ sym (goes-behind a.table.now a.from a.past 0 _ c.requires.2 starts x a.most_parts c.requires.3 c.if-end-past.true)
+    ∙ by_parts a.table.now a.from a.past a.most_parts c.requires.1 c.requires.2 c.if-past-from-gt-MAX.false
 
 pub unless_reserved-requires : goal.unless_reserved-requires
 unless_reserved-requires c =
@@ -50,5 +50,5 @@ returns c =
     let a = c.args in
     let starts = sym c.starts_part.ensures ∙ not-false _ c.if-not-starts_part.false-raw in
     c.unless_reserved.ensures
-    ∙ sym (ends a.table.now a.from a.past 0 _ c.requires.2 starts x a.most-parts c.requires.3 c.if-end-past.false)
-    ∙ by_parts a.table.now a.from a.past a.most-parts c.requires.1 c.requires.2 c.if-past-from-gt-MAX.false
+    ∙ sym (ends a.table.now a.from a.past 0 _ c.requires.2 starts x a.most_parts c.requires.3 c.if-end-past.false)
+    ∙ by_parts a.table.now a.from a.past a.most_parts c.requires.1 c.requires.2 c.if-past-from-gt-MAX.false

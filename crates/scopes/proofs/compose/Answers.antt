@@ -7,7 +7,6 @@ use lib.ListN.{length, set, length-set}
 use Rattle.byte_slices.specs.Parts.{part, put}
 use Rattle.scopes.proofs.Composed.{alone-too-long, alone, inner-too-long, length_front, inner}
 use Rattle.scopes.proofs.compose.Goals as goal
-use Rattle.scopes.proofs.compose.Goals.{After-slice_known-3-1}
 
 pub returns-then-long-gt-MAX : goal.returns-then-long-gt-MAX
 returns-then-long-gt-MAX c =
@@ -31,7 +30,11 @@ copy-requires-3 c =
     (simp length-set (omega (arith, long)), omega arith)
 
 pub shape_of-into : goal.shape_of-into
-shape_of-into c = (returns-4 (goal.at.shape_of-into c).After-slice_known-3-1).long
+shape_of-into c =
+    let n = c.args.n in
+    let w = c.args.name.now in
+    (inner c.args.symbols.now n w c.args.into.now c.requires.0 c.requires.1 c.requires.2 (omega (arith, c.if-n-eq0.false)) (omega (arith, c.if-n-long.false))
+    (c.copy-3.ensures ∙ ap (λ (l : List ℕ). put (set l n 46) (n + 1) (part w 0 (length w))) c.copy-2.ensures)).long
 
 pub returns : goal.returns
 returns c =

@@ -11,20 +11,17 @@ returns-in_default c =
 
 pub copy-requires : goal.copy-requires
 copy-requires c =
-    let told = c.in-Length.given in
     let t = c.args.symbols.now in
     let w = part c.args.text.now c.args.from c.args.len in
-    let few = short t w c.requires c.full_name-named.ensures told.0.0 told.1 refl in
-    (omega arith, omega (arith, lent-all t w c.requires c.full_name-named.ensures told.0.0 told.1 refl))
+    let few = short t w c.requires c.full_name-named.ensures c.in-Length.long c.in-Length.is refl in
+    (omega arith, omega (arith, lent-all t w c.requires c.full_name-named.ensures c.in-Length.long c.in-Length.is refl))
 
 pub overflow_cast-symbols : goal.overflow_cast-symbols
 overflow_cast-symbols c =
-    let told = c.in-Length.given in
     let w = part c.args.text.now c.args.from c.args.len in
-    omega (arith, short c.args.symbols.now w c.requires c.full_name-named.ensures told.0.0 told.1 refl)
+    omega (arith, short c.args.symbols.now w c.requires c.full_name-named.ensures c.in-Length.long c.in-Length.is refl)
 
 pub returns : goal.returns
 returns c =
-    let told = c.in-Length.given in
     let w = part c.args.text.now c.args.from c.args.len in
-    entered c.args.symbols.now w c.requires c.full_name-named.ensures told.0.0 told.1 refl c.copy.ensures
+    entered c.args.symbols.now w c.requires c.full_name-named.ensures c.in-Length.long c.in-Length.is refl c.copy.ensures

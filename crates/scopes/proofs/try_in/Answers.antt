@@ -7,9 +7,8 @@ use Rattle.scopes.proofs.try_in.Goals as goal
 
 pub returns-in-Length : goal.returns-in-Length
 returns-in-Length c =
-    let told = c.in-Length.given in
     let composed = c.compose-named.ensures in
-    tries-as (c.part.ensures ∙ composed-is composed told.1) c.find.ensures
+    tries-as (c.part.ensures ∙ composed-is composed c.in-Length.is) c.find.ensures
 
 pub returns-in-TooLong : goal.returns-in-TooLong
 returns-in-TooLong c = too-long-tries (composed-long c.compose-named.ensures c.in-TooLong.is)

@@ -6,10 +6,8 @@ use Rattle.items.specs.declared.Item.{Item}
 use Rattle.items.specs.declared.Wanted.{Wanted}
 use Rattle.items.proofs.Items.{among}
 use Rattle.set_grammar.specs.Starts.{begun, start_of}
+use borrow.Enum.Refused.{opened}
 use Rattle.set_grammar.proofs.set_start.Goals as goal
-
-pub enum_told-1 : goal.enum_told-1
-enum_told-1 c = search rules
 
 pub returns-in-Exactly : goal.returns-in-Exactly
 returns-in-Exactly c =
@@ -23,4 +21,4 @@ pub returns-in-Open : goal.returns-in-Open
 returns-in-Open c =
     let at = c.args.at in
     rw (← c.next_item-item.ensures)
-    (among (1 ∷ 2 ∷ 3 ∷ []) (λ (r : Item). begun Wanted.OneOrMore at ≡ start_of at r) (tt, λ p q. refl, λ q. refl, refl) c.next_item-item.result c.in-Open.in-Open-own.keys2)
+    (among (1 ∷ 2 ∷ 3 ∷ []) (λ (r : Item). begun Wanted.OneOrMore at ≡ start_of at r) (tt, λ p q. refl, λ q. refl, refl) c.next_item-item.result (opened c.in-Open.in-Open-own.keys2))

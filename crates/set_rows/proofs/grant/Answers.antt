@@ -47,7 +47,7 @@ loop-u-preserved c =
     let v = c.least-reach.result in
     let inside : w * u ≤ length body = omega (arith, c.row_count-rows.ensures.starts u (omega arith)) in
     let here = c.gap_from-gap.ensures.here (omega arith) in
-    let row : c.union_at.new.0 ≡ so_far w body a.us.now a.rs.now (w * (u + 1)) =
+    let row : c.union_at.new.table ≡ so_far w body a.us.now a.rs.now (w * (u + 1)) =
     c.union_at.ensures ∙ ap (λ (b : List ℕ). put b (w * u) (union_of (part b (w * u) v) a.rs.now)) c.loop-u.invariant.1
     ∙ so_far-row w body a.us.now a.rs.now u v inside (omega (arith, c.least-reach.ensures)) here in
     (search rules, row, ap length row ∙ length-so_far w body a.us.now a.rs.now (w * (u + 1)))

@@ -11,9 +11,6 @@ pub returns-then-sort-lt-FIRST_ATTRIBUTE : goal.returns-then-sort-lt-FIRST_ATTRI
 returns-then-sort-lt-FIRST_ATTRIBUTE c =
     refers c.lookup-found.ensures (rw c.in-At.is (a-thing _ _ c.if-number.false c.if-sort-lt-FIRST_ATTRIBUTE.true))
 
-pub enum_told-1 : goal.enum_told-1
-enum_told-1 c = search rules
-
 pub returns-else-sort-lt-FIRST_ATTRIBUTE : goal.returns-else-sort-lt-FIRST_ATTRIBUTE
 returns-else-sort-lt-FIRST_ATTRIBUTE c =
     refers c.lookup-found.ensures (rw c.in-At.is (an-attribute _ _ c.if-number.false c.if-sort-lt-FIRST_ATTRIBUTE.false))

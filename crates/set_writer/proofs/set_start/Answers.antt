@@ -6,6 +6,7 @@ use Rattle.policy.specs.Grammar.{set_in}
 use Rattle.items.proofs.Frames.{sees}
 use Rattle.items.proofs.Items.{alike}
 use Rattle.set_writer.proofs.FirstItems.{starts-operator, starts-name, unworded, starts_other}
+use borrow.Enum.Refused.{opened}
 use Rattle.set_writer.proofs.set_start.Goals as goal
 
 pub returns-then-operator-eq-UNION : goal.returns-then-operator-eq-UNION
@@ -20,4 +21,4 @@ returns-else-operator-eq-UNION c =
 
 pub returns-in-Open : goal.returns-in-Open
 unfolding set_in
-returns-in-Open c = starts_other λ n. alike set_in unworded _ _ _ (1 ∷ 2 ∷ 3 ∷ []) n (tt, (λ x f g. refl), refl, refl) c.next_item-item.ensures c.in-Open.in-Open-own.keys2
+returns-in-Open c = starts_other λ n. alike set_in unworded _ _ _ (1 ∷ 2 ∷ 3 ∷ []) n (tt, (λ x f g. refl), refl, refl) c.next_item-item.ensures (opened c.in-Open.in-Open-own.keys2)

@@ -3,9 +3,6 @@ use borrow.Author.Rules.{rules}
 use Rattle.statement_writer.proofs.NumberLaws.{as-reference, as-attribute, as-class, as-role}
 use Rattle.statement_writer.proofs.name_unit.Goals as goal
 
-pub enum_told-1 : goal.enum_told-1
-enum_told-1 c = search rules
-
 pub returns-in-Reference : goal.returns-in-Reference
 returns-in-Reference c = as-reference _ _ c.in-Reference.is c.family_number-number.ensures.0 c.reference.ensures
 

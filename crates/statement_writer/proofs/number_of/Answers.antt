@@ -13,9 +13,6 @@ returns-then-number c =
     numbers c.family_of-family.ensures c.lookup-found.ensures
     (rw c.in-At.is (too_large _ _ _ c.if-s-sort.false c.if-number.true))
 
-pub enum_told-1 : goal.enum_told-1
-enum_told-1 c = search rules
-
 pub returns-else-number : goal.returns-else-number
 returns-else-number c =
     numbers c.family_of-family.ensures c.lookup-found.ensures

@@ -11,9 +11,6 @@ use Rattle.statement_writer.proofs.SetStatements.{no-attribute, no_part, set-cod
 use borrow.Enum.Refused.{opened}
 use Rattle.statement_writer.proofs.write_attribute_set.Goals as goal
 
-pub enum_told-1 : goal.enum_told-1
-enum_told-1 c = search rules
-
 pub shape_of-code-in_default : goal.shape_of-code-in_default
 shape_of-code-in_default c =
     c.write_name-name.ensures.keeps.long ∙ c.write_head-u.ensures.keeps.long

@@ -21,9 +21,6 @@ overflow_add-end c = omega (arith, (sees c.next_item-item.ensures c.in-Word.is).
 pub slice_bounds-name-end : goal.slice_bounds-name-end
 slice_bounds-name-end c = omega (arith, (sees c.next_item-item.ensures c.in-Word.is).ahead.3)
 
-pub enum_told-1 : goal.enum_told-1
-enum_told-1 c = search rules
-
 pub returns-in_default-referred : goal.returns-in_default-referred
 returns-in_default-referred c =
     no_name (sees c.next_item-item.ensures c.in-Word.is) c.name_unit-referred.ensures c.in_default-referred.is

@@ -5,9 +5,6 @@ use mathlib.Core.List.{[], ◌∷◌}
 use Rattle.statement_writer.proofs.RowNames.{names-stop, names-then}
 use Rattle.statement_writer.proofs.write_pair.Goals as goal
 
-pub enum_told-1 : goal.enum_told-1
-enum_told-1 c = search rules
-
 pub shape_of-code-in_default : goal.shape_of-code-in_default
 shape_of-code-in_default c = c.write_name-name.ensures.keeps.long
 

@@ -5,9 +5,6 @@ use Rattle.statement_writer.specs.declared.NamesWritten.{NamesWritten}
 use Rattle.statement_writer.proofs.StatementUnits.{relation-coded}
 use Rattle.statement_writer.proofs.write_relation.Goals as goal
 
-pub enum_told-1 : goal.enum_told-1
-enum_told-1 c = search rules
-
 pub shape_of-code-in-Next : goal.shape_of-code-in-Next
 shape_of-code-in-Next c =
     c.write_pair-names.ensures.keeps.long ∙ c.write_head-u.ensures.keeps.long

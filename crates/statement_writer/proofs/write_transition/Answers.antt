@@ -9,9 +9,6 @@ use Rattle.statement_writer.proofs.RowNames.{names-stop, names-then}
 use Rattle.statement_writer.proofs.StatementUnits.{transition-coded}
 use Rattle.statement_writer.proofs.write_transition.Goals as goal
 
-pub enum_told-1 : goal.enum_told-1
-enum_told-1 c = search rules
-
 pub shape_of-code-in_default : goal.shape_of-code-in_default
 shape_of-code-in_default c =
     c.write_pair-names.ensures.keeps.long ∙ c.write_head-u.ensures.keeps.long

@@ -59,9 +59,6 @@ returns-in-Named c =
     let m = met c.entry_at-k.ensures c.in-Named.is in
     this-numbered m _ _ c.if-s-sort.false c.if-n-number.false ∙ l.invariant.1
 
-pub enum_told-1 : goal.enum_told-1
-enum_told-1 c = search rules
-
 pub returns-in-Done : goal.returns-in-Done
 returns-in-Done c = none-numbered _ _ _ _ (none_done (met c.entry_at-k.ensures c.in-Done.is)) ∙ c.loop-s.invariant.1
 

@@ -3,7 +3,6 @@
 use Prim.Native.Nat.{ℕ, ◌-◌, ◌<◌}
 use native.Mathlib.Omega.{arith}
 use mathlib.Core.Path.{ap, ◌∙◌}
-use mathlib.Core.Logic.{⊎_elim}
 use borrow.Author.Tests.{ltb-true, ltb-false}
 use Rattle.policy.specs.Encode.{sections_of}
 use Rattle.policy.specs.Sound.{edition_in}
@@ -21,8 +20,10 @@ returns-then-body-le-NAMES c sound =
     let t = a.table.now in
     let h = sound-table t (all-places (λ k. k < 256) t 0 (λ i l. (c.shared_slice_known-1.given i).fits)) sound in
     let many = c.sections_of-sections.ensures ∙ ap sections_of (c.edition.ensures ∙ sound-edition t h) in
-    ⊎_elim (λ first. entry_first h a.body a.place first.taken)
-    (λ past. entry_past h a.body a.place (omega (arith, many, ltb-true c.sections_of-sections.result a.body past.1.taken))) c.then-body-le-NAMES.branch
+    elim c.then-body-le-NAMES.branch [
+      then-body-le-NAMES-1 w ↦ entry_first h a.body a.place w.if-body-le-NAMES.true
+      | then-body-le-NAMES-2 w ↦ entry_past h a.body a.place (omega (arith, many, ltb-true c.sections_of-sections.result a.body w.if-sections-body.true-raw))
+    ]
 
 pub overflow_cast-section : goal.overflow_cast-section
 overflow_cast-section c =

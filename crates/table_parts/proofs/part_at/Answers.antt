@@ -4,9 +4,6 @@ use Rattle.table_parts.proofs.ShownLaws.{no_bytes}
 use borrow.Author.Rules.{rules}
 use Rattle.table_parts.proofs.part_at.Goals as goal
 
-pub enum_told-1 : goal.enum_told-1
-enum_told-1 c = search rules
-
 pub returns-in-Part : goal.returns-in-Part
 returns-in-Part c = rw c.in-Part.is c.part.ensures
 

@@ -5,9 +5,6 @@ use Rattle.tegzhumbi.proofs.OneStep.{refuses, answers}
 use borrow.Author.Rules.{rules}
 use Rattle.tegzhumbi.proofs.decide.Goals as goal
 
-pub enum_told-1 : goal.enum_told-1
-enum_told-1 c = search rules
-
 pub returns-in-Accepted : goal.returns-in-Accepted
 returns-in-Accepted c = answers (subst (Compiles _ _ _) c.in-Accepted.is c.compile-compiled.ensures) c.change.ensures
 

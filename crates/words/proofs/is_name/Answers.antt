@@ -36,9 +36,6 @@ returns-then-is_dotless c =
     let a = c.args in
     alone a.kind _ _ (sym c.is_dotless.ensures ∙ c.if-is_dotless.true) c.is_reserved_word.ensures ∙ lent a.kind a.text.now a.start a.len
 
-pub enum_told-1 : goal.enum_told-1
-enum_told-1 c = search rules
-
 pub returns-in-Name : goal.returns-in-Name
 returns-in-Name c =
     let a = c.args in
