@@ -1,12 +1,12 @@
-//! With the feature `linked`: where the static libraries lie that `long-comparison` made.
+//! With the feature `linked`: where the static libraries lie that `long-comparison` made, each in its crate's folder `out`.
 
 fn main() {
-    println!("cargo:rerun-if-env-changed=LINKED_LIBRARY");
+    println!("cargo:rerun-if-env-changed=LINKED_CRATES");
     if std::env::var_os("CARGO_FEATURE_LINKED").is_some() {
-        let folder = std::env::var("LINKED_LIBRARY").expect("LINKED_LIBRARY names the folder of the static libraries");
-        println!("cargo:rustc-link-search=native={folder}");
+        let crates = std::env::var("LINKED_CRATES").expect("LINKED_CRATES names the folder of the proved crates");
         for name in ["comparison", "tegzhumbi_c"] {
-            println!("cargo:rerun-if-changed={folder}/lib{name}.a");
+            println!("cargo:rustc-link-search=native={crates}/{name}/out");
+            println!("cargo:rerun-if-changed={crates}/{name}/out/lib{name}.a");
         }
     }
 }

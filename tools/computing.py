@@ -35,10 +35,10 @@ def wrapped(text, columns):
 
 
 uses, names = [], []
-for crate, path, only in [
-    ("bitset", "Rattle·bitset.specs", {"Sets", "Relations"}),
-    ("lexer", "Rattle·lexer.specs", {"Class", "Scan", "Token", "Forms"}),
-    ("policy", "Rattle·policy·specs.specs", None),
+for crate, only in [
+    ("bitset", {"Sets", "Relations"}),
+    ("lexer", {"Class", "Scan", "Token", "Forms"}),
+    ("policy", None),
 ]:
     for module in modules(crate):
         if module in skip or only and module not in only:
@@ -46,7 +46,7 @@ for crate, path, only in [
         mine = [(n, n if n not in names else n + "-of-" + module) for n in unfoldable(crate, module)]
         if mine:
             brought = ", ".join(n if n == other else n + " as " + other for n, other in mine)
-            uses += ["use %s.%s.{%s}" % (path, module, line.rstrip(",")) for line in wrapped(brought, 110)]
+            uses += ["use Rattle.%s.specs.%s.{%s}" % (crate, module, line.rstrip(",")) for line in wrapped(brought, 110)]
             names += [other for n, other in mine]
 with open(os.path.join(top, "policy", "specs", "Computing.antt"), "w", encoding="utf8") as out:
     out.write("-- `unfolding computing` opens every definition, for examples that compute. Written by tools/computing.py. Assumes nothing.\n")

@@ -1,4 +1,4 @@
-//! Links the static library that `rt staticlib tegzhumbi_c` writes.
+//! Links the static library that `rt lib` writes in the folder of the crate `tegzhumbi_c`.
 
 use std::env;
 use std::path::{Path, PathBuf};
@@ -28,15 +28,15 @@ fn folder() -> PathBuf {
     let repository = Path::new(env!("CARGO_MANIFEST_DIR")).join("../..");
     match env::var_os(FOLDER_VARIABLE) {
         Some(folder) => PathBuf::from(folder),
-        None => repository.join("target/staticlib"),
+        None => repository.join(format!("crates/{LIBRARY}/out")),
     }
 }
 
 fn explain_missing(archive: &Path) {
     eprintln!("There is no {}.", archive.display());
     eprintln!(
-        "Run `rt staticlib {LIBRARY}` in the folder of the repository: it proves the library"
+        "Run `rt lib` in the repository's folder crates/{LIBRARY}: it proves the library"
     );
-    eprintln!("and writes it to target/staticlib.");
+    eprintln!("and writes it to the folder out there.");
     eprintln!("If it lies elsewhere, set {FOLDER_VARIABLE} to its folder.");
 }

@@ -43,10 +43,12 @@ impl Item {
     }
 }
 
-/// Items of one kind: the first part of their files' name, what their claims cite, and what stands before them.
+/// Items of one kind: the first part of their files' name, what their claims cite (the library's words, and definitions), and what stands
+/// before them.
 struct Chapter {
     name: &'static str,
     about: &'static str,
+    words: &'static str,
     cites: &'static [&'static str],
     before: &'static str,
     items: Vec<Item>,
@@ -109,7 +111,7 @@ fn files_of(chapter: &Chapter) -> Vec<File> {
     }
     for file in &mut files {
         if file.text.contains(" ++ ") {
-            file.text = file.text.replacen("{List, [], _∷_}", "{List, [], _∷_, _++_}", 1);
+            file.text = file.text.replacen("[], ◌∷◌", "[], ◌∷◌, ◌++◌", 1);
         }
         file.text = file.text.lines().map(folded).collect();
     }
@@ -159,11 +161,11 @@ fn opening(chapter: &Chapter) -> String {
          Written by reference/regenerate.\n-- Assumes nothing.\n",
         chapter.about
     );
-    let cited = [&["mathlib.Core.Path.{_≡_, refl}", "mathlib.Core.List.{List, [], _∷_}"], chapter.cites].concat();
-    for line in cited {
+    text.push_str(&format!("use Rattle.std.specs.Prelude.{{◌≡◌, refl, List, [], ◌∷◌{}}}\n", chapter.words));
+    for line in chapter.cites {
         text.push_str(&format!("use {line}\n"));
     }
-    text.push_str("use Rattle·policy.specs.Computing.{computing}\n");
+    text.push_str("use Rattle.policy.specs.Computing.{computing}\n");
     text.push_str(chapter.before);
     text
 }
@@ -202,15 +204,15 @@ fn listed(bytes: &[u8]) -> String {
 
 /// What is compiled is made from the text.
 fn of_text(text: &[u8]) -> String {
-    format!("ofText ({})", quoted(text))
+    format!("of_text ({})", quoted(text))
 }
 
 /// A refusal by its number, place and line.
 fn rejected(fault: Fault) -> String {
-    format!("rejected (refusalAt {} {} {})", fault.number, fault.place, fault.line)
+    format!("rejected (refusal_at {} {} {})", fault.number, fault.place, fault.line)
 }
 
-const BYTES: &str = "Rattle·lexer.specs.Spell.{bytes}";
+const BYTES: &str = "Rattle.lexer.specs.Spell.{bytes}";
 
 /// Refusals 1 to 9, with memory enough for any table.
 fn refused(random: &mut Random) -> Chapter {
@@ -245,7 +247,8 @@ fn refused(random: &mut Random) -> Chapter {
     Chapter {
         name: "Refused",
         about: "Texts",
-        cites: &[BYTES, "Rattle·policy.specs.Outcome.{ofText, refusalAt, rejected, outcome}"],
+        words: "",
+        cites: &[BYTES, "Rattle.policy.specs.Outcome.{of_text, refusal_at, rejected, outcome}"],
         before: "",
         items,
     }
@@ -307,7 +310,7 @@ fn accepted(random: &mut Random) -> Chapter {
     let mut items = Vec::new();
     let mut add = |rule: &str, text: &[u8]| match table_of(text) {
         Ok(table) if table.len() <= MOST_TABLE => {
-            items.push(Item::one(rule, format!("tableOf ({}) ≡ {}", quoted(text), listed(&table))));
+            items.push(Item::one(rule, format!("table_of ({}) ≡ {}", quoted(text), listed(&table))));
             true
         }
         _ => false,
@@ -331,7 +334,8 @@ fn accepted(random: &mut Random) -> Chapter {
     Chapter {
         name: "Accepted",
         about: "Texts",
-        cites: &[BYTES, "Rattle·policy.specs.Worked.{tableOf}"],
+        words: "",
+        cites: &[BYTES, "Rattle.policy.specs.Worked.{table_of}"],
         before: "",
         items,
     }
@@ -367,37 +371,39 @@ fn lent() -> Chapter {
     Chapter {
         name: "Lent",
         about: "Texts and lent memory,",
-        cites: &[BYTES, "Rattle·policy.specs.Outcome.{ofText, refusalAt, accepted, rejected, outcome, after}"],
+        words: "",
+        cites: &[BYTES, "Rattle.policy.specs.Outcome.{of_text, refusal_at, accepted, rejected, outcome, after}"],
         before: "",
         items,
     }
 }
 
+/// The words of the library for the questions' claims.
+const VALUES: &str = ", ℕ, true, false";
+
 /// What the questions' claims cite.
 const ASKING: &[&str] = &[
-    "Prim.Native.Nat.{ℕ}",
-    "mathlib.Core.Bool.{true, false}",
-    "mathlib.Core.Option.{none, some}",
+    "Rattle.std.proofs.Math.Option.{none, some}",
     BYTES,
-    "Rattle·policy.specs.Basics.{each}",
-    "Rattle·policy.specs.Reading.{policy, refused}",
-    "Rattle·policy.specs.Deciding.{Question, Answer, granted, denied, fails, refuses, answered, refused}",
-    "Rattle·policy.specs.Answer.{answer}",
-    "Rattle·policy.specs.Questions.{change, decided, changeOn, relabelOn, validOn, newRoleOn, nameOn, entryOn}",
-    "Rattle·policy.specs.Sound.{imageIn}",
-    "Rattle·policy.specs.Outcome.{ofText, policyOf}",
-    "Rattle·policy.specs.Worked.{tableOf, context}",
+    "Rattle.policy.specs.Basics.{each}",
+    "Rattle.policy.specs.Reading.{policy, refused}",
+    "Rattle.policy.specs.Deciding.{Question, Answer, granted, denied, fails, refuses, answered, refused}",
+    "Rattle.policy.specs.Answer.{answer}",
+    "Rattle.policy.specs.Questions.{change, decided, change_on, relabel_on, valid_on, new_role_on, name_on, entry_on}",
+    "Rattle.policy.specs.Sound.{image_in}",
+    "Rattle.policy.specs.Outcome.{of_text, policy_of}",
+    "Rattle.policy.specs.Worked.{table_of, context}",
 ];
 
 /// Several changes at once, in the prover's language: the statements, and the table, are read once for all of them.
 const CHANGES: &str = "
 -- what the statements of a text answer
-abbrev fromText : List ℕ → List Question → List Answer
-fromText text qs = elim (policyOf (ofText text)) [ policy p ↦ each (answer p) qs | refused n at ↦ [] ]
+abbrev from_text : List ℕ → List Question → List Answer
+from_text text qs = elim (policy_of (of_text text)) [ policy p ↦ each (answer p) qs | refused n at ↦ [] ]
 
--- `changeOn` for each question
-abbrev changesOn : List ℕ → List Question → List Answer
-changesOn t qs = elim (imageIn t) [ some i ↦ each (change i) qs | none ↦ each (λ q. decided (λ i. change i q) none) qs ]
+-- `change_on` for each question
+abbrev changes_on : List ℕ → List Question → List Answer
+changes_on t qs = elim (image_in t) [ some i ↦ each (change i) qs | none ↦ each (λ q. decided (λ i. change i q) none) qs ]
 ";
 
 /// Questions on tables of accepted texts; changes also as the statements answer them. Each relabelling is a claim of its own.
@@ -414,13 +420,13 @@ fn questions(random: &mut Random) -> Chapter {
         items.push(asked_item("a random policy and random questions", &text, &list));
     }
     items.extend(in_the_older_edition());
-    Chapter { name: "Asked", about: "Questions", cites: ASKING, before: CHANGES, items }
+    Chapter { name: "Asked", about: "Questions", words: VALUES, cites: ASKING, before: CHANGES, items }
 }
 
 /// The table is written out, so that it is not computed again for every question.
 fn asked_item(rule: &str, text: &[u8], list: &[Question]) -> Item {
     let table = table_of(text).expect("an accepted text");
-    let mut claims = vec![("-written".to_string(), "tableOf CASE ≡ CASE-table".to_string())];
+    let mut claims = vec![("-written".to_string(), "table_of CASE ≡ CASE-table".to_string())];
     for (number, question) in list.iter().enumerate().filter(|(_, question)| question[0] != 1) {
         let claim = on_table("CASE-table", &table, question);
         if claims.iter().all(|(_, before)| *before != claim) {
@@ -431,17 +437,17 @@ fn asked_item(rule: &str, text: &[u8], list: &[Question]) -> Item {
     match changes.as_slice() {
         [] => {}
         [one] => {
-            let claim = format!("changeOn CASE-table {} ≡ {}", change_words(one), change_answer(change(&table, one)));
+            let claim = format!("change_on CASE-table {} ≡ {}", change_words(one), change_answer(change(&table, one)));
             claims.push(("-change".to_string(), claim));
         }
-        _ => claims.push(("-changes".to_string(), several("changesOn CASE-table", &changes, &|q| change(&table, q)))),
+        _ => claims.push(("-changes".to_string(), several("changes_on CASE-table", &changes, &|q| change(&table, q)))),
     }
     // The statements are asked only for what they declare.
     let declared = |q: &Change<u64>| !matches!(change(&table, q), ChangeAnswer::Refused(_));
     let changes: Vec<Change<u64>> = changes.into_iter().filter(declared).collect();
     if !changes.is_empty() {
         let meaning = meaning(read(text).expect("accepted")).expect("accepted");
-        claims.push(("-statements".to_string(), several("fromText CASE", &changes, &|q| meaning.change(&in_bounds(q)))));
+        claims.push(("-statements".to_string(), several("from_text CASE", &changes, &|q| meaning.change(&in_bounds(q)))));
     }
     Item { rule: rule.to_string(), values: vec![("", quoted(text)), ("-table", listed(&table))], claims }
 }
@@ -454,7 +460,7 @@ fn in_the_older_edition() -> Vec<Item> {
     let (a, b) = (Context { user: 0, role: 0, kind: 0 }, Context { user: 0, role: 1, kind: 0 });
     let asked = Change { source: a, target: a, class: 0, permission: 0 };
     let relabels = [(a, a, a), (a, a, b), (b, a, a)].map(|(old, new, process)| Relabel { class: 0, old, new, process });
-    let mut claims = vec![format!("changeOn CASE-table {} ≡ {}", change_words(&asked), change_answer(change(&table, &asked)))];
+    let mut claims = vec![format!("change_on CASE-table {} ≡ {}", change_words(&asked), change_answer(change(&table, &asked)))];
     claims.extend(relabels.iter().map(|question| relabel_claim("CASE-table", &table, question)));
     let others: [Question; 4] = [of([0, 0, 0, 0]), of([4, 7, 0]), of([4, 9, 0]), of([4, 10, 0])];
     claims.extend(others.iter().map(|question| on_table("CASE-table", &table, question)));
@@ -491,7 +497,7 @@ fn asked_change(question: &Question) -> Option<Change<u64>> {
 
 /// A relabelling on a table.
 fn relabel_claim(named: &str, table: &[u8], question: &Relabel<u64>) -> String {
-    format!("relabelOn {named} {} ≡ {}", relabel_words(question), change_answer(relabel(table, question)))
+    format!("relabel_on {named} {} ≡ {}", relabel_words(question), change_answer(relabel(table, question)))
 }
 
 /// What this program answers on the table to any question but a change.
@@ -505,23 +511,23 @@ fn on_table(named: &str, table: &[u8], question: &Question) -> String {
                 ValidAnswer::NotValid => "answered false".to_string(),
                 ValidAnswer::Refused(number) => format!("refused {number} 0"),
             };
-            format!("validOn {named} ({}) ≡ {answer}", context_words(&asked))
+            format!("valid_on {named} ({}) ≡ {answer}", context_words(&asked))
         }
         2 => {
             let answer = match new_role(table, a, b, c) {
                 RoleAnswer::Role(role) => format!("answered {role}"),
                 RoleAnswer::Refused(number) => format!("refused {number} 0"),
             };
-            format!("newRoleOn {named} {a} {b} {c} ≡ {answer}")
+            format!("new_role_on {named} {a} {b} {c} ≡ {answer}")
         }
-        3 => format!("nameOn {named} {a} {b} ≡ {}", part_answer(name_of(table, a, b))),
+        3 => format!("name_on {named} {a} {b} ≡ {}", part_answer(name_of(table, a, b))),
         5 => {
             let old = Context { user: b, role: c, kind: d };
             let new = Context { user: e, role: f, kind: g };
             let process = Context { user: h, role: i, kind: j };
             relabel_claim(named, table, &Relabel { class: a, old, new, process })
         }
-        _ => format!("entryOn {named} {a} {b} ≡ {}", part_answer(entry(table, a, b))),
+        _ => format!("entry_on {named} {a} {b} ≡ {}", part_answer(entry(table, a, b))),
     }
 }
 
@@ -577,23 +583,24 @@ const SMALL_BASES: [&str; 8] = [
 fn unsound(random: &mut Random) -> Chapter {
     let tables: Vec<Vec<u8>> =
         SMALL_BASES.iter().chain(&BASES).map(|text| table_of(text.as_bytes()).expect("a base is accepted")).collect();
-    let mut items = vec![Item::one("no byte at all", "imageIn [] ≡ none".to_string())];
+    let mut items = vec![Item::one("no byte at all", "image_in [] ≡ none".to_string())];
     for (rule, way) in ways() {
         let table = tables.iter().find_map(|base| apply(way, base, random)).expect("a base to damage in this way");
         assert!(!is_sound(&table), "{rule}");
-        items.push(Item::one(rule, format!("imageIn ({}) ≡ none", listed(&table))));
+        items.push(Item::one(rule, format!("image_in ({}) ≡ none", listed(&table))));
     }
     // Document 02, W-205: some of them in edition 1 too.
     let older = [0, 3].map(|base| in_edition_1(&tables[base]));
     for (rule, way) in ways().into_iter().filter(|(rule, _)| IN_EDITION_1.contains(rule)) {
         let table = older.iter().find_map(|base| apply(way, base, random)).expect("a base to damage in this way");
         assert!(!is_sound(&table), "{rule}");
-        items.push(Item::one(&format!("edition 1: {rule}"), format!("imageIn ({}) ≡ none", listed(&table))));
+        items.push(Item::one(&format!("edition 1: {rule}"), format!("image_in ({}) ≡ none", listed(&table))));
     }
     Chapter {
         name: "Unsound",
         about: "Tables",
-        cites: &["mathlib.Core.Option.{none}", "Rattle·policy.specs.Sound.{imageIn}"],
+        words: "",
+        cites: &["Rattle.std.proofs.Math.Option.{none}", "Rattle.policy.specs.Sound.{image_in}"],
         before: "",
         items,
     }
@@ -613,7 +620,8 @@ fn odd(random: &mut Random) -> Chapter {
         values: vec![("-table", listed(&table))],
         claims: (0..).zip(&questions).map(|(n, q)| (format!("-{n}"), on_table("CASE-table", &table, q))).collect(),
     };
-    Chapter { name: "Odd", about: "Tables", cites: ASKING, before: "", items: tables.into_iter().map(item).collect() }
+    let items = tables.into_iter().map(item).collect();
+    Chapter { name: "Odd", about: "Tables", words: VALUES, cites: ASKING, before: "", items }
 }
 
 /// The printed roll.
@@ -646,7 +654,8 @@ fn printed() -> Chapter {
     Chapter {
         name: "Printed",
         about: "Texts",
-        cites: &[BYTES, "Rattle·policy.specs.Outcome.{ofText}", "Rattle·policy.specs.Roll.{printed}"],
+        words: "",
+        cites: &[BYTES, "Rattle.policy.specs.Outcome.{of_text}", "Rattle.policy.specs.Roll.{printed}"],
         before: "",
         items: texts.into_iter().map(item).collect(),
     }
@@ -665,7 +674,7 @@ mod tests {
 
     /// The lines of all claimed refusals of one number.
     fn lines_of(text: &str, number: usize) -> Vec<usize> {
-        let start = format!("≡ rejected (refusalAt {number} ");
+        let start = format!("≡ rejected (refusal_at {number} ");
         let line = |rest: &str| rest.split([' ', ')']).nth(1).and_then(|line| line.parse().ok());
         text.split(&start).skip(1).map(|rest| line(rest).expect("a place and a line")).collect()
     }
@@ -675,7 +684,7 @@ mod tests {
         let text = all();
         let count = |what: &str| text.matches(what).count();
         for number in 2..=10 {
-            assert!(count(&format!("≡ rejected (refusalAt {number} ")) >= 3, "rejected {number}");
+            assert!(count(&format!("≡ rejected (refusal_at {number} ")) >= 3, "rejected {number}");
         }
         for number in 2..=9 {
             assert!(lines_of(&text, number).iter().any(|line| *line > 1), "rejected {number} on a later line");
@@ -687,20 +696,20 @@ mod tests {
             "verdict = fails 4 2; consulted = 2", "verdict = fails 4 4; consulted = 3", "verdict = refuses 12 0; consulted = 0",
             "verdict = denied 5; consulted = 0", "verdict = fails 6 1; consulted = 1", "verdict = fails 6 2; consulted = 2",
             "answered true", "answered false", "≡ answered 1", "≡ answered (record", "≡ refused 12 0", "≡ none",
-            "printed (ofText (",
+            "printed (of_text (",
         ] {
             assert!(count(what) >= 1, "{what}");
         }
         assert_eq!(count("CASE"), 0);
-        assert!(count(" : fromText asked-") >= 20);
-        assert!(count(" : changesOn asked-") >= 18 && count(" : changeOn asked-") >= 2);
+        assert!(count(" : from_text asked-") >= 20);
+        assert!(count(" : changes_on asked-") >= 18 && count(" : change_on asked-") >= 2);
     }
 
     /// Document 02, W-205: what is claimed of a relabelling, word for word; and no claim has a field of another name.
     #[test]
     fn relabellings_are_claimed() {
         let text = all();
-        let claims: Vec<&str> = text.lines().filter(|line| line.contains(" : relabelOn asked-")).collect();
+        let claims: Vec<&str> = text.lines().filter(|line| line.contains(" : relabel_on asked-")).collect();
         assert!(claims.len() >= 15, "{}", claims.len());
         let expected = "-table (record { class = 0; old = context 1 1 1; new = context 0 0 0; process = context 1 1 1 }) \
                         ≡ record { verdict = fails 6 1; consulted = 1 }";
@@ -711,9 +720,9 @@ mod tests {
         assert!(!text.contains("long = ") && text.contains("record { start = 88; size = "));
         let in_texts = |what: &str| text.lines().filter(|line| line.contains(what) && line.contains("(validatetrans ")).count();
         for number in [3, 5, 7] {
-            assert!(in_texts(&format!("≡ rejected (refusalAt {number} ")) >= 1, "rejected {number}");
+            assert!(in_texts(&format!("≡ rejected (refusal_at {number} ")) >= 1, "rejected {number}");
         }
-        assert!(in_texts(": tableOf (bytes") >= 5 && in_texts(": printed (") == 1);
+        assert!(in_texts(": table_of (bytes") >= 5 && in_texts(": printed (") == 1);
     }
 
     #[test]
@@ -721,11 +730,11 @@ mod tests {
         let text = all();
         let in_blocks = |what: &str| text.lines().filter(|line| line.contains(what) && line.contains("(block ")).count();
         for number in [2, 3, 4, 5, 6, 8] {
-            let what = format!("≡ rejected (refusalAt {number} ");
+            let what = format!("≡ rejected (refusal_at {number} ");
             let dotted = text.lines().filter(|line| line.contains(&what) && line.contains('.')).count();
             assert!(in_blocks(&what) + dotted >= 1, "rejected {number}");
         }
-        assert!(in_blocks(": tableOf (bytes") >= 4 && in_blocks(": printed (") == 1 && in_blocks("asked-") >= 1);
+        assert!(in_blocks(": table_of (bytes") >= 4 && in_blocks(": printed (") == 1 && in_blocks("asked-") >= 1);
     }
 
     /// Each theorem takes long to check, so there are not many more than are needed.
