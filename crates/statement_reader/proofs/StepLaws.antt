@@ -19,7 +19,7 @@ use Rattle.lexer.specs.Scan.{max_level}
 use Rattle.policy.specs.Basics.{Name, each}
 use Rattle.policy.specs.Words.{Keyword, constrain_k, relabel_k}
 use Rattle.policy.specs.Maxima.{max_transitions, max_constraints, max_rows, max_relabels, max_relabel_rows, max_stack}
-use Rattle.policy.specs.Statements.{Declaration, plain, class, Reference, Constraint, Written, Statement, declare, attributeset, gives, roletransition}
+use Rattle.policy.specs.Statements.{Declaration, thing_of, attribute_of, plain, class, Reference, Constraint, Written, Statement, declare, attributeset, gives, roletransition}
 use Rattle.policy.specs.Statements.{constrain, Policy, declared, declarations, transition, Transition, transitions, Constrain, constrained, constrains, constrain_body, size}
 use Rattle.policy.specs.Statements.{need, validatetrans, Relabel, relabelled, relabels, relabel_body}
 use Rattle.policy.specs.Grammar.{formed}
@@ -237,7 +237,8 @@ module _ (p : Policy) (path : List Name) (d : Declaration) where
 
 -- its code has no name in it
 same_code : (path : List Name) (place : ℕ) (d : Declaration) → declaration_code place d ≡ declaration_code place (full_declaration path d)
-same_code path place (plain s w) = refl
+same_code path place (plain (thing_of f) w) = refl
+same_code path place (plain (attribute_of f) w) = refl
 same_code path place (class w ps) = refl
 
 -- what is written for the declaration that the statement is

@@ -10,8 +10,8 @@ use Rattle.parser.proofs.read.Goals as goal
 pub returns-then-not-has_room : goal.returns-then-not-has_room
 returns-then-not-has_room c =
     let room = c.has_room.ensures
-    ∙ roomy c.has_room-arg-2-1.given.0 c.has_room-arg-4-1.given.0
-    c.has_room-arg-6-1.given.0 in
+    ∙ roomy c.has_room-arg-2-1.given c.has_room-arg-4-1.given
+    c.has_room-arg-6-1.given in
     absurd (false≢true (sym (ap not room) ∙ c.if-not-has_room.true-raw))
 
 pub returns-in_default : goal.returns-in_default
@@ -22,7 +22,7 @@ returns-in-Read c =
     λ at e.
     stated (c.statement_form-form.ensures at e) c.in-Next.is c.place_unit-unit.ensures
     (c.statement-step.ensures at e)
-    (omega (arith, c.has_room-arg-2-1.given.0)) (omega (arith, c.has_room-arg-4-1.given.0)) (omega (arith, c.has_room-arg-6-1.given.0))
+    (omega (arith, c.has_room-arg-2-1.given)) (omega (arith, c.has_room-arg-4-1.given)) (omega (arith, c.has_room-arg-6-1.given))
     _ (ap (answer_of _) (sym c.in-Read.is))
 
 pub returns-in-Fault : goal.returns-in-Fault
@@ -30,5 +30,5 @@ returns-in-Fault c =
     λ at e.
     stated (c.statement_form-form.ensures at e) c.in-Next.is c.place_unit-unit.ensures
     (c.statement-step.ensures at e)
-    (omega (arith, c.has_room-arg-2-1.given.0)) (omega (arith, c.has_room-arg-4-1.given.0)) (omega (arith, c.has_room-arg-6-1.given.0))
+    (omega (arith, c.has_room-arg-2-1.given)) (omega (arith, c.has_room-arg-4-1.given)) (omega (arith, c.has_room-arg-6-1.given))
     _ (ap (answer_of _) (sym c.in-Fault.is))

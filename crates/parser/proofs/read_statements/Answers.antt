@@ -7,7 +7,6 @@ use Rattle.items.proofs.Frames.{sees}
 use Rattle.parser.proofs.LoopInvariant.{finishes, opens_at, no-block-word, statement-on, statement-stops, past-statement}
 use Rattle.parser.proofs.StatementRuns.{block-ahead}
 use Rattle.parser.proofs.read_statements.Goals as goal
-use Rattle.parser.proofs.read_statements.Goals.{After-next_item-first}
 
 pub loop-place-init : goal.loop-place-init
 loop-place-init c = (omega arith, λ lent keys filter o clean rest. rest)
@@ -22,7 +21,7 @@ returns-then-starts_block c =
       says = λ lent keys filter o clean rest. record {
         here = c.loop-place.at;
         next = _;
-        (goal.at.returns-then-starts_block c).After-next_item-first = _;
+        first = _;
         rest = c.loop-place.invariant.1 lent keys filter o clean rest;
         opens = sym opens ∙ looked;
         first-is = c.next_item-first.ensures;

@@ -5,6 +5,17 @@ use Rattle.table_laws.proofs.ListLaws.{all-places}
 use Rattle.roll_lines.proofs.Rolls.{acceptance-short, roll-put}
 use Rattle.roll_lines.proofs.put_roll.Goals as goal
 
+pub put_lines-roles-requires : goal.put_lines-roles-requires
+put_lines-roles-requires c =
+    record {
+      sound = c.requires.0;
+      short = c.requires.1;
+      thing = omega arith;
+      kind-short = omega arith;
+      of-short = omega arith;
+      room = omega (arith, c.requires.2, acceptance-short c.args.bytes, c.put_acceptance-users.ensures.ends);
+    }
+
 pub put_lines-requires : goal.put_lines-requires
 put_lines-requires c =
     record {
