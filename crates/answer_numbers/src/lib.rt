@@ -3,6 +3,7 @@
 // Each function says of numbers that fit into four bytes what it gives; `tegzhumbi_c` proves that those of every answer
 // of the library do.
 #![tactic(auto)]
+
 ghost use Rattle.std.specs.Prelude.{◌≡◌, ◌<◌};
 ghost use Rattle.policy.specs.Answers.{compiling_of, validity_of, new_role_of, change_of, place_of};
 ghost use Rattle.answer_numbers.specs.Numbers.{answer_of, compiled_numbers, valid_numbers, change_numbers, new_role_numbers, part_numbers, CompiledFits, Fits, PartFits};

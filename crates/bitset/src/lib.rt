@@ -5,6 +5,7 @@
 // that eight times the bytes are a usize. Two sets are combined and compared by `set_operators`; sets that are in a
 // larger slice are the matter of `set_rows`, but for `clear_at`, which is here because `complement` needs it.
 #![tactic(auto)]
+
 ghost use Rattle.std.specs.Prelude.{◌≡◌, ◌+◌, ◌*◌, ◌≤◌, ◌<◌, length};
 ghost use Rattle.std.specs.Int.Count.{ones};
 ghost use Rattle.bitset.specs.Sets as sets;

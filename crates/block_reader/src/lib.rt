@@ -4,6 +4,7 @@
 // the marks of these, so that a new block is compared with those before it only where it shares all its marks with
 // others.
 #![tactic(auto)]
+
 ghost use Rattle.std.specs.Prelude.{◌≡◌, ◌-◌};
 ghost use Rattle.block_reader.specs.Within.{none_open, OpensBlock, ClosesBlock};
 

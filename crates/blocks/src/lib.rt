@@ -4,6 +4,7 @@
 // and the same name. A filter of the blocks so far says of most that they are new, so that few are compared with all
 // before them.
 #![tactic(auto)]
+
 ghost use Rattle.std.specs.Prelude.{◌≡◌, ◌-◌, ◌%◌, ◌<◌, ◌≤◌, length, get_or};
 ghost use Rattle.bloom_filter.specs.Filter.{hash_of};
 ghost use Rattle.blocks.specs.Opened.{key, block_in, opened_in, is_block, is_opened, Marks, Asks, Adds};

@@ -2,6 +2,7 @@
 // hash. A name without its marks was not put in; one with its marks may share them with others, so that it still has
 // to be compared.
 #![tactic(auto)]
+
 ghost use Rattle.std.specs.Prelude.{◌≡◌, ◌<◌, length};
 ghost use Rattle.bloom_filter.specs.Filter.{stepped, bit_of, mask_of, is_marked, marked};
 

@@ -4,6 +4,7 @@
 // Every function takes every place and every length. What is promised of the table holds where it has room; past its
 // end nothing is written.
 #![tactic(auto)]
+
 ghost use Rattle.std.specs.Prelude.{◌≡◌, [], ◌∷◌, ◌<◌, ◌≤◌, eqb, length, take};
 ghost use Rattle.bitset.specs.Sets.{set_of};
 ghost use Rattle.byte_slices.specs.Parts.{part, put};

@@ -1,6 +1,7 @@
 // Slices of bytes: a byte, a part and a copy. Every function but `copy` answers for every place and every length;
 // what is past the end is 0, or is left out.
 #![tactic(auto)]
+
 ghost use Rattle.std.specs.Prelude.{◌≡◌, ◌+◌, ◌-◌, ◌≤◌, min, length, get_or};
 ghost use Rattle.byte_slices.specs.Parts as parts;
 ghost use Rattle.byte_slices.specs.Parts.{put};

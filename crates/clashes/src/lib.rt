@@ -1,5 +1,6 @@
 // Fault 9: the first role transition that clashes with an earlier one.
 #![tactic(auto)]
+
 ghost use Rattle.std.specs.Prelude.{◌≡◌, ◌&&◌, [], ◌-◌, ◌*◌, ◌≤◌, ltb, length, drop};
 ghost use Rattle.policy.specs.Basics.{any};
 ghost use Rattle.policy.specs.Statements as statements;

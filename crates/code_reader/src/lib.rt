@@ -4,6 +4,7 @@
 // A family has at most 64 attributes. What is kept of each is a set of 64 bytes, one after the other, 4,096 bytes for
 // a family.
 #![tactic(auto)]
+
 ghost use Rattle.std.specs.Prelude.{◌≡◌, ◌+◌, ◌*◌, ◌<◌, length, get_or, drop};
 ghost use Rattle.code_reader.specs.Reading.{operands_of, is_relation, step_of};
 ghost use Rattle.code_reader.specs.AttributeSets.{added};

@@ -1,5 +1,6 @@
 // What the long comparison asks from outside: the library's answers as numbers.
 #![tactic(auto)]
+
 ghost use Rattle.std.specs.Prelude.{◌≡◌};
 ghost use Rattle.lexer.specs.Scan.{scan, verdict_of};
 ghost use Rattle.comparison.specs.Numbers.{number_of, place_of};

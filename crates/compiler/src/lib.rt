@@ -1,6 +1,7 @@
 // The passes in their order: text and lent memory in, the answer out. What one pass leaves for the next is in local
 // arrays, and the lent memory is written to only when all refusals are past.
 #![tactic(auto)]
+
 ghost use Rattle.std.specs.Prelude.{◌≡◌, cond, ◌≤◌, eqb, length, take};
 ghost use Rattle.policy.specs.Outcome.{of_text, compiled, line_at, refusal_of};
 ghost use Rattle.policy.specs.Answers.{refusal_in};

@@ -1,6 +1,7 @@
 // `(constrain (C (P ...)) E)` with its names resolved: the record of body 6 and the rows of body 7 as they will be
 // in the table; faults 5, 6 and 7. Its form is known to be good where this is called.
 #![tactic(auto)]
+
 ghost use Rattle.std.specs.Prelude.{◌≡◌, ◌||◌, ◌%◌, eqb};
 ghost use Rattle.bitset.specs.Sets.{bit, from_bits};
 ghost use Rattle.policy.specs.Encode.{constraint_bytes};

@@ -1,5 +1,6 @@
 // The form of a constraint expression.
 #![tactic(auto)]
+
 ghost use Rattle.std.specs.Prelude.{◌≡◌, not};
 ghost use Rattle.lexer.specs.Forms.{frames_at, trim};
 ghost use Rattle.policy.specs.Basics.{Name};

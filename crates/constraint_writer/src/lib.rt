@@ -1,5 +1,6 @@
 // Writes the rows of a constraint expression, with its names resolved, and tells its stack need.
 #![tactic(auto)]
+
 ghost use Rattle.std.specs.Prelude.{◌≡◌, [], ◌∷◌, max};
 ghost use Rattle.lexer.specs.Forms.{frames_at, trim};
 ghost use Rattle.policy.specs.Words.{expression_word, op_of, Sides, three_sides, component_of};

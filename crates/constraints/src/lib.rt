@@ -1,6 +1,7 @@
 // The constraints of a table and its validatetrans statements: rows run on a stack of five, and the first statement
 // that fails. Every function answers for every table, sound or not, and for all numbers.
 #![tactic(auto)]
+
 ghost use Rattle.std.specs.Prelude.{◌≡◌, Bool, List, [], slice_index};
 ghost use Rattle.bitset.specs.Sets.{bit};
 ghost use Rattle.policy.specs.Image.{width};

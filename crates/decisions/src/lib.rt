@@ -4,6 +4,7 @@
 // speak of sound tables; that on a sound table, with its own counts, all this is what its image says, the four
 // questions promise.
 #![tactic(auto)]
+
 ghost use Rattle.std.specs.Prelude.{◌≡◌, List, ℕ, ◌≤◌, ◌<◌, eqb, drop};
 ghost use Rattle.policy.specs.Sound.{transition_at};
 ghost use Rattle.policy.specs.Deciding.{contexts_of, relabel_contexts, first_failing, role_may};

@@ -1,6 +1,7 @@
 // Declarations of names and classes, put into the symbol table under their full names: faults 4 and 6. The form of a
 // statement is known to be good where it is declared here, so that a row that should be of names is one.
 #![tactic(auto)]
+
 ghost use Rattle.std.specs.Prelude.{◌≡◌, [], ◌∷◌, ◌≤◌, ◌<◌, length};
 ghost use Rattle.lexer.specs.Forms.{frames_at};
 ghost use Rattle.policy.specs.Encode.{name_entry, permission_entries};

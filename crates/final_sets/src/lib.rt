@@ -1,5 +1,6 @@
 // The final set of each attribute of a family, in rounds: in each, attributes stand for their sets of the round before.
 #![tactic(auto)]
+
 ghost use Rattle.std.specs.Prelude.{◌≡◌, List, ◌++◌, ℕ, ◌+◌, drop};
 ghost use Rattle.bitset.specs.Sets.{set_of, equal};
 ghost use Rattle.bitset.specs.Relations.{relation};

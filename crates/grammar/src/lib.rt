@@ -1,5 +1,6 @@
 // The forms of the statements and blocks: fault 3.
 #![tactic(auto)]
+
 ghost use Rattle.std.specs.Prelude.{◌≡◌, ℕ, ◌-◌};
 ghost use Rattle.lexer.specs.Forms.{frames_at, trim};
 ghost use Rattle.lexer.specs.Scan.{max_level};

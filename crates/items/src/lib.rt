@@ -1,5 +1,6 @@
 // The items of a text, one after the other, and the rows that are of names alone.
 #![tactic(auto)]
+
 ghost use Rattle.std.specs.Prelude.{◌≡◌};
 ghost use Rattle.lexer.specs.Forms.{frames_at};
 ghost use Rattle.policy.specs.Grammar.{row_of, parts_alone};

@@ -1,5 +1,6 @@
 // The lexer: what each byte of a text is, the scan for faults 1 and 2, and the tokens.
 #![tactic(auto)]
+
 ghost use Rattle.std.specs.Prelude.{◌≡◌, ℕ, ◌≤◌, length, drop};
 ghost use Rattle.lexer.specs.Class.{class_of, starts, goes_on, is_dot, ends_comment};
 ghost use Rattle.lexer.specs.Scan as spec;

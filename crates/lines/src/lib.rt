@@ -1,5 +1,6 @@
 // Lines of a text, for people who look at a page.
 #![tactic(auto)]
+
 ghost use Rattle.std.specs.Prelude.{◌≡◌, cond, leb};
 ghost use Rattle.policy.specs.Outcome.{line_at};
 

@@ -1,6 +1,7 @@
 // Numbers in bytes, lowest byte first. Each width is read and put as two of half its width. There is no loop over the
 // width: bytes that are read or put one after the other, with no test between them, become one load or store.
 #![tactic(auto)]
+
 ghost use Rattle.std.specs.Prelude.{◌≡◌, ◌+◌, ◌^◌, ◌≤◌, ◌<◌, length, take, drop};
 ghost use Rattle.byte_slices.specs.Parts.{put};
 ghost use Rattle.policy.specs.Basics.{le, unle};

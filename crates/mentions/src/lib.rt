@@ -1,5 +1,6 @@
 // Fault 8: the attributes that each attribute mentions, directly or through others, and the first that mentions itself.
 #![tactic(auto)]
+
 ghost use Rattle.std.specs.Prelude.{◌≡◌, true, not, ◌&&◌, ℕ, ◌+◌, ◌<◌, ltb, drop};
 ghost use Rattle.bitset.specs.Sets.{set_of, all_below};
 ghost use Rattle.bitset.specs.Relations.{relation};

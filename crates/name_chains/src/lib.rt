@@ -3,6 +3,7 @@
 // name in it, up to the hit, and tells how many it compared. A finished table has no index: there a try walks all
 // entries, and compares those of the family and length.
 #![tactic(auto)]
+
 ghost use Rattle.std.specs.Prelude.{◌≡◌, ◌+◌, ◌<◌, ◌≤◌, length};
 ghost use Rattle.byte_slices.specs.Parts.{part};
 ghost use Rattle.policy.specs.Encode.{name_entry};

@@ -4,6 +4,7 @@
 // link. A link names the next entry of its chain, and a chain its first and its last, by the number of the entry's
 // first word, 2k: that is where a try reads on.
 #![tactic(auto)]
+
 ghost use Rattle.std.specs.Prelude.{◌≡◌, ◌+◌, ◌<◌, ◌≤◌, length};
 ghost use Rattle.name_index.specs.Index.{front_of, word_in, chain_in, chain_word, link_in, link_word, ChainFits, LinkFits, put_word, put_node, put_next, put_last, put_more, index_bytes};
 

@@ -1,6 +1,7 @@
 // The names in a row of the text: the next one, how many there are, and whether one occurs twice, as a class's
 // permissions must not.
 #![tactic(auto)]
+
 ghost use Rattle.std.specs.Prelude.{◌≡◌, not, false, ◌+◌, ◌≤◌, length, set};
 ghost use Rattle.byte_slices.specs.Parts.{part};
 ghost use Rattle.lexer.specs.Forms.{frames_at};

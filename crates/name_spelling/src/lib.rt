@@ -1,6 +1,7 @@
 // How a name of a table is spelt: which bytes and how many parts it has, and whether a part is a reserved word. One
 // pass tests and hashes its bytes.
 #![tactic(auto)]
+
 ghost use Rattle.std.specs.Prelude.{◌≡◌, true, not, ◌&&◌, ◌≤◌, ◌<◌, ltb, length, get_or};
 ghost use Rattle.lexer.specs.Answers.{Classes};
 ghost use Rattle.lexer.specs.Class.{class_of, starts, goes_on, is_part};

@@ -1,6 +1,7 @@
 // From a clean text to its statements: symbols, statement code, constraints and rows in lent memory, or the first
 // fault 3 to 7 with its place. Blocks leave nothing in that memory but the full names of what is declared in them.
 #![tactic(auto)]
+
 ghost use Rattle.std.specs.Prelude.{◌≡◌, ◌&&◌, leb, length, ℕ, ◌<◌};
 ghost use Rattle.items.specs.Looks.{item_at};
 ghost use Rattle.statement_reader.specs.Memory.{memory};

@@ -4,6 +4,7 @@
 // Each asks first whether the table is sound, which goes over all of it. A caller that found a table to be sound once
 // asks `sound_questions` instead.
 #![tactic(auto)]
+
 ghost use Rattle.std.specs.Prelude.{◌≡◌};
 ghost use Rattle.policy.specs.Questions.{valid_on, new_role_on, change_on, relabel_on};
 ghost use Rattle.policy.specs.Answers.{validity_of, new_role_of, change_of};

@@ -1,6 +1,7 @@
 // `(validatetrans C E)` with its names resolved: the record of body 9 and the rows of body 10 as they will be in the
 // table; faults 5, 6 and 7. Its form is known to be good where this is called.
 #![tactic(auto)]
+
 ghost use Rattle.policy.specs.Encode.{relabel_bytes};
 ghost use Rattle.constrain_statement.specs.Limits.{Records};
 ghost use Rattle.relabel_statement.specs.RelabelWrites.{record_with, WritesRelabel};

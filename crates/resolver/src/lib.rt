@@ -1,5 +1,6 @@
 // From the code of the statements alone: the final set of every attribute, and faults 8 and 9 in their order.
 #![tactic(auto)]
+
 ghost use Rattle.std.specs.Prelude.{◌≡◌};
 ghost use Rattle.policy.specs.Answers.{family_of};
 ghost use Rattle.policy.specs.Basics.{or_else};

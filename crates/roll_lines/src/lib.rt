@@ -1,6 +1,7 @@
 // The lines of the printed roll, written one after the other into lent memory: those of a sound table, or the line of
 // a refusal.
 #![tactic(auto)]
+
 ghost use Rattle.std.specs.Prelude.{◌≡◌, true, ◌+◌, ◌*◌, ◌≤◌, ◌<◌, length};
 ghost use Rattle.policy.specs.Questions.{entry_on};
 ghost use Rattle.policy.specs.Answers.{refusal_in};

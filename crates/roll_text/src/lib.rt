@@ -1,6 +1,7 @@
 // The printed roll of a text as bytes in lent memory: it is compiled, and then a line is written for each user and
 // each role, or one line for a refusal.
 #![tactic(auto)]
+
 ghost use Rattle.policy.specs.Outcome.{of_text};
 ghost use Rattle.roll_text.specs.PrintedText.{Prints};
 

@@ -3,6 +3,7 @@
 // innermost block, then in the blocks around it, and last at the whole-text level; the first hit of the family
 // decides.
 #![tactic(auto)]
+
 ghost use Rattle.std.specs.Prelude.{◌≡◌, true, ◌+◌, ◌<◌, ◌≤◌, length};
 ghost use Rattle.byte_slices.specs.Parts.{part};
 ghost use Rattle.policy.specs.Names.{has_dot_in_front};

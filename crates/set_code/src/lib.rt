@@ -3,6 +3,7 @@
 // Every set is as wide as a set of types, 64 bytes, whatever its family. The sets of a family's attributes are one
 // after the other.
 #![tactic(auto)]
+
 ghost use Rattle.std.specs.Prelude.{◌≡◌, Bool, true, ◌||◌, ◌<◌, ltb, length};
 ghost use Rattle.bitset.specs.Sets.{set_of, union_of};
 ghost use Rattle.statement_code.specs.Code.{all_unit};

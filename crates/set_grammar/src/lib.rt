@@ -1,5 +1,6 @@
 // The form of a set expression.
 #![tactic(auto)]
+
 ghost use Rattle.std.specs.Prelude.{◌≡◌};
 ghost use Rattle.lexer.specs.Forms.{frames_at, trim};
 ghost use Rattle.policy.specs.Words.{set_word};

@@ -1,5 +1,6 @@
 // Two sets combined or compared, byte by byte. A second set that is shorter than the first has no further members.
 #![tactic(auto)]
+
 ghost use Rattle.std.specs.Prelude.{◌≡◌, ◌+◌, ◌≤◌, ◌<◌, max, length};
 ghost use Rattle.bitset.specs.Sets as sets;
 ghost use Rattle.bitset.specs.Sets.{union_of, intersection_of, symmetric_difference_of, difference_of, copy_of};

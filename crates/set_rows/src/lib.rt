@@ -4,6 +4,7 @@
 // at offset o of a larger slice, cut where the slice ends. Of what other crates call, only to count asks for
 // something: that eight times the width is a usize.
 #![tactic(auto)]
+
 ghost use Rattle.std.specs.Prelude.{◌≡◌, ◌+◌, ◌*◌, ◌<◌};
 ghost use Rattle.bitset.specs.Sets as sets;
 ghost use Rattle.bitset.specs.Sets.{member, inserted, removed, union_of, copy_of, within, Gap};

@@ -2,6 +2,7 @@
 // form is known to be good where this is called; what is found out here is whether its names are declared, and its
 // units are written on the way.
 #![tactic(auto)]
+
 ghost use Rattle.std.specs.Prelude.{◌≡◌};
 ghost use Rattle.policy.specs.Words.{set_word};
 ghost use Rattle.words.specs.Numbers.{word_of};

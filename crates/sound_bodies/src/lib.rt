@@ -1,6 +1,7 @@
 // Whether the bodies of a table stand where its header says, and whether those after the first are sound for what the
 // names of body 1 declare. Every function answers for every table, whatever its bytes are.
 #![tactic(auto)]
+
 ghost use Rattle.std.specs.Prelude.{◌≡◌, [], ◌+◌, ◌*◌, ◌<◌, length, take, drop};
 ghost use Rattle.bitset.specs.Sets.{within};
 ghost use Rattle.byte_slices.specs.Parts.{part};

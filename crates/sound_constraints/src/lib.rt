@@ -2,6 +2,7 @@
 // constraints allow, name nothing undeclared, and run the stack of five as they may. Every function answers for every
 // table, whatever its bytes are.
 #![tactic(auto)]
+
 ghost use Rattle.std.specs.Prelude.{◌≡◌, [], ◌+◌, ◌*◌, get_or, drop};
 ghost use Rattle.policy.specs.Basics.{each};
 ghost use Rattle.policy.specs.Rows.{after};

@@ -2,6 +2,7 @@
 // what is declared so far, and a filter of the names so far: a name without its marks is new, and only of the few
 // others are the entries before it asked.
 #![tactic(auto)]
+
 ghost use Rattle.std.specs.Prelude.{◌≡◌, false, not, ◌+◌, ◌≤◌, length};
 ghost use Rattle.symbols.specs.Section.{between, entries_at};
 ghost use Rattle.symbols.specs.Lookup.{first_named};

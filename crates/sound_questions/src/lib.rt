@@ -2,6 +2,7 @@
 // no walk over its names. They give the answers of `questions`, said in each contract; asked of other bytes, or with
 // other numbers for a summary, they end, write nothing and answer something.
 #![tactic(auto)]
+
 ghost use Rattle.std.specs.Prelude.{◌≡◌};
 ghost use Rattle.policy.specs.Questions.{valid_on, new_role_on, change_on, relabel_on};
 ghost use Rattle.policy.specs.Answers.{validity_of, new_role_of, change_of};

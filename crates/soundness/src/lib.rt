@@ -1,5 +1,6 @@
 // Whether bytes are a sound table. The answer is given for every sequence of bytes.
 #![tactic(auto)]
+
 ghost use Rattle.std.specs.Prelude.{◌≡◌};
 ghost use Rattle.soundness.specs.IsSound.{is_sound};
 ghost use Rattle.soundness.specs.TableCounts.{Tells};

@@ -1,6 +1,7 @@
 // The units of the statement code that the parser writes and the resolver reads, and how one is written; what they
 // stand for is in specs/.
 #![tactic(auto)]
+
 ghost use Rattle.std.specs.Prelude.{◌≡◌, ◌≤◌};
 ghost use Rattle.policy.specs.Answers.{family_of, relation_of};
 ghost use Rattle.statement_code.specs.Code.{family_number, relation_number};

@@ -1,6 +1,7 @@
 // One statement whose form is good: its names are entered or looked up, and what it says is put into the lent memory;
 // or its fault 4 to 7.
 #![tactic(auto)]
+
 ghost use Rattle.std.specs.Prelude.{◌≡◌, List, ℕ, ◌+◌, ◌≤◌, length};
 ghost use Rattle.policy.specs.Words.{declare_k, class_k, constrain_k, relabel_k};
 ghost use Rattle.policy.specs.Statements.{thing_of, attribute_of};

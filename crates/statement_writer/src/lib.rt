@@ -2,6 +2,7 @@
 // form of a statement is known to be good where these functions are called; what is found out here is whether its
 // names are declared, and its units are written on the way.
 #![tactic(auto)]
+
 ghost use Rattle.std.specs.Prelude.{◌≡◌, [], ◌∷◌};
 ghost use Rattle.policy.specs.Answers.{family_of, relation_of};
 ghost use Rattle.policy.specs.Statements.{from_of, to_of};

@@ -3,6 +3,7 @@
 // finished tables. Parts that reach past the end of a slice are cut there, so that the searches ask nothing of their
 // caller; what writes asks for room.
 #![tactic(auto)]
+
 ghost use Rattle.std.specs.Prelude.{◌≡◌, ◌+◌, ◌-◌, ◌*◌, ◌<◌, ◌≤◌, length};
 ghost use Rattle.byte_slices.specs.Parts.{part};
 ghost use Rattle.policy.specs.Basics as basics;

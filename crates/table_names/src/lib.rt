@@ -1,6 +1,7 @@
 // What the names of a table say, whatever the bytes are: how many there are of each sort, whether a thing has a word
 // for its name, and which numbers have the names that are treated apart.
 #![tactic(auto)]
+
 ghost use Rattle.std.specs.Prelude.{◌≡◌, replicate};
 ghost use Rattle.policy.specs.Words.{transition_words};
 ghost use Rattle.symbols.specs.Lookup.{reply_of};

@@ -2,6 +2,7 @@
 // functions whose names end in `in_sound` are for a caller that found the table to be sound; of other bytes they answer
 // something. The others answer for every table, 11 before 12.
 #![tactic(auto)]
+
 ghost use Rattle.std.specs.Prelude.{◌≡◌, true, [], ◌∷◌, ◌+◌, ◌/◌, ◌<◌};
 ghost use Rattle.policy.specs.Answers.{place_of};
 ghost use Rattle.policy.specs.Questions.{records_of, record_from, name_on, entry_on};

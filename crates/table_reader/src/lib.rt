@@ -1,6 +1,7 @@
 // Numbers and records in the bytes of a table, little endian. Every function answers for every table and every place:
 // past the end all bytes read 0.
 #![tactic(auto)]
+
 ghost use Rattle.std.specs.Prelude.{◌≡◌, ◌+◌, ◌-◌, ◌*◌, length, take, drop};
 ghost use Rattle.policy.specs.Basics.{unle};
 ghost use Rattle.policy.specs.Answers.{family_of};

@@ -1,6 +1,7 @@
 // The summary of a table: what the names of a sound table say, in so many numbers, made once when the table is tested.
 // Whoever keeps it beside the table asks without the test and without a walk over the names (`sound_questions`).
 #![tactic(auto)]
+
 ghost use Rattle.std.specs.Prelude.{◌≡◌, ◌&&◌, ◌++◌, ◌+◌, ◌<◌, ltb, length, get_or};
 ghost use Rattle.policy.specs.Sound.{image_in};
 ghost use Rattle.policy.specs.Statements.{permissions};

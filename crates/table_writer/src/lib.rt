@@ -1,5 +1,6 @@
 // Puts a table together: its length, its header, and its bodies one after the other.
 #![tactic(auto)]
+
 ghost use Rattle.std.specs.Prelude.{◌≡◌, ◌+◌, ◌*◌, ◌≤◌};
 ghost use Rattle.policy.specs.Basics.{le};
 ghost use Rattle.table_writer.specs.PutBytes.{Puts, pair};

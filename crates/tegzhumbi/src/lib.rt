@@ -18,6 +18,7 @@
 // Each question tests the table first. A server that tests it once keeps its summary (`table_summary::summarize`) and
 // asks with that (`sound_questions`).
 #![tactic(auto)]
+
 ghost use Rattle.std.specs.Prelude.{◌≡◌};
 ghost use Rattle.policy.specs.Outcome.{of_text};
 ghost use Rattle.policy.specs.Questions.{valid_on, new_role_on, change_on, relabel_on, name_on, entry_on};

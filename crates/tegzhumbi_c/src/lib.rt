@@ -1,6 +1,7 @@
 // The library for other languages: each function takes bytes and numbers, and gives its answer as a struct of
 // numbers. include/tegzhumbi.h declares them for C.
 #![tactic(auto)]
+
 ghost use Rattle.std.specs.Prelude.{◌≡◌, true};
 ghost use Rattle.policy.specs.Outcome.{of_text};
 ghost use Rattle.policy.specs.Questions.{valid_on, new_role_on, change_on, relabel_on, name_on, entry_on};

@@ -1,5 +1,6 @@
 // Bytes and decimal numbers, written one after the other into lent memory.
 #![tactic(auto)]
+
 ghost use Rattle.std.specs.Prelude.{◌+◌, ◌≤◌, length};
 ghost use Rattle.policy.specs.Roll.{digits, decimal};
 ghost use Rattle.text_writer.specs.WrittenText.{Appends};

@@ -1,5 +1,6 @@
 // The keywords and the reserved words, by their numbers; and which words may be names.
 #![tactic(auto)]
+
 ghost use Rattle.std.specs.Prelude.{◌≡◌, ◌≤◌, ◌<◌, ◌+◌, length, take, drop};
 ghost use Rattle.policy.specs.Basics.{is_in, unle};
 ghost use Rattle.policy.specs.Words.{reserved, is_reserved, dotless};

@@ -9,12 +9,11 @@ pub loop-i-init : goal.loop-i-init
 loop-i-init c = (omega arith, refl)
 
 pub loop-i-preserved : goal.loop-i-preserved
-loop-i-preserved c =
-    (
-      c.hash_step-hash.ensures.1,
-      rw (c.hash_step-hash.ensures.0, c.wide.ensures.0)
-          (sym (hash-next c.args.name.now c.loop-i.i c.loop-i.hash (omega arith)) ∙ c.loop-i.invariant.1),
-    )
+loop-i-preserved c = (
+  c.hash_step-hash.ensures.1,
+  rw (c.hash_step-hash.ensures.0, c.wide.ensures.0)
+      (sym (hash-next c.args.name.now c.loop-i.i c.loop-i.hash (omega arith)) ∙ c.loop-i.invariant.1),
+)
 
 pub returns : goal.returns
 returns c =

@@ -16,12 +16,11 @@ returns-then-is_block c =
     (sym c.is_block.ensures ∙ c.if-is_block.true)
 
 pub loop-i-preserved : goal.loop-i-preserved
-loop-i-preserved c =
-    (
-      omega arith,
-      not-this c.args.text.now c.args.keys.now c.args.parent c.args.name.now c.loop-i.i c.loop-i.invariant.1
-          (sym c.is_block.ensures ∙ c.if-is_block.false),
-    )
+loop-i-preserved c = (
+  omega arith,
+  not-this c.args.text.now c.args.keys.now c.args.parent c.args.name.now c.loop-i.i c.loop-i.invariant.1
+      (sym c.is_block.ensures ∙ c.if-is_block.false),
+)
 
 pub returns : goal.returns
 returns c =

@@ -30,21 +30,19 @@ pub loop-place-init : goal.loop-place-init
 loop-place-init c = (refl, λ p k t a e. start p _ _ a.coded e)
 
 pub loop-place-preserved-then-code-place : goal.loop-place-preserved-then-code-place
-loop-place-preserved-then-code-place c =
-    (
-      search rules,
-      λ p k t a e.
-          line-more p k t a _ _ c.loop-place-test.true _ (c.loop-place.invariant.1 p k t a e) refl c.if-code-place.true _ _ c.unit-from.ensures
-          c.unit-to.ensures _ c.grant_line.ensures,
-    )
+loop-place-preserved-then-code-place c = (
+  search rules,
+  λ p k t a e.
+      line-more p k t a _ _ c.loop-place-test.true _ (c.loop-place.invariant.1 p k t a e) refl c.if-code-place.true _ _ c.unit-from.ensures
+      c.unit-to.ensures _ c.grant_line.ensures,
+)
 
 pub loop-place-preserved : goal.loop-place-preserved
-loop-place-preserved c =
-    (
-      search rules,
-      λ p k t a e. line-over p k t a _ _ c.loop-place-test.true _ (c.loop-place.invariant.1 p k t a e)
-          c.next_statement-place.ensures.0 c.if-code-place.false,
-    )
+loop-place-preserved c = (
+  search rules,
+  λ p k t a e. line-over p k t a _ _ c.loop-place-test.true _ (c.loop-place.invariant.1 p k t a e)
+      c.next_statement-place.ensures.0 c.if-code-place.false,
+)
 
 pub returns : goal.returns
 returns c = record {

@@ -19,13 +19,12 @@ returns-then-many-a c =
     }
 
 pub loop-a-preserved : goal.loop-a-preserved
-loop-a-preserved c =
-    (
-      omega (arith, c.if-many-a.false),
-      search rules,
-      λ p f h w. next-set p f _ _ _ _ _ _ _ _ _ _ h w c.loop-a-test.true c.part-set.ensures
-          (c.loop-a.invariant.2 p f h w) c.append-to.ensures,
-    )
+loop-a-preserved c = (
+  omega (arith, c.if-many-a.false),
+  search rules,
+  λ p f h w. next-set p f _ _ _ _ _ _ _ _ _ _ h w c.loop-a-test.true c.part-set.ensures
+      (c.loop-a.invariant.2 p f h w) c.append-to.ensures,
+)
 
 pub returns : goal.returns
 returns c =

@@ -67,12 +67,11 @@ pub loop-next-smaller : goal.loop-next-smaller
 loop-next-smaller c = omega arith
 
 pub loop-next-preserved : goal.loop-next-preserved
-loop-next-preserved c =
-    (
-      omega arith,
-      omega arith,
-      left-pass _ _ _ (ahead (goal.at.loop-next-preserved c).After-wrapping_add_u16-row) (eq-eqb _ _ c.if-statement-class.false) (sym c.evaluate.ensures ∙ not-false _ c.if-not-evaluate.false-raw),
-    )
+loop-next-preserved c = (
+  omega arith,
+  omega arith,
+  left-pass _ _ _ (ahead (goal.at.loop-next-preserved c).After-wrapping_add_u16-row) (eq-eqb _ _ c.if-statement-class.false) (sym c.evaluate.ensures ∙ not-false _ c.if-not-evaluate.false-raw),
+)
 
 pub returns : goal.returns
 unfolding runs_from

@@ -14,10 +14,9 @@ use Rattle.lexer.proofs.Scans.{not-long, halted, took, last, skip, overlong, no-
 use Rattle.lexer.proofs.scan_in.Goals as goal
 use Rattle.lexer.proofs.scan_in.Goals.{After-step_between-step, In-loop-start}
 
-
 -- a byte between names that was one step leaves the scan of the bytes after it
 stepped : (s : After-step_between-step) (x : Step) → s.step_between-step.result ≡ x
-    →    scan_from s.args.text.now (drop (s.text.at + 1) s.args.text.now) (state_of s.text.level s.text.at x) (s.text.at + 1) ≡ scan s.args.text.now
+    → scan_from s.args.text.now (drop (s.text.at + 1) s.args.text.now) (state_of s.text.level s.text.at x) (s.text.at + 1) ≡ scan s.args.text.now
 stepped s x e =
     took _ s.text.at s.text.level s.class_in.result _ x s.if-text-at.false s.class_in.ensures s.step_between-step.ensures e s.text.invariant.1
 
@@ -40,11 +39,10 @@ text-smaller-in-Comment c =
     omega (arith, c.comment_end-at.ensures, ahead c.args.text.now ends_comment (c.text.at + 1))
 
 pub text-preserved-in-Comment : goal.text-preserved-in-Comment
-text-preserved-in-Comment c =
-    (
-      omega (arith, c.comment_end-at.ensures, within c.args.text.now ends_comment (c.text.at + 1) (search rules)),
-      rw c.comment_end-at.ensures (sym (skip _ (c.text.at + 1) c.text.level) ∙ stepped (goal.at.text-preserved-in-Comment c).After-step_between-step Step.Comment c.in-Comment.is),
-    )
+text-preserved-in-Comment c = (
+  omega (arith, c.comment_end-at.ensures, within c.args.text.now ends_comment (c.text.at + 1) (search rules)),
+  rw c.comment_end-at.ensures (sym (skip _ (c.text.at + 1) c.text.level) ∙ stepped (goal.at.text-preserved-in-Comment c).After-step_between-step Step.Comment c.in-Comment.is),
+)
 
 pub overflow_add-limit : goal.overflow_add-limit
 overflow_add-limit c =
@@ -77,11 +75,10 @@ pub text-smaller : goal.text-smaller
 text-smaller c = omega (arith, c.loop-start.invariant.1.begun, c.loop-start.invariant.1.inside)
 
 pub text-preserved : goal.text-preserved
-text-preserved c =
-    (
-      c.loop-start.invariant.1.inside,
-      leaves _ _ _ _ _ c.loop-start.invariant.1 (sym c.name_goes_on.ensures ∙ c.loop-start-test.false) (sym c.bare_dot-in-Name.ensures ∙ c.if-bare_dot-2.false),
-    )
+text-preserved c = (
+  c.loop-start.invariant.1.inside,
+  leaves _ _ _ _ _ c.loop-start.invariant.1 (sym c.name_goes_on.ensures ∙ c.loop-start-test.false) (sym c.bare_dot-in-Name.ensures ∙ c.if-bare_dot-2.false),
+)
 
 pub returns-then-bare_dot : goal.returns-then-bare_dot
 returns-then-bare_dot c =

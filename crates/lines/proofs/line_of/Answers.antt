@@ -30,7 +30,7 @@ loop-i-preserved c =
     let was = c.loop-i.invariant in
     let more : (c.if-text-i-eq-LINE_FEED.line ≡ 1 + line_feeds (take (i + 1) text)) × (c.if-text-i-eq-LINE_FEED.line ≤ 1 + (i + 1)) =
     elim c.if-text-i-eq-LINE_FEED.branch [
-      then-text-i-eq-LINE_FEED w ↦ (rw add-one (omega (arith, was.3, feed-here text i (omega arith) w.if-text-i-eq-LINE_FEED.true)), omega (arith, was.4))
+      | then-text-i-eq-LINE_FEED w ↦ (rw add-one (omega (arith, was.3, feed-here text i (omega arith) w.if-text-i-eq-LINE_FEED.true)), omega (arith, was.4))
       | else-text-i-eq-LINE_FEED w ↦ (rw add-one (omega (arith, was.3, no-feed-here text i (omega arith) w.if-text-i-eq-LINE_FEED.false)), omega (arith, was.4))
     ] in
     (search rules, search rules, search rules, more.0, more.1)

@@ -23,7 +23,7 @@ loop-a-preserved c =
     let has = sym c.contains_at.ensures in (
       omega arith,
       elim c.if-contains_at.branch [
-        then-contains_at w ↦ w.out-is ∙ w.insert.ensures ∙ ap (λ (s : List ℕ). inserted s a) c.loop-a.invariant.1 ∙ filled_more test a (has ∙ w.if-contains_at.true)
+        | then-contains_at w ↦ w.out-is ∙ w.insert.ensures ∙ ap (λ (s : List ℕ). inserted s a) c.loop-a.invariant.1 ∙ filled_more test a (has ∙ w.if-contains_at.true)
         | else-contains_at w ↦ w.out-is ∙ c.loop-a.invariant.1 ∙ filled-over test a (has ∙ w.if-contains_at.false)
       ],
     )

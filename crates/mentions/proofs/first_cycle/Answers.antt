@@ -22,23 +22,21 @@ returns-then-mentions_itself c =
     (sym (on _) ∙ sym c.mentions_itself.ensures ∙ c.if-mentions_itself.true))
 
 pub loop-at-preserved-else-mentions_itself : goal.loop-at-preserved-else-mentions_itself
-loop-at-preserved-else-mentions_itself c =
-    (
-      omega (arith, c.next_statement-next.ensures.0),
-      λ p f ok t q on.
-          seeks-on p ok f _ _ _ c.loop-at-test.true (c.loop-at.invariant.1 p f ok t q on) _ c.next_statement-next.ensures.0
-          (c.if-code-at.true ∙ t)
-          (sym (on _) ∙ sym c.mentions_itself.ensures ∙ c.if-mentions_itself.false),
-    )
+loop-at-preserved-else-mentions_itself c = (
+  omega (arith, c.next_statement-next.ensures.0),
+  λ p f ok t q on.
+      seeks-on p ok f _ _ _ c.loop-at-test.true (c.loop-at.invariant.1 p f ok t q on) _ c.next_statement-next.ensures.0
+      (c.if-code-at.true ∙ t)
+      (sym (on _) ∙ sym c.mentions_itself.ensures ∙ c.if-mentions_itself.false),
+)
 
 pub loop-at-preserved : goal.loop-at-preserved
-loop-at-preserved c =
-    (
-      omega (arith, c.next_statement-next.ensures.0),
-      λ p f ok t q on.
-          seeks-over p ok f _ _ _ c.loop-at-test.true (c.loop-at.invariant.1 p f ok t q on) _
-          c.next_statement-next.ensures.0 (λ h. c.if-code-at.false (h ∙ sym t)),
-    )
+loop-at-preserved c = (
+  omega (arith, c.next_statement-next.ensures.0),
+  λ p f ok t q on.
+      seeks-over p ok f _ _ _ c.loop-at-test.true (c.loop-at.invariant.1 p f ok t q on) _
+      c.next_statement-next.ensures.0 (λ h. c.if-code-at.false (h ∙ sym t)),
+)
 
 pub returns : goal.returns
 returns c = λ p ok q on.

@@ -17,7 +17,7 @@ loop-at-preserved c =
     let operand = c.if-operand-ge-DECLARE_ATTRIBUTE.false in
     let inv = c.loop-at.invariant in
     elim c.if-operand-ge-ATTRIBUTE.branch [
-      then-operand-ge-ATTRIBUTE w ↦ rw (w.out-is, w.insert.ensures) (collected-more _ _ _ _ inside operand inv w.if-operand-ge-ATTRIBUTE.true)
+      | then-operand-ge-ATTRIBUTE w ↦ rw (w.out-is, w.insert.ensures) (collected-more _ _ _ _ inside operand inv w.if-operand-ge-ATTRIBUTE.true)
       | else-operand-ge-ATTRIBUTE w ↦ rw w.out-is (collected-over _ _ _ _ inside operand inv w.if-operand-ge-ATTRIBUTE.false)
     ]
 

@@ -60,7 +60,7 @@ returns t c =
     (sym c.is_dot.ensures ∙ not-false _ c.if-not-is_dot.false-raw)
     (c.hash_step.ensures.0 ∙ ap (stepped a.before) c.wide.ensures.0)
     (elim c.if-end-past.branch [
-      then-end-past w ↦ w.hash-is ∙ w.spell_more-hash.ensures ∙ sym (goes-behind a.table.now (a.dot + 1) a.past _ _ c.requires.3 starts x a.left some_left w.if-end-past.true)
+      | then-end-past w ↦ w.hash-is ∙ w.spell_more-hash.ensures ∙ sym (goes-behind a.table.now (a.dot + 1) a.past _ _ c.requires.3 starts x a.left some_left w.if-end-past.true)
       | else-end-past w ↦ w.hash-is ∙ w.unless_reserved-hash.ensures ∙ sym (ends a.table.now (a.dot + 1) a.past _ _ c.requires.3 starts x a.left some_left w.if-end-past.false)
     ])
     c.unless_reserved.ensures

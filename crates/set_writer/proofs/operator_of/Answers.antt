@@ -47,6 +47,7 @@ returns-in_default c = go (ltb 5 n) refl
   where
     n : ℕ
     n = c.args.number
+
     go : (b : Bool) → ltb 5 n ≡ b → 2053 ≡ operator_unit (set_word (word_of n))
     go true e = sym (others n (ltb-true 5 n e))
     go false e =

@@ -15,11 +15,10 @@ use Rattle.table_laws.proofs.ListLaws.{all-places}
 use Rattle.sound_names.proofs.walk.Goals as goal
 
 pub loop-sort-init : goal.loop-sort-init
-loop-sort-init c =
-    (
-      walk-begin c.args.table.now c.args.start c.args.end _ _ c.requires,
-      knows-begin c.args.table.now c.args.start c.args.end,
-    )
+loop-sort-init c = (
+  walk-begin c.args.table.now c.args.start c.args.end _ _ c.requires,
+  knows-begin c.args.table.now c.args.start c.args.end,
+)
 
 -- ---- the name of an entry
 pub overflow_add-at : goal.overflow_add-at

@@ -9,11 +9,10 @@ use mathlib.Core.Path.{◌∙◌}
 use Rattle.symbols.proofs.name_of.Goals as goal
 
 pub loop-s-init : goal.loop-s-init
-loop-s-init c =
-    (
-      omega (arith, c.least-at.ensures),
-      name-begins c.args.sort c.args.number c.args.table.now c.args.end _ c.least-last.ensures c.args.start _ c.least-at.ensures,
-    )
+loop-s-init c = (
+  omega (arith, c.least-at.ensures),
+  name-begins c.args.sort c.args.number c.args.table.now c.args.end _ c.least-last.ensures c.args.start _ c.least-at.ensures,
+)
 
 pub entry_at-k-requires : goal.entry_at-k-requires
 entry_at-k-requires c = (c.loop-s.invariant.0, omega (arith, c.least-last.ensures))

@@ -8,13 +8,12 @@ use Rattle.table_parts.proofs.EntriesOn.{entry-8}
 use Rattle.table_parts.proofs.attribute_place.Goals as goal
 
 pub set_place-requires : goal.set_place-requires
-set_place-requires c =
-    (
-      omega (arith, c.body_start-start.type_inv),
-      omega (arith, c.least.ensures),
-      omega (arith, c.least-2.ensures),
-      omega (arith, c.least-3.ensures),
-    )
+set_place-requires c = (
+  omega (arith, c.body_start-start.type_inv),
+  omega (arith, c.least.ensures),
+  omega (arith, c.least-2.ensures),
+  omega (arith, c.least-3.ensures),
+)
 
 pub returns : goal.returns
 returns c sound =

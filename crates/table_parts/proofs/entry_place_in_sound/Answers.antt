@@ -22,7 +22,7 @@ returns-then-body-le-NAMES c sound =
     let h = sound-table t (all-places (λ k. k < 256) t 0 (λ i l. (c.shared_slice_known-1.given i).fits)) sound in
     let many = c.sections_of-sections.ensures ∙ ap sections_of (c.edition.ensures ∙ sound-edition t h) in
     elim c.then-body-le-NAMES.branch [
-      then-body-le-NAMES-via-then-body-le-NAMES w ↦ entry_first h a.body a.place w.if-body-le-NAMES.true
+      | then-body-le-NAMES-via-then-body-le-NAMES w ↦ entry_first h a.body a.place w.if-body-le-NAMES.true
       | then-body-le-NAMES-via-else-body-le-NAMES+then-sections-body w ↦ entry_past h a.body a.place (omega (arith, many, ltb-true c.sections_of-sections.result a.body w.if-sections-body.true-raw))
     ]
 
