@@ -1,9 +1,8 @@
 -- Document 01, "The table": its content without its bytes. A section's bytes are its body: section 5 and body 5 are one thing, counted from 1 as in the
 -- documents. Assumes nothing.
 use Rattle.std.specs.Prelude.{ℕ, List}
-use Rattle.std.proofs.Math.Option.{none}
 use Rattle.policy.specs.Basics.{each, is_among}
-use Rattle.policy.specs.Statements.{Family, users, roles, types, thing_of, attribute_of, Declaration, class, Policy, count}
+use Rattle.policy.specs.Statements.{Family, users, roles, types, thing_of, attribute_of, Declaration, Policy, count}
 use Rattle.policy.specs.Statements.{declarations, transitions, Transition, constrains, Constrain, relabels, Relabel, userrole, roletype, roleallow}
 use Rattle.policy.specs.Meaning.{Set, stands, related, final}
 use Rattle.bitset.specs.Sets.{set_of, from_bits, tabulate}

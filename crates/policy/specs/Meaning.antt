@@ -4,7 +4,7 @@ use Rattle.std.proofs.Math.Option.{none, some}
 use Rattle.policy.specs.Basics.{any}
 use Rattle.policy.specs.Statements.{Family, users, roles, types, thing_of, Reference, thing, attribute, SetExpr, name_s, all_s, not_s, and_s, or_s, xor_s}
 use Rattle.policy.specs.Statements.{union_s, empty_s, Side, source, target, Op, eq, neq, dom, domby, incomp, Constraint, sides_e, name_e, not_e, and_e, or_e}
-use Rattle.policy.specs.Statements.{Relation, userrole, roletype, roleallow, from_of, to_of, Line, Gives, as_gives}
+use Rattle.policy.specs.Statements.{Relation, userrole, roletype, roleallow, from_of, to_of, Line, as_gives}
 use Rattle.policy.specs.Statements.{Policy, count, declarations, sets_for}
 
 -- a set of numbers, as a test

@@ -2,7 +2,6 @@
 use Rattle.std.specs.Prelude.{ℕ, ◌+◌, ◌-◌, ◌*◌, ◌/◌, Bool, ◌&&◌, cond, List, [], ◌∷◌, eqb, ltb, length, get_or, take}
 use Rattle.std.proofs.Math.Option.{Option, none, some}
 use Rattle.bitset.specs.Relations.{joined}
-use Rattle.policy.specs.Basics.{Name}
 use Rattle.policy.specs.Statements.{Family, users, roles, types, source, target, process, thing_of, count, class_names, Relation, userrole, roletype, roleallow}
 use Rattle.policy.specs.Meaning.{Context, Contexts}
 use Rattle.policy.specs.Deciding.{Given, Reply, answered, refused, valid_reply, Question, contexts_of, Relabelling, relabel_contexts, refuses, Answer}

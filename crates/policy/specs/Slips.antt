@@ -1,9 +1,9 @@
 -- Document 01, "Slips we have seen", and "Both sides": worked examples that each slip would break, as one list under one claim. Assumes nothing.
-use Rattle.std.specs.Prelude.{ℕ, zero, suc, ◌+◌, ◌/◌, ◌%◌, ◌≡◌, refl, true, false, List, [], ◌∷◌, ◌++◌, eqb, ltb, length}
+use Rattle.std.specs.Prelude.{ℕ, zero, suc, ◌+◌, ◌/◌, ◌%◌, ◌≡◌, refl, false, List, [], ◌∷◌, ◌++◌, eqb, ltb, length}
 use Rattle.lexer.specs.Spell.{bytes}
 use Rattle.bitset.specs.Sets.{set_of, tabulate}
 use Rattle.bitset.specs.Relations.{joined}
-use Rattle.policy.specs.Statements.{users, roles, eq, neq, Constraint, sides_e, and_e, Reference}
+use Rattle.policy.specs.Statements.{users, neq, Constraint, sides_e, and_e, Reference}
 use Rattle.policy.specs.Reading.{policy, refused, read_policy, Read}
 use Rattle.policy.specs.Meaning.{related}
 use Rattle.policy.specs.Statements.{userrole}

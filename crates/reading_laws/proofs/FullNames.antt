@@ -10,7 +10,7 @@ use mathlib.Core.Option.{none, some}
 use lib.Dec.{leb, ltb}
 use lib.ListN.{length}
 use borrow.Author.Tests.{leb-true, le-leb, ltb-true, not-true}
-use Rattle.lexer.specs.Class.{is, max_name, is_part, all_parts, parts, has_good_parts, is_name}
+use Rattle.lexer.specs.Class.{max_name, is_part, all_parts, parts, has_good_parts, is_name}
 use Rattle.lexer.specs.Forms.{Forms, closed, ended, word, part, names_good}
 use Rattle.lexer.proofs.Names.{name-part, cut-at-dot, only_part, dot-byte}
 use Rattle.policy.specs.Basics.{Name, same, All, any, every, is_in}

@@ -3,7 +3,7 @@ use Rattle.std.specs.Prelude.{ℕ, ◌+◌, ◌*◌, ◌-◌, ◌<◌, ◌≡◌
 use Rattle.std.specs.Bool.{xor}
 use Rattle.bitset.specs.Sets.{member, set_of}
 use Rattle.byte_slices.specs.Parts.{part}
-use Rattle.policy.specs.Statements.{Reference, thing, attribute, SetExpr}
+use Rattle.policy.specs.Statements.{Reference, SetExpr}
 use Rattle.policy.specs.Meaning.{Set, of_s}
 use Rattle.statement_code.specs.Numbered.{Numbered}
 use Rattle.statement_code.specs.Code.{all_unit, not_unit, and_unit, xor_unit, set_code}

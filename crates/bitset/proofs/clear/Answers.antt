@@ -1,5 +1,4 @@
 -- `bitset::clear` meets its contract: after i turns the first i bytes are 0. Assumes nothing.
-use Prim.Native.Nat.{◌-◌}
 use Rattle.bitset.proofs.LoopLaws.{clear-turn}
 use Rattle.bitset.proofs.SetLaws.{length-emptied}
 use Rattle.bitset.proofs.LoopSteps.{turned_none, turned-all}

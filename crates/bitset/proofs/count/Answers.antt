@@ -1,5 +1,4 @@
 -- `bitset::count` meets its contract. The invariant: sum is how many of the numbers below 8 * i the set has. Assumes nothing.
-use Prim.Native.Nat.{◌-◌}
 use borrow.Author.Rules.{rules}
 use lib.ListN.{length}
 use mathlib.Core.Path.{◌≡◌}

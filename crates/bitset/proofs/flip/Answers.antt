@@ -1,5 +1,4 @@
 -- `bitset::flip` meets its contract: after i turns the first i bytes are those of the result. Assumes nothing.
-use Prim.Native.Nat.{◌-◌}
 use borrow.Author.Rules.{rules}
 use Rattle.bitset.proofs.LoopLaws.{flip-turn}
 use Rattle.bitset.proofs.SetLaws.{length-set_of}

@@ -1,5 +1,4 @@
 -- `bitset::is_within` meets its contract: what is gathered is 0 where no number of the bytes passed reaches the total. Assumes nothing.
-use Prim.Native.Nat.{◌-◌}
 use borrow.Author.Rules.{rules}
 use lib.Bits.{and_le_l}
 use native.Mathlib.Nat.{lt_of_le_of_lt}

@@ -1,5 +1,4 @@
 -- `byte_slices::copy` meets its contract. The loop's invariant: the first i bytes of the part are stored, one after the other. Assumes nothing.
-use Prim.Native.Nat.{◌-◌}
 use lib.ListN.{length-set}
 use Rattle.byte_slices.proofs.CopyLaws.{copy-turn, copy-none, copied}
 use native.Mathlib.Omega.{arith}

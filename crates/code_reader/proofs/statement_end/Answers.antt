@@ -1,5 +1,4 @@
 -- `code_reader::statement_end` meets its contract: the operands passed and those ahead are the statement's. Assumes nothing.
-use Prim.Native.Nat.{◌-◌}
 use native.Mathlib.Omega.{arith}
 use mathlib.Core.Path.{refl, ap}
 use lib.ListN.{length}

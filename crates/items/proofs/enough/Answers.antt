@@ -1,5 +1,4 @@
 -- `items::enough` meets its contract. Assumes nothing.
-use borrow.Author.Rules.{rules}
 use Rattle.items.proofs.enough.Goals as goal
 
 pub returns-in-OneOrMore : goal.returns-in-OneOrMore

@@ -4,7 +4,6 @@ use Rattle.lexer.proofs.Seen.{seen}
 use mathlib.Core.Path.{sym, ap, ◌∙◌}
 use Rattle.items.specs.Looks.{item_of, item_at}
 use native.Mathlib.Omega.{arith}
-use borrow.Author.Rules.{rules}
 use Rattle.items.proofs.next_item.Goals as goal
 
 pub overflow_add-result : goal.overflow_add-result

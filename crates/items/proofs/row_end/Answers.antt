@@ -1,6 +1,5 @@
 -- `items::row_end` meets its contract: the end of the row by the tokens from the place reached on, where so many rows within it are open. Assumes nothing.
 use mathlib.Core.Path.{sym, ◌∙◌}
-use Prim.Native.Nat.{◌-◌}
 use native.Mathlib.Omega.{arith}
 use Rattle.lexer.specs.declared.Token.{Token}
 use Rattle.lexer.proofs.Seen.{seen}

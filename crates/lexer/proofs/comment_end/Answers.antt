@@ -1,6 +1,5 @@
 -- `lexer::comment_end` meets its contract: the first byte from the place reached on that ends a comment is the first from
 -- the place asked on. Assumes nothing.
-use Prim.Native.Nat.{◌-◌}
 use mathlib.Core.Path.{refl, sym, ◌∙◌}
 use Rattle.lexer.specs.Class.{ends_comment}
 use Rattle.lexer.proofs.Ends.{told, found, further, none_left}

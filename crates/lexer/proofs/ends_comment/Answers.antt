@@ -2,7 +2,6 @@
 use mathlib.Core.Path.{◌≡◌, refl, sym, ap}
 use mathlib.Core.Bool.{false}
 use mathlib.Core.List.{[], ◌∷◌}
-use borrow.Author.Rules.{rules}
 use Rattle.lexer.specs.Class.{ends_comment}
 use Rattle.lexer.proofs.Variants.{among}
 use borrow.Enum.Refused.{opened}

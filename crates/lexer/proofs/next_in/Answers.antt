@@ -1,9 +1,8 @@
 -- `lexer::next_in` meets its contract: the first of the tokens that are left at the place reached is the first of those from the place
 -- asked on. Assumes nothing.
-use Prim.Native.Nat.{◌+◌, ◌-◌}
+use Prim.Native.Nat.{◌+◌}
 use mathlib.Core.Path.{refl, sym, ap, ◌∙◌}
 use native.Mathlib.Omega.{arith}
-use borrow.Author.Rules.{rules}
 use Rattle.lexer.specs.Class.{ends_comment}
 use Rattle.lexer.specs.Token.{tokens_at, first_of, token_at}
 use Rattle.lexer.specs.Answers.{ends_word}

@@ -6,7 +6,7 @@ use native.Mathlib.Omega.{arith}
 use borrow.Author.Rules.{rules}
 use lib.ListN.{length, drop}
 use Rattle.lexer.specs.Class.{ends_comment, max_name}
-use Rattle.lexer.specs.Scan.{between, scan_from, scan}
+use Rattle.lexer.specs.Scan.{scan_from, scan}
 use Rattle.lexer.specs.Answers.{state_of}
 use Rattle.lexer.specs.declared.Step.{Step}
 use Rattle.lexer.proofs.Ends.{ahead, within, counted-most, name-there}

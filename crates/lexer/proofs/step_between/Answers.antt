@@ -1,6 +1,5 @@
 -- `lexer::step_between` meets its contract: each class by itself, and the tests of the level by their outcomes. Assumes nothing.
 use native.Mathlib.Omega.{arith}
-use borrow.Author.Rules.{rules}
 use borrow.Author.Tests.{lt-ltb, le-ltb, eq-eqb, ne_eqb}
 use Rattle.lexer.specs.Scan.{max_level}
 use Rattle.lexer.proofs.step_between.Goals as goal

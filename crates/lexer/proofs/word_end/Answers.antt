@@ -1,6 +1,6 @@
 -- `lexer::word_end` meets its contract: the first byte from the place reached on that does not go on a word is the first from
 -- the place asked on. Assumes nothing.
-use Prim.Native.Nat.{◌-◌, ◌<◌}
+use Prim.Native.Nat.{◌<◌}
 use mathlib.Core.Path.{◌≡◌, refl, sym, ◌∙◌}
 use mathlib.Core.Bool.{true}
 use native.Mathlib.Omega.{arith}

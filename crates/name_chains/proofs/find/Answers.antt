@@ -1,6 +1,5 @@
 -- `name_chains::find` meets its contract. The loop's invariant: so many others of the chain were compared, the next to compare is the entry whose first
 -- word is `at`, and what the try says is what it says from there on (TryLaws). The measure is how many of the chain are left. Assumes nothing.
-use Prim.Native.Nat.{◌-◌}
 use native.Mathlib.Omega.{arith}
 use Rattle.name_chains.proofs.FindLaws.{chain-starts, hit-tries, turn, chain-ends}
 use Rattle.name_chains.proofs.find.Goals as goal

@@ -1,6 +1,6 @@
 -- `name_chains::find_in_section` meets its contract. The loop's invariant: the try among the entries from `at` on, after the others, answers as the try
 -- among all. The measure is what is left of the section. Assumes nothing.
-use Prim.Native.Nat.{ℕ, ◌+◌, ◌-◌}
+use Prim.Native.Nat.{ℕ, ◌+◌}
 use mathlib.Core.Path.{refl, ap, ◌∙◌}
 use native.Mathlib.Omega.{arith}
 use Rattle.symbols.proofs.EntryLaws.{met, less-left}

@@ -1,5 +1,5 @@
 -- `name_index::front_of` meets its contract: the number of a name's first bytes, or that of the first four and of those after them (Words). Assumes nothing.
-use Prim.Native.Nat.{◌-◌, ◌≤◌, ◌<◌}
+use Prim.Native.Nat.{◌-◌, ◌≤◌}
 use mathlib.Core.Path.{◌∙◌}
 use native.Mathlib.Omega.{arith}
 use lib.ListN.{length, take, drop}

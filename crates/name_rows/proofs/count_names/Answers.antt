@@ -1,5 +1,4 @@
 -- `name_rows::count_names` meets its contract. The loop's invariant: so many names are before the place. Assumes nothing.
-use Prim.Native.Nat.{◌-◌}
 use native.Mathlib.Omega.{arith}
 use Rattle.name_rows.proofs.Rows.{told, counted-all, counted-more}
 use Rattle.name_rows.proofs.count_names.Goals as goal

@@ -1,6 +1,5 @@
 -- `name_rows::inside` meets its contract: what is after an open parenthesis is the row of the part. Assumes nothing.
 use native.Mathlib.Omega.{arith}
-use borrow.Author.Rules.{rules}
 use Rattle.lexer.proofs.Seen.{seen}
 use Rattle.name_rows.proofs.Rows.{a-part, word-no-part, close-no-part, end-no-part}
 use Rattle.name_rows.proofs.inside.Goals as goal

@@ -2,7 +2,6 @@
 -- that are left of them. Assumes nothing.
 use native.Mathlib.Omega.{arith}
 use mathlib.Core.Path.{refl, sym, ◌∙◌}
-use borrow.Author.Rules.{rules}
 use Rattle.name_rows.proofs.Rows.{told, is-this, is_later, not-among-none, not-among-first-none}
 use Rattle.name_rows.proofs.is_among_first.Goals as goal
 

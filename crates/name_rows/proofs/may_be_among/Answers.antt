@@ -1,6 +1,4 @@
 -- `name_rows::may_be_among` meets its contract. The loop's invariant: none of the first k is the number. Assumes nothing.
-use Prim.Native.Nat.{◌-◌}
-use mathlib.Core.Bool.{false}
 use native.Mathlib.Omega.{arith}
 use Rattle.name_rows.proofs.Fronts.{too_few, no-first, other, hit, none}
 use Rattle.name_rows.proofs.may_be_among.Goals as goal

@@ -1,6 +1,5 @@
 -- `name_rows::repeats` meets its contract. The loop's invariant is that of proofs/RepeatLaws: the names passed differ, and their first eight bytes are
 -- kept. Assumes nothing.
-use Prim.Native.Nat.{◌-◌}
 use native.Mathlib.Omega.{arith}
 use mathlib.Core.Path.{refl, sym, ap, ◌∙◌}
 use Rattle.name_index.specs.Index.{front_of}

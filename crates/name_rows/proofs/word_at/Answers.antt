@@ -1,5 +1,4 @@
 -- `name_rows::word_at` meets its contract: a token by its kind. Assumes nothing.
-use borrow.Author.Rules.{rules}
 use Rattle.name_rows.proofs.Rows.{a_word, open-no-word, close-no-word, end-no-word}
 use Rattle.name_rows.proofs.word_at.Goals as goal
 

@@ -1,6 +1,5 @@
 -- `name_spelling::read_part` meets its contract: the bytes so far go on the part, and are hashed. Assumes nothing.
 use mathlib.Core.Path.{sym, ap, ◌∙◌}
-use Prim.Native.Nat.{◌-◌}
 use native.Mathlib.Omega.{arith}
 use Rattle.bloom_filter.specs.Filter.{stepped}
 use Rattle.name_spelling.proofs.SpellingLaws.{a_byte, read_first, read_next}

@@ -1,5 +1,4 @@
 -- `scopes::last_dot` meets its contract. The loop's invariant: from i on the name has no dot. Assumes nothing.
-use mathlib.Core.Bool.{true}
 use native.Mathlib.Omega.{arith}
 use Rattle.scopes.proofs.Memory.{cut-starts, cut-here, cut_on, cut-none}
 use Rattle.scopes.proofs.last_dot.Goals as goal

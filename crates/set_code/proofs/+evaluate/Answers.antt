@@ -1,6 +1,5 @@
 -- `set_code::evaluate` meets its contract. It calls itself on each operand, and the code that is left falls. The loop's invariant: whatever S
 -- is at the place, what was read and what is ahead make it. Assumes nothing.
-use Prim.Native.Nat.{◌-◌}
 use native.Mathlib.Omega.{arith}
 use mathlib.Core.List.{[]}
 use Rattle.set_code.proofs.OperandLoop.{none-past, evaluates-reference, started, not-past, ended, further, further-reference}

@@ -1,7 +1,6 @@
 -- `set_grammar::set_start` meets its contract, by the first item. Assumes nothing.
 use mathlib.Core.Path.{◌≡◌, refl}
 use mathlib.Core.List.{[], ◌∷◌}
-use borrow.Author.Rules.{rules}
 use Rattle.items.specs.declared.Item.{Item}
 use Rattle.items.specs.declared.Wanted.{Wanted}
 use Rattle.items.proofs.Items.{among}

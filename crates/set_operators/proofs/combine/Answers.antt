@@ -1,6 +1,5 @@
 -- `set_operators::combine` meets its contract: a src that is long enough goes to `combine_whole`, else
 -- after i turns the first i bytes are those of the result. Assumes nothing.
-use Prim.Native.Nat.{◌-◌}
 use borrow.Author.Rules.{rules}
 use Rattle.set_operators.proofs.OperatorLaws.{length-combined, combine-turn}
 use Rattle.bitset.proofs.LoopSteps.{turned_none, turned-all}

@@ -1,5 +1,4 @@
 -- `set_operators::combine_whole` meets its contract: after at turns the first at bytes are those of the result. Assumes nothing.
-use Prim.Native.Nat.{◌-◌}
 use borrow.Author.Rules.{rules}
 use Rattle.set_operators.proofs.OperatorLaws.{length-combined, combine-turn}
 use Rattle.bitset.proofs.LoopSteps.{turned_none, turned-all}

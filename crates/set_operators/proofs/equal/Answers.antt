@@ -1,5 +1,4 @@
 -- `set_operators::equal` meets its contract: what is gathered is 0 where the bytes passed have the same numbers. Assumes nothing.
-use Prim.Native.Nat.{◌-◌}
 use borrow.Author.Rules.{rules}
 use lib.Bits.{xor_lt}
 use native.Mathlib.Omega.{arith}

@@ -1,5 +1,4 @@
 -- `set_operators::meets` meets its contract: what is gathered is 0 where no number of the bytes passed is in both. Assumes nothing.
-use Prim.Native.Nat.{◌-◌}
 use borrow.Author.Rules.{rules}
 use lib.Bits.{and_lt}
 use mathlib.Core.Bool.{not}

@@ -1,6 +1,6 @@
 -- `sound_constraints::rows_fit` meets its contract. The loop's invariant: the rows that are left pass from `depth` on where all do from 0 on. Each
 -- way through a turn is one law of RowLaws. The measure is the number of rows left. Assumes nothing.
-use Prim.Native.Nat.{◌+◌, ◌-◌, ◌*◌, ◌≤◌}
+use Prim.Native.Nat.{◌+◌, ◌*◌, ◌≤◌}
 use mathlib.Core.Path.{◌≡◌}
 use lib.ListN.{drop}
 use Rattle.policy.specs.Sound.{pieces}

@@ -1,9 +1,7 @@
 -- `symbols::name_of` meets its contract. The loop's invariant: the question among the entries from `at` on, the first of them at `at`, is
 -- answered as among all. The measure is what is left of the section. Assumes nothing.
-use Prim.Native.Nat.{◌-◌}
 use Rattle.symbols.proofs.EntryLaws.{met, less-left}
 use Rattle.symbols.proofs.FindLaws.{none_done, none-broken, none-numbered, name-begins, other-sort, other-number, this-numbered}
-use borrow.Author.Rules.{rules}
 use native.Mathlib.Omega.{arith}
 use mathlib.Core.Path.{◌∙◌}
 use Rattle.symbols.proofs.name_of.Goals as goal

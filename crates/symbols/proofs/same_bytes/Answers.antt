@@ -1,5 +1,4 @@
 -- `symbols::same_bytes` meets its contract. The loop's invariant: what is left of the two is the same exactly where the two are. Assumes nothing.
-use Prim.Native.Nat.{◌-◌}
 use Rattle.symbols.proofs.SameLaws.{same_length, byte-same, byte-other, none_left}
 use native.Mathlib.Omega.{arith}
 use mathlib.Core.Path.{refl, sym, ◌∙◌}

@@ -1,5 +1,4 @@
 -- `table_names::tally` meets its contract: at each turn the invariant is that of proofs/TallyLaws. The measure is what is left of the section. Assumes nothing.
-use Prim.Native.Nat.{◌-◌}
 use native.Mathlib.Omega.{arith}
 use mathlib.Core.Path.{sym, ap, ◌∙◌}
 use lib.ListN.{length}

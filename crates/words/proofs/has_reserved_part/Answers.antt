@@ -1,5 +1,4 @@
 -- `words::has_reserved_part` meets its contract: the parts from the place reached on decide as the whole word does. Assumes nothing.
-use Prim.Native.Nat.{◌-◌}
 use mathlib.Core.Path.{refl, sym, ◌∙◌}
 use native.Mathlib.Omega.{arith}
 use Rattle.lexer.proofs.Ends.{within}

@@ -1,5 +1,4 @@
 -- `words::part_end` meets its contract: the first dot from the place reached on is the first from the place asked on. Assumes nothing.
-use Prim.Native.Nat.{◌-◌}
 use mathlib.Core.Path.{refl, sym, ◌∙◌}
 use borrow.Author.Tests.{eq-eqb, ne_eqb}
 use Rattle.lexer.specs.Class.{is_dot}
