@@ -46,7 +46,11 @@ pub fn show_compiling<W: Write>(out: &mut W, answer: Compiling) -> io::Result<()
 }
 
 // The same, and a checksum after it.
-pub fn show_compiling_and<W: Write>(out: &mut W, answer: Compiling, checksum: usize) -> io::Result<()> {
+pub fn show_compiling_and<W: Write>(
+    out: &mut W,
+    answer: Compiling,
+    checksum: usize,
+) -> io::Result<()> {
     compiled(out, answer)?;
     numbered(out, b" ", checksum)?;
     line_end(out)
@@ -61,7 +65,12 @@ pub fn show_validity<W: Write>(out: &mut W, answer: Validity) -> io::Result<()> 
 }
 
 // The number of a denial, of the statement that fails, and of those consulted.
-fn denied<W: Write>(out: &mut W, number: usize, constraint: usize, consulted: usize) -> io::Result<()> {
+fn denied<W: Write>(
+    out: &mut W,
+    number: usize,
+    constraint: usize,
+    consulted: usize,
+) -> io::Result<()> {
     numbered(out, b"denied ", number)?;
     numbered(out, b" constraint ", constraint)?;
     numbered(out, b" consulted ", consulted)?;

@@ -48,7 +48,13 @@ pub fn line<W: Write>(out: &mut W, name: &[u8], a: usize, b: usize, set: &[u8]) 
 }
 
 // A line whose answer is yes or no.
-pub fn yes_or_no<W: Write>(out: &mut W, name: &[u8], a: usize, b: usize, answer: bool) -> io::Result<()> {
+pub fn yes_or_no<W: Write>(
+    out: &mut W,
+    name: &[u8],
+    a: usize,
+    b: usize,
+    answer: bool,
+) -> io::Result<()> {
     given(out, name, a, b)?;
     if answer {
         say(out, b" yes\n")
@@ -58,7 +64,13 @@ pub fn yes_or_no<W: Write>(out: &mut W, name: &[u8], a: usize, b: usize, answer:
 }
 
 // A line whose answer is a number.
-pub fn how_many<W: Write>(out: &mut W, name: &[u8], a: usize, b: usize, n: usize) -> io::Result<()> {
+pub fn how_many<W: Write>(
+    out: &mut W,
+    name: &[u8],
+    a: usize,
+    b: usize,
+    n: usize,
+) -> io::Result<()> {
     given(out, name, a, b)?;
     number(out, n)?;
     say(out, b"\n")
