@@ -1,113 +1,121 @@
 // The lines that a program writes for answers: of compile, of the questions.
-use libc::STDOUT_FILENO;
+#![tactic(auto)]
+
 use policy::{Change, Compiling, NewRole, Place, Refusal, Validity};
+use std::io;
+use std::io::Write;
 
 // A word with a blank after it, and a number.
-fn numbered(word: &[u8], number: usize) {
-    io::write_all(STDOUT_FILENO, word);
-    io::print_decimal(STDOUT_FILENO, number as u64);
+fn numbered<W: Write>(out: &mut W, word: &[u8], number: usize) -> io::Result<()> {
+    out.write_all(word)?;
+    write!(out, "{number}")
 }
 
-fn line_end() {
-    io::write_all(STDOUT_FILENO, b"\n");
+fn line_end<W: Write>(out: &mut W) -> io::Result<()> {
+    out.write_all(b"\n")
 }
 
-fn refused(number: usize) {
-    numbered(b"refused ", number);
-    line_end();
+fn refused<W: Write>(out: &mut W, number: usize) -> io::Result<()> {
+    numbered(out, b"refused ", number)?;
+    line_end(out)
 }
 
 // `refused 5 at 8 line 1`, without the line's end.
-fn refusal_words(refusal: Refusal) {
-    numbered(b"refused ", refusal.number);
-    numbered(b" at ", refusal.place);
-    numbered(b" line ", refusal.line);
+fn refusal_words<W: Write>(out: &mut W, refusal: Refusal) -> io::Result<()> {
+    numbered(out, b"refused ", refusal.number)?;
+    numbered(out, b" at ", refusal.place)?;
+    numbered(out, b" line ", refusal.line)
 }
 
-pub fn show_refusal(refusal: Refusal) {
-    refusal_words(refusal);
-    line_end();
+pub fn show_refusal<W: Write>(out: &mut W, refusal: Refusal) -> io::Result<()> {
+    refusal_words(out, refusal)?;
+    line_end(out)
 }
 
 // `accepted 280`, or the words of a refusal, without the line's end.
-fn compiled(answer: Compiling) {
+fn compiled<W: Write>(out: &mut W, answer: Compiling) -> io::Result<()> {
     match answer {
-        Compiling::Accepted { length } => numbered(b"accepted ", length),
-        Compiling::Refused(refusal) => refusal_words(refusal),
+        Compiling::Accepted { length } => numbered(out, b"accepted ", length),
+        Compiling::Refused(refusal) => refusal_words(out, refusal),
     }
 }
 
-pub fn show_compiling(answer: Compiling) {
-    compiled(answer);
-    line_end();
+pub fn show_compiling<W: Write>(out: &mut W, answer: Compiling) -> io::Result<()> {
+    compiled(out, answer)?;
+    line_end(out)
 }
 
 // The same, and a checksum after it.
-pub fn show_compiling_and(answer: Compiling, checksum: usize) {
-    compiled(answer);
-    numbered(b" ", checksum);
-    line_end();
+pub fn show_compiling_and<W: Write>(
+    out: &mut W,
+    answer: Compiling,
+    checksum: usize,
+) -> io::Result<()> {
+    compiled(out, answer)?;
+    numbered(out, b" ", checksum)?;
+    line_end(out)
 }
 
-pub fn show_validity(answer: Validity) {
+pub fn show_validity<W: Write>(out: &mut W, answer: Validity) -> io::Result<()> {
     match answer {
-        Validity::Valid => {
-            io::write_all(STDOUT_FILENO, b"valid\n");
-        }
-        Validity::NotValid => {
-            io::write_all(STDOUT_FILENO, b"not valid\n");
-        }
-        Validity::Refused { number } => refused(number),
+        Validity::Valid => out.write_all(b"valid\n"),
+        Validity::NotValid => out.write_all(b"not valid\n"),
+        Validity::Refused { number } => refused(out, number),
     }
 }
 
 // The number of a denial, of the statement that fails, and of those consulted.
-fn denied(number: usize, constraint: usize, consulted: usize) {
-    numbered(b"denied ", number);
-    numbered(b" constraint ", constraint);
-    numbered(b" consulted ", consulted);
-    line_end();
+fn denied<W: Write>(
+    out: &mut W,
+    number: usize,
+    constraint: usize,
+    consulted: usize,
+) -> io::Result<()> {
+    numbered(out, b"denied ", number)?;
+    numbered(out, b" constraint ", constraint)?;
+    numbered(out, b" consulted ", consulted)?;
+    line_end(out)
 }
 
-pub fn show_change(answer: Change) {
+pub fn show_change<W: Write>(out: &mut W, answer: Change) -> io::Result<()> {
     match answer {
         Change::Granted { consulted } => {
-            numbered(b"granted consulted ", consulted);
-            line_end();
+            numbered(out, b"granted consulted ", consulted)?;
+            line_end(out)
         }
-        Change::Denied { number } => denied(number, 0, 0),
+        Change::Denied { number } => denied(out, number, 0, 0),
         Change::Failed {
             number,
             constraint,
             consulted,
-        } => denied(number, constraint, consulted),
-        Change::Refused { number } => refused(number),
+        } => denied(out, number, constraint, consulted),
+        Change::Refused { number } => refused(out, number),
     }
 }
 
-pub fn show_new_role(answer: NewRole) {
+pub fn show_new_role<W: Write>(out: &mut W, answer: NewRole) -> io::Result<()> {
     match answer {
         NewRole::Role { number } => {
-            numbered(b"role ", number);
-            line_end();
+            numbered(out, b"role ", number)?;
+            line_end(out)
         }
-        NewRole::Refused { number } => refused(number),
+        NewRole::Refused { number } => refused(out, number),
     }
 }
 
-pub fn show_place(answer: Place) {
+pub fn show_place<W: Write>(out: &mut W, answer: Place) -> io::Result<()> {
     match answer {
         Place::Part { start, length } => {
-            numbered(b"part ", start);
-            numbered(b" ", length);
-            line_end();
+            numbered(out, b"part ", start)?;
+            numbered(out, b" ", length)?;
+            line_end(out)
         }
-        Place::Refused { number } => refused(number),
+        Place::Refused { number } => refused(out, number),
     }
 }
 
-pub fn show_name(name: &[u8]) {
-    io::write_all(STDOUT_FILENO, b"name ");
-    io::write_all(STDOUT_FILENO, name);
-    line_end();
+pub fn show_name<W: Write>(out: &mut W, name: &[u8]) -> io::Result<()> {
+    out.write_all(b"name ")?;
+    out.write_all(name)?;
+    line_end(out)
 }

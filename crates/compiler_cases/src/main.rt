@@ -2,9 +2,13 @@
 // memory that was lent. A case is the length of the lent memory and that of the text, 4 bytes each, little endian,
 // and then the text. Byte i of the memory holds (i * 7 + 3) mod 256 beforehand. The corpus ends with the input, or
 // with a case that is cut short or longer than the memory here.
+#![tactic(auto)]
+
 ghost use Rattle.std.specs.Prelude.{◌≡◌, ◌<◌, length};
 
 use corpus::Next;
+use std::io;
+use std::io::{BufReader, BufWriter, Read, Write};
 
 // The most memory that a case lends.
 const LENT_MAX: usize = 262_144;
@@ -20,11 +24,9 @@ fn prepare(memory: &mut [u8])
     ensures { length memory.new ≡ length memory.old }
 {
     let mut next: u16 = 3;
-    let mut i: usize = 0;
-    while i < memory.len() {
-        memory[i] = (next % 256) as u8;
+    for byte in memory.iter_mut() {
+        *byte = (next % 256) as u8;
         next = (next % 256) + 7;
-        i += 1;
     }
 }
 
@@ -38,57 +40,63 @@ fn wide(x: u8) -> u32
 fn checksum(memory: &[u8]) -> usize {
     let mut a: u32 = 1;
     let mut b: u32 = 0;
-    let mut i: usize = 0;
-    while i < memory.len() {
-        a = (a + wide(memory[i])) % 65_521;
+    for byte in memory {
+        a = (a + wide(*byte)) % 65_521;
         b = (b + a) % 65_521;
-        i += 1;
     }
     65_536 * (b as usize) + a as usize
 }
 
 // Compiles the text in so much of the memory, and shows the answer.
-fn show(text: &[u8], memory: &mut [u8], lent: usize)
+fn show<W: Write>(out: &mut W, text: &[u8], memory: &mut [u8], lent: usize) -> io::Result<()>
     ensures { length memory.new ≡ length memory.old }
 {
     if memory.len() < lent {
-        return;
+        return Ok(());
     }
     let table = &mut memory[..lent];
     prepare(table);
     let answer = compiler::compile(text, table);
-    answer_show::show_compiling_and(answer, checksum(table));
+    answer_show::show_compiling_and(out, answer, checksum(table))
 }
 
 // Reads a text of that length and compiles it in so much memory; answers whether there was one.
-fn case(texts: &mut [u8], len: usize, memory: &mut [u8], lent: usize) -> bool
+fn case<R: Read, W: Write>(
+    input: &mut R,
+    out: &mut W,
+    texts: &mut [u8],
+    len: usize,
+    memory: &mut [u8],
+    lent: usize,
+) -> io::Result<bool>
     ensures { length memory.new ≡ length memory.old }
 {
     if texts.len() < len {
-        return false;
+        return Ok(false);
     }
     let text = &mut texts[..len];
-    if !corpus::fill(text) {
-        return false;
+    if !corpus::fill(input, text)? {
+        return Ok(false);
     }
-    show(text, memory, lent);
-    true
+    show(out, text, memory, lent)?;
+    Ok(true)
 }
 
-fn main() {
+fn main(rt: HostRuntime) -> io::Result<()> {
+    let mut input = BufReader::new(rt.alloc(), rt.stdin())?;
+    let mut out = BufWriter::new(rt.alloc(), rt.stdout())?;
     let mut texts = [0u8; TEXT_MAX];
     let mut memory = [0u8; LENT_MAX];
-    let mut left = CASES;
-    while 0 < left {
-        let Next::Number(lent) = corpus::length() else {
-            return;
+    for _ in 0..CASES {
+        let Next::Number(lent) = corpus::length(&mut input)? else {
+            break;
         };
-        let Next::Number(len) = corpus::length() else {
-            return;
+        let Next::Number(len) = corpus::length(&mut input)? else {
+            break;
         };
-        if !case(&mut texts, len, &mut memory, lent) {
-            return;
+        if !case(&mut input, &mut out, &mut texts, len, &mut memory, lent)? {
+            break;
         }
-        left -= 1;
     }
+    out.flush()
 }

@@ -1,7 +1,11 @@
 // Scans the texts of a corpus on standard input, and writes what each scan says. A case is the length of a text, 4
 // bytes, little endian, and then the text. The corpus ends with the input, or with a case that is cut short or longer
 // than the memory here.
+#![tactic(auto)]
+
 use corpus::Next;
+use std::io;
+use std::io::{BufReader, BufWriter, Read, Write};
 
 // The greatest length of a case's text: one byte more than a text may have.
 const CASE_MAX: usize = lexer::Text::MAX + 1;
@@ -10,28 +14,34 @@ const CASE_MAX: usize = lexer::Text::MAX + 1;
 const CASES: usize = 1_000_000;
 
 // Reads a text of that length into the memory and shows it; answers whether there was one.
-fn case(memory: &mut [u8], len: usize) -> bool {
+fn case<R: Read, W: Write>(
+    input: &mut R,
+    out: &mut W,
+    memory: &mut [u8],
+    len: usize,
+) -> io::Result<bool> {
     if memory.len() < len {
-        return false;
+        return Ok(false);
     }
     let text = &mut memory[..len];
-    if !corpus::fill(text) {
-        return false;
+    if !corpus::fill(input, text)? {
+        return Ok(false);
     }
-    lexer_show::show(text);
-    true
+    lexer_show::show(out, text)?;
+    Ok(true)
 }
 
-fn main() {
+fn main(rt: HostRuntime) -> io::Result<()> {
+    let mut input = BufReader::new(rt.alloc(), rt.stdin())?;
+    let mut out = BufWriter::new(rt.alloc(), rt.stdout())?;
     let mut memory = [0u8; CASE_MAX];
-    let mut left = CASES;
-    while 0 < left {
-        let Next::Number(len) = corpus::length() else {
-            return;
+    for _ in 0..CASES {
+        let Next::Number(len) = corpus::length(&mut input)? else {
+            break;
         };
-        if !case(&mut memory, len) {
-            return;
+        if !case(&mut input, &mut out, &mut memory, len)? {
+            break;
         }
-        left -= 1;
     }
+    out.flush()
 }

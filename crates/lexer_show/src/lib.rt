@@ -1,25 +1,27 @@
 // The line that a program writes of a scan: `clean`, or the refusal with its number, place and line.
-use lexer::{Scanned, Text};
-use libc::STDOUT_FILENO;
-use policy::Refusal;
+#![tactic(auto)]
 
-fn refused(text: &[u8], number: usize, place: usize) {
+use lexer::{Scanned, Text};
+use policy::Refusal;
+use std::io;
+use std::io::Write;
+
+fn refused<W: Write>(out: &mut W, text: &[u8], number: usize, place: usize) -> io::Result<()> {
     let line = lines::line_of(text, place);
-    answer_show::show_refusal(Refusal {
+    let refusal = Refusal {
         number,
         place,
         line,
-    });
+    };
+    answer_show::show_refusal(out, refusal)
 }
 
 // Scans a text and writes what the scan says.
-pub fn show(text: &[u8]) {
+pub fn show<W: Write>(out: &mut W, text: &[u8]) -> io::Result<()> {
     let found = lexer::scan(text);
     match found {
-        Scanned::Clean => {
-            io::write_all(STDOUT_FILENO, b"clean\n");
-        }
-        Scanned::TooLong => refused(text, 1, Text::MAX),
-        Scanned::Wrong(place) => refused(text, 2, place),
+        Scanned::Clean => out.write_all(b"clean\n"),
+        Scanned::TooLong => refused(out, text, 1, Text::MAX),
+        Scanned::Wrong(place) => refused(out, text, 2, place),
     }
 }

@@ -3,12 +3,15 @@
 // the section, laid out as section 1 of a table; then the number of tries, and for each its family, the length of the
 // name and the name. Numbers have 4 bytes, little endian. The corpus ends with the input, or with a case that is cut
 // short or longer than the memory here.
+#![tactic(auto)]
+
 ghost use Rattle.std.specs.Prelude.{◌≡◌, length};
 
 use corpus::Next;
-use libc::STDOUT_FILENO;
 use name_chains::Tried;
 use name_index::SYMBOL_BYTES;
+use std::io;
+use std::io::{BufReader, BufWriter, Read, Write};
 use symbols::{Entry, Found};
 
 // The greatest length of a name that is looked up: some more than a name may have.
@@ -46,99 +49,109 @@ fn enter_all(section: &[u8], symbols: &mut [u8; SYMBOL_BYTES])
     }
 }
 
-fn numbered(word: &[u8], number: usize) {
-    io::write_all(STDOUT_FILENO, word);
-    io::print_decimal(STDOUT_FILENO, number as u64);
+fn numbered<W: Write>(out: &mut W, word: &[u8], number: usize) -> io::Result<()> {
+    out.write_all(word)?;
+    write!(out, "{number}")
 }
 
 // `chains found 1 2 compared 3` or `section missing compared 0`.
-fn show(way: &[u8], tried: Tried) {
-    io::write_all(STDOUT_FILENO, way);
-    let found = tried.found;
-    match found {
+fn show<W: Write>(out: &mut W, way: &[u8], tried: Tried) -> io::Result<()> {
+    out.write_all(way)?;
+    match tried.found {
         Found::At { sort, number } => {
-            numbered(b" found ", sort);
-            numbered(b" ", number);
+            numbered(out, b" found ", sort)?;
+            numbered(out, b" ", number)?;
         }
-        Found::Missing => {
-            io::write_all(STDOUT_FILENO, b" missing");
-        }
+        Found::Missing => out.write_all(b" missing")?,
     }
-    numbered(b" compared ", tried.compared);
-    io::write_all(STDOUT_FILENO, b"\n");
+    numbered(out, b" compared ", tried.compared)?;
+    out.write_all(b"\n")
 }
 
 // Reads a name of that length and looks it up both ways; answers whether there was one.
-fn look_up(
+fn look_up<R: Read, W: Write>(
+    input: &mut R,
+    out: &mut W,
     section: &[u8],
     symbols: &[u8; SYMBOL_BYTES],
     family: usize,
     names: &mut [u8],
     len: usize,
-) -> bool
+) -> io::Result<bool>
     ensures { length names.new ≡ length names.old }
 {
     if names.len() < len {
-        return false;
+        return Ok(false);
     }
     let name = &mut names[..len];
-    if !corpus::fill(name) {
-        return false;
+    if !corpus::fill(input, name)? {
+        return Ok(false);
     }
-    show(b"chains", name_chains::find(symbols, family, name));
+    show(out, b"chains", name_chains::find(symbols, family, name))?;
     let walked = name_chains::find_in_section(section, 0, section.len(), family, name);
-    show(b"section", walked);
-    true
+    show(out, b"section", walked)?;
+    Ok(true)
 }
 
 // Reads so many tries and shows them; answers whether there were as many.
-fn tries(section: &[u8], symbols: &[u8; SYMBOL_BYTES], count: usize) -> bool {
+fn tries<R: Read, W: Write>(
+    input: &mut R,
+    out: &mut W,
+    section: &[u8],
+    symbols: &[u8; SYMBOL_BYTES],
+    count: usize,
+) -> io::Result<bool> {
     let mut names = [0u8; NAME_MAX];
-    let mut left = count;
-    while 0 < left {
-        let Next::Number(family) = corpus::length() else {
-            return false;
+    for _ in 0..count {
+        let Next::Number(family) = corpus::length(input)? else {
+            return Ok(false);
         };
-        let Next::Number(len) = corpus::length() else {
-            return false;
+        let Next::Number(len) = corpus::length(input)? else {
+            return Ok(false);
         };
-        if !look_up(section, symbols, family, &mut names, len) {
-            return false;
+        if !look_up(input, out, section, symbols, family, &mut names, len)? {
+            return Ok(false);
         }
-        left -= 1;
     }
-    true
+    Ok(true)
 }
 
 // Reads a section of that length and the tries in it; answers whether there was one.
-fn case(sections: &mut [u8], len: usize, symbols: &mut [u8; SYMBOL_BYTES]) -> bool
+fn case<R: Read, W: Write>(
+    input: &mut R,
+    out: &mut W,
+    sections: &mut [u8],
+    len: usize,
+    symbols: &mut [u8; SYMBOL_BYTES],
+) -> io::Result<bool>
     ensures { length symbols.new ≡ length symbols.old }
 {
     if sections.len() < len {
-        return false;
+        return Ok(false);
     }
     let section = &mut sections[..len];
-    if !corpus::fill(section) {
-        return false;
+    if !corpus::fill(input, section)? {
+        return Ok(false);
     }
     enter_all(section, symbols);
-    let Next::Number(count) = corpus::length() else {
-        return false;
+    let Next::Number(count) = corpus::length(input)? else {
+        return Ok(false);
     };
-    tries(section, symbols, count)
+    tries(input, out, section, symbols, count)
 }
 
-fn main() {
+fn main(rt: HostRuntime) -> io::Result<()> {
+    let mut input = BufReader::new(rt.alloc(), rt.stdin())?;
+    let mut out = BufWriter::new(rt.alloc(), rt.stdout())?;
     let mut sections = [0u8; symbols::NAME_BYTES];
     let mut symbols = [0u8; SYMBOL_BYTES];
-    let mut left = CASES;
-    while 0 < left {
-        let Next::Number(len) = corpus::length() else {
-            return;
+    for _ in 0..CASES {
+        let Next::Number(len) = corpus::length(&mut input)? else {
+            break;
         };
-        if !case(&mut sections, len, &mut symbols) {
-            return;
+        if !case(&mut input, &mut out, &mut sections, len, &mut symbols)? {
+            break;
         }
-        left -= 1;
     }
+    out.flush()
 }

@@ -3,9 +3,13 @@
 // table, the number of its questions, 4 bytes, and for each question its kind and eight numbers, or ten for a
 // relabelling, 8 bytes each. The corpus ends with the input, or with a case that is cut short or longer than the memory
 // here.
+#![tactic(auto)]
+
 use corpus::Next;
 use decisions::Context;
 use policy::{Change, NewRole, Place, Refusal, Validity};
+use std::io;
+use std::io::{BufReader, BufWriter, Read, Write};
 
 // The greatest length of a case's table: more than the longest table has.
 const CASE_MAX: usize = 262_144;
@@ -33,21 +37,17 @@ const RELABEL: usize = 5;
 const OTHER_NUMBERS: usize = 9;
 
 // Reads the numbers of a question; answers whether there was one.
-fn read_question(numbers: &mut [usize; NUMBERS]) -> bool {
-    let mut i = 0;
-    while i < NUMBERS {
-        if i == OTHER_NUMBERS {
-            if numbers[0] != RELABEL {
-                return true;
-            }
+fn read_question<R: Read>(input: &mut R, numbers: &mut [usize; NUMBERS]) -> io::Result<bool> {
+    for i in 0..NUMBERS {
+        if i == OTHER_NUMBERS && numbers[0] != RELABEL {
+            return Ok(true);
         }
-        let Next::Number(n) = corpus::number() else {
-            return false;
+        let Next::Number(n) = corpus::number(input)? else {
+            return Ok(false);
         };
         numbers[i] = n;
-        i += 1;
     }
-    true
+    Ok(true)
 }
 
 fn context(user: usize, role: usize, kind: usize) -> Context {
@@ -56,93 +56,95 @@ fn context(user: usize, role: usize, kind: usize) -> Context {
 
 // ---- of any bytes
 
-fn ask_change(table: &[u8], numbers: &[usize; NUMBERS]) {
+fn ask_change<W: Write>(out: &mut W, table: &[u8], numbers: &[usize; NUMBERS]) -> io::Result<()> {
     let source = context(numbers[1], numbers[2], numbers[3]);
     let target = context(numbers[4], numbers[5], numbers[6]);
-    answer_show::show_change(questions::change(table, source, target, numbers[7], numbers[8]));
+    let answer = questions::change(table, source, target, numbers[7], numbers[8]);
+    answer_show::show_change(out, answer)
 }
 
-fn ask_relabel(table: &[u8], numbers: &[usize; NUMBERS]) {
+fn ask_relabel<W: Write>(out: &mut W, table: &[u8], numbers: &[usize; NUMBERS]) -> io::Result<()> {
     let old = context(numbers[2], numbers[3], numbers[4]);
     let new = context(numbers[5], numbers[6], numbers[7]);
     let process = context(numbers[8], numbers[9], numbers[10]);
-    answer_show::show_change(questions::relabel(table, numbers[1], old, new, process));
+    answer_show::show_change(
+        out,
+        questions::relabel(table, numbers[1], old, new, process),
+    )
 }
 
 // Asks a question by its kind and shows the answer; answers whether there is such a kind.
-fn ask(table: &[u8], numbers: &[usize; NUMBERS]) -> bool {
+fn ask<W: Write>(out: &mut W, table: &[u8], numbers: &[usize; NUMBERS]) -> io::Result<bool> {
+    let (a, b, c) = (numbers[1], numbers[2], numbers[3]);
     match numbers[0] {
-        VALID => answer_show::show_validity(questions::valid(
-            table, numbers[1], numbers[2], numbers[3],
-        )),
-        CHANGE => ask_change(table, numbers),
-        NEW_ROLE => answer_show::show_new_role(questions::new_role(
-            table, numbers[1], numbers[2], numbers[3],
-        )),
-        NAME => answer_show::show_place(table_parts::name_place(table, numbers[1], numbers[2])),
-        ENTRY => answer_show::show_place(table_parts::entry_place(table, numbers[1], numbers[2])),
-        RELABEL => ask_relabel(table, numbers),
-        _ => return false,
+        VALID => answer_show::show_validity(out, questions::valid(table, a, b, c))?,
+        CHANGE => ask_change(out, table, numbers)?,
+        NEW_ROLE => answer_show::show_new_role(out, questions::new_role(table, a, b, c))?,
+        NAME => answer_show::show_place(out, table_parts::name_place(table, a, b))?,
+        ENTRY => answer_show::show_place(out, table_parts::entry_place(table, a, b))?,
+        RELABEL => ask_relabel(out, table, numbers)?,
+        _ => return Ok(false),
     }
-    true
+    Ok(true)
 }
 
 // ---- of a table that was tested once
 
-fn ask_tested_change(
+fn ask_tested_change<W: Write>(
+    out: &mut W,
     table: &[u8],
     summary: &[u32; table_summary::NUMBERS],
     numbers: &[usize; NUMBERS],
-) {
+) -> io::Result<()> {
     let source = context(numbers[1], numbers[2], numbers[3]);
     let target = context(numbers[4], numbers[5], numbers[6]);
-    answer_show::show_change(sound_questions::change(
-        table, summary, source, target, numbers[7], numbers[8],
-    ));
+    let answer = sound_questions::change(table, summary, source, target, numbers[7], numbers[8]);
+    answer_show::show_change(out, answer)
 }
 
-fn ask_tested_relabel(
+fn ask_tested_relabel<W: Write>(
+    out: &mut W,
     table: &[u8],
     summary: &[u32; table_summary::NUMBERS],
     numbers: &[usize; NUMBERS],
-) {
+) -> io::Result<()> {
     let old = context(numbers[2], numbers[3], numbers[4]);
     let new = context(numbers[5], numbers[6], numbers[7]);
     let process = context(numbers[8], numbers[9], numbers[10]);
-    answer_show::show_change(sound_questions::relabel(
-        table, summary, numbers[1], old, new, process,
-    ));
+    let answer = sound_questions::relabel(table, summary, numbers[1], old, new, process);
+    answer_show::show_change(out, answer)
 }
 
 // Asks a question of a sound table by its kind and shows the answer.
-fn ask_tested(table: &[u8], summary: &[u32; table_summary::NUMBERS], numbers: &[usize; NUMBERS]) {
+fn ask_tested<W: Write>(
+    out: &mut W,
+    table: &[u8],
+    summary: &[u32; table_summary::NUMBERS],
+    numbers: &[usize; NUMBERS],
+) -> io::Result<()> {
+    let (a, b, c) = (numbers[1], numbers[2], numbers[3]);
     match numbers[0] {
-        VALID => answer_show::show_validity(sound_questions::valid(
-            table, summary, numbers[1], numbers[2], numbers[3],
-        )),
-        CHANGE => ask_tested_change(table, summary, numbers),
-        NEW_ROLE => answer_show::show_new_role(sound_questions::new_role(
-            table, summary, numbers[1], numbers[2], numbers[3],
-        )),
-        NAME => answer_show::show_place(table_parts::name_place_in_sound(
-            table, numbers[1], numbers[2],
-        )),
-        ENTRY => answer_show::show_place(table_parts::entry_place_in_sound(
-            table, numbers[1], numbers[2],
-        )),
-        _ => ask_tested_relabel(table, summary, numbers),
+        VALID => answer_show::show_validity(out, sound_questions::valid(table, summary, a, b, c)),
+        CHANGE => ask_tested_change(out, table, summary, numbers),
+        NEW_ROLE => answer_show::show_new_role(
+            out,
+            sound_questions::new_role(table, summary, a, b, c),
+        ),
+        NAME => answer_show::show_place(out, table_parts::name_place_in_sound(table, a, b)),
+        ENTRY => answer_show::show_place(out, table_parts::entry_place_in_sound(table, a, b)),
+        _ => ask_tested_relabel(out, table, summary, numbers),
     }
 }
 
 // Shows that a table is not sound, in the words of the question that was to be asked of it.
-fn show_unsound(kind: usize) {
+fn show_unsound<W: Write>(out: &mut W, kind: usize) -> io::Result<()> {
     let number = Refusal::NOT_SOUND;
     match kind {
-        VALID => answer_show::show_validity(Validity::Refused { number }),
-        NEW_ROLE => answer_show::show_new_role(NewRole::Refused { number }),
-        NAME => answer_show::show_place(Place::Refused { number }),
-        ENTRY => answer_show::show_place(Place::Refused { number }),
-        _ => answer_show::show_change(Change::Refused { number }),
+        VALID => answer_show::show_validity(out, Validity::Refused { number }),
+        NEW_ROLE => answer_show::show_new_role(out, NewRole::Refused { number }),
+        NAME => answer_show::show_place(out, Place::Refused { number }),
+        ENTRY => answer_show::show_place(out, Place::Refused { number }),
+        _ => answer_show::show_change(out, Change::Refused { number }),
     }
 }
 
@@ -150,53 +152,62 @@ fn show_unsound(kind: usize) {
 
 // Reads so many questions, asks each of the table in both ways and shows the answers; answers whether there were as
 // many.
-fn ask_all(table: &[u8], count: usize) -> bool {
+fn ask_all<R: Read, W: Write>(
+    input: &mut R,
+    out: &mut W,
+    table: &[u8],
+    count: usize,
+) -> io::Result<bool> {
     let mut summary = [0u32; table_summary::NUMBERS];
     let sound = table_summary::summarize(table, &mut summary);
     let mut numbers = [0usize; NUMBERS];
-    let mut left = count;
-    while 0 < left {
-        if !read_question(&mut numbers) {
-            return false;
+    for _ in 0..count {
+        if !read_question(input, &mut numbers)? {
+            return Ok(false);
         }
-        if !ask(table, &numbers) {
-            return false;
+        if !ask(out, table, &numbers)? {
+            return Ok(false);
         }
         if sound {
-            ask_tested(table, &summary, &numbers);
+            ask_tested(out, table, &summary, &numbers)?;
         } else {
-            show_unsound(numbers[0]);
+            show_unsound(out, numbers[0])?;
         }
-        left -= 1;
     }
-    true
+    Ok(true)
 }
 
 // Reads a table of that length into the memory, and asks the questions after it; answers whether there was one.
-fn case(memory: &mut [u8], len: usize) -> bool {
+fn case<R: Read, W: Write>(
+    input: &mut R,
+    out: &mut W,
+    memory: &mut [u8],
+    len: usize,
+) -> io::Result<bool> {
     if memory.len() < len {
-        return false;
+        return Ok(false);
     }
     let table = &mut memory[..len];
-    if !corpus::fill(table) {
-        return false;
+    if !corpus::fill(input, table)? {
+        return Ok(false);
     }
-    let Next::Number(count) = corpus::length() else {
-        return false;
+    let Next::Number(count) = corpus::length(input)? else {
+        return Ok(false);
     };
-    ask_all(table, count)
+    ask_all(input, out, table, count)
 }
 
-fn main() {
+fn main(rt: HostRuntime) -> io::Result<()> {
+    let mut input = BufReader::new(rt.alloc(), rt.stdin())?;
+    let mut out = BufWriter::new(rt.alloc(), rt.stdout())?;
     let mut memory = [0u8; CASE_MAX];
-    let mut left = CASES;
-    while 0 < left {
-        let Next::Number(len) = corpus::length() else {
-            return;
+    for _ in 0..CASES {
+        let Next::Number(len) = corpus::length(&mut input)? else {
+            break;
         };
-        if !case(&mut memory, len) {
-            return;
+        if !case(&mut input, &mut out, &mut memory, len)? {
+            break;
         }
-        left -= 1;
     }
+    out.flush()
 }

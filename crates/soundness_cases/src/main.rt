@@ -1,8 +1,11 @@
 // Asks of the tables of a corpus on standard input whether they are sound, and writes a line for each. A case is the
 // length of a table, 4 bytes, little endian, and then the table. The corpus ends with the input, or with a case that
 // is cut short or longer than the memory here.
+#![tactic(auto)]
+
 use corpus::Next;
-use libc::STDOUT_FILENO;
+use std::io;
+use std::io::{BufReader, BufWriter, Read, Write};
 
 // The greatest length of a case's table: more than the longest table has.
 const CASE_MAX: usize = 262_144;
@@ -11,30 +14,38 @@ const CASE_MAX: usize = 262_144;
 const CASES: usize = 1_000_000;
 
 // Reads a table of that length into the memory and shows whether it is sound; answers whether there was one.
-fn case(memory: &mut [u8], len: usize) -> bool {
+fn case<R: Read, W: Write>(
+    input: &mut R,
+    out: &mut W,
+    memory: &mut [u8],
+    len: usize,
+) -> io::Result<bool> {
     if memory.len() < len {
-        return false;
+        return Ok(false);
     }
     let table = &mut memory[..len];
-    if !corpus::fill(table) {
-        return false;
+    if !corpus::fill(input, table)? {
+        return Ok(false);
     }
     if soundness::sound(table) {
-        return io::write_all(STDOUT_FILENO, b"sound\n");
+        out.write_all(b"sound\n")?;
+    } else {
+        out.write_all(b"unsound\n")?;
     }
-    io::write_all(STDOUT_FILENO, b"unsound\n")
+    Ok(true)
 }
 
-fn main() {
+fn main(rt: HostRuntime) -> io::Result<()> {
+    let mut input = BufReader::new(rt.alloc(), rt.stdin())?;
+    let mut out = BufWriter::new(rt.alloc(), rt.stdout())?;
     let mut memory = [0u8; CASE_MAX];
-    let mut left = CASES;
-    while 0 < left {
-        let Next::Number(len) = corpus::length() else {
-            return;
+    for _ in 0..CASES {
+        let Next::Number(len) = corpus::length(&mut input)? else {
+            break;
         };
-        if !case(&mut memory, len) {
-            return;
+        if !case(&mut input, &mut out, &mut memory, len)? {
+            break;
         }
-        left -= 1;
     }
+    out.flush()
 }

@@ -1,5 +1,9 @@
 // Compiles a policy, asks of its table, alters the bytes after the table and asks again. The lines are held to those
 // that the statements give, worked out by hand (beside each question).
+#![tactic(auto)]
+
+use std::io;
+use std::io::{BufWriter, Write};
 use tegzhumbi::{Class, Context, Permission, Role, Type, User};
 
 // How much memory is lent for the table.
@@ -33,101 +37,115 @@ fn context(user: u64, role: u64, kind: u64) -> Context {
     }
 }
 
-fn change(table: &[u8], source: Context, target: Context, class: u64, permission: u64) {
-    answer_show::show_change(tegzhumbi::change(
-        table,
-        source,
-        target,
-        Class(class),
-        Permission(permission),
-    ));
+fn change<W: Write>(
+    out: &mut W,
+    table: &[u8],
+    source: Context,
+    target: Context,
+    class: u64,
+    permission: u64,
+) -> io::Result<()> {
+    let answer = tegzhumbi::change(table, source, target, Class(class), Permission(permission));
+    answer_show::show_change(out, answer)
 }
 
 // Class file, permission read: the constraints 0 and 2.
-fn files(table: &[u8]) {
+fn files<W: Write>(out: &mut W, table: &[u8]) -> io::Result<()> {
     // u a s to u a t: constraint 0 holds, in constraint 2 the types differ
-    change(table, context(0, 0, 0), context(0, 0, 1), 1, 0);
+    change(out, table, context(0, 0, 0), context(0, 0, 1), 1, 0)?;
     // u a t to itself: both hold
-    change(table, context(0, 0, 1), context(0, 0, 1), 1, 0);
+    change(out, table, context(0, 0, 1), context(0, 0, 1), 1, 0)?;
     // u a t to v b t: constraint 0 fails
-    change(table, context(0, 0, 1), context(1, 1, 1), 1, 0);
+    change(out, table, context(0, 0, 1), context(1, 1, 1), 1, 0)?;
     // v has not the role a
-    change(table, context(1, 0, 1), context(1, 1, 1), 1, 0);
+    change(out, table, context(1, 0, 1), context(1, 1, 1), 1, 0)?;
     // u has not the role c
-    change(table, context(0, 0, 0), context(0, 2, 1), 1, 0);
+    change(out, table, context(0, 0, 0), context(0, 2, 1), 1, 0)
 }
 
 // Class process: permission transition asks for the role, and constraint 1; fork asks neither.
-fn processes(table: &[u8]) {
+fn processes<W: Write>(out: &mut W, table: &[u8]) -> io::Result<()> {
     // from b to a no role may change
-    change(table, context(0, 1, 1), context(0, 0, 1), 0, 0);
+    change(out, table, context(0, 1, 1), context(0, 0, 1), 0, 0)?;
     // from a to b one may, and the users are the same
-    change(table, context(0, 0, 1), context(0, 1, 1), 0, 0);
+    change(out, table, context(0, 0, 1), context(0, 1, 1), 0, 0)?;
     // fork, from b to a
-    change(table, context(0, 1, 1), context(0, 0, 1), 0, 1);
+    change(out, table, context(0, 1, 1), context(0, 0, 1), 0, 1)?;
     // process has no third permission
-    change(table, context(0, 0, 1), context(0, 1, 1), 0, 2);
+    change(out, table, context(0, 0, 1), context(0, 1, 1), 0, 2)
 }
 
-fn relabel(table: &[u8], class: u64, old: Context, new: Context, process: Context) {
-    answer_show::show_change(tegzhumbi::relabel(table, Class(class), old, new, process));
+fn relabel<W: Write>(
+    out: &mut W,
+    table: &[u8],
+    class: u64,
+    old: Context,
+    new: Context,
+    process: Context,
+) -> io::Result<()> {
+    answer_show::show_change(
+        out,
+        tegzhumbi::relabel(table, Class(class), old, new, process),
+    )
 }
 
 // Files are relabelled by processes of user v, and their type changes only by a process in role a.
-fn relabels(table: &[u8]) {
+fn relabels<W: Write>(out: &mut W, table: &[u8]) -> io::Result<()> {
     let uas = context(0, 0, 0);
     let uat = context(0, 0, 1);
     let ubt = context(0, 1, 1);
     let vat = context(1, 0, 1);
     let vbt = context(1, 1, 1);
     // the process is v's, and the types are the same
-    relabel(table, 1, uat, ubt, vbt);
+    relabel(out, table, 1, uat, ubt, vbt)?;
     // the types differ, and the process is not in role a
-    relabel(table, 1, uas, uat, vbt);
+    relabel(out, table, 1, uas, uat, vbt)?;
     // the process is not v's
-    relabel(table, 1, uas, uat, uat);
+    relabel(out, table, 1, uas, uat, uat)?;
     // v has not the role a: as the process, as the new context, as the old one
-    relabel(table, 1, uas, uat, vat);
-    relabel(table, 1, uas, vat, vat);
-    relabel(table, 1, vat, vat, vat);
+    relabel(out, table, 1, uas, uat, vat)?;
+    relabel(out, table, 1, uas, vat, vat)?;
+    relabel(out, table, 1, vat, vat, vat)?;
     // nothing is said of processes, and there is no third class
-    relabel(table, 0, uas, uat, uat);
-    relabel(table, 2, uas, uat, uat);
+    relabel(out, table, 0, uas, uat, uat)?;
+    relabel(out, table, 2, uas, uat, uat)
 }
 
 // The other questions.
-fn others(table: &[u8]) {
+fn others<W: Write>(out: &mut W, table: &[u8]) -> io::Result<()> {
     // in role a with type t a new process is proposed b; in role c it stays c
-    answer_show::show_new_role(tegzhumbi::new_role(table, Role(0), Type(1), Class(0)));
-    answer_show::show_new_role(tegzhumbi::new_role(table, Role(2), Type(1), Class(0)));
+    answer_show::show_new_role(out, tegzhumbi::new_role(table, Role(0), Type(1), Class(0)))?;
+    answer_show::show_new_role(out, tegzhumbi::new_role(table, Role(2), Type(1), Class(0)))?;
     // u b t is valid, v b s is not, since b has not the type s
-    answer_show::show_validity(tegzhumbi::valid(table, context(0, 1, 1)));
-    answer_show::show_validity(tegzhumbi::valid(table, context(1, 1, 0)));
+    answer_show::show_validity(out, tegzhumbi::valid(table, context(0, 1, 1)))?;
+    answer_show::show_validity(out, tegzhumbi::valid(table, context(1, 1, 0)))?;
     // role 1 is b; after the set of x come the two validatetrans statements, 4 bytes each, and their four rows
-    answer_show::show_name(tegzhumbi::name_of(table, 1, 1));
-    answer_show::show_place(tegzhumbi::entry_place(table, 8, 0));
-    answer_show::show_place(tegzhumbi::entry_place(table, 9, 1));
-    answer_show::show_place(tegzhumbi::entry_place(table, 10, 3));
+    answer_show::show_name(out, tegzhumbi::name_of(table, 1, 1))?;
+    answer_show::show_place(out, tegzhumbi::entry_place(table, 8, 0))?;
+    answer_show::show_place(out, tegzhumbi::entry_place(table, 9, 1))?;
+    answer_show::show_place(out, tegzhumbi::entry_place(table, 10, 3))
 }
 
-fn ask(table: &[u8]) {
-    files(table);
-    processes(table);
-    relabels(table);
-    others(table);
+fn ask<W: Write>(out: &mut W, table: &[u8]) -> io::Result<()> {
+    files(out, table)?;
+    processes(out, table)?;
+    relabels(out, table)?;
+    others(out, table)
 }
 
-fn main() {
+fn main(rt: HostRuntime) -> io::Result<()> {
+    let mut out = BufWriter::new(rt.alloc(), rt.stdout())?;
     let text = policy();
     let mut table = [0x5au8; LENT];
     let compiled = tegzhumbi::compile(&text, &mut table);
-    answer_show::show_compiling(compiled);
-    ask(&table);
+    answer_show::show_compiling(&mut out, compiled)?;
+    ask(&mut out, &table)?;
     // the table has 647 bytes; what is after it does not matter
     table[647] = 255;
     table[LENT - 1] = 0;
-    ask(&table);
+    ask(&mut out, &table)?;
     // there is no edition 3
     table[0] = 3;
-    files(&table);
+    files(&mut out, &table)?;
+    out.flush()
 }

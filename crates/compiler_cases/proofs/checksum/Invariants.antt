@@ -1,0 +1,6 @@
+-- `compiler_cases::checksum`: both sums stay below 65,521.
+use Rattle.std.proofs.Common.{◌<◌}
+use Rattle.compiler_cases.proofs.checksum.Given as goal
+
+abbrev pub invariant-loop-byte : goal.invariant-loop-byte
+invariant-loop-byte l = (l.a < 65521) × (l.b < 65521)
