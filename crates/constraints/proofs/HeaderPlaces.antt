@@ -1,14 +1,12 @@
 -- On a sound table the functions of this crate find the statements and the rows where the header says, and answer as the image does. In a table whose
 -- edition has no section 9 there is no validatetrans statement. Assumes nothing.
-use Rattle.std.proofs.Common.{◌≡◌, ℕ, ◌*◌, ◌/◌, Bool, true, false, cond, eqb, ltb, List, length, sym, refl, ap, ◌∙◌, arith, ltb-false, ltb-true}
+use Rattle.std.proofs.Common.{◌≡◌, ℕ, ◌*◌, ◌/◌, Bool, true, false, cond, eqb, ltb, List, length, refl, ap, ◌∙◌, arith, ltb-false, ltb-true}
 use Rattle.bitset.specs.Relations.{joined}
-use Rattle.policy.specs.Basics.{each, All}
+use Rattle.policy.specs.Basics.{each}
 use Rattle.policy.specs.Statements.{Family, users, roles, types, attribute_of, count}
 use Rattle.policy.specs.Meaning.{Contexts}
-use Rattle.policy.specs.Rows.{Row}
 use Rattle.policy.specs.Image.{Image, RelabelEntry, width}
 use Rattle.policy.specs.Encode.{constraint_records, constraint_bytes, relabel_record, relabel_bytes, bodies, sections_of}
-use Rattle.policy.specs.Sound.{edition_in}
 use Rattle.policy.specs.Deciding.{first_failing}
 use Rattle.policy.specs.Questions.{sets_in, rows_hold, entry_names, entry_holds}
 use Rattle.policy.proofs.Lists.{each-length}
@@ -19,11 +17,10 @@ use Rattle.table_laws.proofs.ImageReadBack.{Laid, every-wide}
 use Rattle.table_laws.proofs.WellFormed.{formed}
 use Rattle.table_laws.proofs.WellFormedLaid.{well-formed-laid}
 use Rattle.table_laws.proofs.SoundLaws.{sound-edition}
-use Rattle.table_reader.specs.Records.{start_in, length_in}
+use Rattle.table_reader.specs.Records.{length_in}
 use Rattle.table_reader.proofs.SoundPlaces.{known-section, length-of, stands_of}
-use Rattle.constraints.specs.declared.Bodies.{Bodies}
 use Rattle.constraints.specs.TableConstraints.{bodies_in, relabel_count, relabel_bodies_in, sides_of, constraints_in, constraint_names, constraint_holds, relabels_in, relabel_names, relabel_holds}
-use Rattle.constraints.proofs.ImageAnswers.{Fits, PlacedSets, Placed, image-constraints, PlacedRelabels, image-relabels}
+use Rattle.constraints.proofs.ImageAnswers.{Fits, Placed, image-constraints, PlacedRelabels, image-relabels}
 
 module _ (t : List ℕ) (s : Sound t) where
   abbrev i : Image

@@ -6,7 +6,7 @@ use Rattle.bitset.specs.Sets.{member}
 use Rattle.byte_slices.specs.Parts.{part}
 use Rattle.bitset.specs.Relations.{joined}
 use Rattle.policy.specs.Basics.{each, every, All}
-use Rattle.policy.specs.Statements.{Family, users, roles, types, attribute_of, Declaration, count, class_names, permissions}
+use Rattle.policy.specs.Statements.{Family, users, roles, types, attribute_of, count, class_names, permissions}
 use Rattle.policy.specs.Meaning.{Contexts}
 use Rattle.policy.specs.Maxima.{max_relabel_rows}
 use Rattle.policy.specs.Rows.{Row, top, balanced}

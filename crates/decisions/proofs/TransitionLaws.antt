@@ -27,7 +27,6 @@ use Rattle.table_reader.proofs.RecordLaws.{records-step, records-none}
 use Rattle.table_reader.proofs.BodyRecords.{transitions-part}
 use Rattle.table_reader.proofs.SoundPlaces.{known-section, length-of, stands_of}
 use Rattle.decisions.specs.TableAnswers.{transitions_in}
-use Rattle.table_names.specs.TableNames.{count_in}
 use Rattle.soundness.proofs.SoundTable.{things-of, classes-of}
 use Rattle.policy.specs.declared.NameCounts.{NameCounts}
 use Rattle.decisions.specs.KnownNames.{Counts}

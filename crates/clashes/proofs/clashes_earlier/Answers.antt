@@ -1,5 +1,4 @@
 -- `clashes::clashes_earlier` meets its contract: none of the items passed clashes. Assumes nothing.
-use Prim.Native.Nat.{◌-◌}
 use mathlib.Core.Path.{refl, sym, ◌∙◌}
 use Rattle.clashes.proofs.ClashLaws.{earlier-start, earlier-none, earlier-over, earlier-found, earlier_on}
 use Rattle.code_reader.proofs.Passes.{finish}

@@ -1,5 +1,4 @@
 -- `clashes::first_clash` meets its contract: the answer is still to be found among the items ahead. Assumes nothing.
-use Prim.Native.Nat.{◌-◌}
 use native.Mathlib.Omega.{arith}
 use mathlib.Core.Path.{sym}
 use lib.Seq.{length-take-le}

@@ -1,5 +1,4 @@
 -- `clashes::first_transition` meets its contract: none of the items passed is a transition. Assumes nothing.
-use Prim.Native.Nat.{◌-◌}
 use native.Mathlib.Omega.{arith}
 use Rattle.clashes.proofs.SegmentLaws.{still-first, still-over, still-here, still-none}
 use Rattle.clashes.proofs.first_transition.Goals as goal

@@ -1,6 +1,5 @@
 -- The numbers of each arm are those of the scan's verdict: the scan is the definition's, and the arm says which it is.
 use mathlib.Core.Path.{refl, sym}
-use borrow.Author.Rules.{rules}
 use Rattle.comparison.proofs.tegzhumbi_scan.Goals as goal
 
 -- src/lib.rt:21:9

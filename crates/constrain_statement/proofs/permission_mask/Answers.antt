@@ -2,7 +2,6 @@
 use Prim.Native.Nat.{◌-◌}
 use Rattle.items.proofs.Items.{sees}
 use Rattle.constrain_statement.proofs.Masks.{begun, one_more, not-of-class, finished, no_names}
-use borrow.Author.Rules.{rules}
 use native.Mathlib.Omega.{arith}
 use Rattle.constrain_statement.proofs.permission_mask.Goals as goal
 

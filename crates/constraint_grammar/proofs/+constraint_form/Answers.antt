@@ -3,9 +3,7 @@
 use mathlib.Core.Path.{refl, sym, ◌∙◌}
 use mathlib.Core.Bool.{true, false}
 use mathlib.Core.List.{[], ◌∷◌}
-use Prim.Native.Nat.{◌-◌}
 use native.Mathlib.Omega.{arith}
-use borrow.Author.Rules.{rules}
 use Rattle.items.proofs.Items.{sees, by_part, by-close, too-deep, alike}
 use Rattle.items.proofs.Rows.{told, refuse, at-close, beyond}
 use Rattle.constraint_grammar.proofs.Expressions.{heads, both_read, part-operand, close-operand, end-operand, word-operand}

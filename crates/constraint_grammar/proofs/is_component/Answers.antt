@@ -1,5 +1,4 @@
 -- `constraint_grammar::is_component` meets its contract, by the sides. Assumes nothing.
-use borrow.Author.Rules.{rules}
 use Rattle.constraint_grammar.proofs.is_component.Goals as goal
 
 pub returns-in-Two : goal.returns-in-Two

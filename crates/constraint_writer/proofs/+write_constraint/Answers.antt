@@ -3,7 +3,6 @@
 -- Assumes nothing.
 use mathlib.Core.List.{[], ◌∷◌}
 use mathlib.Core.Option.{none}
-use Prim.Native.Nat.{◌-◌}
 use Rattle.policy.specs.Words.{three_sides}
 use Rattle.policy.specs.Grammar.{expressions, expression_in}
 use Rattle.items.proofs.Frames.{sees, around-of, too-deep}
@@ -13,7 +12,6 @@ use Rattle.constraint_writer.proofs.WrittenRows.{told, no-form, moved}
 use Rattle.constraint_writer.proofs.ThreeSides.{of-any}
 use Rattle.constraint_writer.proofs.OperandRows.{no_word, begun, compares, end_none, word_none}
 use Rattle.constraint_writer.proofs.OperandRows.{no_operand, operand-done, operand-undeclared, finished}
-use borrow.Author.Rules.{rules}
 use native.Mathlib.Omega.{arith}
 use mathlib.Core.Path.{sym, ◌∙◌}
 use borrow.Enum.Refused.{opened}

@@ -1,6 +1,5 @@
 -- `constraint_writer::comparison` meets its contract: two words and a close, and one row by the three words. Assumes nothing.
 use native.Mathlib.Omega.{arith}
-use borrow.Author.Rules.{rules}
 use Rattle.items.proofs.Frames.{sees}
 use Rattle.constraint_writer.proofs.RowBytes.{all-kept}
 use Rattle.constraint_writer.proofs.Operands.{compares-told}

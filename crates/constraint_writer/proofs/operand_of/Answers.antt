@@ -1,6 +1,5 @@
 -- `constraint_writer::operand_of` meets its contract: a name is found as it is resolved. Assumes nothing.
 use Rattle.constraint_writer.proofs.Operands.{a-side, a-thing, an-attribute, missing}
-use borrow.Author.Rules.{rules}
 use Rattle.constraint_writer.proofs.operand_of.Goals as goal
 
 pub returns-then-component_of-ne-NO_COMPONENT : goal.returns-then-component_of-ne-NO_COMPONENT

@@ -2,7 +2,6 @@
 use mathlib.Core.Path.{refl, ◌∙◌}
 use mathlib.Core.Bool.{false}
 use mathlib.Core.List.{[], ◌∷◌}
-use borrow.Author.Rules.{rules}
 use Rattle.grammar.specs.Shapes.{class_and_constraint}
 use Rattle.items.proofs.Items.{sees, by_part, too-deep, alike}
 use Rattle.items.proofs.Rows.{told, refuse, after-part}

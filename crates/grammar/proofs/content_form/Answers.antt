@@ -1,5 +1,4 @@
 -- `grammar::content_form` meets its contract. Assumes nothing.
-use borrow.Author.Rules.{rules}
 use Rattle.items.proofs.Counts.{trim-names}
 use Rattle.grammar.proofs.content_form.Goals as goal
 

@@ -1,6 +1,5 @@
 -- `grammar::shape_form` meets its contract. Assumes nothing.
 use mathlib.Core.Path.{refl}
-use borrow.Author.Rules.{rules}
 use Rattle.items.proofs.Rows.{refuse}
 use Rattle.items.proofs.Counts.{trim-names}
 use Rattle.grammar.proofs.shape_form.Goals as goal

@@ -3,7 +3,6 @@
 use mathlib.Core.Path.{◌∙◌}
 use Prim.Native.Nat.{◌-◌}
 use native.Mathlib.Omega.{arith}
-use borrow.Author.Rules.{rules}
 use Rattle.items.proofs.Frames.{sees}
 use Rattle.set_writer.proofs.SetOperands.{going, past_word, stop-word, stop-deep, past-part, stop-part, past-close, stop-end, past}
 use Rattle.set_writer.proofs.+write_set.Goals as goal

@@ -1,5 +1,4 @@
 -- `set_writer::reference` meets its contract: what the search finds is what `refer` says, and its unit goes by its sort. Assumes nothing.
-use borrow.Author.Rules.{rules}
 use Rattle.set_writer.proofs.ReferenceLaws.{refers, too_large, a-thing, an-attribute}
 use Rattle.set_writer.proofs.reference.Goals as goal
 

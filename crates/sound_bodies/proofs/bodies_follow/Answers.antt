@@ -1,6 +1,5 @@
 -- `sound_bodies::bodies_follow` meets its contract. The loop's invariant: the bodies that are left follow from `end` on where all do from the first
 -- one. The measure is how many are left. Assumes nothing.
-use Prim.Native.Nat.{◌-◌}
 use native.Mathlib.Nat.{sub-zero}
 use mathlib.Core.Path.{sym, ◌∙◌}
 use Rattle.sound_bodies.specs.SoundBodies.{header_bytes}

@@ -1,6 +1,6 @@
 -- `sound_bodies::sets_within` meets its contract. The loop's invariant: the sets that are left pass where all do. The measure is how many are left.
 -- Assumes nothing.
-use Prim.Native.Nat.{◌+◌, ◌-◌, ◌*◌, ◌≤◌}
+use Prim.Native.Nat.{◌+◌, ◌*◌, ◌≤◌}
 use mathlib.Core.Path.{◌≡◌}
 use lib.ListN.{drop}
 use Rattle.sound_bodies.specs.SoundBodies.{sets_within}

@@ -1,6 +1,6 @@
 -- `sound_names::walk` meets its contract: at each turn the invariant is that of proofs/WalkLaws, and the filter knows the entries passed. In the needs below
 -- `e` is the place where an entry was seen, `l` the loop's, `s` the function's start, `a` its arguments. Assumes nothing.
-use Prim.Native.Nat.{◌+◌, ◌-◌, ◌<◌}
+use Prim.Native.Nat.{◌+◌, ◌<◌}
 use mathlib.Core.Path.{refl, sym, ap, ◌∙◌}
 use native.Mathlib.Omega.{arith}
 use borrow.Author.Tests.{not-true, not-false}

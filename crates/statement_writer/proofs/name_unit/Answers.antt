@@ -1,5 +1,4 @@
 -- `statement_writer::name_unit` meets its contract, kind by kind. Assumes nothing.
-use borrow.Author.Rules.{rules}
 use Rattle.statement_writer.proofs.NumberLaws.{as-reference, as-attribute, as-class, as-role}
 use Rattle.statement_writer.proofs.name_unit.Goals as goal
 

@@ -1,5 +1,4 @@
 -- `statement_writer::number_of` meets its contract: what the search finds, if it is of the sort. Assumes nothing.
-use borrow.Author.Rules.{rules}
 use Rattle.statement_writer.proofs.NumberLaws.{numbers, other-sort, too_large, of-the-sort}
 use Rattle.statement_writer.proofs.number_of.Goals as goal
 

@@ -1,5 +1,4 @@
 -- `statement_writer::write_attribute_set` meets its contract: the head, the attribute's number and S. Assumes nothing.
-use borrow.Author.Rules.{rules}
 use mathlib.Core.Path.{refl, ◌∙◌}
 use mathlib.Core.Bool.{false}
 use mathlib.Core.List.{[], ◌∷◌}

@@ -1,5 +1,4 @@
 -- `statement_writer::write_name` meets its contract: a word that names something of the kind, or not. Assumes nothing.
-use borrow.Author.Rules.{rules}
 use native.Mathlib.Omega.{arith}
 use mathlib.Core.Path.{refl}
 use mathlib.Core.List.{[], ◌∷◌}

@@ -1,5 +1,4 @@
 -- `statement_writer::write_pair` meets its contract: a name, and a name after it. Assumes nothing.
-use borrow.Author.Rules.{rules}
 use mathlib.Core.Path.{◌∙◌}
 use mathlib.Core.List.{[], ◌∷◌}
 use Rattle.statement_writer.proofs.RowNames.{names-stop, names-then}

@@ -1,5 +1,4 @@
 -- `statement_writer::write_relation` meets its contract: the head and two references. Assumes nothing.
-use borrow.Author.Rules.{rules}
 use mathlib.Core.Path.{◌∙◌}
 use Rattle.statement_writer.specs.declared.NamesWritten.{NamesWritten}
 use Rattle.statement_writer.proofs.StatementUnits.{relation-coded}

@@ -1,5 +1,4 @@
 -- `statement_writer::write_transition` meets its contract: the head, two references, the class and the new role. Assumes nothing.
-use borrow.Author.Rules.{rules}
 use mathlib.Core.Path.{refl, ◌∙◌}
 use mathlib.Core.List.{[], ◌∷◌}
 use Rattle.policy.specs.declared.Family.{Family}

@@ -1,7 +1,6 @@
 -- `table_parts::part_at` meets its contract. Assumes nothing.
 use mathlib.Core.Path.{◌∙◌}
 use Rattle.table_parts.proofs.ShownLaws.{no_bytes}
-use borrow.Author.Rules.{rules}
 use Rattle.table_parts.proofs.part_at.Goals as goal
 
 pub returns-in-Part : goal.returns-in-Part

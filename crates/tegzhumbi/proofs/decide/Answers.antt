@@ -2,7 +2,6 @@
 use mathlib.Core.Path.{subst}
 use Rattle.compiler.specs.Promise.{Compiles}
 use Rattle.tegzhumbi.proofs.OneStep.{refuses, answers}
-use borrow.Author.Rules.{rules}
 use Rattle.tegzhumbi.proofs.decide.Goals as goal
 
 pub returns-in-Accepted : goal.returns-in-Accepted

@@ -1,5 +1,4 @@
 -- `text_writer::put_digits` meets its contract. It calls itself with one digit less. Assumes nothing.
-use borrow.Author.Rules.{rules}
 use native.Mathlib.Omega.{arith}
 use lib.ListN.{length}
 use mathlib.Core.Path.{ap, ◌∙◌}
