@@ -3,7 +3,7 @@
 #![tactic(auto)]
 
 use std::io;
-use std::io::{BufWriter, Write};
+use std::io::Write;
 
 // Numbers at the ends of bytes and of sets of 1, 2, 16 and 64 bytes, and past them.
 const NUMBERS: [usize; 12] = [
@@ -140,7 +140,7 @@ fn role_64() {
 
 fn main(rt: HostRuntime) -> io::Result<()> {
     role_64();
-    let mut out = BufWriter::new(rt.alloc(), rt.stdout())?;
+    let mut out = rt.stdout();
     let mut a = [0u8; 64];
     let mut b = [0u8; 64];
     sets(&mut out, &mut a, &mut b)?;

@@ -5,7 +5,7 @@
 
 use corpus::Next;
 use std::io;
-use std::io::{BufReader, BufWriter, Read, Write};
+use std::io::{Read, Write};
 
 // The greatest length of a case's text: one byte more than a text may have.
 const CASE_MAX: usize = lexer::Text::MAX + 1;
@@ -32,8 +32,8 @@ fn case<R: Read, W: Write>(
 }
 
 fn main(rt: HostRuntime) -> io::Result<()> {
-    let mut input = BufReader::new(rt.alloc(), rt.stdin())?;
-    let mut out = BufWriter::new(rt.alloc(), rt.stdout())?;
+    let mut input = rt.stdin();
+    let mut out = rt.stdout();
     let mut memory = [0u8; CASE_MAX];
     for _ in 0..CASES {
         let Next::Number(len) = corpus::length(&mut input)? else {

@@ -5,7 +5,7 @@
 use lexer::Text;
 use lexer_show::show;
 use std::io;
-use std::io::{BufWriter, Write};
+use std::io::Write;
 
 // Texts with no fault 2.
 fn statements<W: Write>(out: &mut W) -> io::Result<()> {
@@ -184,7 +184,7 @@ fn each_byte<W: Write>(out: &mut W) -> io::Result<()> {
 }
 
 fn main(rt: HostRuntime) -> io::Result<()> {
-    let mut out = BufWriter::new(rt.alloc(), rt.stdout())?;
+    let mut out = rt.stdout();
     statements(&mut out)?;
     wrong_bytes(&mut out)?;
     bad_names(&mut out)?;

@@ -11,7 +11,7 @@ use corpus::Next;
 use name_chains::Tried;
 use name_index::SYMBOL_BYTES;
 use std::io;
-use std::io::{BufReader, BufWriter, Read, Write};
+use std::io::{Read, Write};
 use symbols::{Entry, Found};
 
 // The greatest length of a name that is looked up: some more than a name may have.
@@ -141,8 +141,8 @@ fn case<R: Read, W: Write>(
 }
 
 fn main(rt: HostRuntime) -> io::Result<()> {
-    let mut input = BufReader::new(rt.alloc(), rt.stdin())?;
-    let mut out = BufWriter::new(rt.alloc(), rt.stdout())?;
+    let mut input = rt.stdin();
+    let mut out = rt.stdout();
     let mut sections = [0u8; symbols::NAME_BYTES];
     let mut symbols = [0u8; SYMBOL_BYTES];
     for _ in 0..CASES {

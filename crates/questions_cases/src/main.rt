@@ -9,7 +9,7 @@ use corpus::Next;
 use decisions::Context;
 use policy::{Change, NewRole, Place, Refusal, Validity};
 use std::io;
-use std::io::{BufReader, BufWriter, Read, Write};
+use std::io::{Read, Write};
 
 // The greatest length of a case's table: more than the longest table has.
 const CASE_MAX: usize = 262_144;
@@ -198,8 +198,8 @@ fn case<R: Read, W: Write>(
 }
 
 fn main(rt: HostRuntime) -> io::Result<()> {
-    let mut input = BufReader::new(rt.alloc(), rt.stdin())?;
-    let mut out = BufWriter::new(rt.alloc(), rt.stdout())?;
+    let mut input = rt.stdin();
+    let mut out = rt.stdout();
     let mut memory = [0u8; CASE_MAX];
     for _ in 0..CASES {
         let Next::Number(len) = corpus::length(&mut input)? else {

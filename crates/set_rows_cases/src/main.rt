@@ -3,7 +3,7 @@
 #![tactic(auto)]
 
 use std::io;
-use std::io::{BufWriter, Write};
+use std::io::Write;
 
 // Offsets in a table of 24 bytes, widths there, and widths of its rows.
 const PLACES: [usize; 6] = [0, 1, 3, 20, 24, 18446744073709551615];
@@ -129,7 +129,7 @@ fn tables<W: Write>(out: &mut W, table: &mut [u8], b: &mut [u8]) -> io::Result<(
 }
 
 fn main(rt: HostRuntime) -> io::Result<()> {
-    let mut out = BufWriter::new(rt.alloc(), rt.stdout())?;
+    let mut out = rt.stdout();
     let mut table = [0u8; 24];
     let mut few = [0u8; 2];
     tables(&mut out, &mut table, &mut few)?;

@@ -3,7 +3,7 @@
 #![tactic(auto)]
 
 use std::io;
-use std::io::{BufWriter, Write};
+use std::io::Write;
 use tegzhumbi::{Class, Context, Permission, Role, Type, User};
 
 // How much memory is lent for the table.
@@ -134,7 +134,7 @@ fn ask<W: Write>(out: &mut W, table: &[u8]) -> io::Result<()> {
 }
 
 fn main(rt: HostRuntime) -> io::Result<()> {
-    let mut out = BufWriter::new(rt.alloc(), rt.stdout())?;
+    let mut out = rt.stdout();
     let text = policy();
     let mut table = [0x5au8; LENT];
     let compiled = tegzhumbi::compile(&text, &mut table);
