@@ -386,11 +386,11 @@ module _ {t : List ℕ} {at place next : ℕ} {lent : Memory} {sy sy' co cs rs k
       go opens i g = absurd g
       go (fault m) i g = refuses r p m n (opening-is ∙ i) g (memory sy' co cs rs)
 
-  inside_on : {q : OpenBlocks} {IsPlace-in : ℕ} → past < IsPlace-in → judge_block r.path (blocks_in r.before) (header_in (frames_at t past).here) ≡ opens
-      → Inside t past keys' filter' sy sy' r.path (blocks_in r.before) o q IsPlace-in → Rest t IsPlace-in lent (memory sy' co cs rs) keys' filter' s q
+  inside_on : {q : OpenBlocks} {place_in : ℕ} → past < place_in → judge_block r.path (blocks_in r.before) (header_in (frames_at t past).here) ≡ opens
+      → Inside t past keys' filter' sy sy' r.path (blocks_in r.before) o q place_in → Rest t place_in lent (memory sy' co cs rs) keys' filter' s q
   unfolding weight
-  inside_on {q} {IsPlace-in} far i g =
-      let f = frames_at t IsPlace-in in
+  inside_on {q} {place_in} far i g =
+      let f = frames_at t place_in in
       let both : row r p ≡ resuming.header start w g.start g.name f =
       b.frames ∙ ap (λ (x : Frames). record { here = word start w x.here; around = x.around }) g.row in
       let name : block_in (row r p).here ≡ some g.name = header_is ∙ g.header in
@@ -415,13 +415,13 @@ module _ {t : List ℕ} {at place next : ℕ} {lent : Memory} {sy sy' co cs rs k
         };
       }
 
-  header_read : {q : OpenBlocks} {IsPlace-in : ℕ} → k ≡ Entered.Inside IsPlace-in q → Rest t IsPlace-in lent (memory sy' co cs rs) keys' filter' s q
-  header_read {q} {IsPlace-in} e = go (judge_block r.path (blocks_in r.before) (header_in (frames_at t past).here)) refl
+  header_read : {q : OpenBlocks} {place_in : ℕ} → k ≡ Entered.Inside place_in q → Rest t place_in lent (memory sy' co cs rs) keys' filter' s q
+  header_read {q} {place_in} e = go (judge_block r.path (blocks_in r.before) (header_in (frames_at t past).here)) refl
       (subst (EnteredBy (judge_block r.path (blocks_in r.before) (header_in (frames_at t past).here)) t past keys' filter' sy sy' r.path
       (blocks_in r.before) o) e entered)
     where
       go : (j : Judged) → judge_block r.path (blocks_in r.before) (header_in (frames_at t past).here) ≡ j
-          → EnteredBy j t past keys' filter' sy sy' r.path (blocks_in r.before) o (Entered.Inside IsPlace-in q) → Rest t IsPlace-in lent (memory sy' co cs rs) keys' filter' s q
+          → EnteredBy j t past keys' filter' sy sy' r.path (blocks_in r.before) o (Entered.Inside place_in q) → Rest t place_in lent (memory sy' co cs rs) keys' filter' s q
       go (reads st) i g = absurd g
       go opens i g = inside_on (subst (EnteredAhead t past) e y.ahead).0 i g
       go (fault m) i g = absurd g
@@ -468,7 +468,7 @@ module _ {t : List ℕ} {at place next : ℕ} {lent : Memory} {sy sy' co cs rs k
   there : Word t next w.start past w.name
   there = subst (λ (n : ℕ). Word t next w.start n w.name) (sym d) w.word
 
-  pub header-on : {q : OpenBlocks} {IsPlace-in : ℕ} → k ≡ Entered.Inside IsPlace-in q → Rest t IsPlace-in lent (memory sy' co cs rs) keys' filter' s q
+  pub header-on : {q : OpenBlocks} {place_in : ℕ} → k ≡ Entered.Inside place_in q → Rest t place_in lent (memory sy' co cs rs) keys' filter' s q
   header-on e = header_read r p clean there y e
 
   pub header-stops : {n : ℕ} → k ≡ Entered.Fault n → Reads (whole t) lent (memory sy' co cs rs) (Parsed.Refused n place)
