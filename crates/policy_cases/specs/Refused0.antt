@@ -236,7 +236,8 @@ unfolding computing
 refused-45 = refl
 
 -- reading 12: the statement's own place
-refused-46 : outcome (of_text (bytes "(role a)(roleattribute x)(roleattributeset x (or a (and a (not a a))))")) 65536 ≡ rejected (refusal_at 3 25 1)
+refused-46 : outcome (of_text (bytes "(role a)(roleattribute x)(roleattributeset x (or a (and a (not a a))))")) 65536 ≡ rejected (refusal_at 3 25
+    1)
 unfolding computing
 refused-46 = refl
 

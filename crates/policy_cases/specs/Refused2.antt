@@ -91,8 +91,8 @@ unfolding computing
 refused-136 = refl
 
 -- reading 18
-refused-137 : outcome (of_text (bytes "(class c (p))(constrain (c (p)) (and (eq u1 u2) (eq u1 u2) (eq u1 u2)))")) 65536 ≡ rejected (refusal_at 3 13
-    1)
+refused-137 : outcome (of_text (bytes "(class c (p))(constrain (c (p)) (and (eq u1 u2) (eq u1 u2) (eq u1 u2)))")) 65536 ≡ rejected (refusal_at 3
+    13 1)
 unfolding computing
 refused-137 = refl
 

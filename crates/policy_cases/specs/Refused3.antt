@@ -46,8 +46,8 @@ unfolding computing
 refused-187 = refl
 
 -- name of the wrong family, in E
-refused-188 : outcome (of_text (bytes "(user a)(class c (p))(constrain (c (p)) (or (eq u1 a) (not (eq r1 a))))")) 65536 ≡ rejected (refusal_at 5 21
-    1)
+refused-188 : outcome (of_text (bytes "(user a)(class c (p))(constrain (c (p)) (or (eq u1 a) (not (eq r1 a))))")) 65536 ≡ rejected (refusal_at 5
+    21 1)
 unfolding computing
 refused-188 = refl
 
@@ -67,8 +67,8 @@ unfolding computing
 refused-191 = refl
 
 -- fault 8 of types, second statement
-refused-192 : outcome (of_text (bytes "(typeattribute x)(type t)(typeattributeset x (t))(typeattributeset x (t (x)))")) 65536 ≡ rejected (refusal_at
-    8 0 1)
+refused-192 : outcome (of_text (bytes "(typeattribute x)(type t)(typeattributeset x (t))(typeattributeset x (t (x)))")) 65536 ≡ rejected
+    (refusal_at 8 0 1)
 unfolding computing
 refused-192 = refl
 
@@ -172,20 +172,20 @@ unfolding computing
 refused-208 = refl
 
 -- a name of 65 bytes
-refused-209 : outcome (of_text (bytes "(role nnnnnnnnnnnnnnnnnnnnnnnnnnnnnnnnnnnnnnnnnnnnnnnnnnnnnnnnnnnnnnnnn)")) 65536 ≡ rejected (refusal_at 2 6
-    1)
+refused-209 : outcome (of_text (bytes "(role nnnnnnnnnnnnnnnnnnnnnnnnnnnnnnnnnnnnnnnnnnnnnnnnnnnnnnnnnnnnnnnnn)")) 65536 ≡ rejected (refusal_at 2
+    6 1)
 unfolding computing
 refused-209 = refl
 
 -- reading 4: long name and then a wrong byte
-refused-210 : outcome (of_text (bytes "(role nnnnnnnnnnnnnnnnnnnnnnnnnnnnnnnnnnnnnnnnnnnnnnnnnnnnnnnnnnnnnnnnn!)")) 65536 ≡ rejected (refusal_at 2 6
-    1)
+refused-210 : outcome (of_text (bytes "(role nnnnnnnnnnnnnnnnnnnnnnnnnnnnnnnnnnnnnnnnnnnnnnnnnnnnnnnnnnnnnnnnn!)")) 65536 ≡ rejected (refusal_at 2
+    6 1)
 unfolding computing
 refused-210 = refl
 
 -- reading 4: 64 and then a wrong byte
-refused-211 : outcome (of_text (bytes "(role nnnnnnnnnnnnnnnnnnnnnnnnnnnnnnnnnnnnnnnnnnnnnnnnnnnnnnnnnnnnnnnn!)")) 65536 ≡ rejected (refusal_at 2 70
-    1)
+refused-211 : outcome (of_text (bytes "(role nnnnnnnnnnnnnnnnnnnnnnnnnnnnnnnnnnnnnnnnnnnnnnnnnnnnnnnnnnnnnnnn!)")) 65536 ≡ rejected (refusal_at 2
+    70 1)
 unfolding computing
 refused-211 = refl
 
@@ -234,15 +234,15 @@ refused-219 = refl
 
 -- P10 six to the right need 6
 refused-220 : outcome (of_text (bytes
-    "(class c(p))(constrain(c(p))(and(eq t1 t2)(and(eq t1 t2)(and(eq t1 t2)(and(eq t1 t2)(and(eq t1 t2)(eq t1 t2)))))))")) 65536 ≡ rejected (refusal_at
-    7 12 1)
+    "(class c(p))(constrain(c(p))(and(eq t1 t2)(and(eq t1 t2)(and(eq t1 t2)(and(eq t1 t2)(and(eq t1 t2)(eq t1 t2)))))))")) 65536 ≡ rejected
+    (refusal_at 7 12 1)
 unfolding computing
 refused-220 = refl
 
 -- stack need of or
 refused-221 : outcome (of_text (bytes
-    "(class c(p))(constrain(c(p))(or(eq t1 t2)(or(eq t1 t2)(or(eq t1 t2)(or(eq t1 t2)(or(eq t1 t2)(eq t1 t2)))))))")) 65536 ≡ rejected (refusal_at 7 12
-    1)
+    "(class c(p))(constrain(c(p))(or(eq t1 t2)(or(eq t1 t2)(or(eq t1 t2)(or(eq t1 t2)(or(eq t1 t2)(eq t1 t2)))))))")) 65536 ≡ rejected (refusal_at 7
+    12 1)
 unfolding computing
 refused-221 = refl
 
@@ -262,20 +262,20 @@ refused-223 = refl
 
 -- reading 23: 5 before 7
 refused-224 : outcome (of_text (bytes
-    "(class c(p))(constrain(c(q))(or(eq t1 t2)(or(eq t1 t2)(or(eq t1 t2)(or(eq t1 t2)(or(eq t1 t2)(eq t1 t2)))))))")) 65536 ≡ rejected (refusal_at 5 12
-    1)
+    "(class c(p))(constrain(c(q))(or(eq t1 t2)(or(eq t1 t2)(or(eq t1 t2)(or(eq t1 t2)(or(eq t1 t2)(eq t1 t2)))))))")) 65536 ≡ rejected (refusal_at 5
+    12 1)
 unfolding computing
 refused-224 = refl
 
 -- 33 permissions
-refused-225 : outcome (of_text (bytes "(class c(A B C D E F G H I J K L M N O P Q R S T U V W X Y Z a b c d e f g))")) 65536 ≡ rejected (refusal_at
-    6 0 1)
+refused-225 : outcome (of_text (bytes "(class c(A B C D E F G H I J K L M N O P Q R S T U V W X Y Z a b c d e f g))")) 65536 ≡ rejected
+    (refusal_at 6 0 1)
 unfolding computing
 refused-225 = refl
 
 -- reading 23: 33 permissions with a repeat
-refused-226 : outcome (of_text (bytes "(class c(A B C D E F G H I J K L M N O P Q R S T U V W X Y Z a b c d e f A))")) 65536 ≡ rejected (refusal_at
-    4 0 1)
+refused-226 : outcome (of_text (bytes "(class c(A B C D E F G H I J K L M N O P Q R S T U V W X Y Z a b c d e f A))")) 65536 ≡ rejected
+    (refusal_at 4 0 1)
 unfolding computing
 refused-226 = refl
 

@@ -273,8 +273,8 @@ unfolding computing
 refused-292 = refl
 
 -- W-202, reading 24: the line of the later transition
-refused-293 : outcome (of_text (bytes "(role a)\n(role b)\n(type t)\n(class c(p))\n(roletransition a t c a)\n(roletransition\na t c b)\n")) 65536 ≡
-    rejected (refusal_at 9 65 6)
+refused-293 : outcome (of_text (bytes "(role a)\n(role b)\n(type t)\n(class c(p))\n(roletransition a t c a)\n(roletransition\na t c b)\n")) 65536
+    ≡ rejected (refusal_at 9 65 6)
 unfolding computing
 refused-293 = refl
 

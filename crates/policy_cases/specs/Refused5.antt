@@ -116,8 +116,8 @@ unfolding computing
 refused-321 = refl
 
 -- W-202, reading 19: a name of 65 bytes
-refused-322 : outcome (of_text (bytes "(role\nnnnnnnnnnnnnnnnnnnnnnnnnnnnnnnnnnnnnnnnnnnnnnnnnnnnnnnnnnnnnnnnnn\n)")) 65536 ≡ rejected (refusal_at 2
-    6 2)
+refused-322 : outcome (of_text (bytes "(role\nnnnnnnnnnnnnnnnnnnnnnnnnnnnnnnnnnnnnnnnnnnnnnnnnnnnnnnnnnnnnnnnnn\n)")) 65536 ≡ rejected (refusal_at
+    2 6 2)
 unfolding computing
 refused-322 = refl
 
@@ -135,8 +135,8 @@ refused-324 = refl
 
 -- W-202: 6 on a later line
 refused-325 : outcome (of_text (bytes
-    "\n\n(class c(A\nB\nC\nD\nE\nF\nG\nH\nI\nJ\nK\nL\nM\nN\nO\nP\nQ\nR\nS\nT\nU\nV\nW\nX\nY\nZ\na\nb\nc\nd\ne\nf\ng))")) 65536 ≡ rejected (refusal_at 6
-    2 3)
+    "\n\n(class c(A\nB\nC\nD\nE\nF\nG\nH\nI\nJ\nK\nL\nM\nN\nO\nP\nQ\nR\nS\nT\nU\nV\nW\nX\nY\nZ\na\nb\nc\nd\ne\nf\ng))")) 65536 ≡ rejected (refusal_at
+    6 2 3)
 unfolding computing
 refused-325 = refl
 
@@ -290,8 +290,8 @@ unfolding computing
 refused-339 = refl
 
 -- past the maximum: name
-refused-340 : outcome (of_text (bytes "(role nnnnnnnnnnnnnnnnnnnnnnnnnnnnnnnnnnnnnnnnnnnnnnnnnnnnnnnnnnnnnnnnn)")) 65536 ≡ rejected (refusal_at 2 6
-    1)
+refused-340 : outcome (of_text (bytes "(role nnnnnnnnnnnnnnnnnnnnnnnnnnnnnnnnnnnnnnnnnnnnnnnnnnnnnnnnnnnnnnnnn)")) 65536 ≡ rejected (refusal_at 2
+    6 1)
 unfolding computing
 refused-340 = refl
 
@@ -314,14 +314,14 @@ unfolding computing
 refused-343 = refl
 
 -- past the maximum: name before a comment
-refused-344 : outcome (of_text (bytes "(type nnnnnnnnnnnnnnnnnnnnnnnnnnnnnnnnnnnnnnnnnnnnnnnnnnnnnnnnnnnnnnnnn;\n)")) 65536 ≡ rejected (refusal_at 2
-    6 1)
+refused-344 : outcome (of_text (bytes "(type nnnnnnnnnnnnnnnnnnnnnnnnnnnnnnnnnnnnnnnnnnnnnnnnnnnnnnnnnnnnnnnnn;\n)")) 65536 ≡ rejected (refusal_at
+    2 6 1)
 unfolding computing
 refused-344 = refl
 
 -- at the maximum: name before a comment
-refused-345 : outcome (of_text (bytes "(type nnnnnnnnnnnnnnnnnnnnnnnnnnnnnnnnnnnnnnnnnnnnnnnnnnnnnnnnnnnnnnnn;\n)()")) 65536 ≡ rejected (refusal_at
-    3 73 2)
+refused-345 : outcome (of_text (bytes "(type nnnnnnnnnnnnnnnnnnnnnnnnnnnnnnnnnnnnnnnnnnnnnnnnnnnnnnnnnnnnnnnn;\n)()")) 65536 ≡ rejected
+    (refusal_at 3 73 2)
 unfolding computing
 refused-345 = refl
 

@@ -69,8 +69,8 @@ unfolding computing
 refused-364 = refl
 
 -- a random policy, damaged
-refused-365 : outcome (of_text (bytes "(user f6)(role f4)( c9)(class l(c7))(roletransition f4 c9 l f4)(user d1)")) 65536 ≡ rejected (refusal_at 3 18
-    1)
+refused-365 : outcome (of_text (bytes "(user f6)(role f4)( c9)(class l(c7))(roletransition f4 c9 l f4)(user d1)")) 65536 ≡ rejected (refusal_at 3
+    18 1)
 unfolding computing
 refused-365 = refl
 
