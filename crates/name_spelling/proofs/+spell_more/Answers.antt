@@ -24,7 +24,7 @@ returns-then-not-starts_part t c =
     more-no-start a.table.now a.from a.dot a.past a.before a.left c.requires.3
     (sym c.starts_part.ensures ∙ not-true _ c.if-not-starts_part.true-raw)
 
--- below `b` is the place where a part was seen to start, and `x` says what was read of it
+-- below, `x` says what was read of the part
 pub read_part-part-requires : goal.read_part-part-requires
 read_part-part-requires t c =
     let starts = sym c.starts_part.ensures ∙ not-false _ c.if-not-starts_part.false-raw in

@@ -19,7 +19,7 @@ pub read_part-part-requires : goal.read_part-part-requires
 read_part-part-requires c =
     (c.requires.0, a_byte c.args.from c.args.past _ (sym c.starts_part.ensures ∙ not-false _ c.if-not-starts_part.false-raw), c.requires.2, omega arith)
 
--- below `b` is the place where a part was seen to start, and `x` says what was read of it
+-- below, `x` says what was read of the part
 pub spell_more-requires : goal.spell_more-requires
 spell_more-requires c =
     let x = c.read_part-part.ensures in
