@@ -5,10 +5,11 @@
 #![tactic(auto)]
 
 ghost use Rattle.std.specs.Prelude.{◌≡◌, ◌<◌};
-ghost use Rattle.policy.specs.Answers.{compiling_of, validity_of, new_role_of, change_of, place_of};
+ghost use Rattle.policy.specs.Answers.{fault_number, compiling_of, validity_of, new_role_of, change_of, place_of};
 ghost use Rattle.answer_numbers.specs.Numbers.{answer_of, compiled_numbers, valid_numbers, change_numbers, new_role_numbers, part_numbers, CompiledFits, Fits, PartFits};
 
-use policy::{Change, Compiling, NewRole, Place, Validity};
+use byte_slices::Span;
+use policy::{Change, Fault, Refusal};
 
 // What compiling a text answers: the number 0, the length of its table and the line 0; or a refusal's number, place
 // and line.
@@ -61,17 +62,17 @@ const DENIED: u32 = 1;
 
 const REFUSED: u32 = 2;
 
-pub fn compiled_numbers(answer: Compiling) -> Compiled
+pub fn compiled_numbers(answer: Result<usize, Refusal>) -> Compiled
     ensures { CompiledFits (compiled_numbers (compiling_of answer)) → result ≡ compiled_numbers (compiling_of answer) }
 {
     match answer {
-        Compiling::Accepted { length } => Compiled {
+        Ok(length) => Compiled {
             number: 0,
             place: four_bytes(length),
             line: 0,
         },
-        Compiling::Refused(refusal) => Compiled {
-            number: four_bytes(refusal.number),
+        Err(refusal) => Compiled {
+            number: four_bytes(refusal.fault.number()),
             place: four_bytes(refusal.place),
             line: four_bytes(refusal.line),
         },
@@ -79,92 +80,94 @@ pub fn compiled_numbers(answer: Compiling) -> Compiled
 }
 
 // Every refusal of a question is made here.
-fn refusal(number: usize) -> Answer
-    ensures { number < 4294967296 → result ≡ answer_of 2 number 0 0 }
+fn refusal(fault: Fault) -> Answer
+    ensures { fault_number fault < 4294967296 → result ≡ answer_of 2 (fault_number fault) 0 0 }
 {
     Answer {
         outcome: REFUSED,
-        number: four_bytes(number),
+        number: four_bytes(fault.number()),
         constraint: 0,
         consulted: 0,
     }
 }
 
-pub fn valid_numbers(answer: Validity) -> Answer
+pub fn valid_numbers(answer: Result<bool, Fault>) -> Answer
     ensures { Fits (valid_numbers (validity_of answer)) → result ≡ valid_numbers (validity_of answer) }
 {
     match answer {
-        Validity::Valid => Answer {
+        Ok(true) => Answer {
             outcome: GRANTED,
             number: 0,
             constraint: 0,
             consulted: 0,
         },
-        Validity::NotValid => Answer {
+        Ok(false) => Answer {
             outcome: DENIED,
             number: 0,
             constraint: 0,
             consulted: 0,
         },
-        Validity::Refused { number } => refusal(number),
+        Err(fault) => refusal(fault),
     }
 }
 
-pub fn change_numbers(answer: Change) -> Answer
+pub fn change_numbers(answer: Result<Change, Fault>) -> Answer
     ensures { Fits (change_numbers (change_of answer)) → result ≡ change_numbers (change_of answer) }
 {
     match answer {
-        Change::Granted { consulted } => Answer {
+        Ok(Change::Granted { consulted }) => Answer {
             outcome: GRANTED,
             number: 0,
             constraint: 0,
             consulted: four_bytes(consulted),
         },
-        Change::Denied { number } => Answer {
+        Ok(Change::Denied(denial)) => Answer {
             outcome: DENIED,
-            number: four_bytes(number),
+            number: four_bytes(denial.number()),
             constraint: 0,
             consulted: 0,
         },
-        Change::Failed {
-            number,
-            constraint,
-            consulted,
-        } => Answer {
+        Ok(
+            Change::Failed {
+                denial,
+                constraint,
+                consulted,
+            },
+        ) => Answer {
             outcome: DENIED,
-            number: four_bytes(number),
+            number: four_bytes(denial.number()),
             constraint: four_bytes(constraint),
             consulted: four_bytes(consulted),
         },
-        Change::Refused { number } => refusal(number),
+        Err(fault) => refusal(fault),
     }
 }
 
-pub fn new_role_numbers(answer: NewRole) -> Answer
+pub fn new_role_numbers(answer: Result<usize, Fault>) -> Answer
     ensures { Fits (new_role_numbers (new_role_of answer)) → result ≡ new_role_numbers (new_role_of answer) }
 {
     match answer {
-        NewRole::Role { number } => Answer {
+        Ok(number) => Answer {
             outcome: GRANTED,
             number: four_bytes(number),
             constraint: 0,
             consulted: 0,
         },
-        NewRole::Refused { number } => refusal(number),
+        Err(fault) => refusal(fault),
     }
 }
 
-pub fn part_numbers(place: Place) -> Part
+pub fn part_numbers(place: Result<Span, Fault>) -> Part
     ensures { PartFits (part_numbers (place_of place)) → result ≡ part_numbers (place_of place) }
 {
     match place {
-        Place::Part { start, length } => Part {
+        Ok(Span { start, length }) => Part {
             number: 0,
             start: four_bytes(start),
             length: four_bytes(length),
         },
-        Place::Refused { number } => Part {
-            number: four_bytes(number),
+        Err(fault) => Part {
+            number: four_bytes(fault.number()),
             start: 0,
             length: 0,
         },

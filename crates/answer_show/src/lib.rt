@@ -1,121 +1,110 @@
 // The lines that a program writes for answers: of compile, of the questions.
 #![tactic(auto)]
 
-use policy::{Change, Compiling, NewRole, Place, Refusal, Validity};
+use byte_slices::Span;
+use policy::{Change, Denial, Fault, Refusal};
 use std::io;
 use std::io::Write;
 
-// A word with a blank after it, and a number.
-fn numbered<W: Write>(out: &mut W, word: &[u8], number: usize) -> io::Result<()> {
-    out.write_all(word)?;
-    write!(out, "{number}")
-}
-
-fn line_end<W: Write>(out: &mut W) -> io::Result<()> {
-    out.write_all(b"\n")
-}
-
-fn refused<W: Write>(out: &mut W, number: usize) -> io::Result<()> {
-    numbered(out, b"refused ", number)?;
-    line_end(out)
+// The line of a question that is refused: `refused 12`.
+pub fn show_fault<W: Write>(out: &mut W, fault: Fault) -> io::Result<()> {
+    writeln!(out, "refused {}", fault.number())
 }
 
 // `refused 5 at 8 line 1`, without the line's end.
 fn refusal_words<W: Write>(out: &mut W, refusal: Refusal) -> io::Result<()> {
-    numbered(out, b"refused ", refusal.number)?;
-    numbered(out, b" at ", refusal.place)?;
-    numbered(out, b" line ", refusal.line)
+    let number = refusal.fault.number();
+    let place = refusal.place;
+    let line = refusal.line;
+    write!(out, "refused {number} at {place} line {line}")
 }
 
 pub fn show_refusal<W: Write>(out: &mut W, refusal: Refusal) -> io::Result<()> {
     refusal_words(out, refusal)?;
-    line_end(out)
+    writeln!(out)
 }
 
 // `accepted 280`, or the words of a refusal, without the line's end.
-fn compiled<W: Write>(out: &mut W, answer: Compiling) -> io::Result<()> {
+fn compiled<W: Write>(out: &mut W, answer: Result<usize, Refusal>) -> io::Result<()> {
     match answer {
-        Compiling::Accepted { length } => numbered(out, b"accepted ", length),
-        Compiling::Refused(refusal) => refusal_words(out, refusal),
+        Ok(length) => write!(out, "accepted {length}"),
+        Err(refusal) => refusal_words(out, refusal),
     }
 }
 
-pub fn show_compiling<W: Write>(out: &mut W, answer: Compiling) -> io::Result<()> {
+pub fn show_compiling<W: Write>(out: &mut W, answer: Result<usize, Refusal>) -> io::Result<()> {
     compiled(out, answer)?;
-    line_end(out)
+    writeln!(out)
 }
 
 // The same, and a checksum after it.
 pub fn show_compiling_and<W: Write>(
     out: &mut W,
-    answer: Compiling,
+    answer: Result<usize, Refusal>,
     checksum: usize,
 ) -> io::Result<()> {
     compiled(out, answer)?;
-    numbered(out, b" ", checksum)?;
-    line_end(out)
+    writeln!(out, " {checksum}")
 }
 
-pub fn show_validity<W: Write>(out: &mut W, answer: Validity) -> io::Result<()> {
+pub fn show_validity<W: Write>(out: &mut W, answer: Result<bool, Fault>) -> io::Result<()> {
     match answer {
-        Validity::Valid => out.write_all(b"valid\n"),
-        Validity::NotValid => out.write_all(b"not valid\n"),
-        Validity::Refused { number } => refused(out, number),
+        Ok(true) => writeln!(out, "valid"),
+        Ok(false) => writeln!(out, "not valid"),
+        Err(fault) => show_fault(out, fault),
     }
 }
 
 // The number of a denial, of the statement that fails, and of those consulted.
 fn denied<W: Write>(
     out: &mut W,
-    number: usize,
+    denial: Denial,
     constraint: usize,
     consulted: usize,
 ) -> io::Result<()> {
-    numbered(out, b"denied ", number)?;
-    numbered(out, b" constraint ", constraint)?;
-    numbered(out, b" consulted ", consulted)?;
-    line_end(out)
+    let number = denial.number();
+    writeln!(
+        out,
+        "denied {number} constraint {constraint} consulted {consulted}"
+    )
 }
 
-pub fn show_change<W: Write>(out: &mut W, answer: Change) -> io::Result<()> {
-    match answer {
-        Change::Granted { consulted } => {
-            numbered(out, b"granted consulted ", consulted)?;
-            line_end(out)
-        }
-        Change::Denied { number } => denied(out, number, 0, 0),
+fn ruled<W: Write>(out: &mut W, change: Change) -> io::Result<()> {
+    match change {
+        Change::Granted { consulted } => writeln!(out, "granted consulted {consulted}"),
+        Change::Denied(denial) => denied(out, denial, 0, 0),
         Change::Failed {
-            number,
+            denial,
             constraint,
             consulted,
-        } => denied(out, number, constraint, consulted),
-        Change::Refused { number } => refused(out, number),
+        } => denied(out, denial, constraint, consulted),
     }
 }
 
-pub fn show_new_role<W: Write>(out: &mut W, answer: NewRole) -> io::Result<()> {
+pub fn show_change<W: Write>(out: &mut W, answer: Result<Change, Fault>) -> io::Result<()> {
     match answer {
-        NewRole::Role { number } => {
-            numbered(out, b"role ", number)?;
-            line_end(out)
-        }
-        NewRole::Refused { number } => refused(out, number),
+        Ok(change) => ruled(out, change),
+        Err(fault) => show_fault(out, fault),
     }
 }
 
-pub fn show_place<W: Write>(out: &mut W, answer: Place) -> io::Result<()> {
+pub fn show_new_role<W: Write>(out: &mut W, answer: Result<usize, Fault>) -> io::Result<()> {
     match answer {
-        Place::Part { start, length } => {
-            numbered(out, b"part ", start)?;
-            numbered(out, b" ", length)?;
-            line_end(out)
-        }
-        Place::Refused { number } => refused(out, number),
+        Ok(number) => writeln!(out, "role {number}"),
+        Err(fault) => show_fault(out, fault),
     }
 }
 
+pub fn show_place<W: Write>(out: &mut W, answer: Result<Span, Fault>) -> io::Result<()> {
+    match answer {
+        Ok(Span { start, length }) => writeln!(out, "part {start} {length}"),
+        Err(fault) => show_fault(out, fault),
+    }
+}
+
+// A name is bytes, which need not be text, so it is written as it stands.
 pub fn show_name<W: Write>(out: &mut W, name: &[u8]) -> io::Result<()> {
-    out.write_all(b"name ")?;
+    write!(out, "name ")?;
     out.write_all(name)?;
-    line_end(out)
+    writeln!(out)
 }

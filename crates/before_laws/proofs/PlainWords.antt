@@ -5,10 +5,9 @@ use mathlib.Core.Bool.{true}
 use mathlib.Core.List.{List, [], ◌∷◌}
 use lib.ListN.{length, drop}
 use Rattle.lexer.specs.Class.{max_name, is_name}
-use Rattle.lexer.specs.Scan.{scan}
+use Rattle.lexer.specs.Scan.{scan, no_fault}
 use Rattle.lexer.specs.Token.{tokens_at}
 use Rattle.lexer.specs.Forms.{Forms, closed, ended, word, part, Frames, head, tail, step, build, frames_at, forms_of, names_good}
-use Rattle.lexer.specs.declared.Scanned.{Scanned}
 use Rattle.lexer.specs.declared.Token.{Token}
 use Rattle.lexer.proofs.Clean.{clean-names}
 use Rattle.policy.specs.Basics.{Name, All}
@@ -74,6 +73,6 @@ plain-words (part at inner after) x h =
     (plain-words inner x.0 p.0, plain-words after x.1 p.1)
 
 -- the words of a clean text are names
-pub text-words : (t : List ℕ) → dotless t ≡ true → scan t ≡ Scanned.Clean → Words Plain (forms_of t)
+pub text-words : (t : List ℕ) → dotless t ≡ true → scan t ≡ no_fault → Words Plain (forms_of t)
 unfolding frames_at forms_of
 text-words t e h = plain-words (forms_of t) (built-words t e (tokens_at t 0)).0 (clean-names t h)

@@ -1,5 +1,7 @@
 -- A text without dots and blocks is read as document 01 reads it: its statements are in no block, their names are what is written, and none
 -- is too long. Assumes nothing.
+use Rattle.lexer.specs.declared.ScanFault.{ScanFault}
+use Rattle.std.specs.Prelude.{Ok, Err}
 use Prim.Native.Nat.{ℕ}
 use mathlib.Core.Path.{◌≡◌, refl, ap, ◌∙◌}
 use mathlib.Core.Bool.{true, false, not, and-true}
@@ -9,8 +11,7 @@ use borrow.Author.Tests.{not-true, le-leb}
 use lib.ListN.{length}
 use Rattle.lexer.specs.Class.{max_name}
 use Rattle.lexer.specs.Forms.{Forms, closed, ended, word, part, forms_of}
-use Rattle.lexer.specs.Scan.{scan}
-use Rattle.lexer.specs.declared.Scanned.{Scanned}
+use Rattle.lexer.specs.Scan.{scan, Scanned}
 use Rattle.policy.specs.Basics.{Name, each_of}
 use Rattle.policy.specs.Words.{dotless}
 use Rattle.policy.specs.Statements.{roles, types, thing_of, attribute_of, from_of, to_of, plain, class}
@@ -132,9 +133,9 @@ text-as-before t e h =
     ∙ ap (λ (f : Forms). after_scan (before.scan t) (before.read_from f [])) (forms-as-before t e)
   where
     go : (s : Scanned) → scan t ≡ s → after_scan s (read_from [] (scoped_in [] (forms_of t)) []) ≡ after_scan s (before.read_from (forms_of t) [])
-    go Scanned.TooLong f = refl
-    go (Scanned.Wrong place) f = refl
-    go Scanned.Clean f = row-as-before (forms_of t) [] [] (ap blockless (forms-as-before t e) ∙ h) (text-words t e f)
+    go (Err ScanFault.TooLong) f = refl
+    go (Err (ScanFault.Wrong place)) f = refl
+    go (Ok _) f = row-as-before (forms_of t) [] [] (ap blockless (forms-as-before t e) ∙ h) (text-words t e f)
 
 -- W-203 changes nothing for texts without dots and blocks
 pub as_before : AsBefore

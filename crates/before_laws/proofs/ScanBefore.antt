@@ -1,5 +1,7 @@
 -- The scan of bytes without a dot says what document 01's does. Document 01's scan stops at the 65th byte of a name, today's reads the run to its
 -- end and then finds it to be too long: the fault is at its first byte in both. Assumes nothing.
+use Rattle.lexer.specs.declared.ScanFault.{ScanFault}
+use Rattle.std.specs.Prelude.{Err}
 use Prim.Native.Nat.{ℕ, ◌+◌, ◌-◌, ◌≤◌}
 use mathlib.Core.Path.{◌≡◌, refl, sym, ap, ◌∙◌}
 use mathlib.Core.Bool.{Bool, true, false, cond, false≢true}
@@ -13,7 +15,6 @@ use Rattle.lexer.specs.Class.{class_of, starts, goes_on, is_dot, in_word, ends_c
 use Rattle.lexer.specs.Scan.{max_text, max_level, between, in_comment, in_name, State, going, stopped, comment_then, step_between, step, scan_from, scan}
 use Rattle.lexer.specs.declared.ByteClass.{ByteClass}
 use Rattle.lexer.specs.declared.ByteClass.TheVariants.{Blank, LineFeed, Comment, Open, Close, Letter, Digit, Dot, Wrong}
-use Rattle.lexer.specs.declared.Scanned.{Scanned}
 use Rattle.lexer.proofs.Names.{part-in-word, part-byte, SoFar, letter-first, grown, one-too-many, finished}
 use Rattle.lexer.proofs.Scans.{halted}
 use Rattle.lexer.proofs.Ends.{rest}
@@ -47,7 +48,7 @@ longer t w bs b first len x = record {
 
 -- where no bytes to come make the run a name today's scan ends at its first byte
 doomed : (t w bs : List ℕ) (first len level at : ℕ) → Run t w bs first len → ((rest : List ℕ) → is_name (w ++ rest) ≡ false)
-    → scan_from t bs (going (in_name first len) level) at ≡ Scanned.Wrong first
+    → scan_from t bs (going (in_name first len) level) at ≡ Err (ScanFault.Wrong first)
 unfolding scan_from
 doomed t w [] first len level at x h = rw (judged t w [] first len x, ap is_name (sym (append-nil w)) ∙ h [])
 doomed t w (b ∷ bs) first len level at x h =
@@ -55,8 +56,8 @@ doomed t w (b ∷ bs) first len level at x h =
     (doomed t (w ++ b ∷ []) bs first (len + 1) level (at + 1) (longer t w bs b first len x)
     (λ rest. ap is_name (append_assoc w (b ∷ []) rest) ∙ h (b ∷ rest)))
   where
-    go : (q : Bool) → in_word (class_of b) ≡ q → scan_from t bs (going (in_name first (len + 1)) level) (at + 1) ≡ Scanned.Wrong first
-        → scan_from t bs (step t (in_name first len) level at (class_of b)) (at + 1) ≡ Scanned.Wrong first
+    go : (q : Bool) → in_word (class_of b) ≡ q → scan_from t bs (going (in_name first (len + 1)) level) (at + 1) ≡ Err (ScanFault.Wrong first)
+        → scan_from t bs (step t (in_name first len) level at (class_of b)) (at + 1) ≡ Err (ScanFault.Wrong first)
     go true e i = rw e i
     go false e i = rw (e, judged t w (b ∷ bs) first len x, ap is_name (sym (append-nil w)) ∙ h []) (halted t bs first (at + 1))
 
@@ -167,4 +168,4 @@ agree t (b ∷ bs) (going (in_name first len) level) at e h x =
 -- the whole text
 pub scan-as-before : (t : List ℕ) → dotless t ≡ true → scan t ≡ before.scan t
 unfolding scan before.scan
-scan-as-before t e = ap (cond (ltb max_text (length t)) Scanned.TooLong) (agree t t (going between 0) 0 e refl tt)
+scan-as-before t e = ap (cond (ltb max_text (length t)) (Err ScanFault.TooLong)) (agree t t (going between 0) 0 e refl tt)

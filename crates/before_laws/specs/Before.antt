@@ -1,14 +1,14 @@
 -- Document 01's reading of a text, as it was before W-203, and what it is to say that a text is read as before: a text without dots and blocks is.
 -- Assumes nothing.
-use Rattle.std.specs.Prelude.{ℕ, ◌+◌, ◌≡◌, Bool, true, false, not, ◌&&◌, cond, List, [], ◌∷◌, ◌++◌, eqb, ltb, length}
+use Rattle.lexer.specs.declared.ScanFault.{ScanFault}
+use Rattle.std.specs.Prelude.{ℕ, ◌+◌, ◌≡◌, Bool, true, false, not, ◌&&◌, cond, List, [], ◌∷◌, ◌++◌, eqb, ltb, length, Err}
 use Rattle.std.proofs.Math.Option.{Option, none, some}
 use Rattle.lexer.specs.Class.{class_of, goes_on, max_name}
-use Rattle.lexer.specs.Scan.{max_text, Mode, between, in_comment, in_name, State, going, stopped, comment_then, step_between}
+use Rattle.lexer.specs.Scan.{max_text, Mode, between, in_comment, in_name, State, going, stopped, comment_then, step_between, Scanned, no_fault}
 use Rattle.lexer.specs.Token.{between_then, own_token, ending_last, tokens}
 use Rattle.lexer.specs.Forms.{Forms, closed, ended, word, part, build}
 use Rattle.lexer.specs.declared.ByteClass.{ByteClass}
 use Rattle.lexer.specs.declared.ByteClass.TheVariants.{Blank, LineFeed, Comment, Open, Close, Letter, Digit, Dot, Wrong}
-use Rattle.lexer.specs.declared.Scanned.{Scanned}
 use Rattle.lexer.specs.declared.Token.{Token}
 use Rattle.policy.specs.Basics.{Name, is_in, index_of}
 use Rattle.policy.specs.Words.{reserved, is_reserved, dotless, as_name, as_part}
@@ -42,13 +42,13 @@ step in_comment level at k = going (comment_then k) level
 step (in_name first len) level at k = step_name first len level at k
 
 unfoldable pub scan_from : List ℕ → State → ℕ → Scanned
-scan_from [] (stopped place) at = Scanned.Wrong place
-scan_from [] (going mode level) at = cond (eqb level 0) Scanned.Clean (Scanned.Wrong at)
-scan_from (b ∷ bs) (stopped place) at = Scanned.Wrong place
+scan_from [] (stopped place) at = Err (ScanFault.Wrong place)
+scan_from [] (going mode level) at = cond (eqb level 0) no_fault (Err (ScanFault.Wrong at))
+scan_from (b ∷ bs) (stopped place) at = Err (ScanFault.Wrong place)
 scan_from (b ∷ bs) (going mode level) at = scan_from bs (step mode level at (class_before (class_of b))) (at + 1)
 
 unfoldable pub scan : List ℕ → Scanned
-scan text = cond (ltb max_text (length text)) Scanned.TooLong (scan_from text (going between 0) 0)
+scan text = cond (ltb max_text (length text)) (Err ScanFault.TooLong) (scan_from text (going between 0) 0)
 
 -- ---- the tokens: a word is a run of bytes that go on a name
 

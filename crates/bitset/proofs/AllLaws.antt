@@ -1,21 +1,22 @@
--- What is true of every number below a bound, and loops that test it a byte at a time: one law for all of them, since each gathers in a byte
--- the bits of the numbers of which the rule is false. Assumes nothing.
+-- What is true of every number below a bound, and the test of it a byte at a time: a byte has the bits of the numbers of which the rule is
+-- false. Assumes nothing.
 use mathlib.Core.Path.{◌≡◌, refl, sym, ap, ap₂, ◌∙◌}
-use mathlib.Core.Bool.{Bool, true, false, not, ◌&&◌, ◌||◌, or-true, and-true}
+use mathlib.Core.Bool.{Bool, true, false, not, ◌&&◌, ◌||◌, or-true}
 use mathlib.Core.List.{List}
 use mathlib.Core.Logic.{⊎_elim}
-use Prim.Native.Nat.{ℕ, zero, suc, ◌+◌, ◌-◌, ◌*◌, ◌≤◌, ◌<◌}
-use native.Mathlib.Nat.{add-zero, add-suc, not-suc-le-zero, le_of_suc-le-suc, eq-or-lt_of_le}
+use Prim.Native.Nat.{ℕ, zero, suc, ◌+◌, ◌-◌, ◌*◌, ◌/◌, ◌%◌, ◌≤◌, ◌<◌}
+use native.Mathlib.Nat.{not-suc-le-zero, le_of_suc-le-suc, eq-or-lt_of_le, lt_of_le_of_lt}
 use native.Mathlib.Decide.{dec_lt}
 use native.Mathlib.Omega.{arith}
-use lib.Bits.{bit_and, bit_or, or_zero_l, or_add_and, and_le_r}
-use lib.Dec.{eqb, ltb}
+use lib.Bits.{bit_and, and_le_l}
+use Rattle.std.proofs.Common.{◌↔◌}
+use lib.Dec.{ltb}
 use lib.ListN.{length, get_or}
-use borrow.Author.Tests.{le-ltb, lt-ltb, ne_eqb}
+use borrow.Author.Tests.{le-ltb, lt-ltb}
 use Rattle.bitset.specs.Sets.{bit, member, from_bits, set_of, mask_of, all_below, meet, within}
-use Rattle.bitset.proofs.BitLaws.{bit-and, bit-from_bits, from_bits-lt}
+use Rattle.bitset.proofs.BitLaws.{bit-and, bit-from_bits, from_bits-lt, bit-zero, bits-eq}
 use Rattle.bitset.proofs.SetLaws.{member-at, member-past, member-set_of, length-set_of}
-use Rattle.bitset.proofs.Tests.{agree2, bit_not}
+use Rattle.bitset.proofs.Tests.{bit_not}
 
 -- a Bool is true or false, with the equation
 pub either {ℓ} : {P : Type ℓ} (b : Bool) → (b ≡ true → P) → (b ≡ false → P) → P
@@ -24,6 +25,10 @@ either false f g = g refl
 
 pub clash : (b : Bool) → b ≡ true → b ≡ false → ⊥
 clash b p q = let z : ◌≡◌ {A = ℕ} 0 1 = cc in omega arith
+
+pub not-true : (b : Bool) → not b ≡ true → b ≡ false
+not-true true e = sym e
+not-true false e = refl
 
 pub all_below-of : (n : ℕ) (f : ℕ → Bool) → ((k : ℕ) → k < n → f k ≡ true) → all_below n f ≡ true
 unfolding all_below
@@ -43,54 +48,13 @@ unfolding all_below
 all_below-ext zero f g h = refl
 all_below-ext (suc n) f g h = ap₂ ◌&&◌ (h n (omega arith)) (all_below-ext n f g (λ k l. h k (omega arith)))
 
--- the numbers below n, and m more
-all_below-add : (n m : ℕ) (f : ℕ → Bool) → all_below (n + m) f ≡ (all_below n f && all_below m (λ k. f (n + k)))
-unfolding all_below
-all_below-add n zero f = rw (add-zero n) (sym (and-true (all_below n f)))
-all_below-add n (suc m) f =
-    rw (add-suc n m) (ap (λ (b : Bool). f (n + m) && b) (all_below-add n m f) ∙ swap (f (n + m)) (all_below n f) (all_below m (λ k. f (n + k))))
-  where
-    swap : (x y z : Bool) → (x && (y && z)) ≡ (y && (x && z))
-    swap true y z = refl
-    swap false true z = refl
-    swap false false z = refl
-
--- ---- a loop that tests eight numbers a turn: the byte that it gathers is 0 where the rule is true of all numbers passed
-
-pub all_none : (f : ℕ → Bool) → eqb 0 0 ≡ all_below (8 * 0) f
-unfolding all_below
-all_none f = refl
-
-pub all_done : (f : ℕ → Bool) (w i found : ℕ) → i ≤ w → w ≤ i → eqb found 0 ≡ all_below (8 * i) f → eqb found 0 ≡ all_below (8 * w) f
-all_done f w i found a b h = let e : i ≡ w = omega arith in h ∙ ap (λ (n : ℕ). all_below (8 * n) f) e
-
--- two bytes together are 0 where both are
-or-none : (a b : ℕ) → eqb (bit_or a b) 0 ≡ (eqb a 0 && eqb b 0)
-or-none zero b = ap (λ (x : ℕ). eqb x 0) (or_zero_l b)
-or-none (suc a) b =
-    ne_eqb (bit_or (suc a) b) 0 (λ e. omega (arith, or_add_and (suc a) b, and_le_r (suc a) b))
-    ∙ sym (ap (λ (x : Bool). x && eqb b 0) (ne_eqb (suc a) 0 (λ e. omega arith)))
-
--- a byte is 0 where it has no bit
-no_bits : (x : ℕ) → x < 256 → eqb x 0 ≡ all_below 8 (λ k. not (bit x k))
-unfolding all_below bit
-no_bits x h = agree2 256 1 (λ y k. eqb y 0) (λ y k. all_below 8 (λ k. not (bit y k))) tt x 0 h (omega arith)
-
--- byte x has a bit for each of the eight numbers of which the rule is false
-pub all_more : (f : ℕ → Bool) (i found x : ℕ) → x < 256 → ((k : ℕ) → k < 8 → f (8 * i + k) ≡ not (bit x k)) → eqb found 0 ≡ all_below (8 * i) f
-    → eqb (bit_or found x) 0 ≡ all_below (8 * (i + 1)) f
-all_more f i found x small bits h =
-    let next : 8 * i + 8 ≡ 8 * (i + 1) = omega arith in
-    or-none found x ∙ ap₂ ◌&&◌ h (no_bits x small ∙ sym (all_below-ext 8 (λ k. f (8 * i + k)) (λ k. not (bit x k)) bits))
-    ∙ sym (all_below-add (8 * i) 8 f) ∙ ap (λ (n : ℕ). all_below n f) next
-
 -- ---- the test of a byte
 
-abbrev pub within_rule : ℕ → List ℕ → ℕ → Bool
+abbrev within_rule : ℕ → List ℕ → ℕ → Bool
 within_rule total s n = not (member s n) || ltb n total
 
 -- a byte without the mask has the numbers that reach the total
-pub within-bits : (total : ℕ) (s : List ℕ) (i k : ℕ) → k < 8
+within-bits : (total : ℕ) (s : List ℕ) (i k : ℕ) → k < 8
     → within_rule total s (8 * i + k) ≡ not (bit (bit_and (get_or s i 0) (255 - mask_of total i)) k)
 unfolding mask_of
 within-bits total s i k l =
@@ -103,6 +67,34 @@ within-bits total s i k l =
     implies true true = refl
     implies true false = refl
     implies false y = refl
+
+-- the set is within the total where no byte has such a number, and nowhere else
+within-all : (total : ℕ) (s : List ℕ) → ((i : ℕ) → i < length s → bit_and (get_or s i 0) (255 - mask_of total i) ≡ 0) → within total s ≡ true
+unfolding within
+within-all total s h =
+    all_below-of (8 * length s) (within_rule total s)
+    (λ n l.
+    let split : 8 * (n / 8) + n % 8 ≡ n = omega arith in
+    ap (within_rule total s) (sym split) ∙ within-bits total s (n / 8) (n % 8) (omega arith)
+    ∙ ap not (ap (λ (x : ℕ). bit x (n % 8)) (h (n / 8) (omega arith)) ∙ bit-zero (n % 8)))
+
+within-at : (total : ℕ) (s : List ℕ) → ((i : ℕ) → get_or s i 0 < 256) → within total s ≡ true → (i : ℕ) → i < length s
+    → bit_and (get_or s i 0) (255 - mask_of total i) ≡ 0
+unfolding within from_bits
+within-at total s small e i h =
+    let x = bit_and (get_or s i 0) (255 - mask_of total i) in
+    bits-eq 8 x (λ k. false) (lt_of_le_of_lt (and_le_l (get_or s i 0) (255 - mask_of total i)) (small i))
+    (λ k l. not-true (bit x k) (sym (within-bits total s i k l) ∙ all_below-at (8 * length s) (within_rule total s) e (8 * i + k) (omega arith)))
+
+-- so a test of the bytes is one of the set
+pub within-is : (total : ℕ) (s : List ℕ) (r : Bool) → ((i : ℕ) → get_or s i 0 < 256)
+    → (r ≡ true) ↔ ((i : ℕ) → i < length s → bit_and (get_or s i 0) (255 - mask_of total i) ≡ 0) → r ≡ within total s
+within-is total s r small h = same r (within total s) (λ e. within-all total s (h.0 e)) (λ e. h.1 (within-at total s small e))
+  where
+    same : (x y : Bool) → (x ≡ true → y ≡ true) → (y ≡ true → x ≡ true) → x ≡ y
+    same true y p q = sym (p refl)
+    same false true p q = q refl
+    same false false p q = refl
 
 -- ---- what the test says, for callers
 

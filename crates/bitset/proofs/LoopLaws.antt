@@ -1,13 +1,12 @@
 -- Loops that store every byte of a set in turn: each turn stores the byte that the result's rule tells. Assumes nothing.
 use mathlib.Core.Path.{◌≡◌, sym, ap, ◌∙◌}
-use mathlib.Core.Bool.{Bool, false, not}
+use mathlib.Core.Bool.{Bool, not}
 use mathlib.Core.List.{List}
 use Prim.Native.Nat.{ℕ, ◌+◌, ◌-◌, ◌*◌, ◌<◌}
 use native.Mathlib.Omega.{arith}
 use lib.ListN.{length, get_or, set}
-use Rattle.bitset.specs.Sets.{bit, member, set_of, emptied}
+use Rattle.bitset.specs.Sets.{bit, member, set_of}
 use Rattle.bitset.specs.Complements.{flipped}
-use Rattle.bitset.proofs.BitLaws.{bit-zero}
 use Rattle.bitset.proofs.SetLaws.{length-set_of, member-at, byte-eq}
 use Rattle.bitset.proofs.Tests.{bit_not}
 use Rattle.bitset.proofs.LoopSteps.{Turned, turned-read, turned_more}
@@ -28,7 +27,3 @@ unfolding flipped
 flip-turn d {e} {i} s h le =
     let f : ℕ → Bool = λ n. not (member d n) in
     byte-turn f (255 - get_or e i 0) s h (omega arith) (λ k l. bit_not (get_or e i 0) k le l ∙ ap not (turned_bit f s k l))
-
-pub clear-turn : (d : List ℕ) {e : List ℕ} {i : ℕ} → Turned (emptied d) d e i → i < length e → Turned (emptied d) d (set e i 0) (i + 1)
-unfolding emptied
-clear-turn d s h = byte-turn (λ n. false) 0 s h (omega arith) (λ k l. bit-zero k)

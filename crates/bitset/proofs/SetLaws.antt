@@ -8,7 +8,7 @@ use native.Mathlib.Nat.{not-suc-le-zero, le_of_suc-le-suc}
 use native.Mathlib.Decide.{dec_lt}
 use native.Mathlib.Omega.{arith}
 use lib.Dec.{eqb, ltb}
-use lib.ListN.{length, get_or, get_or-eq_default}
+use lib.ListN.{length, get_or, get_or-eq_default, replicate}
 use lib.Seq.{ext_get_or}
 use borrow.Author.Tests.{ne_eqb}
 use Rattle.bitset.specs.Sets.{bit, member, from_bits, tabulate, set_of, inserted, removed, union_of, emptied, complement_of}
@@ -105,6 +105,12 @@ set_of-ext w f g h =
     (λ i l.
     let m : i < w = subst (λ (x : ℕ). i < x) (length-set_of w f) l in
     byte-set_of w f i m ∙ from_bits-ext 8 (λ k. f (8 * i + k)) (λ k. g (8 * i + k)) (λ k q. h (8 * i + k) (omega arith)) ∙ sym (byte-set_of w g i m))
+
+-- the set of no number
+pub none-set_of : (w : ℕ) → replicate w 0 ≡ set_of w (λ n. false)
+unfolding set_of tabulate from_bits
+none-set_of zero = refl
+none-set_of (suc w) = ap (λ (l : List ℕ). 0 ∷ l) (none-set_of w)
 
 -- ---- on sets by their rules the operations are those of logic
 

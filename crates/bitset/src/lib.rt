@@ -41,7 +41,7 @@ fn mask(total: usize, i: usize) -> u8
 fn ones_of(b: u8) -> usize
     ensures { (result ≡ ones b) × (result ≤ 8) }
 {
-    u8::count_ones(b) as usize
+    b.count_ones() as usize
 }
 
 // ---- one number
@@ -62,7 +62,7 @@ pub fn insert(set: &mut [u8], n: usize)
     if set.len() <= at {
         return;
     }
-    set[at] = set[at] | bit;
+    set[at] |= bit;
 }
 
 // Takes n out of the set.
@@ -74,7 +74,7 @@ pub fn remove(set: &mut [u8], n: usize)
     if set.len() <= at {
         return;
     }
-    set[at] = set[at] & !bit;
+    set[at] &= !bit;
 }
 
 // ---- one set
@@ -83,21 +83,15 @@ pub fn remove(set: &mut [u8], n: usize)
 pub fn clear(set: &mut [u8])
     ensures { set.new ≡ emptied set.old }
 {
-    let mut i = 0;
-    while i < set.len() {
-        set[i] = 0;
-        i += 1;
-    }
+    set.fill(0);
 }
 
 // The set becomes all numbers that its bytes can hold and that were not in it.
 fn flip(set: &mut [u8])
     ensures { set.new ≡ flipped set.old }
 {
-    let mut i = 0;
-    while i < set.len() {
-        set[i] = !set[i];
-        i += 1;
+    for b in set.iter_mut() {
+        *b = !*b;
     }
 }
 
@@ -110,7 +104,7 @@ fn keep_below(set: &mut [u8], total: usize)
         return;
     }
     clear_at(set, whole + 1, set.len() - (whole + 1));
-    set[whole] = mask(total, whole) & set[whole];
+    set[whole] &= mask(total, whole);
 }
 
 // The set becomes all numbers below total that were not in it.
@@ -121,15 +115,14 @@ pub fn complement(set: &mut [u8], total: usize)
     keep_below(set, total);
 }
 
-// Whether every number in the set is below total: the bits of those that are not are gathered.
+// Whether every number in the set is below total: the bits of those that are not are gathered. To stop at the first
+// byte that has one would cost more, since few sets have any and the loop goes over several bytes at once.
 pub fn is_within(set: &[u8], total: usize) -> bool
     ensures { result ≡ within total set.now }
 {
     let mut beyond: u8 = 0;
-    let mut i = 0;
-    while i < set.len() {
-        beyond = beyond | (set[i] & !mask(total, i));
-        i += 1;
+    for (i, b) in set.iter().enumerate() {
+        beyond |= *b & !mask(total, i);
     }
     beyond == 0
 }
@@ -140,10 +133,8 @@ pub fn count(set: &[u8]) -> usize
     ensures { result ≡ sets.count set.now }
 {
     let mut sum: usize = 0;
-    let mut i = 0;
-    while i < set.len() {
-        sum += ones_of(set[i]);
-        i += 1;
+    for b in set {
+        sum += ones_of(*b);
     }
     sum
 }
@@ -154,7 +145,6 @@ pub fn count(set: &[u8]) -> usize
 pub fn clear_at(table: &mut [u8], o: usize, w: usize)
     ensures { table.new ≡ put table.old o (emptied (parts.part table.old o w)) }
 {
-    let start = byte_slices::least(o, table.len());
-    let end = byte_slices::end_of(o, w, table.len());
-    clear(&mut table[start..end]);
+    let place = byte_slices::range_of(o, w, table.len());
+    clear(&mut table[place]);
 }

@@ -30,29 +30,26 @@ fn ask_number<W: Write>(out: &mut W, set: &[u8], n: usize) -> io::Result<()> {
     set_show::yes_or_no(out, b"is_within", set.len(), n, bitset::is_within(set, n))
 }
 
-fn change_number<W: Write>(out: &mut W, way: usize, set: &mut [u8], n: usize) -> io::Result<()> {
+// What a change makes of the first set.
+fn change_number<W: Write, F: FnOnce(&mut [u8])>(
+    out: &mut W,
+    name: &[u8],
+    set: &mut [u8],
+    n: usize,
+    change: F,
+) -> io::Result<()>
+    requires { F.IsAlwaysCallable change }
+{
     set_show::first(set);
-    match way {
-        0 => {
-            bitset::insert(set, n);
-            set_show::line(out, b"insert", set.len(), n, set)
-        }
-        1 => {
-            bitset::remove(set, n);
-            set_show::line(out, b"remove", set.len(), n, set)
-        }
-        _ => {
-            bitset::complement(set, n);
-            set_show::line(out, b"complement", set.len(), n, set)
-        }
-    }
+    change(set);
+    set_show::line(out, name, set.len(), n, set)
 }
 
 fn numbers<W: Write>(out: &mut W, set: &mut [u8]) -> io::Result<()> {
     for n in NUMBERS {
-        change_number(out, 0, set, n)?;
-        change_number(out, 1, set, n)?;
-        change_number(out, 2, set, n)?;
+        change_number(out, b"insert", set, n, |s| bitset::insert(s, n))?;
+        change_number(out, b"remove", set, n, |s| bitset::remove(s, n))?;
+        change_number(out, b"complement", set, n, |s| bitset::complement(s, n))?;
         ask_number(out, set, n)?;
         set_show::first(set);
         ask_number(out, set, n)?;
@@ -72,40 +69,29 @@ fn ask_other<W: Write>(out: &mut W, a: &[u8], b: &[u8]) -> io::Result<()> {
     Ok(())
 }
 
-fn change_other<W: Write>(out: &mut W, way: usize, a: &mut [u8], b: &[u8]) -> io::Result<()> {
-    match way {
-        0 => {
-            set_operators::union(a, b);
-            set_show::line(out, b"union", a.len(), b.len(), a)
-        }
-        1 => {
-            set_operators::intersection(a, b);
-            set_show::line(out, b"intersection", a.len(), b.len(), a)
-        }
-        2 => {
-            set_operators::exclusive_or(a, b);
-            set_show::line(out, b"exclusive_or", a.len(), b.len(), a)
-        }
-        3 => {
-            set_operators::difference(a, b);
-            set_show::line(out, b"difference", a.len(), b.len(), a)
-        }
-        _ => {
-            set_operators::copy(a, b);
-            set_show::line(out, b"copy", a.len(), b.len(), a)
-        }
-    }
+// What a change makes of the first set, and what is asked of the two before and after it.
+fn change_other<W: Write, F: FnOnce(&mut [u8], &[u8]) + Drop>(
+    out: &mut W,
+    name: &[u8],
+    a: &mut [u8],
+    b: &[u8],
+    change: F,
+) -> io::Result<()>
+    requires { F.IsAlwaysCallable change }
+{
+    set_show::first(a);
+    ask_other(out, a, b)?;
+    change(a, b);
+    set_show::line(out, name, a.len(), b.len(), a)?;
+    ask_other(out, a, b)
 }
 
-// Each change of the first set, and what is then asked of the two.
 fn pair<W: Write>(out: &mut W, a: &mut [u8], b: &[u8]) -> io::Result<()> {
-    for way in 0..5 {
-        set_show::first(a);
-        ask_other(out, a, b)?;
-        change_other(out, way, a, b)?;
-        ask_other(out, a, b)?;
-    }
-    Ok(())
+    change_other(out, b"union", a, b, set_operators::union)?;
+    change_other(out, b"intersection", a, b, set_operators::intersection)?;
+    change_other(out, b"exclusive_or", a, b, set_operators::exclusive_or)?;
+    change_other(out, b"difference", a, b, set_operators::difference)?;
+    change_other(out, b"copy", a, b, set_operators::copy)
 }
 
 fn pairs<W: Write>(out: &mut W, a: &mut [u8], space: &mut [u8]) -> io::Result<()> {

@@ -8,6 +8,8 @@ use lib.Dec.{ltb}
 use lib.ListN.{length}
 use borrow.Author.Tests.{not-true, not-false}
 use Rattle.byte_slices.specs.Parts.{part}
+use Rattle.std.specs.Prelude.{Result, Ok, Err}
+use Rattle.policy.specs.declared.Fault.{Fault}
 use Rattle.policy.specs.Basics.{Name, same, any, every, is_in}
 use Rattle.policy.specs.Words.{dotless}
 use Rattle.policy.specs.Names.{full}
@@ -23,7 +25,6 @@ use Rattle.blocks.specs.Names.{path_of, full_names, Opening, another}
 use Rattle.blocks.proofs.FullNames.{length-opened, path-last, opened-exactly}
 use Rattle.block_reader.specs.Within.{Within, OneMore, OpensBy, OpensBlock}
 use Rattle.block_reader.specs.declared.OpenBlocks.{OpenBlocks}
-use Rattle.block_reader.specs.declared.Opened.{Opened}
 use Rattle.block_reader.proofs.BlockFaults.{judged-again, judged-deep, judged-long, judged-open}
 
 -- a block more in front of a good path
@@ -43,7 +44,7 @@ abbrev deeper : OpenBlocks → OpenBlocks
 deeper o = record { count = o.count + 1; block = o.count + 1; depth = o.depth + 1 }
 
 -- what an answer promises, as a block is judged
-abbrev Judges : (t : List ℕ) (start len : ℕ) (keysAfter filterAfter symbolsAfter : List ℕ) → OpenBlocks → Opened → List Name → List Name → Judged → Type 0
+abbrev Judges : (t : List ℕ) (start len : ℕ) (keysAfter filterAfter symbolsAfter : List ℕ) → OpenBlocks → Result OpenBlocks Fault → List Name → List Name → Judged → Type 0
 Judges t start len keysAfter filterAfter symbolsAfter o r path names j = OpensBy (OneMore t keysAfter filterAfter symbolsAfter path names (part t start len) o) j r
 
 module _ (t : List ℕ) (start len : ℕ) {symbols keys keysAfter filter filterAfter : List ℕ} (o : OpenBlocks) {a : Bool} (lent : length keys ≡ 8192)
@@ -112,11 +113,11 @@ module _ (t : List ℕ) (start len : ℕ) {symbols keys keysAfter filter filterA
 
   -- ---- the four answers
 
-  pub opened-before : a ≡ false → OpensBlock t start len keys keysAfter filter filterAfter symbols symbols o (Opened.Fault 4)
+  pub opened-before : a ≡ false → OpensBlock t start len keys keysAfter filter filterAfter symbols symbols o (Err Fault.DeclaredAgain)
   opened-before f = record {
     judges = λ path names w good few short inside.
         let is-in = not-false (is_in (full path (part t start len)) names) (sym (new-name path names w good few) ∙ f) in
-        subst (Judges t start len keysAfter filterAfter symbols o (Opened.Fault 4) path names) (sym (judged-again path names (part t start len) is-in)) refl;
+        subst (Judges t start len keysAfter filterAfter symbols o (Err Fault.DeclaredAgain) path names) (sym (judged-again path names (part t start len) is-in)) refl;
     kept = kept-none symbols;
     long = added.long;
     filter-long = added.filter-long;
@@ -127,34 +128,34 @@ module _ (t : List ℕ) (start len : ℕ) {symbols keys keysAfter filter filterA
         → is_in (full path (part t start len)) names ≡ false
     is-new path names w good few = not-true (is_in (full path (part t start len)) names) (sym (new-name path names w good few) ∙ yes-added)
 
-    pub too-deep : 8 ≤ o.depth → OpensBlock t start len keys keysAfter filter filterAfter symbols symbols o (Opened.Fault 6)
+    pub too-deep : 8 ≤ o.depth → OpensBlock t start len keys keysAfter filter filterAfter symbols symbols o (Err Fault.MaximumPassed)
     too-deep d = record {
       judges = λ path names w good few short inside.
           let is = judged-deep path names (part t start len) (is-new path names w good few) (omega (arith, w.deep)) in
-          subst (Judges t start len keysAfter filterAfter symbols o (Opened.Fault 6) path names) (sym is) refl;
+          subst (Judges t start len keysAfter filterAfter symbols o (Err Fault.MaximumPassed) path names) (sym is) refl;
       kept = kept-none symbols;
       long = added.long;
       filter-long = added.filter-long;
     }
 
     module _ {symbolsAfter : List ℕ} {e : Bool} (entered : EntersBlock symbols symbolsAfter (part t start len) e) where
-      pub too_long : e ≡ false → OpensBlock t start len keys keysAfter filter filterAfter symbols symbolsAfter o (Opened.Fault 6)
+      pub too_long : e ≡ false → OpensBlock t start len keys keysAfter filter filterAfter symbols symbolsAfter o (Err Fault.MaximumPassed)
       too_long f = record {
         judges = λ path names w good few short inside.
             let is = judged-long path names (part t start len) (is-new path names w good few) (sym (entered.answers path w.scope) ∙ f) in
-            subst (Judges t start len keysAfter filterAfter symbolsAfter o (Opened.Fault 6) path names) (sym is) refl;
+            subst (Judges t start len keysAfter filterAfter symbolsAfter o (Err Fault.MaximumPassed) path names) (sym is) refl;
         kept = entered.kept;
         long = added.long;
         filter-long = added.filter-long;
       }
 
       pub opened-now : o.depth < 8 → e ≡ true
-          → OpensBlock t start len keys keysAfter filter filterAfter symbols symbolsAfter o (Opened.Read (deeper o))
+          → OpensBlock t start len keys keysAfter filter filterAfter symbols symbolsAfter o (Ok (deeper o))
       opened-now d yes-entered = record {
         judges = λ path names w good few short inside.
             let new = is-new path names w good few in
             let is = judged-open path names (part t start len) new (omega (arith, w.deep)) (sym (entered.answers path w.scope) ∙ yes-entered) in
-            subst (Judges t start len keysAfter filterAfter symbolsAfter o (Opened.Read (deeper o)) path names) (sym is)
+            subst (Judges t start len keysAfter filterAfter symbolsAfter o (Ok (deeper o)) path names) (sym is)
             (one_more path names w good few short inside yes-added d entered yes-entered);
         kept = entered.kept;
         long = added.long;

@@ -1,7 +1,9 @@
 -- Where a reader is among the blocks of a text, and what opening and closing one promise. Assumes nothing.
-use Rattle.std.specs.Prelude.{◌≡◌, true, List, [], ◌∷◌, ◌++◌, ℕ, ◌+◌, ◌<◌, ◌≤◌, length}
+use Rattle.std.specs.Prelude.{◌≡◌, true, List, [], ◌∷◌, ◌++◌, ℕ, ◌+◌, ◌<◌, ◌≤◌, length, Result, MatchResult}
 use Rattle.std.proofs.Math.Option.{some}
 use Rattle.byte_slices.specs.Parts.{part}
+use Rattle.policy.specs.declared.Fault.{Fault}
+use Rattle.policy.specs.Answers.{fault_number}
 use Rattle.policy.specs.Basics.{Name, is_in}
 use Rattle.policy.specs.Names.{full}
 use Rattle.policy.specs.Reading.{Judged, reads, opens, fault, judge_block}
@@ -11,7 +13,6 @@ use Rattle.scopes.specs.Scope.{InScope, SymbolsKept}
 use Rattle.blocks.specs.Opened.{opened_in, CoversBlocks}
 use Rattle.blocks.specs.Names.{path_of, full_names, Opening}
 use Rattle.block_reader.specs.declared.OpenBlocks.{OpenBlocks}
-use Rattle.block_reader.specs.declared.Opened.{Opened}
 
 -- no block was opened
 abbrev pub none_open : OpenBlocks
@@ -35,17 +36,14 @@ pub record OneMore (t keys filter symbols : List ℕ) (path names : List Name) (
   pub next : after.count ≡ before.count + 1
 
 -- a block is opened, or refused, as it is judged
-abbrev pub OpensBy : (OpenBlocks → Type 0) → Judged → Opened → Type 0
-OpensBy P opens (Opened.Read o) = P o
-OpensBy P opens (Opened.Fault m) = ⊥
-OpensBy P (fault n) (Opened.Read o) = ⊥
-OpensBy P (fault n) (Opened.Fault m) = m ≡ n
-OpensBy P (reads s) (Opened.Read o) = ⊥
-OpensBy P (reads s) (Opened.Fault m) = ⊥
+abbrev pub OpensBy : (OpenBlocks → Type 0) → Judged → Result OpenBlocks Fault → Type 0
+OpensBy P opens r = MatchResult r P (λ f. ⊥)
+OpensBy P (fault n) r = MatchResult r (λ o. ⊥) (λ f. fault_number f ≡ n)
+OpensBy P (reads s) r = ⊥
 
 -- "4 for a block opened twice under one full name, 6 for a full name too long or a ninth level". What the keys and the filter hold after a fault is free, and
 -- so is the scope
-pub record OpensBlock (t : List ℕ) (start len : ℕ) (keys keysAfter filter filterAfter symbols symbolsAfter : List ℕ) (o : OpenBlocks) (r : Opened) : Type 0 where
+pub record OpensBlock (t : List ℕ) (start len : ℕ) (keys keysAfter filter filterAfter symbols symbolsAfter : List ℕ) (o : OpenBlocks) (r : Result OpenBlocks Fault) : Type 0 where
   pub judges : (path names : List Name) → Within t keys filter symbols path names o → is_good_part (part t start len) ≡ true → o.count < 8192
       → length t < 65536 → start + len ≤ length t
       → OpensBy (OneMore t keysAfter filterAfter symbolsAfter path names (part t start len) o) (judge_block path names (some (part t start len))) r

@@ -5,10 +5,10 @@
 // others.
 #![tactic(auto)]
 
-ghost use Rattle.std.specs.Prelude.{◌≡◌, ◌-◌};
+ghost use Rattle.std.specs.Prelude.{◌≡◌};
 ghost use Rattle.block_reader.specs.Within.{none_open, OpensBlock, ClosesBlock};
 
-use policy::Refusal;
+use policy::Fault;
 use scopes::SYMBOL_BYTES;
 
 // The keys: a number for each block that a text can have.
@@ -28,13 +28,6 @@ pub struct OpenBlocks {
     pub depth: usize,
 }
 
-// What opening a block comes to: where the reader stands then, or a fault, 4 or 6.
-#[derive(Clone, Copy)]
-pub enum Opened {
-    Read(OpenBlocks),
-    Fault(usize),
-}
-
 // Where a text begins.
 pub fn none_open() -> OpenBlocks
     ensures { result ≡ none_open }
@@ -46,7 +39,7 @@ pub fn none_open() -> OpenBlocks
     }
 }
 
-// Opens a block whose name is the len bytes of the text from a place on.
+// Opens a block whose name is the len bytes of the text from a place on: where the reader stands then, or fault 4 or 6.
 pub fn open_block(
     text: &[u8],
     start: usize,
@@ -55,33 +48,23 @@ pub fn open_block(
     keys: &mut [u64; BLOCKS],
     filter: &mut [u64; FILTER],
     state: OpenBlocks,
-) -> Opened
+) -> Result<OpenBlocks, Fault>
     ensures { OpensBlock text.now start len keys.old keys.new filter.old filter.new symbols.old symbols.new state result }
 {
     if !blocks::add(text, keys, filter, state.count, state.block, start, len) {
-        return Opened::Fault(Refusal::DECLARED_AGAIN);
+        return Err(Fault::DeclaredAgain);
     }
     if policy::Block::MAX_DEPTH <= state.depth {
-        return Opened::Fault(Refusal::MAXIMUM_PASSED);
+        return Err(Fault::MaximumPassed);
     }
     if !scopes::enter_block(symbols, text, start, len) {
-        return Opened::Fault(Refusal::MAXIMUM_PASSED);
+        return Err(Fault::MaximumPassed);
     }
-    Opened::Read(OpenBlocks {
+    Ok(OpenBlocks {
         count: state.count + 1,
         block: state.count + 1,
         depth: state.depth + 1,
     })
-}
-
-// One less than a number, or 0.
-fn one_less(n: usize) -> usize
-    ensures { result ≡ n - 1 }
-{
-    if n == 0 {
-        return 0;
-    }
-    n - 1
 }
 
 // Closes the innermost block.
@@ -94,8 +77,8 @@ pub fn close_block(
 {
     scopes::leave_block(symbols);
     OpenBlocks {
-        count: state.count,
         block: blocks::around(keys, state.block),
-        depth: one_less(state.depth),
+        depth: state.depth.saturating_sub(1),
+        ..state
     }
 }

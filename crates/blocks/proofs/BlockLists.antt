@@ -1,16 +1,16 @@
 -- Blocks that were opened: what a walk over them knows, and one more. Assumes nothing.
 use mathlib.Core.Path.{◌≡◌, refl, sym, ap, ap₂, subst, ◌∙◌}
-use mathlib.Core.Bool.{Bool, true, false, not, ◌&&◌, ◌||◌, or-true, false≢true}
-use mathlib.Core.List.{List, ◌∷◌}
+use mathlib.Core.Bool.{Bool, true, false, not, ◌&&◌, ◌||◌, or_comm, or-false, false≢true}
+use mathlib.Core.List.{List, [], ◌∷◌}
 use Prim.Native.Nat.{ℕ, zero, suc, ◌+◌, ◌/◌, ◌%◌, ◌<◌, ◌≤◌}
 use native.Mathlib.Numerals.{add-one}
 use native.Mathlib.Omega.{arith}
-use lib.Dec.{ltb}
-use lib.ListN.{length, get_or, set, length-set}
-use lib.Seq.{get_or-set_same, get_or-set_other}
-use borrow.Author.Tests.{ltb-true, ltb-false, ne_eqb, eq-eqb}
+use lib.ListN.{length, take, get_or, set, length-set}
+use lib.Seq.{take-suc, get_or-set_same, get_or-set_other}
+use borrow.Author.Tests.{ne_eqb, eq-eqb}
+use Rattle.std.specs.List.{list_any}
+use Rattle.std.proofs.lemmas.List.Folds.{list_any-append}
 use Rattle.byte_slices.specs.Parts.{part}
-use Rattle.bitset.proofs.AllLaws.{either}
 use Rattle.policy.specs.Basics.{Name, same, any}
 use Rattle.blocks.specs.Opened.{Block, block_of, key, block_in, opened_in, is_block, is_opened, CoversBlocks, Asks, Fits, Adds}
 
@@ -27,27 +27,17 @@ module _ (text : List ℕ) (k parent : ℕ) (w : Name) where
 -- ---- a walk over them
 
 module _ (text keys : List ℕ) (p : ℕ) (w : Name) where
-  pub none-opened : is_opened p w (opened_in text keys 0) ≡ false
-  unfolding is_opened opened_in any
-  none-opened = refl
+  abbrev here : ℕ → Bool
+  here k = is_block p w (block_in text k)
 
-  pub not-this : (i : ℕ) → is_opened p w (opened_in text keys i) ≡ false → is_block p w (block_in text (get_or keys i 0)) ≡ false
-      → is_opened p w (opened_in text keys (i + 1)) ≡ false
+  -- whether one of the first n keys is that of the block
+  pub any-opened : (n : ℕ) → n ≤ length keys → list_any (λ (k : ℕ). is_block p w (block_in text k)) (take n keys) ≡ is_opened p w (opened_in text keys n)
   unfolding is_opened opened_in any
-  not-this i h e = rw (add-one, e) h
-
-  pub this-one : (n i : ℕ) → i < n → is_block p w (block_in text (get_or keys i 0)) ≡ true → true ≡ is_opened p w (opened_in text keys n)
-  unfolding is_opened opened_in any
-  this-one zero i h e = absurd (omega arith)
-  this-one (suc n) i h e = either (ltb i n)
-      (λ q. let last = is_block p w (block_in text (get_or keys n 0)) in
-      sym (ap (λ (b : Bool). last || b) (sym (this-one n i (ltb-true i n q) e)) ∙ or-true last))
-      (λ q. let place : i ≡ n = omega (arith, ltb-false i n q) in
-      let here : is_block p w (block_in text (get_or keys n 0)) ≡ true = subst (λ (j : ℕ). is_block p w (block_in text (get_or keys j 0)) ≡ true) place e in
-      sym (ap (λ (b : Bool). b || any (is_block p w) (opened_in text keys n)) here))
-
-  pub all_seen : (n i : ℕ) → i ≡ n → is_opened p w (opened_in text keys i) ≡ false → false ≡ is_opened p w (opened_in text keys n)
-  all_seen n i e h = sym (subst (λ (j : ℕ). is_opened p w (opened_in text keys j) ≡ false) e h)
+  any-opened zero h = refl
+  any-opened (suc n) h =
+      ap (list_any here) (take-suc keys n 0 (omega arith)) ∙ list_any-append here (take n keys) (get_or keys n 0 ∷ [])
+      ∙ or_comm (list_any here (take n keys)) (here (get_or keys n 0) || false)
+      ∙ ap₂ (λ (a b : Bool). a || b) (or-false (here (get_or keys n 0))) (any-opened n (omega arith))
 
 -- ---- one more
 

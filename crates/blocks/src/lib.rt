@@ -42,7 +42,7 @@ fn is_block(text: &[u8], k: u64, parent: usize, name: &[u8]) -> bool
     }
     let at = (k / PLACE) as usize;
     let len = (k / LENGTH % LIMIT) as usize;
-    symbols::same_bytes(name, byte_slices::part(text, at, len))
+    name == byte_slices::part(text, at, len)
 }
 
 // Whether one of the first count blocks is the one of a name inside a block.
@@ -50,14 +50,9 @@ fn is_opened(text: &[u8], keys: &[u64], count: usize, parent: usize, name: &[u8]
     requires { count ≤ length keys.now }
     ensures { result ≡ is_opened parent name.now (opened_in text.now keys.now count) }
 {
-    let mut i: usize = 0;
-    while i < count {
-        if is_block(text, keys[i], parent, name) {
-            return true;
-        }
-        i += 1;
-    }
-    false
+    keys[..count]
+        .iter()
+        .any(|key| is_block(text, *key, parent, name))
 }
 
 // The hash of a block: of the bytes of its name, and after them of the number of the block around it.
@@ -65,10 +60,8 @@ fn hash_of(parent: usize, name: &[u8]) -> usize
     ensures { (result ≡ hash_of parent name.now) × (result < 4294967296) }
 {
     let mut hash: usize = 0;
-    let mut i: usize = 0;
-    while i < name.len() {
-        hash = bloom_filter::hash_step(hash, little_endian::wide(name[i]));
-        i += 1;
+    for byte in name {
+        hash = bloom_filter::hash_step(hash, little_endian::wide(*byte));
     }
     bloom_filter::hash_step(hash, parent)
 }
@@ -78,7 +71,7 @@ fn hash_of(parent: usize, name: &[u8]) -> usize
 fn insert_in_filter(filter: &mut [u64], parent: usize, name: &[u8]) -> bool
     ensures { Marks filter.old filter.new (hash_of parent name.now) result }
 {
-    if filter.len() == 0 {
+    if filter.is_empty() {
         return true;
     }
     bloom_filter::insert(filter, hash_of(parent, name))

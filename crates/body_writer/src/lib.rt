@@ -58,14 +58,9 @@ pub fn write_sets(sets: &[u8; FAMILY_BYTES], many: usize, width: usize, table: &
     ensures { WritesSets sets.now many width table.old at table.new }
 {
     let mut to = at;
-    let mut a = 0;
-    while a < Attribute::MAX {
-        if many <= a {
-            return;
-        }
+    for a in 0..many.min(Attribute::MAX) {
         let set = byte_slices::part(sets, Type::SET_BYTES * a, Type::SET_BYTES);
         to = append(set, width, table, to);
-        a += 1;
     }
 }
 
@@ -93,7 +88,7 @@ fn grant_row(
         return;
     }
     let row = at + start;
-    let reach = byte_slices::least(width, body - start);
+    let reach = width.min(body - start);
     if to < Unit::ATTRIBUTE {
         set_rows::insert_at(table, row, reach, to as usize);
         return;
@@ -119,11 +114,9 @@ fn grant_line(
         (set_of 64 (value_of from_sets.now from)) (set_of 64 (value_of to_sets.now to))) }
 {
     let thing = from as usize;
-    if thing < Type::MAX {
-        if width <= Type::SET_BYTES {
-            grant_row(thing, to, to_sets, table, at, size, width);
-            return;
-        }
+    if thing < Type::MAX && width <= Type::SET_BYTES {
+        grant_row(thing, to, to_sets, table, at, size, width);
+        return;
     }
     let mut rows = [0u8; Type::SET_BYTES];
     set_code::reference(from, from_sets, &mut rows);

@@ -1,4 +1,6 @@
 -- THE PLACE OF A REFUSAL 1 TO 9 IS AT MOST 65,535: it lies in the text, or at its end. Assumes nothing.
+use Rattle.lexer.specs.declared.ScanFault.{ScanFault}
+use Rattle.std.specs.Prelude.{Ok, Err}
 use Prim.Native.Nat.{ℕ, ◌+◌, ◌≤◌}
 use native.Mathlib.Omega.{arith}
 use mathlib.Core.Path.{◌≡◌, refl, sym, ap, subst}
@@ -8,11 +10,10 @@ use mathlib.Core.Option.{Option, none, some}
 use lib.Dec.{eqb, ltb}
 use lib.ListN.{length, take, drop}
 use borrow.Author.Tests.{ltb-false}
-use Rattle.lexer.specs.declared.Scanned.{Scanned}
 use Rattle.lexer.specs.declared.ByteClass.{ByteClass}
 use Rattle.lexer.specs.declared.ByteClass.TheVariants.{Blank, LineFeed, Comment, Open, Close, Letter, Digit, Dot, Wrong}
 use Rattle.lexer.specs.Class.{class_of, in_word, ends_comment, is_name}
-use Rattle.lexer.specs.Scan.{Mode, between, in_comment, in_name, State, going, stopped, max_text, max_level, step_between, step, closed_at, end_of, scan_from, scan}
+use Rattle.lexer.specs.Scan.{Mode, between, in_comment, in_name, State, going, stopped, max_text, max_level, step_between, step, closed_at, end_of, scan_from, scan, Scanned, no_fault}
 use Rattle.lexer.proofs.Clean.{clean-short}
 use Rattle.lexer.specs.Forms.{forms_of}
 use Rattle.policy.specs.Basics.{any, ◌>>=◌, given, each, All}
@@ -67,14 +68,14 @@ step_in text (in_name first len) level at k h =
     (either (is_name (take len (drop first text))) (step_between level at k) (stopped first) (at + 1) (between_in level at k) (omega arith))
 
 abbrev place_in : Scanned → ℕ
-place_in Scanned.Clean = 0
-place_in Scanned.TooLong = 0
-place_in (Scanned.Wrong place) = place
+place_in (Ok _) = 0
+place_in (Err ScanFault.TooLong) = 0
+place_in (Err (ScanFault.Wrong place)) = place
 
 closed_in : (level at : ℕ) → place_in (closed_at level at) ≤ at
 closed_in level at = by (eqb level 0)
   where
-    by : (b : Bool) → place_in (cond b Scanned.Clean (Scanned.Wrong at)) ≤ at
+    by : (b : Bool) → place_in (cond b no_fault (Err (ScanFault.Wrong at))) ≤ at
     by true = omega arith
     by false = omega arith
 
@@ -83,7 +84,7 @@ end-in text between level at h = closed_in level at
 end-in text in_comment level at h = closed_in level at
 end-in text (in_name first len) level at h = by (is_name (take len (drop first text)))
   where
-    by : (b : Bool) → place_in (cond b (closed_at level at) (Scanned.Wrong first)) ≤ at
+    by : (b : Bool) → place_in (cond b (closed_at level at) (Err (ScanFault.Wrong first))) ≤ at
     by true = closed_in level at
     by false = h
 
@@ -95,17 +96,17 @@ scan-from-in text (b ∷ bs) (stopped place) at h = omega arith
 scan-from-in text (b ∷ bs) (going m level) at h = omega (arith, scan-from-in text bs (step text m level at (class_of b)) (at + 1) (step_in text m level at (class_of b) h))
 
 -- the place of a fault 2 is in the text, or at its end
-wrong-in : (text : List ℕ) (at : ℕ) → scan text ≡ Scanned.Wrong at → at ≤ max_text
+wrong-in : (text : List ℕ) (at : ℕ) → scan text ≡ Err (ScanFault.Wrong at) → at ≤ max_text
 unfolding scan
 wrong-in text at e = by (ltb max_text (length text)) refl e
   where
-    by : (b : Bool) → ltb max_text (length text) ≡ b → cond b Scanned.TooLong (scan_from text text (going between 0) 0) ≡ Scanned.Wrong at → at ≤ max_text
+    by : (b : Bool) → ltb max_text (length text) ≡ b → cond b (Err ScanFault.TooLong) (scan_from text text (going between 0) 0) ≡ Err (ScanFault.Wrong at) → at ≤ max_text
     by true l k = let z : ◌≡◌ {A = ℕ} 0 1 = cc in absurd (omega arith)
     by false l k = omega (arith, ltb-false max_text (length text) l, scan-from-in text text (going between 0) 0 tt, ap place_in k)
 
 -- FAULTS 3 TO 7
 
-clean-in : (text : List ℕ) (at : ℕ) → scan text ≡ Scanned.Clean → OpensAt text at → at ≤ max_text
+clean-in : (text : List ℕ) (at : ℕ) → scan text ≡ no_fault → OpensAt text at → at ≤ max_text
 clean-in text at e o = omega (arith, opens-within text at o, clean-short text e)
 
 pub read-place : (text : List ℕ) (n at : ℕ) → read_policy text ≡ refused n at → at ≤ max_text

@@ -213,7 +213,11 @@ put_back t o w start end F s p q keeps e =
     cut-end : (e n : ℕ) → e ≡ min (o + w) (length t) → n ≡ min w (length t - o) → min e (length t) ≡ min (o + n) (length t)
     cut-end e n a b = omega arith
 
--- ---- a part of a set is a set, with its numbers counted from the part's start
+-- bytes that take the place of as many are put there
+pub put_over : (t : List ℕ) (at len : ℕ) {s p : List ℕ} → s ≡ p → length p ≡ len → put_mid at (at + len - at) t s ≡ put t at p
+unfolding put
+put_over t at len e long =
+    ap₂ (λ (a b : List ℕ). take at t ++ (a ++ b)) e (Post-is at (at + len) t (omega arith) ∙ ap (λ (n : ℕ). drop (at + n) t) (sym long))
 
 -- ---- parts of parts, and their first bytes
 
@@ -261,5 +265,3 @@ drop-part t o w n = drop-take n w (drop o t) ∙ rw (drop-drop n o t)
 pub part_join : (t : List ℕ) (o v w : ℕ) → part t o (v + w) ≡ part t o v ++ part t (o + v) w
 unfolding part
 part_join t o v w = take-add v w (drop o t) ∙ rw (drop-drop v o t)
-
--- ---- comparing

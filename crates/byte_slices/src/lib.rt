@@ -6,35 +6,37 @@ ghost use Rattle.std.specs.Prelude.{◌≡◌, ◌+◌, ◌-◌, ◌≤◌, min,
 ghost use Rattle.byte_slices.specs.Parts as parts;
 ghost use Rattle.byte_slices.specs.Parts.{put};
 
+use std::ops::Range;
+
+// Where bytes stand in a slice: the place of the first, and how many there are.
+#[derive(Clone, Copy, PartialEq, Eq)]
+pub struct Span {
+    pub start: usize,
+    pub length: usize,
+}
+
 // The byte at a place, and 0 past the end.
 pub fn byte(set: &[u8], at: usize) -> u8
     ensures { result ≡ get_or set.now at 0 }
 {
-    if at < set.len() { set[at] } else { 0 }
+    set.get(at).copied().unwrap_or(0)
 }
 
-// The lesser of two numbers.
-pub fn least(a: usize, b: usize) -> usize
-    ensures { result ≡ min a b }
+// Where the w bytes at offset o stand in a slice of len bytes, or as many of them as it has. With a sum that saturates
+// this would be one line, but each question that is asked of a table would take a tenth longer.
+pub fn range_of(o: usize, w: usize, len: usize) -> Range<usize>
+    ensures start { result.start ≡ min o len }
+    ensures end { result.end ≡ min (o + w) len }
 {
-    if a < b { a } else { b }
-}
-
-// Where w bytes at offset o end, in a slice of len bytes.
-pub fn end_of(o: usize, w: usize, len: usize) -> usize
-    ensures { result ≡ min (o + w) len }
-{
-    let start = least(o, len);
-    start + least(w, len - start)
+    let start = o.min(len);
+    start..start + w.min(len - start)
 }
 
 // The w bytes at offset o, or as many of them as the table has.
 pub fn part(table: &[u8], o: usize, w: usize) -> &[u8]
     ensures { result.now ≡ parts.part table.now o w }
 {
-    let start = least(o, table.len());
-    let end = end_of(o, w, table.len());
-    &table[start..end]
+    &table[range_of(o, w, table.len())]
 }
 
 // Copies the len bytes of text from a place on to a place of the table.
@@ -42,9 +44,5 @@ pub fn copy(table: &mut [u8], at: usize, text: &[u8], from: usize, len: usize)
     requires { (at + len ≤ length table.old) × (len ≤ length text.now - from) }
     ensures { table.new ≡ put table.old at (parts.part text.now from len) }
 {
-    let mut i: usize = 0;
-    while i < len {
-        table[at + i] = text[from + i];
-        i += 1;
-    }
+    table[at..at + len].copy_from_slice(part(text, from, len));
 }

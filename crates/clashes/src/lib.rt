@@ -13,7 +13,7 @@ ghost use Rattle.code_reader.specs.Reading.{found_of};
 ghost use Rattle.code_reader.specs.AttributeSets.{final_sets};
 ghost use Rattle.clashes.specs.Clashes.{shares_of, clashes_of, move_at, Codes, Segment, AllTransitions};
 
-use code_reader::{CodedTransition, FAMILY_BYTES, Found};
+use code_reader::{CodedTransition, FAMILY_BYTES};
 use policy::Type;
 use statement_code::Unit;
 
@@ -55,6 +55,7 @@ fn share(sets: &[u8; FAMILY_BYTES], x: u16, y: u16) -> bool
 }
 
 // Whether two transitions share a role, a type and the class, and their new roles differ.
+#[tactic(auto, unfolding(crate::specs::Clashes::clashes_of))]
 fn clash_between(
     a: CodedTransition,
     b: CodedTransition,
@@ -63,16 +64,10 @@ fn clash_between(
 ) -> bool
     ensures { result ≡ clashes_of role_sets.now type_sets.now a b }
 {
-    if a.class != b.class {
-        return false;
-    }
-    if a.new == b.new {
-        return false;
-    }
-    if share(role_sets, a.roles, b.roles) {
-        return share(type_sets, a.types, b.types);
-    }
-    false
+    a.class == b.class
+        && a.new != b.new
+        && share(role_sets, a.roles, b.roles)
+        && share(type_sets, a.types, b.types)
 }
 
 // Whether a transition clashes with the one that is at a place.
@@ -122,7 +117,7 @@ fn first_clash(
     code: &[u16],
     role_sets: &[u8; FAMILY_BYTES],
     type_sets: &[u8; FAMILY_BYTES],
-) -> Found
+) -> Option<usize>
     ensures { (p part : Policy) → Accepted p → Segment p part → code.now ≡ code_of part
         → role_sets.now ≡ final_sets p statements.roles → type_sets.now ≡ final_sets p statements.types
         → found_of result ≡ faults.first_clash p [] (transitions part) }
@@ -137,12 +132,12 @@ fn first_clash(
                 role_sets,
                 type_sets,
             ) {
-                return Found::At(code_reader::unit(code, at, 1) as usize);
+                return Some(code_reader::unit(code, at, 1) as usize);
             }
         }
         at = next;
     }
-    Found::Nowhere
+    None
 }
 
 // Where the first transition is, or the end of the code.
@@ -162,7 +157,11 @@ fn first_transition(code: &[u16]) -> usize
 
 // Fault 9: the first transition that clashes with an earlier one. The earlier code is read again for each transition,
 // so the code before the first is left out.
-pub fn clash(code: &[u16], role_sets: &[u8; FAMILY_BYTES], type_sets: &[u8; FAMILY_BYTES]) -> Found
+pub fn clash(
+    code: &[u16],
+    role_sets: &[u8; FAMILY_BYTES],
+    type_sets: &[u8; FAMILY_BYTES],
+) -> Option<usize>
     ensures { (p : Policy) → Accepted p → code.now ≡ code_of p
         → role_sets.now ≡ final_sets p statements.roles → type_sets.now ≡ final_sets p statements.types
         → found_of result ≡ faults.clash p }

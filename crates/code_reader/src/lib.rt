@@ -15,26 +15,20 @@ use statement_code::Unit;
 // The bytes of the sets of a family's attributes.
 pub const FAMILY_BYTES: usize = Attribute::MAX * Type::SET_BYTES;
 
-// The place of a fault, or none.
-#[derive(Clone, Copy)]
-pub enum Found {
-    At(usize),
-    Nowhere,
-}
-
 // ---- the code
+
+// The code from a place on. Past the end there is none.
+pub fn rest(code: &[u16], at: usize) -> &[u16]
+    ensures { result.now ≡ drop at code.now }
+{
+    &code[at.min(code.len())..]
+}
 
 // The unit so many after a place, and 0 past the end.
 pub fn unit(code: &[u16], at: usize, k: usize) -> u16
     ensures { result ≡ get_or code.now (at + k) 0 }
 {
-    if code.len() <= at {
-        return 0;
-    }
-    if code.len() - at <= k {
-        return 0;
-    }
-    code[at + k]
+    rest(code, at).get(k).copied().unwrap_or(0)
 }
 
 // Where the operands of a statement end: at the next tag, or at the end of the code. Tags are numbered from
@@ -42,24 +36,19 @@ pub fn unit(code: &[u16], at: usize, k: usize) -> u16
 fn statement_end(code: &[u16], from: usize) -> usize
     ensures { result ≡ from + length (operands_of (drop from code.now)) }
 {
-    let mut at = from;
-    while at < code.len() {
-        if Unit::DECLARE_ATTRIBUTE <= code[at] {
-            return at;
-        }
-        at += 1;
-    }
-    at
+    let ahead = rest(code, from);
+    let operands = ahead
+        .iter()
+        .position(|unit| Unit::DECLARE_ATTRIBUTE <= *unit)
+        .unwrap_or(ahead.len());
+    from + operands
 }
 
 // Whether a tag is that of a relation.
 fn is_relation(tag: u16) -> bool
     ensures { result ≡ is_relation tag }
 {
-    if tag < Unit::RELATION {
-        return false;
-    }
-    tag < Unit::TRANSITION
+    Unit::RELATION <= tag && tag < Unit::TRANSITION
 }
 
 // Where the statement after the one at a place is. A relation has two operands and a transition four, so that

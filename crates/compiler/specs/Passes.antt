@@ -1,7 +1,8 @@
 -- What each pass leaves for the next. Assumes nothing.
-use Rattle.std.specs.Prelude.{◌≡◌, List, [], ℕ, length}
-use Rattle.lexer.specs.declared.Scanned.{Scanned}
-use Rattle.lexer.specs.Scan.{scan}
+use Rattle.std.specs.Prelude.{◌≡◌, List, [], ℕ, length, Result, Ok, Err}
+use Rattle.lexer.specs.Scan.{scan, no_fault}
+use Rattle.policy.specs.declared.FaultAt.{FaultAt}
+use Rattle.policy.specs.Answers.{fault_number}
 use Rattle.policy.specs.Statements.{types, Policy}
 use Rattle.policy.specs.Meaning.{count_in}
 use Rattle.policy.specs.Reading.{Read, policy, refused}
@@ -15,16 +16,17 @@ use Rattle.statement_reader.specs.Memory.{Memory, memory, Holds}
 use Rattle.table_writer.specs.declared.Sizes.{Sizes}
 use Rattle.table_writer.specs.TableSizes.{SizesOf}
 use Rattle.table_writer.specs.TableBodies.{Sources, Copied}
-use Rattle.compiler.specs.declared.Passed.{Passed}
 
--- what compiling gives, as an enum of src/
-abbrev pub passed_as : Compiled → Passed
-passed_as (compiles i) = Passed.Written (length (encode newest i))
-passed_as (refuses n at) = Passed.Refused n at
+-- the passes answer what compiling gives: the table's length, or a fault by its number and place
+abbrev pub Answers : Compiled → Result ℕ FaultAt → Type 0
+Answers (compiles i) (Ok n) = n ≡ length (encode newest i)
+Answers (compiles i) (Err f) = ⊥
+Answers (refuses n at) (Ok m) = ⊥
+Answers (refuses n at) (Err f) = (fault_number f.fault ≡ n) × (f.place ≡ at)
 
 -- the answer and the lent memory are those of what compiling gives: "On refusal the lent memory is unchanged. On success bytes past the table are unchanged"
-pub record Gives (c : Compiled) (before after : List ℕ) (r : Passed) : Type 0 where
-  pub answer : r ≡ passed_as c
+pub record Gives (c : Compiled) (before after : List ℕ) (r : Result ℕ FaultAt) : Type 0 where
+  pub answer : Answers c r
   pub memory : after ≡ after_of c before
 
 -- what is read and passes 8 and 9 is fitted into the lent memory: "10"
@@ -36,19 +38,19 @@ pub record Measures (progress : Progress) (symbols : List ℕ) (r : Sizes) : Typ
   pub says : (p : Policy) (lent now : Memory) → now.symbols ≡ symbols → Holds p [] lent now progress → SizesOf p r
 
 -- "lent table memory shorter than the table", or the table
-pub record Fits (s : Sizes) (symbols code constraints rows user_sets role_sets type_sets before after : List ℕ) (r : Passed) : Type 0 where
+pub record Fits (s : Sizes) (symbols code constraints rows user_sets role_sets type_sets before after : List ℕ) (r : Result ℕ FaultAt) : Type 0 where
   pub says : (p : Policy) → Sources p code user_sets role_sets type_sets → SizesOf p s → Copied p s symbols constraints rows
       → Gives (fitted (length before) (image_of p)) before after r
 
 -- "then 8; 9; 10", of the statements whose code is given
-pub record ResolvesAndWrites (s : Sizes) (total : ℕ) (symbols code constraints rows before after : List ℕ) (r : Passed) : Type 0 where
+pub record ResolvesAndWrites (s : Sizes) (total : ℕ) (symbols code constraints rows before after : List ℕ) (r : Result ℕ FaultAt) : Type 0 where
   pub says : (p : Policy) → Accepted p → code ≡ code_of p → SizesOf p s → total ≡ count_in p types
       → Copied p s symbols constraints rows → Gives (compiled_by (accept p) (length before)) before after r
 
 -- the same of what the parser left
-pub record CompilesStatements (progress : Progress) (symbols code constraints rows before after : List ℕ) (r : Passed) : Type 0 where
+pub record CompilesStatements (progress : Progress) (symbols code constraints rows before after : List ℕ) (r : Result ℕ FaultAt) : Type 0 where
   pub says : (p : Policy) (lent : Memory) → Holds p [] lent (memory symbols code constraints rows) progress → Gives (compiled_by (accept p) (length before)) before after r
 
 -- "then statements in text order, each tried for 3, 4, 5, 6, 7; then 8; 9; 10"
-pub record CompilesClean (text before after : List ℕ) (r : Passed) : Type 0 where
-  pub says : scan text ≡ Scanned.Clean → Gives (compiled (of_text text) (length before)) before after r
+pub record CompilesClean (text before after : List ℕ) (r : Result ℕ FaultAt) : Type 0 where
+  pub says : scan text ≡ no_fault → Gives (compiled (of_text text) (length before)) before after r

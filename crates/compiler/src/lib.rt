@@ -4,25 +4,15 @@
 
 ghost use Rattle.std.specs.Prelude.{◌≡◌, cond, ◌≤◌, eqb, length, take};
 ghost use Rattle.policy.specs.Outcome.{of_text, compiled, line_at, refusal_of};
-ghost use Rattle.policy.specs.Answers.{refusal_in};
+ghost use Rattle.policy.specs.Answers.{fault_number, refusal_in};
 ghost use Rattle.compiler.specs.Passes.{Gives, Measures, Fits, ResolvesAndWrites, CompilesStatements, CompilesClean};
 ghost use Rattle.compiler.specs.Promise.{Compiles};
 
 use code_reader::FAMILY_BYTES;
 use declarations::SYMBOL_BYTES;
-use lexer::{Scanned, Text};
-use parser::Parsed;
-use policy::{Compiling, Refusal, Sort};
-use resolver::Resolved;
+use policy::{Fault, FaultAt, Refusal, Sort};
 use statement_reader::{CODE_UNITS, Progress, RECORD_BYTES, ROW_BYTES};
 use table_writer::Sizes;
-
-// What the passes come to: the length of the table that was written, or a fault's number and place.
-#[derive(Clone, Copy)]
-enum Passed {
-    Written { length: usize },
-    Refused { number: usize, place: usize },
-}
 
 // The sizes of the table of the statements that were read.
 fn sizes_of(progress: Progress, symbols: &[u8]) -> Sizes
@@ -53,14 +43,7 @@ fn units(code: &[u16], end: usize) -> &[u16]
     &code[..end]
 }
 
-// A fault ends the passes.
-fn stop(number: usize, at: usize) -> Passed
-    ensures { result ≡ Passed.Refused number at }
-{
-    Passed::Refused { number, place: at }
-}
-
-// Fault 10, or the table is written.
+// Fault 10, or the table is written; its length is answered.
 fn write_fitting(
     sizes: Sizes,
     symbols: &[u8],
@@ -71,13 +54,16 @@ fn write_fitting(
     role_sets: &[u8; FAMILY_BYTES],
     type_sets: &[u8; FAMILY_BYTES],
     table: &mut [u8],
-) -> Passed
+) -> Result<usize, FaultAt>
     ensures { Fits sizes symbols.now code.now constraints.now rows.now
         user_sets.now role_sets.now type_sets.now table.old table.new result }
 {
     let length = table_writer::needed(sizes);
     if table.len() < length {
-        return stop(Refusal::MEMORY_TOO_SHORT, length);
+        return Err(FaultAt {
+            fault: Fault::MemoryTooShort,
+            place: length,
+        });
     }
     table_writer::write_table(
         sizes,
@@ -90,7 +76,7 @@ fn write_fitting(
         type_sets,
         table,
     );
-    Passed::Written { length }
+    Ok(length)
 }
 
 // Faults 8 and 9, then the table with the final sets.
@@ -102,13 +88,13 @@ fn resolve_and_write(
     constraints: &[u8],
     rows: &[u8],
     table: &mut [u8],
-) -> Passed
+) -> Result<usize, FaultAt>
     ensures { ResolvesAndWrites sizes types symbols.now code.now constraints.now rows.now table.old table.new result }
 {
     let mut user_sets = [0u8; FAMILY_BYTES];
     let mut role_sets = [0u8; FAMILY_BYTES];
     let mut type_sets = [0u8; FAMILY_BYTES];
-    let resolved = resolver::resolve(
+    resolver::resolve(
         code,
         sizes.users,
         sizes.roles,
@@ -116,22 +102,18 @@ fn resolve_and_write(
         &mut user_sets,
         &mut role_sets,
         &mut type_sets,
-    );
-    match resolved {
-        Resolved::Cycle(place) => stop(Refusal::CYCLE, place),
-        Resolved::Clash(place) => stop(Refusal::CLASH, place),
-        Resolved::NoFault => write_fitting(
-            sizes,
-            symbols,
-            code,
-            constraints,
-            rows,
-            &user_sets,
-            &role_sets,
-            &type_sets,
-            table,
-        ),
-    }
+    )?;
+    write_fitting(
+        sizes,
+        symbols,
+        code,
+        constraints,
+        rows,
+        &user_sets,
+        &role_sets,
+        &type_sets,
+        table,
+    )
 }
 
 // Statements without fault 3 to 7.
@@ -142,7 +124,7 @@ fn compile_statements(
     constraints: &[u8; RECORD_BYTES],
     rows: &[u8; ROW_BYTES],
     table: &mut [u8],
-) -> Passed
+) -> Result<usize, FaultAt>
     ensures { CompilesStatements progress symbols.now code.now constraints.now rows.now
         table.old table.new result }
 {
@@ -153,64 +135,55 @@ fn compile_statements(
 }
 
 // A text without fault 1 or 2: its statements are read, with faults 3 to 7.
-fn compile_clean(text: &[u8], table: &mut [u8]) -> Passed
+fn compile_clean(text: &[u8], table: &mut [u8]) -> Result<usize, FaultAt>
     ensures { CompilesClean text.now table.old table.new result }
 {
     let mut symbols = [0u8; SYMBOL_BYTES];
     let mut code = [0u16; CODE_UNITS];
     let mut constraints = [0u8; RECORD_BYTES];
     let mut rows = [0u8; ROW_BYTES];
-    let parsed = parser::parse(text, &mut symbols, &mut code, &mut constraints, &mut rows);
-    match parsed {
-        Parsed::Accepted(progress) => {
-            compile_statements(progress, &symbols, &code, &constraints, &rows, table)
-        }
-        Parsed::Refused { number, place } => stop(number, place),
-    }
+    let progress = parser::parse(text, &mut symbols, &mut code, &mut constraints, &mut rows)?;
+    compile_statements(progress, &symbols, &code, &constraints, &rows, table)
 }
 
 // The passes in order: faults 1 and 2 first.
-fn pass(text: &[u8], table: &mut [u8]) -> Passed
+fn pass(text: &[u8], table: &mut [u8]) -> Result<usize, FaultAt>
     ensures { Gives (compiled (of_text text.now) (length table.old)) table.old table.new result }
 {
-    let scanned = lexer::scan(text);
-    match scanned {
-        Scanned::TooLong => stop(Refusal::TEXT_TOO_LONG, Text::MAX),
-        Scanned::Wrong(place) => stop(Refusal::WRONG_BYTE, place),
-        Scanned::Clean => compile_clean(text, table),
-    }
+    lexer::scan(text)?;
+    compile_clean(text, table)
 }
 
 // The line of a fault: all but fault 10, whose place is a length, are placed in the text.
-fn line_of(text: &[u8], number: usize, place: usize) -> usize
-    ensures { ((number ≡ 10 → ⊥) → place ≤ 65535) → result ≡ cond (eqb number 10) 0 (line_at text.now place) }
+fn line_of(text: &[u8], found: FaultAt) -> usize
+    ensures { ((fault_number found.fault ≡ 10 → ⊥) → found.place ≤ 65535)
+        → result ≡ cond (eqb (fault_number found.fault) 10) 0 (line_at text.now found.place) }
 {
-    if number == Refusal::MEMORY_TOO_SHORT {
-        return 0;
+    match found.fault {
+        Fault::MemoryTooShort => 0,
+        _ => lines::line_of(text, found.place),
     }
-    lines::line_of(text, place)
 }
 
 // Every refusal is made here.
-fn refusal(text: &[u8], number: usize, place: usize) -> Refusal
-    ensures { ((number ≡ 10 → ⊥) → place ≤ 65535) → refusal_in result ≡ refusal_of (of_text text.now) number place }
+fn refusal(text: &[u8], found: FaultAt) -> Refusal
+    ensures { ((fault_number found.fault ≡ 10 → ⊥) → found.place ≤ 65535)
+        → refusal_in result ≡ refusal_of (of_text text.now) (fault_number found.fault) found.place }
 {
-    let line = line_of(text, number, place);
     Refusal {
-        number,
-        place,
-        line,
+        fault: found.fault,
+        place: found.place,
+        line: line_of(text, found),
     }
 }
 
 // Compiles a text: its table is at the start of the lent memory, or a refusal 1 to 10 is answered and the lent memory
 // is as it was.
-pub fn compile(text: &[u8], table: &mut [u8]) -> Compiling
+pub fn compile(text: &[u8], table: &mut [u8]) -> Result<usize, Refusal>
     ensures { Compiles (of_text text.now) table.old table.new result }
 {
-    let passed = pass(text, table);
-    match passed {
-        Passed::Written { length } => Compiling::Accepted { length },
-        Passed::Refused { number, place } => { Compiling::Refused(refusal(text, number, place)) }
+    match pass(text, table) {
+        Ok(length) => Ok(length),
+        Err(found) => Err(refusal(text, found)),
     }
 }

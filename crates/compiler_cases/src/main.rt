@@ -4,9 +4,8 @@
 // with a case that is cut short or longer than the memory here.
 #![tactic(auto)]
 
-ghost use Rattle.std.specs.Prelude.{◌≡◌, ◌<◌, length};
+ghost use Rattle.std.specs.Prelude.{◌≡◌, length};
 
-use corpus::Next;
 use std::io;
 use std::io::{Read, Write};
 
@@ -30,18 +29,12 @@ fn prepare(memory: &mut [u8])
     }
 }
 
-fn wide(x: u8) -> u32
-    ensures { result < 256 }
-{
-    x as u32
-}
-
 // Adler-32: two sums modulo 65,521, the second of the first.
 fn checksum(memory: &[u8]) -> usize {
     let mut a: u32 = 1;
     let mut b: u32 = 0;
     for byte in memory {
-        a = (a + wide(*byte)) % 65_521;
+        a = (a + u32::from(*byte)) % 65_521;
         b = (b + a) % 65_521;
     }
     65_536 * (b as usize) + a as usize
@@ -88,10 +81,10 @@ fn main(rt: HostRuntime) -> io::Result<()> {
     let mut texts = [0u8; TEXT_MAX];
     let mut memory = [0u8; LENT_MAX];
     for _ in 0..CASES {
-        let Next::Number(lent) = corpus::length(&mut input)? else {
+        let Some(lent) = corpus::length(&mut input)? else {
             break;
         };
-        let Next::Number(len) = corpus::length(&mut input)? else {
+        let Some(len) = corpus::length(&mut input)? else {
             break;
         };
         if !case(&mut input, &mut out, &mut texts, len, &mut memory, lent)? {

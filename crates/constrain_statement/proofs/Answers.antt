@@ -5,6 +5,8 @@ use mathlib.Core.Option.{Option, none, some, some-injective}
 use Prim.Native.Nat.{ℕ, ◌+◌, ◌-◌, ◌<◌}
 use native.Mathlib.Omega.{arith}
 use types.Run.{OneOf}
+use Rattle.std.specs.Prelude as prelude
+use Rattle.std.specs.Prelude.{None, Some, Result, Err}
 use Rattle.lexer.specs.Scan.{max_level}
 use Rattle.lexer.specs.Forms.{Forms, closed, part, frames_at, trim}
 use Rattle.lexer.proofs.Trim.{starts_part}
@@ -12,7 +14,6 @@ use Rattle.policy.specs.Basics.{Name, ◌>>=◌}
 use Rattle.policy.specs.Statements.{Reference, Constraint, sides_e, name_e, not_e, and_e, or_e, Written, Statement, constrain, size, need}
 use Rattle.policy.specs.Maxima.{max_constraints, max_rows}
 use Rattle.policy.specs.Words.{two_sides}
-use Rattle.policy.specs.Grammar.{expression_in}
 use Rattle.policy.specs.Names.{refer, Environment}
 use Rattle.policy.specs.Reading.{refer_e, resolved}
 use Rattle.policy.specs.Encode.{constraint_bytes}
@@ -21,18 +22,19 @@ use Rattle.scopes.specs.Symbols.{Symbols}
 use Rattle.items.specs.Looks.{item_at, row_end}
 use Rattle.items.specs.declared.Item.{Item}
 use Rattle.items.proofs.Items.{Looked, by_part}
-use Rattle.constraint_writer.specs.ExpressionWrites.{Writes}
 use Rattle.constraint_writer.specs.declared.RowsWritten.{RowsWritten}
-use Rattle.constraint_writer.proofs.Answers.{undeclared, declared}
-use Rattle.constraint_writer.proofs.WrittenRows.{told}
+use Rattle.constraint_writer.proofs.Answers.{declared}
+use Rattle.constraint_writer.proofs.WrittenRows.{unresolved}
 use Rattle.constrain_statement.specs.ClassPermissions.{numbers_of, ScopeForm, Scoped, Scopes}
 use Rattle.constrain_statement.specs.ConstrainWrites.{record_with, Answers, WritesConstrain}
+use Rattle.constrain_statement.specs.Expressions.{IsExpression, WritesExpression}
 use Rattle.constrain_statement.specs.Limits.{Records, Admits}
-use Rattle.constrain_statement.specs.declared.Constrained.{Constrained}
+use Rattle.policy.specs.declared.Fault.{Fault}
 use Rattle.constrain_statement.specs.declared.ClassAndPermissions.{ClassAndPermissions}
 use Rattle.constrain_statement.proofs.Masks.{tag}
 use Rattle.constrain_statement.proofs.Shapes.{Shape, shape}
 use Rattle.constrain_statement.proofs.ClassLaws.{not_there, no_part, same_parts}
+use Rattle.constrain_statement.proofs.ExpressionLaws.{told}
 use Rattle.constrain_statement.proofs.LimitLaws.{admitted}
 
 -- ---- the stack need of an expression does not change where its names are resolved
@@ -100,11 +102,10 @@ module _ {t : List ℕ} {at p j : ℕ} (l : Looked t at (Item.Open p j)) {w : Wr
   part-behind : (q : ℕ) → row_end t j ≡ q → trim (frames_at t q).here levels ≡ part s.expression-place s.expression closed
   part-behind q e = subst (λ (o : ℕ). trim (frames_at t o).here levels ≡ part s.expression-place s.expression closed) e in_parts.1
 
-  expression-there : {q x z : ℕ} → row_end t j ≡ q → Looked t q (Item.Open x z) → expression_in two_sides (trim (frames_at t z).here (max_level - 2)) ≡ some s.body
-  expression-there {q} {x} {z} e l2 =
-      ap (expression_in two_sides) (same_parts (sym (by_part (λ f. f) levels (row_end t z) l2 refl (λ z. omega arith)) ∙ part-behind q e)).0 ∙ s.expressed
+  expression-there : {q : ℕ} → row_end t j ≡ q → IsExpression two_sides t q s.body
+  expression-there {q} e = record { place = s.expression-place; inner = s.expression; row = part-behind q e; form = s.expressed }
 
-scope-told : {t : List ℕ} {at : ℕ} {table : List ℕ} {r k : ClassAndPermissions} → Scopes t at table r → r ≡ k → Scopes t at table k
+scope-told : {t : List ℕ} {at : ℕ} {table : List ℕ} {r k : prelude.Option ClassAndPermissions} → Scopes t at table r → r ≡ k → Scopes t at table k
 scope-told {t} {at} {table} u e = subst (Scopes t at table) e u
 
 -- how many rows there are from a row to before the next
@@ -116,57 +117,51 @@ rows_of row n many h = omega arith
 module _ {t : List ℕ} {at : ℕ} {table : List ℕ} {before : List ℕ} {count : ℕ} {rowsBefore : List ℕ} {row : ℕ} where
   -- 5, where a name is not declared
   undeclared-by : {after rowsAfter : List ℕ} → ((env : Environment) (w : Written) → Symbols table env → ShapeAt t at w → resolved env w ≡ none)
-      → WritesConstrain t at table before after count rowsBefore rowsAfter row Constrained.Undeclared
+      → WritesConstrain t at table before after count rowsBefore rowsAfter row (Err Fault.NameUndeclared)
   undeclared-by {after} {rowsAfter} h = record {
     says = λ env w y a b c f.
-        subst (λ (o : Option Statement). Answers o before after count rowsBefore rowsAfter row Constrained.Undeclared)
-        (sym (h env w y (shape (trim (frames_at t at).here levels) w f))) tt;
+        subst (λ (o : Option Statement). Answers o before after count rowsBefore rowsAfter row (Err Fault.NameUndeclared))
+        (sym (h env w y (shape (trim (frames_at t at).here levels) w f))) refl;
   }
 
-  pub past-rows : {after rowsAfter : List ℕ} {r : Constrained} → 2048 < row → WritesConstrain t at table before after count rowsBefore rowsAfter row r
+  pub past-rows : {after rowsAfter : List ℕ} {r : Result ℕ Fault} → 2048 < row → WritesConstrain t at table before after count rowsBefore rowsAfter row r
   past-rows h = record { says = λ env w y a b c f. absurd (omega (arith, h, a)) }
 
   pub scope-missing : {k : Item} → k ≡ item_at t at → OneOf (0 ∷ 2 ∷ 3 ∷ []) (tag k)
-      → WritesConstrain t at table before before count rowsBefore rowsBefore row Constrained.Undeclared
+      → WritesConstrain t at table before before count rowsBefore rowsBefore row (Err Fault.NameUndeclared)
   scope-missing e o = undeclared-by (λ env w y s. not_there starts_part t at levels _ s.row refl (0 ∷ 2 ∷ 3 ∷ []) no_part e o)
 
-  module _ {p j : ℕ} (l : Looked t at (Item.Open p j)) {r : ClassAndPermissions} (u : Scopes t j table r) where
-    pub scope-undeclared : r ≡ ClassAndPermissions.Undeclared → WritesConstrain t at table before before count rowsBefore rowsBefore row Constrained.Undeclared
+  module _ {p j : ℕ} (l : Looked t at (Item.Open p j)) {r : prelude.Option ClassAndPermissions} (u : Scopes t j table r) where
+    pub scope-undeclared : r ≡ None → WritesConstrain t at table before before count rowsBefore rowsBefore row (Err Fault.NameUndeclared)
     scope-undeclared e = undeclared-by (λ env w y s.
         ap (resolved env) s.written
         ∙ scope-none env s.class s.permissions s.body ((scope-told u e).says env s.class s.permissions y (scope-there l s)))
 
-    module _ {class mask q : ℕ} (e : r ≡ ClassAndPermissions.Of class mask q) where
-      pub expression-missing : {k : Item} → k ≡ item_at t q → OneOf (0 ∷ 2 ∷ 3 ∷ []) (tag k)
-          → WritesConstrain t at table before before count rowsBefore rowsBefore row Constrained.Undeclared
-      expression-missing d o = undeclared-by (λ env w y s.
-          not_there starts_part t q levels _ (part-behind l s q (scope-told u e).place) refl (0 ∷ 2 ∷ 3 ∷ []) no_part d o)
-
-      module _ {x z : ℕ} (l2 : Looked t q (Item.Open x z)) {rowsAfter : List ℕ} {k : RowsWritten}
-          (v : Writes t z (expression_in two_sides (trim (frames_at t z).here (max_level - 2))) table rowsBefore rowsAfter row k) where
-        pub name-undeclared : k ≡ RowsWritten.Undeclared → WritesConstrain t at table before before count rowsBefore rowsAfter row Constrained.Undeclared
+    module _ {o : ClassAndPermissions} (e : r ≡ Some o) where
+      module _ {rowsAfter : List ℕ} {k : prelude.Option RowsWritten} (v : WritesExpression two_sides t o.next table rowsBefore rowsAfter row k) where
+        pub name-undeclared : k ≡ None → WritesConstrain t at table before before count rowsBefore rowsAfter row (Err Fault.NameUndeclared)
         name-undeclared d = undeclared-by (λ env w y s.
-            let o = scope-told u e in
+            let scope = scope-told u e in
             ap (resolved env) s.written
-            ∙ expression-none env s.class s.permissions s.body (o.says env s.class s.permissions y (scope-there l s))
-            (undeclared y (expression-there l s o.place l2) (told v d)))
+            ∙ expression-none env s.class s.permissions s.body (scope.says env s.class s.permissions y (scope-there l s))
+            (unresolved env s.body rowsBefore rowsAfter row ((told v d).rows env s.body y (expression-there l s scope.place))))
 
         -- 6 and 7, and what is written, by what the maxima and the stack need allow
-        pub answered : {a n deep : ℕ} → k ≡ RowsWritten.Next a n deep → {after : List ℕ} {b : Constrained}
-            → Records 10 (constraint_bytes (record_with class mask row (n - row))) before after count → Admits max_constraints max_rows count n deep b
+        pub answered : {n : RowsWritten} → k ≡ Some n → {after : List ℕ} {b : Result ℕ Fault}
+            → Records 10 (constraint_bytes (record_with o.class o.mask row (n.row - row))) before after count → Admits max_constraints max_rows count n.row n.need b
             → WritesConstrain t at table before after count rowsBefore rowsAfter row b
-        answered {a} {n} {deep} d {after} {b} stored m = record {
+        answered {n} d {after} {b} stored m = record {
           says = λ env w y g long rows_long f.
               let s = shape (trim (frames_at t at).here levels) w f in
-              let o = scope-told u e in
-              let c = o.says env s.class s.permissions y (scope-there l s) in
-              let there = expression-there l s o.place l2 in
+              let scope = scope-told u e in
+              let c = scope.says env s.class s.permissions y (scope-there l s) in
+              let there = expression-there l s scope.place in
               let written = told v d in
-              let i = declared y there written in
+              let i = declared (written.rows env s.body y there) in
               let p = need-kept env s.body i.expression i.refers ∙ sym (written.needs s.body there) in
               subst (λ (o : Option Statement). Answers o before after count rowsBefore rowsAfter row b)
               (sym (ap (resolved env) s.written ∙ resolves env s.class s.permissions s.body c i.expression i.refers))
-              (admitted max_constraints max_rows 10 _ before after count rowsBefore rowsAfter row n deep i.expression p i.count (λ h. omega (arith, h, long)) rows_long
-              i.bytes (ap₂ (λ (m k : ℕ). constraint_bytes (record_with class m row k)) c.mask_is (rows_of row n (size i.expression) i.count))
+              (admitted max_constraints max_rows 10 _ before after count rowsBefore rowsAfter row n.row n.need i.expression p i.count (λ h. omega (arith, h, long)) rows_long
+              i.bytes (ap₂ (λ (m k : ℕ). constraint_bytes (record_with o.class m row k)) c.mask_is (rows_of row n.row (size i.expression) i.count))
               stored b m.says);
         }

@@ -1,6 +1,7 @@
 pub mod MaskBits
 pub mod Masks
 pub mod ClassLaws
+pub mod ExpressionLaws
 pub mod Shapes
 pub mod PermissionLaws
 pub mod RecordBytes

@@ -1,10 +1,10 @@
 -- Whether the maxima and the stack need allow a statement, and what is there where they do. Assumes nothing.
-use mathlib.Core.Path.{◌≡◌, refl, sym, ap, ◌∙◌}
-use mathlib.Core.Bool.{Bool, true, and-false}
+use mathlib.Core.Path.{◌≡◌, sym, ap, ◌∙◌}
+use mathlib.Core.Bool.{Bool, true}
 use mathlib.Core.List.{List}
 use Prim.Native.Nat.{ℕ, ◌+◌, ◌*◌, ◌≤◌, ◌<◌}
 use native.Mathlib.Omega.{arith}
-use borrow.Author.Tests.{lt-ltb, le-ltb, le-leb, lt-leb, leb-true, ltb-true}
+use borrow.Author.Tests.{leb-true, ltb-true}
 use lib.Dec.{leb, ltb}
 use lib.ListN.{length}
 use Rattle.byte_slices.specs.Parts.{put}
@@ -15,8 +15,9 @@ use Rattle.policy.specs.Maxima.{max_stack}
 use Rattle.policy.specs.Rows.{rows_of}
 use Rattle.policy.specs.Encode.{row_bytes}
 use Rattle.policy.proofs.Lists.{both_true}
-use Rattle.constrain_statement.specs.Limits.{Records, fits_within, AdmitsBy, Admits, AddsOrFault}
-use Rattle.constrain_statement.specs.declared.Constrained.{Constrained}
+use Rattle.constrain_statement.specs.Limits.{Records, fits_within, AdmitsBy, AddsOrFault}
+use Rattle.policy.specs.declared.Fault.{Fault}
+use Rattle.std.specs.Prelude.{Result, Ok, Err}
 
 -- ---- what fits
 
@@ -33,40 +34,21 @@ few statements rows count n e = ltb-true count statements (both_true (ltb count 
 room : (statements rows count n : ℕ) → fits_within statements rows count n ≡ true → 6 * n ≤ 6 * rows
 room statements rows count n e = let most = leb-true n rows (both_true (ltb count statements) (leb n rows) e).1 in omega arith
 
--- ---- what is allowed
-
-both-fit : {statements rows count next : ℕ} → count < statements → next ≤ rows → fits_within statements rows count next ≡ true
-both-fit h k = rw (lt-ltb _ _ h, le-leb _ _ k)
-
-module _ {statements rows count next deep : ℕ} where
-  pub many-statements : statements ≤ count → Admits statements rows count next deep Constrained.MaximumPassed
-  many-statements h = record { says = rw (le-ltb count statements h) }
-
-  pub many-rows : rows < next → Admits statements rows count next deep Constrained.MaximumPassed
-  many-rows h = record { says = rw (lt-leb next rows h) (and-false (ltb count statements)) }
-
-  module _ (h : count < statements) (k : next ≤ rows) where
-    pub stack-small : 5 < deep → Admits statements rows count next deep Constrained.StackTooSmall
-    stack-small d = record { says = (both-fit h k, lt-leb deep 5 d) }
-
-    pub allowed : deep ≤ 5 → Admits statements rows count next deep (Constrained.Next next)
-    allowed d = record { says = (both-fit h k, le-leb deep 5 d, refl) }
-
 -- ---- from what was admitted to what is there
 
 -- x is the expression with its names resolved, and deep its stack need
 module _ (statements most width : ℕ) (bytes before after : List ℕ) (count : ℕ) (rowsBefore rowsAfter : List ℕ) (row n deep : ℕ) (x : Constraint Reference)
     (p : need x ≡ deep) (q : n ≡ row + size x) (long : count < statements → width * count + width ≤ length before) (rows_long : 6 * most ≤ length rowsBefore)
     (v : 6 * (row + size x) ≤ length rowsBefore → rowsAfter ≡ put rowsBefore (6 * row) (joined (each row_bytes (rows_of x)))) where
-  pub admitted : {written : List ℕ} → written ≡ bytes → Records width written before after count → (b : Constrained) → AdmitsBy statements most count n deep b
+  pub admitted : {written : List ℕ} → written ≡ bytes → Records width written before after count → (b : Result ℕ Fault) → AdmitsBy statements most count n deep b
       → AddsOrFault statements most x width bytes before after count rowsBefore rowsAfter row b
-  admitted e stored (Constrained.Next o) g = record {
+  admitted e stored (Ok o) g = record {
     fits = as_fits statements most count n (row + size x) q g.0;
     shallow = as-shallow (need x) deep p g.1;
     recorded = stored (long (few statements most count n g.0)) ∙ ap (put before (width * count)) e;
     rows = v (omega (arith, q, rows_long, room statements most count n g.0));
     next_row = g.2 ∙ q;
   }
-  admitted e stored Constrained.Undeclared g = g
-  admitted e stored Constrained.MaximumPassed g = as_fits statements most count n (row + size x) q g
-  admitted e stored Constrained.StackTooSmall g = (as_fits statements most count n (row + size x) q g.0, as-shallow (need x) deep p g.1)
+  admitted e stored (Err Fault.MaximumPassed) g = as_fits statements most count n (row + size x) q g
+  admitted e stored (Err Fault.StackTooSmall) g = (as_fits statements most count n (row + size x) q g.0, as-shallow (need x) deep p g.1)
+  admitted e stored (Err f) g = absurd g

@@ -14,7 +14,6 @@ use Rattle.bitset.proofs.BitLaws.{from_bits-lt}
 use Rattle.lexer.specs.Forms.{Forms, word, frames_at}
 use Rattle.policy.specs.Basics.{Name, ◌>>=◌, more, each_of}
 use Rattle.policy.specs.Words.{is_reserved, dotless, as_part}
-use Rattle.policy.specs.Statements.{permissions}
 use Rattle.policy.specs.Grammar.{row_of}
 use Rattle.policy.specs.Image.{mask_of}
 use Rattle.table_laws.proofs.ListLaws.{more-some}
@@ -22,7 +21,11 @@ use Rattle.policy.specs.Names.{Environment}
 use Rattle.policy.proofs.Options.{given-some}
 use Rattle.symbols.specs.SearchAnswers.{found_permission}
 use Rattle.scopes.specs.Symbols.{Symbols, LooksPermission}
-use Rattle.symbols.specs.declared.Found.{Found}
+use Rattle.std.specs.Prelude as prelude
+use Rattle.std.specs.Prelude.{None}
+use Rattle.symbols.specs.Lookup.{found_at}
+use Rattle.symbols.specs.declared.Symbol.{Symbol}
+use Rattle.symbols.proofs.SymbolLaws.{found-same}
 use Rattle.scopes.proofs.Bounds.{bounded}
 use Rattle.items.specs.Looks.{item_at, row_end}
 use Rattle.items.specs.declared.Item.{Item}
@@ -30,7 +33,7 @@ use Rattle.items.proofs.Items.{Looked, word-lent, alike-here}
 use Rattle.items.specs.contracts.Item.{the_type}
 use Rattle.constraint_writer.proofs.WrittenRows.{never}
 use Rattle.constrain_statement.specs.ClassPermissions.{numbers_of, Masks}
-use Rattle.constrain_statement.specs.declared.PermissionMask.{PermissionMask}
+use Rattle.std.specs.Prelude.{None, Some}
 use Rattle.constrain_statement.proofs.MaskBits.{gained, gained-of-none, gained-nothing, gained-one}
 
 -- the mask with the numbers that are there
@@ -82,26 +85,26 @@ pub record Numbered (env : Environment) (c : ℕ) (w : Name) (number : ℕ) : Ty
   pub low : number % 32 ≡ place
 
 module _ {table : List ℕ} {env : Environment} (y : Symbols table env) (c : ℕ) (w : Name) where
-  found_as : (family : ℕ) → family ≡ 4 + c → (r : Found) → LooksPermission table family w r → r ≡ found_permission c (env.permission c w)
+  found_as : (family : ℕ) → family ≡ 4 + c → (r : prelude.Option Symbol) → LooksPermission table family w r → r ≡ found_permission c (env.permission c w)
   found_as family e r h = h.permissions env c y (sym e)
 
-  numbered : (sort number : ℕ) → Found.At sort number ≡ found_permission c (env.permission c w) → Numbered env c w number
+  numbered : (sort number : ℕ) → found_at sort number ≡ found_permission c (env.permission c w) → Numbered env c w number
   numbered sort number h = go (env.permission c w) refl h
     where
-      go : (o : Option ℕ) → env.permission c w ≡ o → Found.At sort number ≡ found_permission c o → Numbered env c w number
+      go : (o : Option ℕ) → env.permission c w ≡ o → found_at sort number ≡ found_permission c o → Numbered env c w number
       go none p g = absurd (let z : ◌≡◌ {A = ℕ} 0 1 = cc in omega arith)
       go (some k) p g =
-          let z : number ≡ c * 32 + k = cc in
+          let z : number ≡ c * 32 + k = (found-same g).1 in
           record {
             place = k;
             index = p;
             low = omega (arith, (bounded y).permissions c w k p);
           }
 
-  not-numbered : Found.Missing ≡ found_permission c (env.permission c w) → env.permission c w ≡ none
+  not-numbered : None ≡ found_permission c (env.permission c w) → env.permission c w ≡ none
   not-numbered h = go (env.permission c w) refl h
     where
-      go : (o : Option ℕ) → env.permission c w ≡ o → Found.Missing ≡ found_permission c o → env.permission c w ≡ none
+      go : (o : Option ℕ) → env.permission c w ≡ o → None ≡ found_permission c o → env.permission c w ≡ none
       go none p g = p
       go (some k) p g = absurd (let z : ◌≡◌ {A = ℕ} 0 1 = cc in omega arith)
 
@@ -112,14 +115,14 @@ abbrev pub tag : Item → ℕ
 tag k = tag_of the_type k
 
 module _ {t : List ℕ} {at : ℕ} {table : List ℕ} {family i m : ℕ} (g : Going t at table family i m) where
-  module _ {s n k q : ℕ} (l : Looked t i (Item.Word s n k q)) {r : Found} (lent : LooksPermission table family (take ((s + n) - s) (drop s t)) r) where
+  module _ {s n k q : ℕ} (l : Looked t i (Item.Word s n k q)) {r : prelude.Option Symbol} (lent : LooksPermission table family (take ((s + n) - s) (drop s t)) r) where
     h : LooksPermission table family (take n (drop s t)) r
     h = subst (λ (w : Name). LooksPermission table family w r) (word-lent t s n) lent
 
     name-first : {env : Environment} {c : ℕ} {ps : List Name} (x : Left env c ps (frames_at t i).here m) → FirstName (take n (drop s t)) (frames_at t q).here x.rest
     name-first x = first-name s (take n (drop s t)) (frames_at t q).here x.rest (sym (ap (row_of as_part) l.here) ∙ x.names)
 
-    pub one_more : {sort number v : ℕ} → r ≡ Found.At sort number → v ≡ from_bits 32 (λ j. bit m j || eqb j (number % 32)) → Going t at table family q v
+    pub one_more : {sort number v : ℕ} → r ≡ found_at sort number → v ≡ from_bits 32 (λ j. bit m j || eqb j (number % 32)) → Going t at table family q v
     unfolding each_of
     one_more {sort} {number} {v} d e = record {
       same_row = sym l.end ∙ g.same_row;
@@ -141,7 +144,7 @@ module _ {t : List ℕ} {at : ℕ} {table : List ℕ} {family i m : ℕ} (g : Go
           };
     }
 
-    pub not-of-class : r ≡ Found.Missing → Masks t at table family PermissionMask.Undeclared
+    pub not-of-class : r ≡ None → Masks t at table family None
     unfolding each_of
     not-of-class d = record {
       place = tt;
@@ -156,7 +159,7 @@ module _ {t : List ℕ} {at : ℕ} {table : List ℕ} {family i m : ℕ} (g : Go
           ∙ from-none (numbers_of env c ps);
     }
 
-  pub finished : {q : ℕ} → Looked t i (Item.Close q) → Masks t at table family (PermissionMask.Mask m q)
+  pub finished : {q : ℕ} → Looked t i (Item.Close q) → Masks t at table family (Some (record { mask = m; next = q }))
   unfolding row_of each_of
   finished l = record {
     place = sym g.same_row ∙ l.end;
@@ -169,7 +172,7 @@ module _ {t : List ℕ} {at : ℕ} {table : List ℕ} {family i m : ℕ} (g : Go
         ∙ from-none (numbers_of env c ps);
   }
 
-  pub no_names : {k : Item} → k ≡ item_at t i → OneOf (1 ∷ 3 ∷ []) (tag k) → Masks t at table family PermissionMask.Undeclared
+  pub no_names : {k : Item} → k ≡ item_at t i → OneOf (1 ∷ 3 ∷ []) (tag k) → Masks t at table family None
   unfolding row_of
   no_names {k} e o = record {
     place = tt;

@@ -6,6 +6,8 @@ use mathlib.Core.Option.{Option, none, some, some-injective}
 use Prim.Native.Nat.{ℕ, ◌+◌, ◌-◌}
 use native.Mathlib.Omega.{arith}
 use types.Run.{OneOf}
+use Rattle.std.specs.Prelude as prelude
+use Rattle.std.specs.Prelude.{None, Some}
 use Rattle.lexer.specs.Scan.{max_level}
 use Rattle.lexer.specs.Forms.{closed, part, frames_at, trim}
 use Rattle.lexer.proofs.Trim.{starts_part}
@@ -25,7 +27,6 @@ use Rattle.constrain_statement.specs.ClassNames.{Classes}
 use Rattle.constrain_statement.specs.ClassPermissions.{numbers_of, mask_in, Masks, ScopeForm, Scopes}
 use Rattle.constrain_statement.specs.declared.NamedClass.{NamedClass}
 use Rattle.constrain_statement.specs.declared.PermissionMask.{PermissionMask}
-use Rattle.constrain_statement.specs.declared.ClassAndPermissions.{ClassAndPermissions}
 use Rattle.constrain_statement.proofs.Masks.{tag}
 use Rattle.constrain_statement.proofs.ClassLaws.{not_there, no_part, same_parts, class-told}
 
@@ -38,12 +39,12 @@ no-close = (λ s b f. refl, λ x f g. refl, tt, refl)
 abbrev levels : ℕ
 levels = max_level - 2
 
-module _ {t table : List ℕ} {at class q : ℕ} (k : Classes t at table (NamedClass.Is class q)) {env : Environment} (y : Symbols table env) {c : Name} {ps : List Name}
+module _ {t table : List ℕ} {at : ℕ} {n : NamedClass} (k : Classes t at table (Some n)) {env : Environment} (y : Symbols table env) {c : Name} {ps : List Name}
     (h : ScopeForm (trim (frames_at t at).here levels) c ps) where
-  class-then : (env.class c ≡ some class) × (trim (frames_at t q).here levels ≡ part h.place h.inner closed)
+  class-then : (env.class c ≡ some n.class) × (trim (frames_at t n.next).here levels ≡ part h.place h.inner closed)
   class-then = k.says env levels h.start c (part h.place h.inner closed) y h.row
 
-  module _ {p j : ℕ} (l2 : Looked t q (Item.Open p j)) where
+  module _ {p j : ℕ} (l2 : Looked t n.next (Item.Open p j)) where
     behind-open : (trim (frames_at t j).here (levels - 1) ≡ h.inner) × (trim (frames_at t (row_end t j)).here levels ≡ closed)
     behind-open = same_parts (sym (by_part (λ f. f) levels (row_end t j) l2 refl (λ z. omega arith)) ∙ class-then.1)
 
@@ -59,52 +60,52 @@ no-mask : (o : Option (List ℕ)) → none ≡ (o >>= λ ns. some (mask_of ns)) 
 no-mask none e = refl
 no-mask (some ns) e = absurd (let z : ◌≡◌ {A = ℕ} 0 1 = cc in omega arith)
 
-module _ {t table : List ℕ} {at : ℕ} {r : NamedClass} (k : Classes t at table r) where
-  pub no-class : r ≡ NamedClass.Undeclared → Scopes t at table ClassAndPermissions.Undeclared
+module _ {t table : List ℕ} {at : ℕ} {r : prelude.Option NamedClass} (k : Classes t at table r) where
+  pub no-class : r ≡ None → Scopes t at table None
   no-class d = record {
     place = tt;
     says = λ env c ps y h. ap (λ (o : Option ℕ). o >>= λ n. numbers_of env n ps) ((class-told k d).says env levels h.start c _ y h.row);
   }
 
-  module _ {class q : ℕ} (d : r ≡ NamedClass.Is class q) where
-    pub part-missing : {i : Item} → i ≡ item_at t q → OneOf (0 ∷ 2 ∷ 3 ∷ []) (tag i) → Scopes t at table ClassAndPermissions.Undeclared
+  module _ {n : NamedClass} (d : r ≡ Some n) where
+    pub part-missing : {i : Item} → i ≡ item_at t n.next → OneOf (0 ∷ 2 ∷ 3 ∷ []) (tag i) → Scopes t at table None
     part-missing e o = record {
       place = tt;
-      says = λ env c ps y h. not_there starts_part t q levels _ (class-then (class-told k d) y h).1 refl (0 ∷ 2 ∷ 3 ∷ []) no_part e o;
+      says = λ env c ps y h. not_there starts_part t n.next levels _ (class-then (class-told k d) y h).1 refl (0 ∷ 2 ∷ 3 ∷ []) no_part e o;
     }
 
-    module _ {p j : ℕ} (l2 : Looked t q (Item.Open p j)) where
-      numbers-there : {m : PermissionMask} → Masks t j table (4 + class) m → {env : Environment} {c : Name} {ps : List Name} → Symbols table env
-          → ScopeForm (trim (frames_at t at).here levels) c ps → mask_in m ≡ (numbers_of env class ps >>= λ ns. some (mask_of ns))
-      numbers-there m {env} {c} {ps} y h = m.says env class ps y refl (names-there (class-told k d) y h l2)
+    module _ {p j : ℕ} (l2 : Looked t n.next (Item.Open p j)) where
+      numbers-there : {m : prelude.Option PermissionMask} → Masks t j table (4 + n.class) m → {env : Environment} {c : Name} {ps : List Name} → Symbols table env
+          → ScopeForm (trim (frames_at t at).here levels) c ps → mask_in m ≡ (numbers_of env n.class ps >>= λ ns. some (mask_of ns))
+      numbers-there m {env} {c} {ps} y h = m.says env n.class ps y refl (names-there (class-told k d) y h l2)
 
-      pub permission-undeclared : {x : PermissionMask} → Masks t j table (4 + class) x → x ≡ PermissionMask.Undeclared → Scopes t at table ClassAndPermissions.Undeclared
+      pub permission-undeclared : {x : prelude.Option PermissionMask} → Masks t j table (4 + n.class) x → x ≡ None → Scopes t at table None
       permission-undeclared m e = record {
         place = tt;
         says = λ env c ps y h.
             ap (λ (o : Option ℕ). o >>= λ n. numbers_of env n ps) (class-then (class-told k d) y h).0
-            ∙ no-mask (numbers_of env class ps) (sym (ap mask_in e) ∙ numbers-there m y h);
+            ∙ no-mask (numbers_of env n.class ps) (sym (ap mask_in e) ∙ numbers-there m y h);
       }
 
-      module _ {x : PermissionMask} {mask o : ℕ} (m : Masks t j table (4 + class) x) (e : x ≡ PermissionMask.Mask mask o) where
-        told : Masks t j table (4 + class) (PermissionMask.Mask mask o)
-        told = subst (Masks t j table (4 + class)) e m
+      module _ {x : prelude.Option PermissionMask} {o : PermissionMask} (m : Masks t j table (4 + n.class) x) (e : x ≡ Some o) where
+        told : Masks t j table (4 + n.class) (Some o)
+        told = subst (Masks t j table (4 + n.class)) e m
 
-        pub close-missing : {i : Item} → i ≡ item_at t o → OneOf (0 ∷ 1 ∷ 3 ∷ []) (tag i) → Scopes t at table ClassAndPermissions.Undeclared
+        pub close-missing : {i : Item} → i ≡ item_at t o.next → OneOf (0 ∷ 1 ∷ 3 ∷ []) (tag i) → Scopes t at table None
         close-missing a i = record {
           place = tt;
-          says = λ env c ps y h. not_there is_closed t o levels _ (close-there (class-told k d) y h l2 o told.place) refl (0 ∷ 1 ∷ 3 ∷ []) no-close a i;
+          says = λ env c ps y h. not_there is_closed t o.next levels _ (close-there (class-told k d) y h l2 o.next told.place) refl (0 ∷ 1 ∷ 3 ∷ []) no-close a i;
         }
 
-        pub scoped : {z : ℕ} → Looked t o (Item.Close z) → Scopes t at table (ClassAndPermissions.Of class mask z)
+        pub scoped : {z : ℕ} → Looked t o.next (Item.Close z) → Scopes t at table (Some (record { class = n.class; mask = o.mask; next = z }))
         scoped l3 = record {
           place = (class-told k d).place.0 ∙ l2.end ∙ ap (row_end t) told.place ∙ l3.end;
           says = λ env c ps y h.
-              bound-then (numbers_of env class ps) (λ ns. some (mask_of ns)) mask (sym (numbers-there told y h)) λ ns a b.
+              bound-then (numbers_of env n.class ps) (λ ns. some (mask_of ns)) o.mask (sym (numbers-there told y h)) λ ns a b.
               record {
                 numbers = ns;
                 class-is = (class-then (class-told k d) y h).0;
                 permissions-are = a;
-                mask_is = sym (some-injective (mask_of ns) mask b);
+                mask_is = sym (some-injective (mask_of ns) o.mask b);
               };
         }

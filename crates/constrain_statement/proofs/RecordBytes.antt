@@ -1,9 +1,8 @@
 -- The four fields of a constraint's record, put one after the other, are one `put` of the record, where there is room for it. Assumes nothing.
 use mathlib.Core.Path.{◌≡◌}
 use mathlib.Core.List.{List, ◌++◌}
-use Prim.Native.Nat.{ℕ, ◌+◌, ◌*◌, ◌/◌, ◌≤◌}
+use Prim.Native.Nat.{ℕ, ◌+◌, ◌*◌}
 use native.Mathlib.Omega.{arith}
-use lib.ListN.{length}
 use Rattle.byte_slices.specs.Parts.{put}
 use Rattle.byte_slices.proofs.PartLaws.{put_then}
 use Rattle.policy.specs.Basics.{le}
@@ -20,6 +19,3 @@ stored t n c m first rows class mask first-row count room =
     put_then t o (le 2 c ++ (le 4 m ++ le 2 first)) (le 2 rows) (omega arith)
     (put_then t o (le 2 c ++ le 4 m) (le 2 first) (omega arith) (put_then t o (le 2 c) (le 4 m) (omega arith) class (omega arith) mask) (omega arith) first-row)
     (omega arith) count
-
-pub no_room : (t bytes : List ℕ) (n : ℕ) → length t / 10 ≤ n → Records 10 bytes t t n
-no_room t bytes n h g = absurd (omega arith)

@@ -1,5 +1,5 @@
 -- The class that a statement names, as its first word or as the first of a part. Assumes nothing.
-use Rattle.std.specs.Prelude.{ℕ, ◌<◌, ◌≡◌, List}
+use Rattle.std.specs.Prelude.{ℕ, ◌<◌, ◌≡◌, List, Option, MatchOption, IfSome}
 use Rattle.std.proofs.Math.Option.{none, some}
 use Rattle.lexer.specs.Forms.{Forms, word, frames_at, trim}
 use Rattle.policy.specs.Basics.{Name}
@@ -10,16 +10,12 @@ use Rattle.items.specs.Looks.{row_end}
 use Rattle.constrain_statement.specs.declared.NamedClass.{NamedClass}
 
 -- the number of the class, and where the rest of the row is; or fault 5: "name not declared before, or of the wrong sort"
-abbrev pub ClassAnswers : List ℕ → ℕ → Environment → Name → Forms → NamedClass → Type 0
-ClassAnswers t levels env c rest (NamedClass.Is class q) = (env.class c ≡ some class) × (trim (frames_at t q).here levels ≡ rest)
-ClassAnswers t levels env c rest NamedClass.Undeclared = env.class c ≡ none
-
-abbrev pub ClassPlace : List ℕ → ℕ → NamedClass → Type 0
-ClassPlace t at (NamedClass.Is class q) = (row_end t at ≡ row_end t q) × (class < max_classes)
-ClassPlace t at NamedClass.Undeclared = Unit {0}
+abbrev pub ClassAnswers : List ℕ → ℕ → Environment → Name → Forms → Option NamedClass → Type 0
+ClassAnswers t levels env c rest r =
+    MatchOption r (env.class c ≡ none) (λ n. (env.class c ≡ some n.class) × (trim (frames_at t n.next).here levels ≡ rest))
 
 -- of a row at the place at that starts with a word, in every environment that the symbols have
-pub record Classes (t : List ℕ) (at : ℕ) (table : List ℕ) (r : NamedClass) : Type 0 where
-  pub place : ClassPlace t at r
+pub record Classes (t : List ℕ) (at : ℕ) (table : List ℕ) (r : Option NamedClass) : Type 0 where
+  pub place : IfSome r (λ n. (row_end t at ≡ row_end t n.next) × (n.class < max_classes))
   pub says : (env : Environment) (levels start : ℕ) (c : Name) (rest : Forms) → Symbols table env → trim (frames_at t at).here levels ≡ word start c rest
       → ClassAnswers t levels env c rest r

@@ -1,5 +1,6 @@
 -- The class and the permissions of a constrain, "`(constrain (C (P ...)) E)`", with their names resolved. Assumes nothing.
-use Rattle.std.specs.Prelude.{ℕ, ◌+◌, ◌-◌, ◌≡◌, List}
+use Rattle.std.specs.Prelude as prelude
+use Rattle.std.specs.Prelude.{ℕ, ◌+◌, ◌-◌, ◌≡◌, List, None, Some, MatchOption, IfSome}
 use Rattle.std.proofs.Math.Option.{Option, none, some}
 use Rattle.lexer.specs.Scan.{max_level}
 use Rattle.lexer.specs.Forms.{Forms, closed, word, part, frames_at, trim}
@@ -18,18 +19,13 @@ abbrev pub numbers_of : Environment → ℕ → List Name → Option (List ℕ)
 numbers_of env c ps = each_of (λ p. env.permission c p) ps
 
 -- the mask that is answered: "permission mask 4"
-abbrev pub mask_in : PermissionMask → Option ℕ
-mask_in (PermissionMask.Mask m q) = some m
-mask_in PermissionMask.Undeclared = none
+abbrev pub mask_in : prelude.Option PermissionMask → Option ℕ
+mask_in None = none
+mask_in (Some m) = some m.mask
 
--- the place that is answered is after the close of the row at the place at
-abbrev pub MaskPlace : List ℕ → ℕ → PermissionMask → Type 0
-MaskPlace t at (PermissionMask.Mask m q) = row_end t at ≡ q
-MaskPlace t at PermissionMask.Undeclared = Unit {0}
-
--- "repeats of P are harmless": the mask of a row of permissions of class c, whose names are the family 4 + c
-pub record Masks (t : List ℕ) (at : ℕ) (table : List ℕ) (family : ℕ) (r : PermissionMask) : Type 0 where
-  pub place : MaskPlace t at r
+-- "repeats of P are harmless": the mask of a row of permissions of class c, whose names are the family 4 + c, and the place after its close
+pub record Masks (t : List ℕ) (at : ℕ) (table : List ℕ) (family : ℕ) (r : prelude.Option PermissionMask) : Type 0 where
+  pub place : IfSome r (λ m. row_end t at ≡ m.next)
   pub says : (env : Environment) (c : ℕ) (ps : List Name) → Symbols table env → family ≡ 4 + c → row_of as_part (frames_at t at).here ≡ some ps
       → mask_in r ≡ (numbers_of env c ps >>= λ ns. some (mask_of ns))
 
@@ -49,16 +45,11 @@ pub record Scoped (env : Environment) (c : Name) (ps : List Name) (class mask : 
   pub mask_is : mask ≡ mask_of numbers
 
 -- the numbers, or fault 5: "name not declared before, or of the wrong sort"
-abbrev pub ScopeAnswers : Environment → Name → List Name → ClassAndPermissions → Type 0
-ScopeAnswers env c ps (ClassAndPermissions.Of class mask q) = Scoped env c ps class mask
-ScopeAnswers env c ps ClassAndPermissions.Undeclared = (env.class c >>= λ n. numbers_of env n ps) ≡ none
-
-abbrev pub ScopePlace : List ℕ → ℕ → ClassAndPermissions → Type 0
-ScopePlace t at (ClassAndPermissions.Of class mask q) = row_end t at ≡ q
-ScopePlace t at ClassAndPermissions.Undeclared = Unit {0}
+abbrev pub ScopeAnswers : Environment → Name → List Name → prelude.Option ClassAndPermissions → Type 0
+ScopeAnswers env c ps r = MatchOption r ((env.class c >>= λ n. numbers_of env n ps) ≡ none) (λ s. Scoped env c ps s.class s.mask)
 
 -- of the row at the place at, in every environment that the symbols have
-pub record Scopes (t : List ℕ) (at : ℕ) (table : List ℕ) (r : ClassAndPermissions) : Type 0 where
-  pub place : ScopePlace t at r
+pub record Scopes (t : List ℕ) (at : ℕ) (table : List ℕ) (r : prelude.Option ClassAndPermissions) : Type 0 where
+  pub place : IfSome r (λ s. row_end t at ≡ s.next)
   pub says : (env : Environment) (c : Name) (ps : List Name) → Symbols table env → ScopeForm (trim (frames_at t at).here (max_level - 2)) c ps
       → ScopeAnswers env c ps r

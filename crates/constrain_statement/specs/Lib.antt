@@ -1,4 +1,5 @@
 pub mod ClassNames
 pub mod ClassPermissions
 pub mod ConstrainWrites
+pub mod Expressions
 pub mod Limits

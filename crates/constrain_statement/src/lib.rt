@@ -5,52 +5,40 @@
 ghost use Rattle.std.specs.Prelude.{◌≡◌, ◌||◌, ◌%◌, eqb};
 ghost use Rattle.bitset.specs.Sets.{bit, from_bits};
 ghost use Rattle.policy.specs.Encode.{constraint_bytes};
+ghost use Rattle.policy.specs.Words.{Sides};
+ghost use Rattle.constraint_writer.specs.ExpressionWrites.{Countable};
 ghost use Rattle.constrain_statement.specs.ClassPermissions.{Masks, Scopes};
 ghost use Rattle.constrain_statement.specs.ClassNames.{Classes};
+ghost use Rattle.constrain_statement.specs.Expressions.{WritesExpression};
 ghost use Rattle.constrain_statement.specs.Limits.{Records, Admits};
 ghost use Rattle.constrain_statement.specs.ConstrainWrites.{record_with, WritesConstrain};
 
 use constraint_writer::RowsWritten;
 use items::Item;
 use lexer::Level;
-use policy::{Class, Constraint, Permission, Row};
-use symbols::{Found, NameFamily};
+use policy::{Class, Constraint, Fault, Permission, Row};
+use symbols::{NameFamily, Symbol};
 
-// The number of the row after the statement's rows; or the fault: a name is not declared, 5; a maximum is passed, 6;
-// the stack need is, 7.
+// The number of a class that a statement names, and the place after its name.
 #[derive(Clone, Copy)]
-pub enum Constrained {
-    Next(usize),
-    Undeclared,
-    MaximumPassed,
-    StackTooSmall,
+pub struct NamedClass {
+    pub class: usize,
+    pub next: usize,
 }
 
-// The number of a class that a statement names, and the place after its name; or it is not declared.
+// A bit for each permission of a row of them, and the place after the row's close.
 #[derive(Clone, Copy)]
-pub enum NamedClass {
-    Is { class: usize, next: usize },
-    Undeclared,
+struct PermissionMask {
+    mask: u32,
+    next: usize,
 }
 
-// A bit for each permission of a row of them, and the place after the row's close; or one of them is not a permission
-// of the class.
+// What a constraint is asked of: a class and a bit for each of its permissions; and the place after both.
 #[derive(Clone, Copy)]
-enum PermissionMask {
-    Mask { mask: u32, next: usize },
-    Undeclared,
-}
-
-// What a constraint is asked of: a class and a bit for each of its permissions; and the place after both. Or a name
-// is not declared.
-#[derive(Clone, Copy)]
-enum ClassAndPermissions {
-    Of {
-        class: usize,
-        mask: u32,
-        next: usize,
-    },
-    Undeclared,
+struct ClassAndPermissions {
+    class: usize,
+    mask: u32,
+    next: usize,
 }
 
 // The levels that may lie inside a constraint expression: it is itself in a part of its statement.
@@ -63,8 +51,9 @@ fn with_permission(mask: u32, number: usize) -> u32
     mask | (1u32 << (number % Permission::MAX))
 }
 
-// The permissions of a row of names, of one family, as a mask. A name that is there again changes nothing.
-fn permission_mask(text: &[u8], at: usize, symbols: &[u8], family: usize) -> PermissionMask
+// The permissions of a row of names, of one family, as a mask, if each of them is there. A name that is there again
+// changes nothing.
+fn permission_mask(text: &[u8], at: usize, symbols: &[u8], family: usize) -> Option<PermissionMask>
     ensures { Masks text.now at symbols.now family result }
 {
     let mut i = at;
@@ -81,20 +70,20 @@ fn permission_mask(text: &[u8], at: usize, symbols: &[u8], family: usize) -> Per
                 let end = start + len;
                 let name = &text[start..end];
                 let found = scopes::lookup_permission(symbols, family, name);
-                let Found::At { number, .. } = found else {
-                    return PermissionMask::Undeclared;
+                let Some(Symbol { number, .. }) = found else {
+                    return None;
                 };
                 mask = with_permission(mask, number);
                 i = next;
             }
-            Item::Close { next } => return PermissionMask::Mask { mask, next },
-            Item::Open { .. } | Item::End => return PermissionMask::Undeclared,
+            Item::Close { next } => return Some(PermissionMask { mask, next }),
+            Item::Open { .. } | Item::End => return None,
         }
     }
 }
 
-// The class that the word at a place names.
-pub fn class_at(text: &[u8], at: usize, symbols: &[u8]) -> NamedClass
+// The class that the word at a place names, if it is declared.
+pub fn class_at(text: &[u8], at: usize, symbols: &[u8]) -> Option<NamedClass>
     ensures { Classes text.now at symbols.now result }
 {
     let first = items::next_item(text, at);
@@ -105,87 +94,107 @@ pub fn class_at(text: &[u8], at: usize, symbols: &[u8]) -> NamedClass
         ..
     } = first
     else {
-        return NamedClass::Undeclared;
+        return None;
     };
     let end = start + len;
     let name = &text[start..end];
     let found = scopes::lookup_class(symbols, name);
-    let Found::At { number, .. } = found else {
-        return NamedClass::Undeclared;
+    let Some(Symbol { number, .. }) = found else {
+        return None;
     };
     if Class::MAX <= number {
-        return NamedClass::Undeclared;
+        return None;
     }
-    NamedClass::Is {
+    Some(NamedClass {
         class: number,
         next,
-    }
+    })
 }
 
-// The class and the permissions, after the open parenthesis before them: C (P ...), and the close.
-fn class_and_permissions(text: &[u8], at: usize, symbols: &[u8]) -> ClassAndPermissions
+// The class and the permissions, after the open parenthesis before them, if they are declared: C (P ...), and the
+// close.
+fn class_and_permissions(text: &[u8], at: usize, symbols: &[u8]) -> Option<ClassAndPermissions>
     ensures { Scopes text.now at symbols.now result }
 {
-    let named = class_at(text, at, symbols);
-    let NamedClass::Is { class, next } = named else {
-        return ClassAndPermissions::Undeclared;
-    };
-    let second = items::next_item(text, next);
+    let named = class_at(text, at, symbols)?;
+    let second = items::next_item(text, named.next);
     let Item::Open { next, .. } = second else {
-        return ClassAndPermissions::Undeclared;
+        return None;
     };
-    let masked = permission_mask(text, next, symbols, NameFamily::FIRST_PERMISSIONS + class);
-    let PermissionMask::Mask { mask, next } = masked else {
-        return ClassAndPermissions::Undeclared;
-    };
-    let last = items::next_item(text, next);
+    let family = NameFamily::FIRST_PERMISSIONS + named.class;
+    let masked = permission_mask(text, next, symbols, family)?;
+    let last = items::next_item(text, masked.next);
     let Item::Close { next } = last else {
-        return ClassAndPermissions::Undeclared;
+        return None;
     };
-    ClassAndPermissions::Of { class, mask, next }
+    Some(ClassAndPermissions {
+        class: named.class,
+        mask: masked.mask,
+        next,
+    })
 }
 
 // Writes the record of a constraint, if there is room for it: class 2, permission mask 4, first row 2, row count 2.
 fn put_record(
     constraints: &mut [u8],
     count: usize,
-    class: usize,
-    mask: u32,
+    scope: ClassAndPermissions,
     first: usize,
     rows: usize,
 )
-    ensures { Records 10 (constraint_bytes (record_with class mask first rows)) constraints.old constraints.new count }
+    ensures { Records 10 (constraint_bytes (record_with scope.class scope.mask first rows)) constraints.old constraints.new count }
 {
     if constraints.len() / Constraint::BYTES <= count {
         return;
     }
     let at = Constraint::BYTES * count;
-    little_endian::put2(constraints, at, class);
-    little_endian::put4(constraints, at + Constraint::MASK_AT, mask as usize);
+    little_endian::put2(constraints, at, scope.class);
+    little_endian::put4(constraints, at + Constraint::MASK_AT, scope.mask as usize);
     little_endian::put2(constraints, at + Constraint::FIRST_ROW_AT, first);
     little_endian::put2(constraints, at + Constraint::ROW_COUNT_AT, rows);
 }
 
-// Whether the maxima, of statements and of their rows, allow one more after `count` of them, whose last row is before
-// the next, and then whether the stack does: the number of the next row, or the fault.
-pub fn limit(statements: usize, rows: usize, count: usize, next: usize, need: usize) -> Constrained
-    ensures { Admits statements rows count next need result }
+// Whether the maxima, of statements and of their rows, allow one more after `count` of them, whose rows are written,
+// and then whether the stack does: the number of the next row, or the fault.
+pub fn limit(
+    statements: usize,
+    rows: usize,
+    count: usize,
+    written: RowsWritten,
+) -> Result<usize, Fault>
+    ensures { Admits statements rows count written.row written.need result }
 {
-    if statements <= count {
-        return Constrained::MaximumPassed;
+    if statements <= count || rows < written.row {
+        return Err(Fault::MaximumPassed);
     }
-    if rows < next {
-        return Constrained::MaximumPassed;
+    if Constraint::MAX_STACK < written.need {
+        return Err(Fault::StackTooSmall);
     }
-    if Constraint::MAX_STACK < need {
-        return Constrained::StackTooSmall;
-    }
-    Constrained::Next(next)
+    Ok(written.row)
 }
 
-// Resolves what follows the keyword, writes the rows of the expression from a row on, and the record of that number.
-// What has no room in the lent slices is not written; those that hold all records and rows always have it. The maxima
-// are asked last: what a refused statement leaves in the slices is not read.
+// Writes the rows of the expression in the part at a place, from a row on, if the names of the expression are declared.
+pub fn write_expression(
+    text: &[u8],
+    at: usize,
+    symbols: &[u8],
+    rows: &mut [u8],
+    row: usize,
+) -> Option<RowsWritten>
+    requires { Countable text.now at row }
+    ensures { (n : Sides) → WritesExpression n text.now at symbols.now rows.old rows.new row result }
+{
+    let item = items::next_item(text, at);
+    let Item::Open { next, .. } = item else {
+        return None;
+    };
+    constraint_writer::write_constraint(text, next, LEVELS, symbols, rows, row)
+}
+
+// Resolves what follows the keyword, writes the rows of the expression from a row on, and the record of that number:
+// the number of the row after the statement's rows, or the fault. What has no room in the lent slices is not written;
+// those that hold all records and rows always have it. The maxima are asked last: what a refused statement leaves in
+// the slices is not read.
 pub fn write_constrain(
     text: &[u8],
     at: usize,
@@ -194,34 +203,23 @@ pub fn write_constrain(
     count: usize,
     rows: &mut [u8],
     row: usize,
-) -> Constrained
+) -> Result<usize, Fault>
     ensures { WritesConstrain text.now at symbols.now constraints.old constraints.new count
         rows.old rows.new row result }
 {
     if Row::MAX < row {
-        return Constrained::MaximumPassed;
+        return Err(Fault::MaximumPassed);
     }
     let first = items::next_item(text, at);
     let Item::Open { next, .. } = first else {
-        return Constrained::Undeclared;
+        return Err(Fault::NameUndeclared);
     };
-    let scope = class_and_permissions(text, next, symbols);
-    let ClassAndPermissions::Of { class, mask, next } = scope else {
-        return Constrained::Undeclared;
+    let Some(scope) = class_and_permissions(text, next, symbols) else {
+        return Err(Fault::NameUndeclared);
     };
-    let second = items::next_item(text, next);
-    let Item::Open { next, .. } = second else {
-        return Constrained::Undeclared;
+    let Some(written) = write_expression(text, scope.next, symbols, rows, row) else {
+        return Err(Fault::NameUndeclared);
     };
-    let written = constraint_writer::write_constraint(text, next, LEVELS, symbols, rows, row);
-    let RowsWritten::Next {
-        row: past,
-        need,
-        ..
-    } = written
-    else {
-        return Constrained::Undeclared;
-    };
-    put_record(constraints, count, class, mask, row, past - row);
-    limit(Constraint::MAX, Row::MAX, count, past, need)
+    put_record(constraints, count, scope, row, written.row - row);
+    limit(Constraint::MAX, Row::MAX, count, written)
 }

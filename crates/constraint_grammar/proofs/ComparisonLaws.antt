@@ -5,7 +5,7 @@ use mathlib.Core.List.{[]}
 use mathlib.Core.Option.{Option, none, some}
 use Prim.Native.Nat.{ℕ, ◌<◌, ◌≤◌}
 use native.Mathlib.Omega.{arith}
-use borrow.Author.Tests.{ne_eqb, lt-leb, not-true, not-false, le-leb}
+use borrow.Author.Tests.{ne_eqb, lt-leb, not-true, not-false, le-leb, leb-true, eqb-false}
 use lib.Dec.{eqb, leb}
 use Rattle.lexer.specs.Forms.{Forms, closed, ended, word, part, trim}
 use Rattle.lexer.proofs.Trim.{cut-or-whole}
@@ -13,6 +13,7 @@ use Rattle.policy.specs.Basics.{Name, same, lookup, ◌>>=◌}
 use Rattle.policy.specs.Words.{reserved, is_reserved, is_plain, op_of, Sides, two_sides, three_sides, Component, component, component_of}
 use Rattle.policy.specs.Statements.{Family, users, roles, types, Side, source, target, process, Op, eq, neq, dom, domby, incomp, Constraint, sides_e, name_e}
 use Rattle.policy.specs.Grammar.{are_sides, is_roles, compared, comparison}
+use Rattle.policy.proofs.Lists.{both_true}
 use Rattle.policy.proofs.Options.{given-passes}
 use Rattle.words.specs.Numbers.{keywords, words, number_of, word_of}
 use Rattle.words.proofs.Meaning.{numbered, agreeing, agree, name-no-component, op-number, component-number}
@@ -48,16 +49,22 @@ by-sides n (some o) (some x) w e = go (component_of n w) refl
 
 -- ---- what numbers say
 
--- a stretch of the words' numbers, by the two tests that the code makes
+-- a stretch of the words' numbers
 module _ (test : Name → Bool) (lo hi : ℕ) (e : agreeing test (λ n. leb n hi && leb lo n) numbered 0 ≡ true) (f : test [] ≡ false) (h : hi < 40) where
   numbers : (n : ℕ) → leb n hi && leb lo n ≡ test (word_of n)
   numbers n = agree test (λ n. leb n hi && leb lo n) e (λ n g. rw (lt-leb n hi (omega arith), f)) n
 
-  above : (n : ℕ) → hi < n → false ≡ test (word_of n)
-  above n g = sym (ap (λ (b : Bool). b && leb lo n) (lt-leb n hi g)) ∙ numbers n
+  within : (n : ℕ) → lo ≤ n → n ≤ hi → true ≡ test (word_of n)
+  within n a b = rw (le-leb n hi b, le-leb lo n a) at (numbers n)
 
-  up_to : (n : ℕ) → n ≤ hi → leb lo n ≡ test (word_of n)
-  up_to n g = sym (ap (λ (b : Bool). b && leb lo n) (le-leb n hi g)) ∙ numbers n
+  outside : (n : ℕ) → (lo ≤ n → n ≤ hi → ⊥) → false ≡ test (word_of n)
+  outside n a = go (test (word_of n)) (numbers n)
+    where
+      go : (b : Bool) → leb n hi && leb lo n ≡ b → false ≡ b
+      go false e = refl
+      go true e =
+          let p = both_true (leb n hi) (leb lo n) e in
+          absurd (a (leb-true lo n p.1) (leb-true n hi p.0))
 
 abbrev is_plain_word : Name → Bool
 is_plain_word w = plain_op (op_of w)
@@ -69,30 +76,32 @@ abbrev is_component : Sides → Name → Bool
 is_component n w = is_some (component_of n w)
 
 module _ (n : ℕ) where
-  pub above-plain : 7 < n → false ≡ plain_op (op_of (word_of n))
+  -- eq neq
+  pub plain : 6 ≤ n → n ≤ 7 → true ≡ plain_op (op_of (word_of n))
   unfolding same lookup reserved keywords words op_of agreeing
-  above-plain h = above is_plain_word 6 7 refl refl (omega arith) n h
+  plain a b = within is_plain_word 6 7 refl refl (omega arith) n a b
 
-  pub up-to-plain : n ≤ 7 → leb 6 n ≡ plain_op (op_of (word_of n))
+  pub not-plain : (6 ≤ n → n ≤ 7 → ⊥) → false ≡ plain_op (op_of (word_of n))
   unfolding same lookup reserved keywords words op_of agreeing
-  up-to-plain h = up_to is_plain_word 6 7 refl refl (omega arith) n h
+  not-plain a = outside is_plain_word 6 7 refl refl (omega arith) n a
 
-  pub above-operator : 10 < n → false ≡ is_some (op_of (word_of n))
+  -- eq neq dom domby incomp
+  pub operator : 6 ≤ n → n ≤ 10 → true ≡ is_some (op_of (word_of n))
   unfolding same lookup reserved keywords words op_of agreeing
-  above-operator h = above is_op_word 6 10 refl refl (omega arith) n h
+  operator a b = within is_op_word 6 10 refl refl (omega arith) n a b
 
-  pub up-to-operator : n ≤ 10 → leb 6 n ≡ is_some (op_of (word_of n))
+  pub no-operator : (6 ≤ n → n ≤ 10 → ⊥) → false ≡ is_some (op_of (word_of n))
   unfolding same lookup reserved keywords words op_of agreeing
-  up-to-operator h = up_to is_op_word 6 10 refl refl (omega arith) n h
+  no-operator a = outside is_op_word 6 10 refl refl (omega arith) n a
 
   -- "x also u3, r3 or t3"
-  pub above-three : 19 < n → false ≡ is_some (component_of three_sides (word_of n))
+  pub of-three : 11 ≤ n → n ≤ 19 → true ≡ is_some (component_of three_sides (word_of n))
   unfolding same lookup reserved keywords words component_of agreeing
-  above-three h = above (is_component three_sides) 11 19 refl refl (omega arith) n h
+  of-three a b = within (is_component three_sides) 11 19 refl refl (omega arith) n a b
 
-  pub up-to-three : n ≤ 19 → leb 11 n ≡ is_some (component_of three_sides (word_of n))
+  pub not-of-three : (11 ≤ n → n ≤ 19 → ⊥) → false ≡ is_some (component_of three_sides (word_of n))
   unfolding same lookup reserved keywords words component_of agreeing
-  up-to-three h = up_to (is_component three_sides) 11 19 refl refl (omega arith) n h
+  not-of-three a = outside (is_component three_sides) 11 19 refl refl (omega arith) n a
 
 -- "x one of u1 u2 r1 r2 t1 t2"
 two-numbers : (n : ℕ) → not (eqb n 13) && (not (eqb n 16) && (leb n 18 && leb 11 n)) ≡ is_some (component_of two_sides (word_of n))
@@ -102,11 +111,19 @@ two-numbers n =
     (λ n h. rw (ne_eqb n 13 (λ z. omega arith), ne_eqb n 16 (λ z. omega arith), lt-leb n 18 (omega arith))) n
 
 module _ (n : ℕ) where
-  pub above-two : 18 < n → false ≡ is_some (component_of two_sides (word_of n))
-  above-two h = rw (ne_eqb n 13 (λ z. omega arith), ne_eqb n 16 (λ z. omega arith), lt-leb n 18 h) at (two-numbers n)
+  pub of-two : 11 ≤ n → n ≤ 18 → (n ≡ 13 → ⊥) → (n ≡ 16 → ⊥) → true ≡ is_some (component_of two_sides (word_of n))
+  of-two a b c d = rw (ne_eqb n 13 c, ne_eqb n 16 d, le-leb n 18 b, le-leb 11 n a) at (two-numbers n)
 
-  pub up-to-two : (n ≡ 13 → ⊥) → (n ≡ 16 → ⊥) → n ≤ 18 → leb 11 n ≡ is_some (component_of two_sides (word_of n))
-  up-to-two a b h = rw (ne_eqb n 13 a, ne_eqb n 16 b, le-leb n 18 h) at (two-numbers n)
+  pub not-of-two : (11 ≤ n → n ≤ 18 → (n ≡ 13 → ⊥) → (n ≡ 16 → ⊥) → ⊥) → false ≡ is_some (component_of two_sides (word_of n))
+  not-of-two a = go (is_some (component_of two_sides (word_of n))) (two-numbers n)
+    where
+      go : (b : Bool) → not (eqb n 13) && (not (eqb n 16) && (leb n 18 && leb 11 n)) ≡ b → false ≡ b
+      go false e = refl
+      go true e =
+          let p = both_true (not (eqb n 13)) (not (eqb n 16) && (leb n 18 && leb 11 n)) e in
+          let q = both_true (not (eqb n 16)) (leb n 18 && leb 11 n) p.1 in
+          let r = both_true (leb n 18) (leb 11 n) q.1 in
+          absurd (a (leb-true 11 n r.1) (leb-true n 18 r.0) (eqb-false n 13 (not-true _ p.0)) (eqb-false n 16 (not-true _ q.0)))
 
 -- the second side of a family
 second-numbers : (n : Sides) (f : Family) (k : ℕ) → agreeing (λ w. pair_of (some (component f source)) (component_of n w)) (λ y. eqb y k) numbered 0 ≡ true
@@ -231,13 +248,12 @@ module _ (n : Sides) (op x y : ℕ) (w : Name) (k : number_of w ≡ y) where
   first-role two_sides = role-op (op_of (word_of op))
   first-role three_sides = role-op (op_of (word_of op))
 
-  pub compares-roles : false ≡ not (is_reserved w) → pair_of (component_of n (word_of x)) (component_of n (word_of y)) ≡ true → x ≡ 14
-      → comparing n op x w ≡ is_some (op_of (word_of op))
-  compares-roles e f g =
+  pub compares-roles : false ≡ not (is_reserved w) → x ≡ 14 → comparing n op x w ≡ eqb y 15 && is_some (op_of (word_of op))
+  compares-roles e g =
       sides_first e
-      ∙ ap (λ (b : Bool). b && any_op (op_of (word_of op)) (component_of n (word_of x))) f
-      ∙ ap (λ (k : ℕ). any_op (op_of (word_of op)) (component_of n (word_of k))) g
-      ∙ first-role n
+      ∙ ap (λ (k : ℕ). pair_of (component_of n (word_of k)) (component_of n (word_of y)) && any_op (op_of (word_of op)) (component_of n (word_of k))) g
+      ∙ ap (λ (b : Bool). b && any_op (op_of (word_of op)) (component_of n (word_of 14))) (sym (roles-pair n y))
+      ∙ ap (λ (b : Bool). eqb y 15 && b) (first-role n)
 
   pub compares-others : false ≡ not (is_reserved w) → pair_of (component_of n (word_of x)) (component_of n (word_of y)) ≡ true → (x ≡ 14 → ⊥)
       → comparing n op x w ≡ plain_op (op_of (word_of op))

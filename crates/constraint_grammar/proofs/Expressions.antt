@@ -1,13 +1,11 @@
 -- How the operands of a constraint expression are counted, by the first of them and from its beginning. Assumes nothing.
-use mathlib.Core.Path.{◌≡◌, refl, sym, ap, subst, ◌∙◌}
+use mathlib.Core.Path.{◌≡◌, refl, sym, ap, ◌∙◌}
 use mathlib.Core.Bool.{Bool, true, false, cond, ◌&&◌}
-use mathlib.Core.List.{List}
+use mathlib.Core.List.{List, [], ◌∷◌}
 use mathlib.Core.Option.{Option, none, some}
-use Prim.Native.Nat.{ℕ, ◌+◌, ◌≤◌}
-use native.Mathlib.Nat.{le_refl}
-use native.Mathlib.Omega.{arith}
-use lib.Dec.{eqb}
+use Prim.Native.Nat.{ℕ, ◌+◌}
 use lib.ListN.{take, drop}
+use Rattle.std.specs.Prelude.{Some, None}
 use Rattle.lexer.specs.Forms.{Forms, closed, ended, word, part, frames_at, trim}
 use Rattle.policy.specs.Basics.{Name, same, lookup}
 use Rattle.policy.specs.Words.{Connective, not_c, and_c, or_c, expression_word, Sides}
@@ -15,16 +13,14 @@ use Rattle.policy.specs.Statements.{Constraint, not_e, and_e, or_e}
 use Rattle.policy.specs.Grammar.{comparison, connected, expressions, expression_in}
 use Rattle.words.specs.Numbers.{number_of, word_of}
 use Rattle.words.proofs.Meaning.{expression-number}
-use Rattle.items.specs.Looks.{item_at, row_end}
-use Rattle.items.specs.Reads.{is_some, Reads, enough, counted}
+use Rattle.items.specs.Looks.{item_at}
+use Rattle.items.specs.Reads.{is_some, enough, counted}
 use Rattle.items.specs.declared.Item.{Item}
-use Rattle.items.specs.declared.Parsed.{Parsed}
 use Rattle.items.specs.declared.Wanted.{Wanted}
-use Rattle.items.proofs.Items.{Looked, sees, by_word, by-close, by_end, alike-open}
+use Rattle.items.proofs.Items.{Looked, by_word, no_word, alike}
 use Rattle.items.proofs.Counts.{one_more, one_less, no_more, of_one_lem, of_two_lem}
 use Rattle.constraint_grammar.specs.Comparisons.{both_sides}
-use Rattle.constraint_grammar.specs.Heads.{joins_of, head_by, head_of}
-use Rattle.constraint_grammar.specs.declared.Head.{Head}
+use Rattle.constraint_grammar.specs.Operators.{joins_of}
 use Rattle.constraint_grammar.proofs.ComparisonLaws.{compare-is, trim-sides}
 
 -- E has no other operators than these
@@ -64,88 +60,47 @@ module _ (sides : Sides) where
   -- ---- how an E begins
 
   -- with a comparison's word, or with an operator
-  joins-by : (w : Name) (f : Forms) → joins_of (expression_word w) ≡ 0 → connected sides w f (expression_word w) (expressions sides f) ≡ comparison sides w f
+  joins-by : (w : Name) (f : Forms) → joins_of (expression_word w) ≡ None → connected sides w f (expression_word w) (expressions sides f) ≡ comparison sides w f
   joins-by w f =
-      by-operator (λ o. joins_of o ≡ 0 → connected sides w f o (expressions sides f) ≡ comparison sides w f) (λ e. refl) (λ e. absurd (omega arith)) (λ e. absurd (omega arith))
-      (λ e. absurd (omega arith)) w
+      by-operator (λ o. joins_of o ≡ None → connected sides w f o (expressions sides f) ≡ comparison sides w f) (λ e. refl) (λ e. absurd cc) (λ e. absurd cc)
+      (λ e. absurd cc) w
 
   -- so many operands, and no others
   abbrev joining : ℕ → Forms → Bool
   joining j f = counted (Wanted.Exactly j) 0 (expressions sides f)
 
-  operator-by : (w : Name) (f : Forms) → (joins_of (expression_word w) ≡ 0 → ⊥)
-      → joining (joins_of (expression_word w)) f ≡ is_some (connected sides w f (expression_word w) (expressions sides f))
-  operator-by w f =
-      by-operator (λ o. (joins_of o ≡ 0 → ⊥) → joining (joins_of o) f ≡ is_some (connected sides w f o (expressions sides f))) (λ e. absurd (e refl))
-      (λ e. of_one_lem not_e (expressions sides f)) (λ e. of_two_lem and_e (expressions sides f)) (λ e. of_two_lem or_e (expressions sides f)) w
-
-  module _ (w : Name) (s k : ℕ) (f : Forms) (e : number_of w ≡ k) where
-    by_number : joins_of (expression_word w) ≡ joins_of (expression_word (word_of k))
-    by_number = ap joins_of (expression-number w) ∙ ap (λ (n : ℕ). joins_of (expression_word (word_of n))) e
-
-    compare-row : (n : ℕ) → joins_of (expression_word (word_of k)) ≡ 0 → both_sides sides k f ≡ is_some (expression_in sides (word s w (trim f n)))
-    unfolding expression_in
-    compare-row n h =
-        sym
-        (ap is_some (joins-by w (trim f n) (by_number ∙ h))
-        ∙ compare-is sides w (trim f n)
-        ∙ trim-sides sides f n (number_of w)
-        ∙ ap (λ (i : ℕ). both_sides sides i f) e)
-
-    join-row : (joins_of (expression_word (word_of k)) ≡ 0 → ⊥) → joining (joins_of (expression_word (word_of k))) f ≡ is_some (expression_in sides (word s w f))
-    unfolding expression_in
-    join-row h = ap (λ (j : ℕ). joining j f) (sym by_number) ∙ operator-by w f (λ z. h (sym by_number ∙ z))
-
-  -- where an E goes on, and what is left of it there
-  pub record Headed (t : List ℕ) (at : ℕ) (r : Head) : Type 0 where
-    pub compares : r.wanted ≡ 0 → (n : ℕ) → both_sides sides r.word (frames_at t r.next).here ≡ is_some (expression_in sides (trim (frames_at t at).here n))
-    pub joins : (r.wanted ≡ 0 → ⊥) → (n : ℕ) → joining r.wanted (trim (frames_at t r.next).here n) ≡ is_some (expression_in sides (trim (frames_at t at).here n))
-    pub end : row_end t r.next ≡ row_end t at
-    pub ahead : at ≤ r.next
+  operator-by : (w : Name) (f : Forms) (j : ℕ) → joins_of (expression_word w) ≡ Some j → joining j f ≡ is_some (connected sides w f (expression_word w) (expressions sides f))
+  operator-by w f j =
+      by-operator (λ o. joins_of o ≡ Some j → joining j f ≡ is_some (connected sides w f o (expressions sides f))) (λ e. absurd cc)
+      (λ e. let d : 1 ≡ j = cc in rw (sym d) (of_one_lem not_e (expressions sides f)))
+      (λ e. let d : 2 ≡ j = cc in rw (sym d) (of_two_lem and_e (expressions sides f)))
+      (λ e. let d : 2 ≡ j = cc in rw (sym d) (of_two_lem or_e (expressions sides f))) w
 
   abbrev whole : Forms → Bool
   whole f = is_some (expression_in sides f)
 
-  -- it starts with a word
-  by_first : (t : List ℕ) (at s m k q : ℕ) → Looked t at (Item.Word s m k q) → Headed t at (head_of at (Item.Word s m k q))
-  by_first t at s m k q l =
-      let w = take m (drop s t) in record {
-        compares = λ e n. compare-row w s k (frames_at t q).here l.ahead.2 n e ∙ sym (by_word whole n l);
-        joins = λ h n. join-row w s k (trim (frames_at t q).here n) l.ahead.2 h ∙ sym (by_word whole n l);
-        end = sym l.end;
-        ahead = omega (arith, l.ahead.0);
-      }
+  -- what is read after a first word, by what its number joins
+  module _ {t : List ℕ} {at s m k q : ℕ} (l : Looked t at (Item.Word s m k q)) (n : ℕ) where
+    abbrev first : Name
+    first = take m (drop s t)
 
-  -- with any other item it is none, and no comparison
-  by-other : (t : List ℕ) (at : ℕ) → ((n : ℕ) → whole (trim (frames_at t at).here n) ≡ false) → both_sides sides 0 (frames_at t at).here ≡ false
-      → Headed t at (head_by 0 0 at)
-  by-other t at e f = record {
-    compares = λ h n. f ∙ sym (e n);
-    joins = λ h n. absurd (h refl);
-    end = refl;
-    ahead = le_refl at;
-  }
+    by_number : joins_of (expression_word first) ≡ joins_of (expression_word (word_of k))
+    by_number = ap joins_of (expression-number first) ∙ ap (λ (n : ℕ). joins_of (expression_word (word_of n))) l.ahead.2
 
-  headed : (t : List ℕ) (at : ℕ) (k : Item) → item_at t at ≡ k → Headed t at (head_of at k)
+    pub compares-row : joins_of (expression_word (word_of k)) ≡ None → whole (trim (frames_at t at).here n) ≡ both_sides sides k (frames_at t q).here
+    unfolding expression_in
+    compares-row h =
+        by_word whole n l
+        ∙ ap is_some (joins-by first (trim (frames_at t q).here n) (by_number ∙ h))
+        ∙ compare-is sides first (trim (frames_at t q).here n)
+        ∙ trim-sides sides (frames_at t q).here n (number_of first)
+        ∙ ap (λ (i : ℕ). both_sides sides i (frames_at t q).here) l.ahead.2
+
+    pub joins-row : (j : ℕ) → joins_of (expression_word (word_of k)) ≡ Some j → joining j (trim (frames_at t q).here n) ≡ whole (trim (frames_at t at).here n)
+    unfolding expression_in
+    joins-row j h = operator-by first (trim (frames_at t q).here n) j (by_number ∙ h) ∙ sym (by_word whole n l)
+
+  -- with any other item it is none
+  pub no-expression : (t : List ℕ) (at n : ℕ) (r : Item) → r ≡ item_at t at → ((s m k q : ℕ) → r ≡ Item.Word s m k q → ⊥) → whole (trim (frames_at t at).here n) ≡ false
   unfolding expression_in
-  headed t at (Item.Word s m k q) e = by_first t at s m k q (sees refl e)
-  headed t at (Item.Open p q) e =
-      let l = sees refl e in
-      by-other t at (λ n. alike-open whole (λ f. false) n (λ f g. refl) refl l (eqb n 0) refl) (ap (both_sides sides 0) l.here)
-  headed t at (Item.Close q) e =
-      let l = sees refl e in
-      by-other t at (λ n. by-close whole n l) (ap (both_sides sides 0) l.here)
-  headed t at Item.End e =
-      let l = sees refl e in
-      by-other t at (λ n. by_end whole n l) (ap (both_sides sides 0) l.here)
-
-  -- what a caller of `head_of` knows
-  pub heads : {t : List ℕ} {at : ℕ} {r : Head} → r ≡ head_of at (item_at t at) → Headed t at r
-  heads {t} {at} e = subst (λ (x : Head). Headed t at x) (sym e) (headed t at (item_at t at) refl)
-
-  -- what is read of a comparison after its first word
-  pub both_read : {t : List ℕ} {at : ℕ} {h : Head} (n : ℕ) (r : Parsed) → Headed t at h → h.wanted ≡ 0
-      → Reads t h.next (both_sides sides h.word (frames_at t h.next).here) r → Reads t at (is_some (expression_in sides (trim (frames_at t at).here n))) r
-  both_read n (Parsed.Next j) h e g =
-      record { answer = g.answer ∙ rw (h.compares e n, h.end); ahead = (omega (arith, h.ahead, g.ahead.0), g.ahead.1) }
-  both_read n Parsed.Bad h e g = record { answer = g.answer ∙ rw (h.compares e n, h.end); ahead = tt }
+  no-expression t at n r e h = alike whole (λ f. false) t at r (1 ∷ 2 ∷ 3 ∷ []) n (tt, λ x f g. refl, refl, refl) e (no_word r h)

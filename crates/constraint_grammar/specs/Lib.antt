@@ -1,2 +1,2 @@
 pub mod Comparisons
-pub mod Heads
+pub mod Operators

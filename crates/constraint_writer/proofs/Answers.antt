@@ -1,10 +1,11 @@
 -- What an answer of `write_constraint` says to its caller of an expression whose form is good. Assumes nothing.
 use mathlib.Core.Path.{◌≡◌}
 use mathlib.Core.List.{List}
-use mathlib.Core.Option.{Option, some, none}
+use mathlib.Core.Option.{some}
 use Prim.Native.Nat.{ℕ, ◌+◌, ◌*◌, ◌≤◌}
 use native.Mathlib.Omega.{arith}
 use lib.ListN.{length}
+use Rattle.std.specs.Prelude.{Some}
 use Rattle.byte_slices.specs.Parts.{put}
 use Rattle.bitset.specs.Relations.{joined}
 use Rattle.policy.specs.Basics.{Name, each}
@@ -14,10 +15,9 @@ use Rattle.policy.specs.Rows.{rows_of}
 use Rattle.policy.specs.Encode.{row_bytes}
 use Rattle.policy.specs.Names.{Environment}
 use Rattle.policy.proofs.RowCounts.{rows-count}
-use Rattle.scopes.specs.Symbols.{Symbols}
-use Rattle.constraint_writer.specs.ExpressionWrites.{Writes}
+use Rattle.constraint_writer.specs.ExpressionWrites.{Resolves}
 use Rattle.constraint_writer.specs.declared.RowsWritten.{RowsWritten}
-use Rattle.constraint_writer.proofs.WrittenRows.{resolved, unresolved}
+use Rattle.constraint_writer.proofs.WrittenRows.{resolved}
 
 -- the names of an expression are declared, its rows are counted, and they are in the memory if there is room
 pub record Resolved (env : Environment) (e : Constraint Name) (before after : List ℕ) (row n : ℕ) : Type 0 where
@@ -26,16 +26,13 @@ pub record Resolved (env : Environment) (e : Constraint Name) (before after : Li
   pub count : n ≡ row + size expression
   pub bytes : 6 * (row + size expression) ≤ length before → after ≡ put before (6 * row) (joined (each row_bytes (rows_of expression)))
 
-module _ {t symbols before after : List ℕ} {at row : ℕ} {m : Option (Constraint Name)} {env : Environment} {e : Constraint Name} (h : Symbols symbols env) (g : m ≡ some e) where
-  pub undeclared : Writes t at m symbols before after row RowsWritten.Undeclared → refer_e env e ≡ none
-  undeclared w = unresolved env e before after row (w.rows env e h g)
-
-  pub declared : {q n d : ℕ} → Writes t at m symbols before after row (RowsWritten.Next q n d) → Resolved env e before after row n
-  declared w =
-      let r = resolved env e before after row (w.rows env e h g) in
-      record {
-        expression = r.expression;
-        refers = r.refers;
-        count = r.count;
-        bytes = λ k. ((w.rows env e h g).wrote r.expression r.refers).put-there (omega (arith, k, rows-count r.expression));
-      }
+pub declared : {before after : List ℕ} {row : ℕ} {env : Environment} {e : Constraint Name} {s : RowsWritten} → Resolves env e before after row (Some s)
+    → Resolved env e before after row s.row
+declared {before} {after} {row} {env} {e} w =
+    let r = resolved env e before after row w in
+    record {
+      expression = r.expression;
+      refers = r.refers;
+      count = r.count;
+      bytes = λ k. (w.wrote r.expression r.refers).put-there (omega (arith, k, rows-count r.expression));
+    }

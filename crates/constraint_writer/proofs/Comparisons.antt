@@ -6,6 +6,9 @@ use mathlib.Core.Option.{Option, none, some}
 use Prim.Native.Nat.{ℕ, ◌+◌, ◌-◌}
 use native.Mathlib.Omega.{arith}
 use lib.Dec.{eqb}
+use Rattle.std.specs.Prelude as prelude
+use Rattle.std.specs.Prelude.{None, Some}
+use Rattle.std.proofs.lemmas.Option.{none-some, same_Some}
 use lib.ListN.{take, drop}
 use types.Run.{OneOf}
 use denote.Enum.Declared.{tag_of}
@@ -30,15 +33,14 @@ use Rattle.scopes.specs.Symbols.{Symbols}
 use Rattle.constraint_writer.specs.ExpressionWrites.{Wrote, Writes}
 use Rattle.constraint_writer.specs.RowFields.{code_of, operator_of, operand_of, Compares}
 use Rattle.constraint_writer.specs.declared.Operand.{Operand}
-use Rattle.constraint_writer.specs.declared.RowsWritten.{RowsWritten}
 use Rattle.constraint_writer.proofs.RowBytes.{all-kept}
 use Rattle.constraint_writer.proofs.WrittenRows.{rows_named, never, settled, unsettled}
 
 -- ---- the row
 
-abbrev row_by : ℕ → ℕ → Operand → Option (List Row)
-row_by o c (Operand.Is k n) = some (row k c o n ∷ [])
-row_by o c Operand.Undeclared = none
+abbrev row_by : ℕ → ℕ → prelude.Option Operand → Option (List Row)
+row_by o c None = none
+row_by o c (Some x) = some (row x.kind c o x.number ∷ [])
 
 -- a comparison by the meanings of its first two words, its last word and whether that is a component
 abbrev by_words : Option Op → Option Component → Name → Option Component → Option (Constraint Name)
@@ -57,7 +59,7 @@ side-first x y b e = go x.side refl
 
 module _ (env : Environment) (u : Name) where
   of-sides : (o : Op) (x y : Component) (e : Constraint Name) → compared o x u (some y) ≡ some e
-      → rows_named env e ≡ row_by (op_code o) (comp_code x.family x.side) (Operand.Is 3 0)
+      → rows_named env e ≡ row_by (op_code o) (comp_code x.family x.side) (Some (record { kind = 3; number = 0 }))
   unfolding refer_e rows_of
   of-sides o x y e h =
       let b = given-some (are_sides x y && (is_plain o || is_roles x.family)) (sides_e x.family o) e h in
@@ -81,12 +83,17 @@ module _ (env : Environment) (u : Name) where
           ap (rows_named env) (sym (given-some (is_plain o) (name_e x.family x.side o u) e g).1) ∙ by-reference (refer env x.family u) refl
 
   row_of : (o : Option Op) (x y : Option Component) (e : Constraint Name) → by_words o x u y ≡ some e
-      → (k : Operand) → ((f : Family) (s : Side) → code_of x ≡ comp_code f s → k ≡ operand_of y (refer env f u))
-      → rows_named env e ≡ row_by (operator_of o) (code_of x) k
-  row_of none x y e h k g = never h
-  row_of (some o) none y e h k g = never h
-  row_of (some o) (some x) (some y) e h k g = of-sides o x y e h ∙ ap (row_by (op_code o) (comp_code x.family x.side)) (sym (g x.family x.side refl))
-  row_of (some o) (some x) none e h k g = of-name o x e h ∙ ap (row_by (op_code o) (comp_code x.family x.side)) (sym (g x.family x.side refl))
+      → {operator side : ℕ} → Some operator ≡ operator_of o → Some side ≡ code_of x
+      → (k : prelude.Option Operand) → ((f : Family) (s : Side) → side ≡ comp_code f s → k ≡ operand_of y (refer env f u))
+      → rows_named env e ≡ row_by operator side k
+  row_of none x y e h p q k g = never h
+  row_of (some o) none y e h p q k g = never h
+  row_of (some o) (some x) (some y) e h {operator} {side} p q k g =
+      let is = same_Some side (comp_code x.family x.side) q in
+      rw (same_Some operator (op_code o) p, is) (of-sides o x y e h ∙ ap (row_by (op_code o) (comp_code x.family x.side)) (sym (g x.family x.side is)))
+  row_of (some o) (some x) none e h {operator} {side} p q k g =
+      let is = same_Some side (comp_code x.family x.side) q in
+      rw (same_Some operator (op_code o) p, is) (of-name o x e h ∙ ap (row_by (op_code o) (comp_code x.family x.side)) (sym (g x.family x.side is)))
 
 -- "a comparison 1"
 need-of : (o : Option Op) (x : Option Component) (u : Name) (y : Option Component) (e : Constraint Name) → by_words o x u y ≡ some e → 1 ≡ need e
@@ -105,6 +112,14 @@ need-of (some o) (some x) u none e h = go (not (is_reserved u)) h
 nothing : {A B : Type 0} (o : Option A) (f : A → Option B) → ((a : A) → f a ≡ none) → (o >>= f) ≡ none
 nothing none f h = refl
 nothing (some a) f h = h a
+
+no-op : (o : Option Op) → None ≡ operator_of o → o ≡ none
+no-op none h = refl
+no-op (some o) h = absurd (none-some (op_code o) h)
+
+no-side : (x : Option Component) → None ≡ code_of x → x ≡ none
+no-side none h = refl
+no-side (some x) h = absurd (none-some (comp_code x.family x.side) h)
 
 module _ (w : Name) where
   no-first : Alike (comparison three_sides w) (λ f. none) (1 ∷ 2 ∷ 3 ∷ [])
@@ -178,17 +193,30 @@ module _ {t : List ℕ} {at s n x p r k y q j : ℕ} (l : FramesSeen t at (Item.
   component-is-2 : component_of three_sides (take k (drop r t)) ≡ component_of three_sides (word_of y)
   component-is-2 = component-number (take k (drop r t)) three_sides ∙ ap (λ (i : ℕ). component_of three_sides (word_of i)) l2.ahead.2
 
-  module _ {symbols : List ℕ} {side : ℕ} (a : side ≡ code_of (component_of three_sides (word_of x))) where
-    one-row : {o : Operand} → Compares (take k (drop r t)) y side symbols o → (env : Environment) (e : Constraint Name) → Symbols symbols env
-        → comparison three_sides w (frames_at t at).here ≡ some e → rows_named env e ≡ row_by (operator_of (op_of w)) side o
-    one-row {o} c env e h g =
-        let side-is : side ≡ code_of (component_of three_sides (take n (drop s t))) = a ∙ ap code_of (sym component-is) in
-        row_of env (take k (drop r t)) (op_of w) (component_of three_sides (take n (drop s t))) (component_of three_sides (take k (drop r t))) e (sym in_words ∙ g) o
-        (λ f i d. c.operand env f i h (side-is ∙ d) ∙ ap (λ (z : Option Component). operand_of z (refer env f (take k (drop r t)))) (sym component-is-2))
-        ∙ ap (λ (i : ℕ). row_by (operator_of (op_of w)) i o) (sym side-is)
+  -- the first word of the expression is no operator of a comparison
+  pub operator-missing : None ≡ operator_of (op_of w) → comparison three_sides w (frames_at t at).here ≡ none
+  operator-missing h =
+      in_words ∙ ap (λ (o : Option Op). by_words o (component_of three_sides (take n (drop s t))) (take k (drop r t)) (component_of three_sides (take k (drop r t))))
+      (no-op (op_of w) h)
 
-    pub not-declared : {before : List ℕ} {first : ℕ} → Compares (take k (drop r t)) y side symbols Operand.Undeclared
-        → Writes t at (comparison three_sides w (frames_at t at).here) symbols before before first RowsWritten.Undeclared
+  -- the word after it is no component
+  pub component-missing : None ≡ code_of (component_of three_sides (word_of x)) → comparison three_sides w (frames_at t at).here ≡ none
+  component-missing h =
+      in_words
+      ∙ ap (λ (y : Option Component). by_words (op_of w) y (take k (drop r t)) (component_of three_sides (take k (drop r t))))
+      (component-is ∙ no-side (component_of three_sides (word_of x)) h)
+      ∙ nothing (op_of w) _ (λ o. refl)
+
+  module _ {symbols : List ℕ} {operator side : ℕ} (b : Some operator ≡ operator_of (op_of w)) (a : Some side ≡ code_of (component_of three_sides (word_of x))) where
+    one-row : {o : prelude.Option Operand} → Compares (take k (drop r t)) y side symbols o → (env : Environment) (e : Constraint Name) → Symbols symbols env
+        → comparison three_sides w (frames_at t at).here ≡ some e → rows_named env e ≡ row_by operator side o
+    one-row {o} c env e h g =
+        row_of env (take k (drop r t)) (op_of w) (component_of three_sides (take n (drop s t))) (component_of three_sides (take k (drop r t))) e (sym in_words ∙ g)
+        b (a ∙ ap code_of (sym component-is)) o
+        (λ f i d. c.operand env f i h d ∙ ap (λ (z : Option Component). operand_of z (refer env f (take k (drop r t)))) (sym component-is-2))
+
+    pub not-declared : {before : List ℕ} {first : ℕ} → Compares (take k (drop r t)) y side symbols None
+        → Writes t at (comparison three_sides w (frames_at t at).here) symbols before before first None
     not-declared {before} {first} c = record {
       kept = all-kept before first;
       reads = tt;
@@ -196,11 +224,10 @@ module _ {t : List ℕ} {at s n x p r k y q j : ℕ} (l : FramesSeen t at (Item.
       rows = λ env e h g. unsettled env e before before first (one-row c env e h g);
     }
 
-    pub compared-row : {before after : List ℕ} {first kind number operator : ℕ} → Compares (take k (drop r t)) y side symbols (Operand.Is kind number)
-        → operator ≡ operator_of (op_of w)
-        → Wrote before after first (row kind side operator number ∷ [])
-        → Writes t at (comparison three_sides w (frames_at t at).here) symbols before after first (RowsWritten.Next j (first + 1) 1)
-    compared-row {before} {after} {first} {kind} {number} {operator} c b u = record {
+    pub compared-row : {before after : List ℕ} {first : ℕ} {o : Operand} → Compares (take k (drop r t)) y side symbols (Some o)
+        → Wrote before after first (row o.kind side operator o.number ∷ [])
+        → Writes t at (comparison three_sides w (frames_at t at).here) symbols before after first (Some (record { at = j; row = first + 1; need = 1 }))
+    compared-row {before} {after} {first} {o} c u = record {
       kept = u.kept;
       reads = record {
         rest = sym (closes at l3 (sym (around-of l ∙ around-of l2)));
@@ -211,5 +238,6 @@ module _ {t : List ℕ} {at s n x p r k y q j : ℕ} (l : FramesSeen t at (Item.
         few-values = omega (arith, l.ahead.0, l2.ahead.0, l3.ahead.0);
       };
       needs = λ e g. need-of (op_of w) (component_of three_sides (take n (drop s t))) (take k (drop r t)) (component_of three_sides (take k (drop r t))) e (sym in_words ∙ g);
-      rows = λ env e h g. settled env e before after first j (first + 1) 1 (row kind side operator number ∷ []) (one-row c env e h g ∙ rw (← b)) refl u;
+      rows = λ env e h g.
+          settled env e before after first (record { at = j; row = first + 1; need = 1 }) (row o.kind side operator o.number ∷ []) (one-row c env e h g) refl u;
     }

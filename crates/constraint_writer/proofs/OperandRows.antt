@@ -6,6 +6,9 @@ use mathlib.Core.Option.{Option, none, some, some-injective}
 use Prim.Native.Nat.{ℕ, max, ◌+◌, ◌-◌, ◌<◌, ◌≤◌}
 use native.Mathlib.Omega.{arith}
 use lib.ListN.{length, take, drop, length-append}
+use Rattle.std.specs.Prelude as prelude
+use Rattle.std.specs.Prelude.{None, Some}
+use Rattle.std.proofs.lemmas.Option.{none-some, same_Some}
 use Rattle.lexer.specs.Forms.{Forms, Frames, closed, ended, word, part, frames_at, trim}
 use Rattle.policy.specs.Basics.{Name, ◌>>=◌, more}
 use Rattle.policy.specs.Words.{Connective, all_c, not_c, and_c, or_c, xor_c, expression_word, op_of, three_sides}
@@ -63,23 +66,26 @@ module _ (env : Environment) where
   two_operands join o h (some x) (some y) = ap some (h x y)
 
   -- an expression by its operator and its operands
-  by_form : (c : Connective) (es : List (Constraint Name)) (e : Constraint Name) → form_e c es ≡ some e → rows_named env e ≡ rows_left env es (row (kind_of (some c)) 0 0 0)
+  by_form : (c : Connective) {kind : ℕ} → Some kind ≡ kind_of (some c) → (es : List (Constraint Name)) (e : Constraint Name) → form_e c es ≡ some e
+      → rows_named env e ≡ rows_left env es (row kind 0 0 0)
   unfolding refer_e rows_of rows_left
-  by_form all_c es e h = never h
-  by_form xor_c es e h = never h
-  by_form not_c [] e h = never h
-  by_form not_c (a ∷ []) e h = ap (rows_named env) (sym (some-injective (not_e a) e h)) ∙ one-operand a
-  by_form not_c (a ∷ b ∷ es) e h = never h
-  by_form and_c [] e h = never h
-  by_form and_c (a ∷ []) e h = never h
-  by_form and_c (a ∷ b ∷ []) e h =
-      ap (rows_named env) (sym (some-injective (and_e a b) e h)) ∙ two_operands and_e (row 1 0 0 0) (λ x y. refl) (refer_e env a) (refer_e env b)
-  by_form and_c (a ∷ b ∷ c ∷ es) e h = never h
-  by_form or_c [] e h = never h
-  by_form or_c (a ∷ []) e h = never h
-  by_form or_c (a ∷ b ∷ []) e h =
-      ap (rows_named env) (sym (some-injective (or_e a b) e h)) ∙ two_operands or_e (row 2 0 0 0) (λ x y. refl) (refer_e env a) (refer_e env b)
-  by_form or_c (a ∷ b ∷ c ∷ es) e h = never h
+  by_form all_c k es e h = never h
+  by_form xor_c k es e h = never h
+  by_form not_c k [] e h = never h
+  by_form not_c {kind} k (a ∷ []) e h = rw (same_Some kind 0 k) (ap (rows_named env) (sym (some-injective (not_e a) e h)) ∙ one-operand a)
+  by_form not_c k (a ∷ b ∷ es) e h = never h
+  by_form and_c k [] e h = never h
+  by_form and_c k (a ∷ []) e h = never h
+  by_form and_c {kind} k (a ∷ b ∷ []) e h =
+      rw (same_Some kind 1 k)
+      (ap (rows_named env) (sym (some-injective (and_e a b) e h)) ∙ two_operands and_e (row 1 0 0 0) (λ x y. refl) (refer_e env a) (refer_e env b))
+  by_form and_c k (a ∷ b ∷ c ∷ es) e h = never h
+  by_form or_c k [] e h = never h
+  by_form or_c k (a ∷ []) e h = never h
+  by_form or_c {kind} k (a ∷ b ∷ []) e h =
+      rw (same_Some kind 2 k)
+      (ap (rows_named env) (sym (some-injective (or_e a b) e h)) ∙ two_operands or_e (row 2 0 0 0) (λ x y. refl) (refer_e env a) (refer_e env b))
+  by_form or_c k (a ∷ b ∷ c ∷ es) e h = never h
 
 -- ---- so far
 
@@ -116,17 +122,17 @@ module _ {t : List ℕ} {at s k number q : ℕ} (l : FramesSeen t at (Item.Word 
   number_is : expression_word (take k (drop s t)) ≡ expression_word (word_of number)
   number_is = expression-number (take k (drop s t)) ∙ ap (λ (n : ℕ). expression_word (word_of n)) l.ahead.2
 
-  module _ {kind : ℕ} (is : kind ≡ kind_of (expression_word (word_of number))) (levels : ℕ) where
+  module _ {found : prelude.Option ℕ} (is : found ≡ kind_of (expression_word (word_of number))) (levels : ℕ) where
     -- with an operator
     by-operator : (env : Environment) (e : Constraint Name) (f : Forms) (first : ℕ) (before : List ℕ) (c : Option Connective) (es : Option (List (Constraint Name)))
-        → expressions three_sides f ≡ es → (kind_of c ≡ 3 → ⊥) → connected three_sides (take k (drop s t)) f c es ≡ some e → SoFar env e f (kind_of c) first first before before
-    by-operator env e f first before none es d h g = absurd (h refl)
+        → expressions three_sides f ≡ es → {kind : ℕ} → Some kind ≡ kind_of c → connected three_sides (take k (drop s t)) f c es ≡ some e → SoFar env e f kind first first before before
+    by-operator env e f first before none es d {kind} h g = absurd (none-some kind (sym h))
     by-operator env e f first before (some c) none d h g = never g
-    by-operator env e f first before (some c) (some xs) d h g = record {
+    by-operator env e f first before (some c) (some xs) d {kind} h g = record {
       done = [];
       left = xs;
       reads = d;
-      whole = by_form env c xs e g ∙ unprefixed (rows_left env xs (row (kind_of (some c)) 0 0 0));
+      whole = by_form env c h xs e g ∙ unprefixed (rows_left env xs (row kind 0 0 0));
       count = omega arith;
       wrote = none-wrote before first;
     }
@@ -135,12 +141,12 @@ module _ {t : List ℕ} {at s k number q : ℕ} (l : FramesSeen t at (Item.Word 
         unprefixed none = refl
         unprefixed (some rs) = refl
 
-    kind-is : kind ≡ kind_of (expression_word (take k (drop s t)))
+    kind-is : found ≡ kind_of (expression_word (take k (drop s t)))
     kind-is = is ∙ ap kind_of (sym number_is)
 
-    pub begun : (kind ≡ 3 → ⊥) → {symbols before : List ℕ} {first : ℕ} → Loop t at levels symbols kind first before q first 0 0 before
+    pub begun : {kind : ℕ} → found ≡ Some kind → {symbols before : List ℕ} {first : ℕ} → Loop t at levels symbols kind first before q first 0 0 before
     unfolding expression_in
-    begun h {symbols} {before} {first} = record {
+    begun {kind} h {symbols} {before} {first} = record {
       ahead = l.ahead.0;
       rises = omega arith;
       few = omega (arith, l.ahead.0);
@@ -148,32 +154,31 @@ module _ {t : List ℕ} {at s k number q : ℕ} (l : FramesSeen t at (Item.Word 
       few-values = omega (arith, l.ahead.0);
       around = sym (around-of l);
       kept = all-kept before first;
-      needs = λ e g. none_yet _ _ (expression_word (take k (drop s t))) _ e (λ z. h (kind-is ∙ z)) (sym (by_word (expression_in three_sides) levels l) ∙ g);
+      needs = λ e g. none_yet _ _ (expression_word (take k (drop s t))) _ e kind (sym h ∙ kind-is) (sym (by_word (expression_in three_sides) levels l) ∙ g);
       so_far = λ env e y g.
-          subst (λ (i : ℕ). SoFar env e (trim (frames_at t q).here levels) i first first before before) (sym kind-is)
-          (by-operator env e (trim (frames_at t q).here levels) first before (expression_word (take k (drop s t))) _ refl (λ z. h (kind-is ∙ z))
-          (sym (by_word (expression_in three_sides) levels l) ∙ g));
+          by-operator env e (trim (frames_at t q).here levels) first before (expression_word (take k (drop s t))) _ refl (sym h ∙ kind-is)
+          (sym (by_word (expression_in three_sides) levels l) ∙ g);
     }
 
     -- with a comparison's word
-    by-comparison : (w : Name) (f : Forms) (c : Option Connective) (es : Option (List (Constraint Name))) (e : Constraint Name) → kind_of c ≡ 3
+    by-comparison : (w : Name) (f : Forms) (c : Option Connective) (es : Option (List (Constraint Name))) (e : Constraint Name) → None ≡ kind_of c
         → connected three_sides w f c es ≡ some e → comparison three_sides w f ≡ some e
     by-comparison w f none es e h g = g
     by-comparison w f (some c) none e h g = never g
     by-comparison w f (some all_c) (some xs) e h g = never g
     by-comparison w f (some xor_c) (some xs) e h g = never g
-    by-comparison w f (some not_c) (some xs) e h g = absurd (omega arith)
-    by-comparison w f (some and_c) (some xs) e h g = absurd (omega arith)
-    by-comparison w f (some or_c) (some xs) e h g = absurd (omega arith)
+    by-comparison w f (some not_c) (some xs) e h g = absurd (none-some 0 h)
+    by-comparison w f (some and_c) (some xs) e h g = absurd (none-some 1 h)
+    by-comparison w f (some or_c) (some xs) e h g = absurd (none-some 2 h)
 
-    pub compares : kind ≡ 3 → (e : Constraint Name) → expression_in three_sides (trim (frames_at t at).here levels) ≡ some e → comparison three_sides (word_of number) (frames_at t q).here ≡ some e
+    pub compares : found ≡ None → (e : Constraint Name) → expression_in three_sides (trim (frames_at t at).here levels) ≡ some e → comparison three_sides (word_of number) (frames_at t q).here ≡ some e
     unfolding expression_in
     compares h e g =
         let w = take k (drop s t) in
         let f = (frames_at t q).here in
         let op-is : op_of (word_of number) ≡ op_of w = sym (op-number w ∙ ap (λ (n : ℕ). op_of (word_of n)) l.ahead.2) in
         rw op-is (sym (cut-comparison w f levels)
-        ∙ by-comparison w (trim f levels) (expression_word w) (expressions three_sides (trim f levels)) e (ap kind_of number_is ∙ sym is ∙ h) (sym (by_word (expression_in three_sides) levels l) ∙ g))
+        ∙ by-comparison w (trim f levels) (expression_word w) (expressions three_sides (trim f levels)) e (sym h ∙ kind-is) (sym (by_word (expression_in three_sides) levels l) ∙ g))
 
 -- ---- an operand, and the close
 
@@ -247,13 +252,13 @@ module _ {env : Environment} {e : Constraint Name} {f : Forms} {kind first n : �
 module _ {t symbols before now : List ℕ} {at levels kind first i n count d : ℕ} (g : Loop t at levels symbols kind first before i n count d now) where
   -- what is at the place is no operand
   pub no_operand : expressions three_sides (trim (frames_at t i).here levels) ≡ none
-      → Writes t at (expression_in three_sides (trim (frames_at t at).here levels)) symbols before now first RowsWritten.Undeclared
+      → Writes t at (expression_in three_sides (trim (frames_at t at).here levels)) symbols before now first None
   no_operand o = record { kept = g.kept; reads = tt; needs = λ e h. tt; rows = λ env e y h. never (sym o ∙ (g.so_far env e y h).reads) }
 
   module _ {p q : ℕ} {new : List ℕ} (l : FramesSeen t i (Item.Open p q)) (deep : levels ≡ 0 → ⊥) where
-    pub operand-done : {past m a b : ℕ} → Writes t q (expression_in three_sides (trim (frames_at t q).here (levels - 1))) symbols now new n (RowsWritten.Next past m a)
-        → b ≡ max d (count + a) → Loop t at levels symbols kind first before past m (count + 1) b new
-    operand-done {past} {m} {a} {b} w f = record {
+    pub operand-done : {o : RowsWritten} {b : ℕ} → Writes t q (expression_in three_sides (trim (frames_at t q).here (levels - 1))) symbols now new n (Some o)
+        → b ≡ max d (count + o.need) → Loop t at levels symbols kind first before o.at o.row (count + 1) b new
+    operand-done {o} {b} w f = record {
       ahead = omega (arith, g.ahead, l.ahead.0, w.reads.less);
       rises = omega (arith, g.rises, w.reads.some-row);
       few = omega (arith, g.few, l.ahead.0, w.reads.few-rows);
@@ -263,15 +268,15 @@ module _ {t symbols before now : List ℕ} {at levels kind first i n count d : �
       kept = kept_on g.rises g.kept w.kept;
       needs = λ e h.
           rw f
-          (subst (λ (x : Frames). need_left (expressions three_sides (trim x.here levels)) (count + 1) (max d (count + a)) ≡ some (need e)) (sym w.reads.rest)
-          (part-needs count d (need e) p _ _ a w.needs (sym (by_part (λ f. need_left (expressions three_sides f) count d) levels l deep) ∙ g.needs e h)));
+          (subst (λ (x : Frames). need_left (expressions three_sides (trim x.here levels)) (count + 1) (max d (count + o.need)) ≡ some (need e)) (sym w.reads.rest)
+          (part-needs count d (need e) p _ _ o.need w.needs (sym (by_part (λ f. need_left (expressions three_sides f) count d) levels l deep) ∙ g.needs e h)));
       so_far = λ env e y h.
-          subst (λ (x : Frames). SoFar env e (trim x.here levels) kind first m before new) (sym w.reads.rest)
+          subst (λ (x : Frames). SoFar env e (trim x.here levels) kind first o.row before new) (sym w.reads.rest)
           (one_more (g.so_far env e y h) p _ _ (by_part (expressions three_sides) levels l deep) (λ x d. settles env x now new n (w.rows env x y d)));
     }
 
-    pub operand-undeclared : Writes t q (expression_in three_sides (trim (frames_at t q).here (levels - 1))) symbols now new n RowsWritten.Undeclared
-        → Writes t at (expression_in three_sides (trim (frames_at t at).here levels)) symbols before new first RowsWritten.Undeclared
+    pub operand-undeclared : Writes t q (expression_in three_sides (trim (frames_at t q).here (levels - 1))) symbols now new n None
+        → Writes t at (expression_in three_sides (trim (frames_at t at).here levels)) symbols before new first None
     operand-undeclared w = record {
       kept = kept_on g.rises g.kept w.kept;
       reads = tt;
@@ -282,7 +287,7 @@ module _ {t symbols before now : List ℕ} {at levels kind first i n count d : �
     }
 
   pub finished : {j : ℕ} {new : List ℕ} → FramesSeen t i (Item.Close j) → Wrote now new n (row kind 0 0 0 ∷ [])
-      → Writes t at (expression_in three_sides (trim (frames_at t at).here levels)) symbols before new first (RowsWritten.Next j (n + 1) d)
+      → Writes t at (expression_in three_sides (trim (frames_at t at).here levels)) symbols before new first (Some (record { at = j; row = n + 1; need = d }))
   finished {j} {new} l w = record {
     kept = kept_on g.rises g.kept w.kept;
     reads = record {
@@ -296,6 +301,6 @@ module _ {t symbols before now : List ℕ} {at levels kind first i n count d : �
     needs = λ e h. close-needs count d (need e) (sym (by-close (λ f. need_left (expressions three_sides f) count d) levels l) ∙ g.needs e h);
     rows = λ env e y h.
         let s = g.so_far env e y h in
-        settled env e before new first j (n + 1) d (s.done ++ (row kind 0 0 0 ∷ [])) (all_done s (by-close (expressions three_sides) levels l))
+        settled env e before new first (record { at = j; row = n + 1; need = d }) (s.done ++ (row kind 0 0 0 ∷ [])) (all_done s (by-close (expressions three_sides) levels l))
         (omega (arith, s.count, length-append s.done (row kind 0 0 0 ∷ []))) (wrote_on n s.done (row kind 0 0 0 ∷ []) s.count s.wrote w);
   }

@@ -73,9 +73,6 @@ module _ (t : List ℕ) (n k c p i : ℕ) (h : n < length t / 6) where
         put-there = λ g. sets-put t (6 * n) bytes (omega arith);
       })
 
-pub no_room : (t : List ℕ) (n : ℕ) (r : Row) → length t / 6 ≤ n → Wrote t t n (r ∷ [])
-no_room t n r h = record { kept = all-kept t n; put-there = λ g. absurd (omega arith) }
-
 -- ---- rows after rows
 
 pub none-wrote : (t : List ℕ) (n : ℕ) → Wrote t t n []

@@ -1,10 +1,12 @@
 -- The stack need of an operator's expression, operand by operand: an operand is worked out with the values of those before it on the stack. Assumes
 -- nothing.
-use mathlib.Core.Path.{◌≡◌, refl, ap, ◌∙◌}
+use mathlib.Core.Path.{◌≡◌, refl, sym, ap, ◌∙◌}
 use mathlib.Core.List.{List, [], ◌∷◌}
 use mathlib.Core.Option.{Option, none, some, some-injective}
 use Prim.Native.Nat.{ℕ, max, ◌+◌}
 use native.Mathlib.Nat.{zero-add, zero-max}
+use Rattle.std.specs.Prelude.{Some}
+use Rattle.std.proofs.lemmas.Option.{none-some}
 use Rattle.lexer.specs.Forms.{Forms, closed, part}
 use Rattle.policy.specs.Basics.{Name, more, of_one, of_two}
 use Rattle.policy.specs.Words.{Connective, all_c, not_c, and_c, or_c, xor_c, three_sides}
@@ -52,11 +54,11 @@ of-form not_c es e h = of_one_lem es e h
 of-form and_c es e h = of_two_lem and_e (λ a b. refl) es e h
 of-form or_c es e h = of_two_lem or_e (λ a b. refl) es e h
 
-pub none_yet : (w : Name) (f : Forms) (c : Option Connective) (es : Option (List (Constraint Name))) (e : Constraint Name) → (kind_of c ≡ 3 → ⊥)
+pub none_yet : (w : Name) (f : Forms) (c : Option Connective) (es : Option (List (Constraint Name))) (e : Constraint Name) (kind : ℕ) → Some kind ≡ kind_of c
     → connected three_sides w f c es ≡ some e → need_left es 0 0 ≡ some (need e)
-none_yet w f none es e h g = absurd (h refl)
-none_yet w f (some c) none e h g = never g
-none_yet w f (some c) (some es) e h g = ap some (of-form c es e g)
+none_yet w f none es e kind h g = absurd (none-some kind (sym h))
+none_yet w f (some c) none e kind h g = never g
+none_yet w f (some c) (some es) e kind h g = ap some (of-form c es e g)
 
 -- ---- by the next operand, which needs a, and at the close
 

@@ -5,6 +5,7 @@ use mathlib.Core.Bool.{Bool, true, false, cond}
 use Prim.Native.Nat.{ℕ}
 use mathlib.Core.List.{List, ◌∷◌}
 use mathlib.Core.Option.{Option, none, some}
+use Rattle.std.specs.Prelude as prelude
 use Rattle.lexer.specs.Forms.{Forms, closed, ended, word, part}
 use Rattle.policy.specs.Basics.{Name, same, Under, lookup, ◌>>=◌, more}
 use Rattle.policy.specs.Words.{is_reserved, op_of, Connective, expression_word, Sides, two_sides, three_sides, Component, component}
@@ -108,7 +109,7 @@ in_three two_sides f e h = expression-three f e h
 in_three three_sides f e h = h
 
 -- what is written of an expression of three sides is written of one of any
-pub of-any : {t symbols before after : List ℕ} {at row : ℕ} {r : RowsWritten} (f : Forms) (n : Sides)
+pub of-any : {t symbols before after : List ℕ} {at row : ℕ} {r : prelude.Option RowsWritten} (f : Forms) (n : Sides)
     → Writes t at (expression_in three_sides f) symbols before after row r → Writes t at (expression_in n f) symbols before after row r
 of-any f n w = record {
   kept = w.kept;

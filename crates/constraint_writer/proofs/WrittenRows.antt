@@ -5,6 +5,8 @@ use mathlib.Core.Option.{Option, none, some, some-injective}
 use Prim.Native.Nat.{ℕ, ◌+◌, ◌<◌}
 use native.Mathlib.Omega.{arith}
 use lib.ListN.{length}
+use Rattle.std.specs.Prelude as prelude
+use Rattle.std.specs.Prelude.{None, Some, IfSome}
 use Rattle.lexer.specs.Forms.{Forms, head, tail, frames_at}
 use Rattle.policy.specs.Basics.{Name, ◌>>=◌}
 use Rattle.policy.specs.Statements.{Reference, Constraint, size}
@@ -12,7 +14,7 @@ use Rattle.policy.specs.Reading.{refer_e}
 use Rattle.policy.specs.Rows.{Row, rows_of}
 use Rattle.policy.specs.Names.{Environment}
 use Rattle.policy.proofs.RowCounts.{rows-count}
-use Rattle.constraint_writer.specs.ExpressionWrites.{Kept, Wrote, Resolves, Reads, Writes}
+use Rattle.constraint_writer.specs.ExpressionWrites.{Kept, Wrote, Resolves, Past, Writes}
 use Rattle.constraint_writer.specs.declared.RowsWritten.{RowsWritten}
 
 -- the rows of an expression; none where a name of it is not declared
@@ -25,12 +27,12 @@ never e = absurd (let z : ◌≡◌ {A = ℕ} 0 1 = cc in omega arith)
 module _ (env : Environment) (e : Constraint Name) (before after : List ℕ) (first : ℕ) where
   -- ---- from rows to an answer
 
-  pub settled : (q n d : ℕ) (rs : List Row) → rows_named env e ≡ some rs → n ≡ first + length rs → Wrote before after first rs
-      → Resolves env e before after first (RowsWritten.Next q n d)
-  settled q n d rs h k w = go (refer_e env e) refl h
+  pub settled : (s : RowsWritten) (rs : List Row) → rows_named env e ≡ some rs → s.row ≡ first + length rs → Wrote before after first rs
+      → Resolves env e before after first (Some s)
+  settled s rs h k w = go (refer_e env e) refl h
     where
       go : (o : Option (Constraint Reference)) → refer_e env e ≡ o → (o >>= λ x. some (rows_of x)) ≡ some rs
-          → Resolves env e before after first (RowsWritten.Next q n d)
+          → Resolves env e before after first (Some s)
       go none p g = never g
       go (some x) p g =
           let same : rows_of x ≡ rs = some-injective (rows_of x) rs g in
@@ -40,10 +42,10 @@ module _ (env : Environment) (e : Constraint Name) (before after : List ℕ) (fi
             wrote = λ y o. subst (Wrote before after first) (sym same ∙ ap rows_of (some-injective x y (sym p ∙ o))) w;
           }
 
-  pub unsettled : rows_named env e ≡ none → Resolves env e before after first RowsWritten.Undeclared
+  pub unsettled : rows_named env e ≡ none → Resolves env e before after first None
   unsettled h = go (refer_e env e) refl h
     where
-      go : (o : Option (Constraint Reference)) → refer_e env e ≡ o → (o >>= λ x. some (rows_of x)) ≡ none → Resolves env e before after first RowsWritten.Undeclared
+      go : (o : Option (Constraint Reference)) → refer_e env e ≡ o → (o >>= λ x. some (rows_of x)) ≡ none → Resolves env e before after first None
       go none p g = record { answer = rw p; wrote = λ y d. never (sym p ∙ d) }
       go (some x) p g = never (sym g)
 
@@ -54,14 +56,14 @@ module _ (env : Environment) (e : Constraint Name) (before after : List ℕ) (fi
     pub refers : refer_e env e ≡ some expression
     pub count : n ≡ first + size expression
 
-  pub resolved : {q n d : ℕ} → Resolves env e before after first (RowsWritten.Next q n d) → ResolvedBy n
-  resolved {q} {n} r = go (refer_e env e) refl
+  pub resolved : {s : RowsWritten} → Resolves env e before after first (Some s) → ResolvedBy s.row
+  resolved {s} r = go (refer_e env e) refl
     where
-      go : (o : Option (Constraint Reference)) → refer_e env e ≡ o → ResolvedBy n
+      go : (o : Option (Constraint Reference)) → refer_e env e ≡ o → ResolvedBy s.row
       go none p = never (sym (r.answer ∙ rw p))
-      go (some x) p = record { expression = x; refers = p; count = some-injective n (first + size x) (r.answer ∙ rw p) }
+      go (some x) p = record { expression = x; refers = p; count = some-injective s.row (first + size x) (r.answer ∙ rw p) }
 
-  pub unresolved : Resolves env e before after first RowsWritten.Undeclared → refer_e env e ≡ none
+  pub unresolved : Resolves env e before after first None → refer_e env e ≡ none
   unresolved r = go (refer_e env e) refl
     where
       go : (o : Option (Constraint Reference)) → refer_e env e ≡ o → refer_e env e ≡ none
@@ -74,8 +76,8 @@ module _ (env : Environment) (e : Constraint Name) (before after : List ℕ) (fi
     pub count : n ≡ first + length rows
     pub wrote : Wrote before after first rows
 
-  pub settles : {q n d : ℕ} → Resolves env e before after first (RowsWritten.Next q n d) → Settled n
-  settles {q} {n} r =
+  pub settles : {s : RowsWritten} → Resolves env e before after first (Some s) → Settled s.row
+  settles {s} r =
       let x = resolved r in
       record {
         rows = rows_of x.expression;
@@ -84,22 +86,22 @@ module _ (env : Environment) (e : Constraint Name) (before after : List ℕ) (fi
         wrote = r.wrote x.expression x.refers;
       }
 
-  pub unsettles : Resolves env e before after first RowsWritten.Undeclared → rows_named env e ≡ none
+  pub unsettles : Resolves env e before after first None → rows_named env e ≡ none
   unsettles r = rw (unresolved r)
 
 -- ---- answers
 
 module _ {t symbols before after : List ℕ} {at first : ℕ} where
   -- what was answered
-  pub told : {m : Option (Constraint Name)} {r k : RowsWritten} → Writes t at m symbols before after first r → r ≡ k → Writes t at m symbols before after first k
+  pub told : {m : Option (Constraint Name)} {r k : prelude.Option RowsWritten} → Writes t at m symbols before after first r → r ≡ k → Writes t at m symbols before after first k
   told {m} w e = subst (Writes t at m symbols before after first) e w
 
   -- the form is not good
-  pub no-form : {m : Option (Constraint Name)} → Kept before after first → m ≡ none → Writes t at m symbols before after first RowsWritten.Undeclared
+  pub no-form : {m : Option (Constraint Name)} → Kept before after first → m ≡ none → Writes t at m symbols before after first None
   no-form k e = record { kept = k; reads = tt; needs = λ x h. tt; rows = λ env x y h. never (sym e ∙ h) }
 
   -- what is said of an expression at a place after another where the rows around are the same
-  pub moved : {q : ℕ} {m o : Option (Constraint Name)} {r : RowsWritten} → (frames_at t q).around ≡ (frames_at t at).around → at < q
+  pub moved : {q : ℕ} {m o : Option (Constraint Name)} {r : prelude.Option RowsWritten} → (frames_at t q).around ≡ (frames_at t at).around → at < q
       → ((e : Constraint Name) → m ≡ some e → o ≡ some e) → Writes t q o symbols before after first r → Writes t at m symbols before after first r
   moved {q} {m} {o} {r} a h f w = record {
     kept = w.kept;
@@ -108,9 +110,9 @@ module _ {t symbols before after : List ℕ} {at first : ℕ} where
     rows = λ env e y g. w.rows env e y (f e g);
   }
     where
-      go : (r : RowsWritten) → Reads t q first r → Reads t at first r
-      go RowsWritten.Undeclared g = tt
-      go (RowsWritten.Next p n d) g = record {
+      go : (r : prelude.Option RowsWritten) → IfSome r (Past t q first) → IfSome r (Past t at first)
+      go None g = tt
+      go (Some s) g = record {
         rest = g.rest ∙ ap (λ (x : List Forms). record { here = head x; around = tail x }) a;
         less = omega (arith, g.less);
         fits = g.fits;

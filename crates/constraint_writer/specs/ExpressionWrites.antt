@@ -1,6 +1,7 @@
 -- What the writing of a constraint expression promises: its rows are in the lent memory as document 01's body 7 has them, "Rows of 6 bytes,
 -- operands before operators, left first", and its stack need is told; or a name of it is not declared, fault 5. Assumes nothing.
-use Rattle.std.specs.Prelude.{ℕ, ◌+◌, ◌-◌, ◌*◌, ◌<◌, ◌≤◌, ◌≡◌, List, length, take}
+use Rattle.std.specs.Prelude as prelude
+use Rattle.std.specs.Prelude.{ℕ, ◌+◌, ◌-◌, ◌*◌, ◌<◌, ◌≤◌, ◌≡◌, List, length, take, None, Some, IfSome}
 use Rattle.std.proofs.Math.Option.{Option, none, some}
 use Rattle.byte_slices.specs.Parts.{put}
 use Rattle.bitset.specs.Relations.{joined}
@@ -30,38 +31,33 @@ pub record Wrote (before after : List ℕ) (row : ℕ) (rs : List Row) : Type 0 
   pub put-there : 6 * (row + length rs) ≤ length before → after ≡ put before (6 * row) (joined (each row_bytes rs))
 
 -- the number of the row after those that were written
-abbrev pub next_row : RowsWritten → Option ℕ
-next_row (RowsWritten.Next q n d) = some n
-next_row RowsWritten.Undeclared = none
+abbrev pub next_row : prelude.Option RowsWritten → Option ℕ
+next_row None = none
+next_row (Some w) = some w.row
 
 -- an expression's rows are written and counted, exactly if its names are declared
-pub record Resolves (env : Environment) (e : Constraint Name) (before after : List ℕ) (row : ℕ) (r : RowsWritten) : Type 0 where
+pub record Resolves (env : Environment) (e : Constraint Name) (before after : List ℕ) (row : ℕ) (r : prelude.Option RowsWritten) : Type 0 where
   pub answer : next_row r ≡ (refer_e env e >>= λ x. some (row + size x))
   pub wrote : (x : Constraint Reference) → refer_e env e ≡ some x → Wrote before after row (rows_of x)
 
 -- "Stack need of E": that of an expression is told
-abbrev pub Needs : Constraint Name → RowsWritten → Type 0
-Needs e (RowsWritten.Next q n d) = d ≡ need e
-Needs e RowsWritten.Undeclared = Unit {0}
+abbrev pub Needs : Constraint Name → prelude.Option RowsWritten → Type 0
+Needs e r = IfSome r (λ w. w.need ≡ need e)
 
--- q is past the close of the row of the text at the place at, and each row that was written has a byte of its own there, and so has each value on the
--- stack
-pub record Past (t : List ℕ) (at row q n d : ℕ) : Type 0 where
-  pub rest : frames_at t q ≡ out (frames_at t at)
-  pub less : at < q
-  pub fits : q ≤ length t
-  pub some-row : row < n
-  pub few-rows : at + n ≤ q + row
-  pub few-values : at + d ≤ q
-
-abbrev pub Reads : List ℕ → ℕ → ℕ → RowsWritten → Type 0
-Reads t at row (RowsWritten.Next q n d) = Past t at row q n d
-Reads t at row RowsWritten.Undeclared = Unit {0}
+-- what was read ends past the close of the row of the text at the place at, and each row that was written has a byte of its own there, and so has each
+-- value on the stack
+pub record Past (t : List ℕ) (at row : ℕ) (w : RowsWritten) : Type 0 where
+  pub rest : frames_at t w.at ≡ out (frames_at t at)
+  pub less : at < w.at
+  pub fits : w.at ≤ length t
+  pub some-row : row < w.row
+  pub few-rows : at + w.row ≤ w.at + row
+  pub few-values : at + w.need ≤ w.at
 
 -- m is the expression that is at the place at, if its form is good. If it is not, the answer is free: promised is only what is kept, and that a
 -- place that is answered is past the close
-pub record Writes (t : List ℕ) (at : ℕ) (m : Option (Constraint Name)) (symbols : List ℕ) (before after : List ℕ) (row : ℕ) (r : RowsWritten) : Type 0 where
+pub record Writes (t : List ℕ) (at : ℕ) (m : Option (Constraint Name)) (symbols : List ℕ) (before after : List ℕ) (row : ℕ) (r : prelude.Option RowsWritten) : Type 0 where
   pub kept : Kept before after row
-  pub reads : Reads t at row r
+  pub reads : IfSome r (Past t at row)
   pub needs : (e : Constraint Name) → m ≡ some e → Needs e r
   pub rows : (env : Environment) (e : Constraint Name) → Symbols symbols env → m ≡ some e → Resolves env e before after row r

@@ -1,7 +1,7 @@
 // Writes the rows of a constraint expression, with its names resolved, and tells its stack need.
 #![tactic(auto)]
 
-ghost use Rattle.std.specs.Prelude.{◌≡◌, [], ◌∷◌, max};
+ghost use Rattle.std.specs.Prelude.{◌≡◌, [], ◌∷◌};
 ghost use Rattle.lexer.specs.Forms.{frames_at, trim};
 ghost use Rattle.policy.specs.Words.{expression_word, op_of, Sides, three_sides, component_of};
 ghost use Rattle.policy.specs.Statements.{Family, Side};
@@ -14,28 +14,23 @@ ghost use Rattle.constraint_writer.specs.RowFields.{kind_of, code_of, operator_o
 
 use items::Item;
 use policy::{Component, Operator, Row, Sort};
-use symbols::Found;
+use symbols::Symbol;
 use words::Word;
 
-// The place past the close of the expression, the number of the row after its rows and its stack need; or that a name
-// of it is not declared.
+// The place past the close of an expression, the number of the row after its rows, and its stack need.
 #[derive(Clone, Copy)]
-pub enum RowsWritten {
-    Next { at: usize, row: usize, need: usize },
-    Undeclared,
+pub struct RowsWritten {
+    pub at: usize,
+    pub row: usize,
+    pub need: usize,
 }
 
 // What a side is compared with: the kind of the row, and the number of a thing or an attribute.
 #[derive(Clone, Copy)]
-enum Operand {
-    Is { kind: u8, number: usize },
-    Undeclared,
+struct Operand {
+    kind: u8,
+    number: usize,
 }
-
-// What stands for no operator, and for no component: one more than the greatest.
-const NO_OPERATOR: u8 = Operator::COUNT_OF_ROLES;
-
-const NO_COMPONENT: u8 = Component::COUNT_OF_THREE;
 
 // Writes a row, if there is room for it.
 fn put_row(rows: &mut [u8], row: usize, kind: u8, component: u8, operator: u8, number: usize)
@@ -52,76 +47,52 @@ fn put_row(rows: &mut [u8], row: usize, kind: u8, component: u8, operator: u8, n
     little_endian::put2(rows, at + Row::NUMBER_AT, number);
 }
 
-// The kind of an operator's row, by the number of its word; that of two sides for a word that is no operator.
-fn kind_of(number: usize) -> u8
+// The kind of an operator's row, by the number of its word, if that is an operator.
+#[tactic(auto, unfolding(policy::specs::Basics::same, policy::specs::Basics::lookup, policy::specs::Words::reserved, words::specs::Numbers::keywords, words::specs::Numbers::words, words::specs::Numbers::word_of, policy::specs::Words::expression_word))]
+fn kind_of(number: usize) -> Option<u8>
     ensures { result ≡ kind_of (expression_word (word_of number)) }
 {
-    if number == Word::NOT {
-        return Row::NOT;
+    match number {
+        Word::NOT => Some(Row::NOT),
+        Word::AND => Some(Row::AND),
+        Word::OR => Some(Row::OR),
+        _ => None,
     }
-    if number == Word::AND {
-        return Row::AND;
-    }
-    if number == Word::OR {
-        return Row::OR;
-    }
-    Row::TWO_SIDES
 }
 
-// The operator of a comparison, by the number of its word.
-fn operator_of(number: usize) -> u8
+// The operator of a comparison, by the number of its word, if that is one.
+#[tactic(auto, unfolding(policy::specs::Basics::same, policy::specs::Basics::lookup, policy::specs::Words::reserved, words::specs::Numbers::keywords, words::specs::Numbers::words, words::specs::Numbers::word_of, policy::specs::Words::op_of))]
+fn operator_of(number: usize) -> Option<u8>
     ensures { result ≡ operator_of (op_of (word_of number)) }
 {
-    if number == Word::EQ {
-        return Operator::EQ;
+    match number {
+        Word::EQ => Some(Operator::EQ),
+        Word::NEQ => Some(Operator::NEQ),
+        Word::DOM => Some(Operator::DOM),
+        Word::DOMBY => Some(Operator::DOMBY),
+        Word::INCOMP => Some(Operator::INCOMP),
+        _ => None,
     }
-    if number == Word::NEQ {
-        return Operator::NEQ;
-    }
-    if number == Word::DOM {
-        return Operator::DOM;
-    }
-    if number == Word::DOMBY {
-        return Operator::DOMBY;
-    }
-    if number == Word::INCOMP {
-        return Operator::INCOMP;
-    }
-    NO_OPERATOR
 }
 
-// A component, by the number of its word. Where an expression may not name side 3, its form has none of that side.
-fn component_of(number: usize) -> u8
+// A component, by the number of its word, if that is one. Where an expression may not name side 3, its form has none
+// of that side.
+#[tactic(auto, unfolding(policy::specs::Basics::same, policy::specs::Basics::lookup, policy::specs::Words::reserved, words::specs::Numbers::keywords, words::specs::Numbers::words, words::specs::Numbers::word_of, policy::specs::Words::component_of))]
+fn component_of(number: usize) -> Option<u8>
     ensures { result ≡ code_of (component_of three_sides (word_of number)) }
 {
-    if number == Word::U1 {
-        return Component::U1;
+    match number {
+        Word::U1 => Some(Component::U1),
+        Word::U2 => Some(Component::U2),
+        Word::R1 => Some(Component::R1),
+        Word::R2 => Some(Component::R2),
+        Word::T1 => Some(Component::T1),
+        Word::T2 => Some(Component::T2),
+        Word::U3 => Some(Component::U3),
+        Word::R3 => Some(Component::R3),
+        Word::T3 => Some(Component::T3),
+        _ => None,
     }
-    if number == Word::U2 {
-        return Component::U2;
-    }
-    if number == Word::R1 {
-        return Component::R1;
-    }
-    if number == Word::R2 {
-        return Component::R2;
-    }
-    if number == Word::T1 {
-        return Component::T1;
-    }
-    if number == Word::T2 {
-        return Component::T2;
-    }
-    if number == Word::U3 {
-        return Component::U3;
-    }
-    if number == Word::R3 {
-        return Component::R3;
-    }
-    if number == Word::T3 {
-        return Component::T3;
-    }
-    NO_COMPONENT
 }
 
 // The family that a component is of: it has the number of the sort of its things.
@@ -135,35 +106,36 @@ fn family_of(component: u8) -> usize
     }
 }
 
-// What a side is compared with, by the second word: the other side, or a name of the side's family.
-fn operand_of(name: &[u8], number: usize, side: u8, symbols: &[u8]) -> Operand
+// What a side is compared with, by the second word: the other side, or a name of the side's family, if it is declared.
+fn operand_of(name: &[u8], number: usize, side: u8, symbols: &[u8]) -> Option<Operand>
     ensures { Compares name.now number side symbols.now result }
 {
-    if component_of(number) != NO_COMPONENT {
-        return Operand::Is {
+    if component_of(number).is_some() {
+        return Some(Operand {
             kind: Row::TWO_SIDES,
             number: 0,
-        };
+        });
     }
     let found = scopes::lookup(symbols, family_of(side), name);
     match found {
-        Found::At { sort, number } => {
+        Some(Symbol { sort, number }) => {
             if sort < Sort::FIRST_ATTRIBUTE {
-                return Operand::Is {
+                return Some(Operand {
                     kind: Row::SIDE_AND_THING,
                     number,
-                };
+                });
             }
-            Operand::Is {
+            Some(Operand {
                 kind: Row::SIDE_AND_ATTRIBUTE,
                 number,
-            }
+            })
         }
-        Found::Missing => Operand::Undeclared,
+        None => None,
     }
 }
 
-// A comparison after its operator's word, of which it has the number: two words and the close, and one row.
+// A comparison after its operator's word, of which it has the number: two words and the close, and one row, if its
+// name is declared.
 fn comparison(
     text: &[u8],
     at: usize,
@@ -171,16 +143,20 @@ fn comparison(
     symbols: &[u8],
     rows: &mut [u8],
     row: usize,
-) -> RowsWritten
+) -> Option<RowsWritten>
     requires { Countable text.now at row }
     ensures { Writes text.now at (grammar.comparison three_sides (word_of operator) (frames_at text.now at).here)
         symbols.now rows.old rows.new row result }
 {
     let first = items::next_item(text, at);
-    let Item::Word { number, next, .. } = first else {
-        return RowsWritten::Undeclared;
+    let Item::Word {
+        number: side,
+        next,
+        ..
+    } = first
+    else {
+        return None;
     };
-    let side = component_of(number);
     let second = items::next_item(text, next);
     let Item::Word {
         start,
@@ -189,39 +165,28 @@ fn comparison(
         next,
     } = second
     else {
-        return RowsWritten::Undeclared;
+        return None;
     };
     let last = items::next_item(text, next);
     let Item::Close { next } = last else {
-        return RowsWritten::Undeclared;
+        return None;
     };
+    let operator = operator_of(operator)?;
+    let side = component_of(side)?;
     let end = start + len;
     let name = &text[start..end];
-    let operand = operand_of(name, number, side, symbols);
-    let Operand::Is { kind, number } = operand else {
-        return RowsWritten::Undeclared;
-    };
-    put_row(rows, row, kind, side, operator_of(operator), number);
-    let row = row + 1;
-    RowsWritten::Next {
+    let operand = operand_of(name, number, side, symbols)?;
+    put_row(rows, row, operand.kind, side, operator, operand.number);
+    Some(RowsWritten {
         at: next,
-        row,
+        row: row + 1,
         need: 1,
-    }
+    })
 }
 
-fn larger(a: usize, b: usize) -> usize
-    ensures { result ≡ max a b }
-{
-    if a < b {
-        return b;
-    }
-    a
-}
-
-// Writes the rows of a constraint expression, after its open parenthesis, from a row on. It calls itself on each
-// operand; the number that falls is the levels left. Rows for which there is no room are counted and not written. An
-// operand is worked out with the values of those before it on the stack, so it needs as many more.
+// Writes the rows of a constraint expression, after its open parenthesis, from a row on, if its names are declared. It
+// calls itself on each operand; the number that falls is the levels left. Rows for which there is no room are counted
+// and not written. An operand is worked out with the values of those before it on the stack, so it needs as many more.
 pub fn write_constraint(
     text: &[u8],
     at: usize,
@@ -229,19 +194,18 @@ pub fn write_constraint(
     symbols: &[u8],
     rows: &mut [u8],
     row: usize,
-) -> RowsWritten
+) -> Option<RowsWritten>
     requires { Countable text.now at row }
     ensures { (n : Sides) → Writes text.now at (grammar.expression_in n (trim (frames_at text.now at).here levels))
         symbols.now rows.old rows.new row result }
 {
     let first = items::next_item(text, at);
     let Item::Word { number, next, .. } = first else {
-        return RowsWritten::Undeclared;
+        return None;
     };
-    let kind = kind_of(number);
-    if kind == Row::TWO_SIDES {
+    let Some(kind) = kind_of(number) else {
         return comparison(text, next, number, symbols, rows, row);
-    }
+    };
     let mut i = next;
     let mut n = row;
     let mut count: usize = 0;
@@ -251,23 +215,20 @@ pub fn write_constraint(
         match item {
             Item::Open { next: inside, .. } => {
                 if levels == 0 {
-                    return RowsWritten::Undeclared;
+                    return None;
                 }
-                let operand = write_constraint(text, inside, levels - 1, symbols, rows, n);
-                let RowsWritten::Next { at, row, need: own } = operand else {
-                    return RowsWritten::Undeclared;
-                };
-                need = larger(need, count + own);
+                let operand = write_constraint(text, inside, levels - 1, symbols, rows, n)?;
+                need = need.max(count + operand.need);
                 count += 1;
-                i = at;
-                n = row;
+                i = operand.at;
+                n = operand.row;
             }
             Item::Close { next: at } => {
                 put_row(rows, n, kind, 0, 0, 0);
                 let row = n + 1;
-                return RowsWritten::Next { at, row, need };
+                return Some(RowsWritten { at, row, need });
             }
-            Item::Word { .. } | Item::End => return RowsWritten::Undeclared,
+            Item::Word { .. } | Item::End => return None,
         }
     }
 }

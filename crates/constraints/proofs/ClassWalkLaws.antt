@@ -12,9 +12,6 @@ module _ (t : List ℕ) (s n : ℕ) where
   constraints-first i l = records-step 10 constraint_at t (s + 10 * i) (s + 10 * (i + 1)) (n - i) (n - (i + 1)) (omega arith) (omega arith)
 
   module _ (c : ℕ) where
-    pub passed_none : (i : ℕ) → Passed t s n c i i
-    passed_none i = record { ahead = omega arith; within = λ l. l; decides = λ k holds. refl }
-
     -- one of another class is passed
     pub passed-one : {i r : ℕ} → Passed t s n c i r → r < n → ((constraint_at (drop (s + 10 * r) t)).class ≡ c → ⊥) → Passed t s n c i (r + 1)
     passed-one {i} {r} p l other = record {

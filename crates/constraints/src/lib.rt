@@ -2,16 +2,16 @@
 // that fails. Every function answers for every table, sound or not, and for all numbers.
 #![tactic(auto)]
 
-ghost use Rattle.std.specs.Prelude.{◌≡◌, Bool, List, [], slice_index};
+ghost use Rattle.std.specs.Prelude.{◌≡◌, ◌≤◌, Bool, List, [], slice_index};
 ghost use Rattle.bitset.specs.Sets.{bit};
 ghost use Rattle.policy.specs.Image.{width};
 ghost use Rattle.policy.specs.Rows.{not_top, and_top, or_top, top, op_test, is_same};
 ghost use Rattle.policy.specs.Deciding.{first_failing};
-ghost use Rattle.policy.specs.Answers.{family_of, change_of};
+ghost use Rattle.policy.specs.Answers.{family_of, ruling_of};
 ghost use Rattle.table_reader.specs.Records.{row_of, constraint_of};
 ghost use Rattle.constraints.specs.Stack as stack;
 ghost use Rattle.constraints.specs.Stack.{code, bounded_run_row};
-ghost use Rattle.constraints.specs.TableConstraints.{bodies_in, relabel_count, relabel_bodies_in, set_start, view_in, rows_hold_in, NextOfClass};
+ghost use Rattle.constraints.specs.TableConstraints.{bodies_at, bodies_in, relabel_count, relabel_bodies_in, set_start, view_in, rows_hold_in, NextOfClass};
 ghost use Rattle.constraints.specs.TableConstraints.{constraints_in, constraint_names, constraint_holds, relabels_in, relabel_names, relabel_holds};
 
 use policy::{
@@ -33,19 +33,41 @@ pub struct Bodies {
     pub role_attributes: u16,
 }
 
-// Where the header of a table says that the constraints stand; how many userattributes and roleattributes there are,
-// its names say.
+// So many statements of a section with their rows in another, where the header of a table says that these stand; how
+// many userattributes and roleattributes there are, its names say.
+fn bodies_at(
+    table: &[u8],
+    statements: u8,
+    count: u32,
+    rows: u8,
+    user_attributes: u16,
+    role_attributes: u16,
+) -> Bodies
+    ensures { result ≡ bodies_at table.now statements count rows user_attributes role_attributes }
+{
+    Bodies {
+        statements: table_reader::body_start(table, statements),
+        count,
+        rows: table_reader::body_start(table, rows),
+        sets: table_reader::body_start(table, Section::ATTRIBUTE_SETS),
+        user_attributes,
+        role_attributes,
+    }
+}
+
+// Where the header of a table says that the constraints stand.
 pub fn locate(table: &[u8], user_attributes: u16, role_attributes: u16) -> Bodies
     ensures { result ≡ bodies_in table.now user_attributes role_attributes }
 {
-    Bodies {
-        statements: table_reader::body_start(table, Section::CONSTRAINTS),
-        count: table_reader::body_length(table, Section::CONSTRAINTS) / Constraint::BYTES as u32,
-        rows: table_reader::body_start(table, Section::ROWS),
-        sets: table_reader::body_start(table, Section::ATTRIBUTE_SETS),
-        user_attributes: user_attributes,
-        role_attributes: role_attributes,
-    }
+    let count = table_reader::body_length(table, Section::CONSTRAINTS) / Constraint::BYTES as u32;
+    bodies_at(
+        table,
+        Section::CONSTRAINTS,
+        count,
+        Section::ROWS,
+        user_attributes,
+        role_attributes,
+    )
 }
 
 // How many validatetrans statements the header of a table says that there are: none where its edition has no section
@@ -64,14 +86,14 @@ fn relabel_count(table: &[u8]) -> u32
 pub fn locate_relabels(table: &[u8], user_attributes: u16, role_attributes: u16) -> Bodies
     ensures { result ≡ relabel_bodies_in table.now user_attributes role_attributes }
 {
-    Bodies {
-        statements: table_reader::body_start(table, Section::RELABELS),
-        count: relabel_count(table),
-        rows: table_reader::body_start(table, Section::RELABEL_ROWS),
-        sets: table_reader::body_start(table, Section::ATTRIBUTE_SETS),
-        user_attributes: user_attributes,
-        role_attributes: role_attributes,
-    }
+    bodies_at(
+        table,
+        Section::RELABELS,
+        relabel_count(table),
+        Section::RELABEL_ROWS,
+        user_attributes,
+        role_attributes,
+    )
 }
 
 // ---- the stack
@@ -156,11 +178,7 @@ impl Stack {
     fn result(self) -> bool
         ensures { (s : List Bool) → self.bits ≡ code s → result ≡ top s }
     {
-        let bits = self.bits;
-        if bits < 2 {
-            return false;
-        }
-        bits % 2 == 1
+        2 <= self.bits && self.bits % 2 == 1
     }
 }
 
@@ -171,9 +189,10 @@ fn side(sides: &[usize], component: usize) -> usize
     ensures { result ≡ slice_index sides.now component }
 {
     if component < sides.len() {
-        return sides[component];
+        sides[component]
+    } else {
+        0
     }
-    0
 }
 
 // Where the set of an attribute of a family starts.
@@ -206,34 +225,28 @@ fn set_width(family: Family) -> usize
 fn is_same(table: &[u8], bodies: Bodies, row: RowRecord, sides: &[usize]) -> bool
     ensures { result ≡ is_same (view_in table.now bodies sides.now) (row_of row) }
 {
-    let kind = row.kind;
-    let number = row.number;
     let component = row.component as usize;
     let here = side(sides, component);
-    if kind == Row::TWO_SIDES {
-        return here == side(sides, component + 1);
+    match row.kind {
+        Row::TWO_SIDES => here == side(sides, component + 1),
+        Row::SIDE_AND_THING => here == row.number as usize,
+        _ => {
+            let family = table_reader::family_of(row.component);
+            let start = set_start(bodies, family, row.number);
+            set_rows::contains_at(table, start, set_width(family), here)
+        }
     }
-    if kind == Row::SIDE_AND_THING {
-        return here == number as usize;
-    }
-    let family = table_reader::family_of(row.component);
-    let start = set_start(bodies, family, number);
-    set_rows::contains_at(table, start, set_width(family), here)
 }
 
 // What a comparison says.
 fn compare(table: &[u8], bodies: Bodies, row: RowRecord, sides: &[usize]) -> bool
     ensures { result ≡ op_test row.operator (is_same (view_in table.now bodies sides.now) (row_of row)) }
 {
-    let operator = row.operator;
     let same = is_same(table, bodies, row, sides);
-    if operator == Operator::NEQ {
-        return !same;
+    match row.operator {
+        Operator::NEQ | Operator::INCOMP => !same,
+        _ => same,
     }
-    if operator == Operator::INCOMP {
-        return !same;
-    }
-    same
 }
 
 // The stack after a row.
@@ -241,17 +254,12 @@ fn row_step(table: &[u8], bodies: Bodies, row: RowRecord, sides: &[usize], befor
     ensures { (s : List Bool) → before.bits ≡ code s
         → result.bits ≡ code (bounded_run_row (view_in table.now bodies sides.now) (row_of row) s) }
 {
-    let kind = row.kind;
-    if kind == Row::NOT {
-        return before.negate();
+    match row.kind {
+        Row::NOT => before.negate(),
+        Row::AND => before.conjoin(),
+        Row::OR => before.disjoin(),
+        _ => before.push(compare(table, bodies, row, sides)),
     }
-    if kind == Row::AND {
-        return before.conjoin();
-    }
-    if kind == Row::OR {
-        return before.disjoin();
-    }
-    before.push(compare(table, bodies, row, sides))
 }
 
 // ---- one statement
@@ -260,15 +268,12 @@ fn row_step(table: &[u8], bodies: Bodies, row: RowRecord, sides: &[usize], befor
 fn evaluate(table: &[u8], bodies: Bodies, first: u16, count: u16, sides: &[usize]) -> bool
     ensures { result ≡ rows_hold_in table.now bodies sides.now first count }
 {
-    let rows = bodies.rows;
+    let start = first as u32;
+    let end = start + count as u32;
     let mut values = Stack::empty();
-    let mut number = first as u32;
-    let mut left = count;
-    while 0 < left {
-        let row = table_reader::row_at(table, rows, number);
+    for number in start..end {
+        let row = table_reader::row_at(table, bodies.rows, number);
         values = row_step(table, bodies, row, sides, values);
-        number += 1;
-        left -= 1;
     }
     values.result()
 }
@@ -277,10 +282,7 @@ fn evaluate(table: &[u8], bodies: Bodies, first: u16, count: u16, sides: &[usize
 fn has_permission(constraint: ConstraintRecord, permission: usize) -> bool
     ensures { result ≡ bit (constraint_of constraint).mask permission }
 {
-    if Permission::MAX <= permission {
-        return false;
-    }
-    (constraint.mask >> permission) % 2 == 1
+    permission < Permission::MAX && (constraint.mask >> permission) % 2 == 1
 }
 
 // ---- all statements
@@ -291,14 +293,12 @@ fn has_permission(constraint: ConstraintRecord, permission: usize) -> bool
 fn next_of_class(table: &[u8], start: u32, count: u32, class: usize, from: u32) -> u32
     ensures { NextOfClass table.now start count class from result }
 {
-    let mut number = from;
-    while number < count {
+    for number in from..count {
         if table_reader::constraint_class(table, start, number) as usize == class {
             return number;
         }
-        number += 1;
     }
-    number
+    from.max(count)
 }
 
 // The first constraint that names the class and the permission and fails for these sides, u1 u2 r1 r2 t1 t2 u3 r3 t3,
@@ -311,7 +311,7 @@ pub fn first_failing(
     permission: usize,
     sides: &[usize],
 ) -> Change
-    ensures { change_of result ≡ first_failing 4 (constraint_names class permission) (constraint_holds table.now bodies sides.now) 0 (constraints_in table.now bodies) }
+    ensures { ruling_of result ≡ first_failing 4 (constraint_names class permission) (constraint_holds table.now bodies sides.now) 0 (constraints_in table.now bodies) }
 {
     let start = bodies.statements;
     let count = bodies.count;
@@ -327,41 +327,34 @@ pub fn first_failing(
         consulted += 1;
         if !evaluate(table, bodies, constraint.first, constraint.rows, sides) {
             return Change::Failed {
-                number: Denial::CONSTRAINT_FAILS,
+                denial: Denial::ConstraintFails,
                 constraint: number as usize,
-                consulted: consulted,
+                consulted,
             };
         }
     }
-    Change::Granted {
-        consulted: consulted,
-    }
+    Change::Granted { consulted }
 }
 
 // The first validatetrans statement of the class that fails for these sides, with its number; or granted. With it goes
 // the number asked: those of the class, up to and including the first that fails. A statement's rows follow those of
 // the statement before it; the row's number goes round at its end, which no sound table reaches.
 pub fn first_failing_relabel(table: &[u8], bodies: Bodies, class: usize, sides: &[usize]) -> Change
-    ensures { change_of result ≡ first_failing 6 (relabel_names class) (relabel_holds table.now bodies sides.now) 0 (relabels_in table.now bodies) }
+    ensures { ruling_of result ≡ first_failing 6 (relabel_names class) (relabel_holds table.now bodies sides.now) 0 (relabels_in table.now bodies) }
 {
-    let start = bodies.statements;
-    let count = bodies.count;
     let mut asked = 0;
-    let mut next = 0;
-    let mut row = 0;
-    while next < count {
-        let number = next;
+    let mut row = 0u16;
+    for number in 0..bodies.count {
+        let statement = table_reader::relabel_at(table, bodies.statements, number);
         let first = row;
-        let statement = table_reader::relabel_at(table, start, number);
-        next += 1;
-        row = std::num::wrapping_add_u16(first, statement.rows);
+        row = first.wrapping_add(statement.rows);
         if statement.class as usize != class {
             continue;
         }
         asked += 1;
         if !evaluate(table, bodies, first, statement.rows, sides) {
             return Change::Failed {
-                number: Denial::RELABEL_FAILS,
+                denial: Denial::RelabelFails,
                 constraint: number as usize,
                 consulted: asked,
             };

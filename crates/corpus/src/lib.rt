@@ -2,44 +2,26 @@
 // after their length.
 #![tactic(auto)]
 
-ghost use Rattle.std.specs.Prelude.{◌≡◌, ◌+◌, ◌*◌, ◌<◌, length};
+ghost use Rattle.std.specs.Prelude.{◌≡◌, length};
 
 use std::io;
-use std::io::{ErrorKind, Read};
+use std::io::{ErrorKind, Read, Write};
 
-// The next number, or that the input ends before it.
-#[derive(Clone, Copy)]
-pub enum Next {
-    Number(usize),
-    End,
+// The greatest number of cases: more than a corpus of 1 MB can have.
+const CASES: usize = 1_000_000;
+
+// The next number of 4 bytes, a length or a count; none where the input ends before it.
+pub fn length<R: Read>(input: &mut R) -> io::Result<Option<usize>> {
+    let mut bytes = [0u8; 4];
+    let found = fill(input, &mut bytes)?;
+    Ok(found.then_some(u32::from_le_bytes(bytes) as usize))
 }
 
-// The number that 4 bytes hold, little endian.
-fn quad(a: u8, b: u8, c: u8, d: u8) -> usize
-    ensures value { result ≡ a + 256 * b + 65536 * c + 16777216 * d }
-    ensures below { result < 4294967296 }
-{
-    a as usize + 256 * (b as usize) + 65_536 * (c as usize) + 16_777_216 * (d as usize)
-}
-
-// The next number of 4 bytes: a length or a count.
-pub fn length<R: Read>(input: &mut R) -> io::Result<Next> {
-    let mut head = [0u8; 4];
-    if !fill(input, &mut head)? {
-        return Ok(Next::End);
-    }
-    Ok(Next::Number(quad(head[0], head[1], head[2], head[3])))
-}
-
-// The next number of 8 bytes.
-pub fn number<R: Read>(input: &mut R) -> io::Result<Next> {
-    let mut head = [0u8; 8];
-    if !fill(input, &mut head)? {
-        return Ok(Next::End);
-    }
-    let low = quad(head[0], head[1], head[2], head[3]);
-    let high = quad(head[4], head[5], head[6], head[7]);
-    Ok(Next::Number(low + 4_294_967_296 * high))
+// The next number of 8 bytes; none where the input ends before it.
+pub fn number<R: Read>(input: &mut R) -> io::Result<Option<usize>> {
+    let mut bytes = [0u8; 8];
+    let found = fill(input, &mut bytes)?;
+    Ok(found.then_some(u64::from_le_bytes(bytes) as usize))
 }
 
 // Fills the memory with the next bytes; answers whether there were as many.
@@ -52,4 +34,33 @@ pub fn fill<R: Read>(input: &mut R, memory: &mut [u8]) -> io::Result<bool>
         Err(e) if e.kind() == ErrorKind::UnexpectedEof => Ok(false),
         Err(e) => Err(e),
     }
+}
+
+// Runs each case of a corpus: a length of 4 bytes and so many bytes, which are read into the memory, and what `run`
+// reads after them. `run` answers whether the case was whole. The corpus ends with the input, or with a case that is
+// cut short or longer than the memory.
+pub fn each_case<R: Read, W: Write, F: FnMut(&mut R, &mut W, &[u8]) -> io::Result<bool>>(
+    input: &mut R,
+    out: &mut W,
+    memory: &mut [u8],
+    mut run: F,
+) -> io::Result<()>
+    requires { F.IsAlwaysCallable run }
+{
+    for _ in 0..CASES {
+        let Some(len) = length(input)? else {
+            break;
+        };
+        if memory.len() < len {
+            break;
+        }
+        let bytes = &mut memory[..len];
+        if !fill(input, bytes)? {
+            break;
+        }
+        if !run(input, out, bytes)? {
+            break;
+        }
+    }
+    out.flush()
 }

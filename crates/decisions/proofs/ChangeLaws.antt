@@ -1,11 +1,12 @@
 -- **Change** on a sound table, by what the bytes say. Assumes nothing.
 use Prim.Native.Nat.{ℕ, ◌<◌}
 use mathlib.Core.Path.{◌≡◌, refl, sym, ap, ◌∙◌}
-use mathlib.Core.Bool.{Bool, true, false, not, ◌&&◌, ◌||◌}
+use mathlib.Core.Bool.{Bool, true, false, ◌&&◌}
 use mathlib.Core.List.{List}
-use lib.Dec.{eqb, ltb}
+use lib.Dec.{ltb}
 use lib.ListN.{length}
-use borrow.Author.Tests.{eq-eqb, ne_eqb, ltb-true}
+use borrow.Author.Tests.{ltb-true}
+use Rattle.std.specs.Prelude.{Option}
 use Rattle.policy.specs.Statements.{class_names, permissions}
 use Rattle.policy.specs.Image.{Image}
 use Rattle.policy.specs.Deciding.{may_become, ruled_by, contexts_of, Question, Answer, decide, first_failing, declared_context, declared_question, role_may}
@@ -14,7 +15,7 @@ use Rattle.policy.proofs.Lists.{both_true}
 use Rattle.table_laws.specs.SoundTable.{Sound}
 use Rattle.table_laws.proofs.SoundLaws.{sound-read}
 use Rattle.policy.specs.declared.NameCounts.{NameCounts}
-use Rattle.table_names.specs.declared.SpecialNames.{SpecialNames}
+use Rattle.table_names.specs.declared.SpecialNumbers.{SpecialNumbers}
 use Rattle.decisions.specs.TableAnswers.{declares_question, is_valid_by, set_has}
 use Rattle.decisions.specs.KnownNames.{Knows}
 use Rattle.table_names.specs.TableNames.{asks_role_by}
@@ -22,30 +23,11 @@ use Rattle.decisions.proofs.SoundLaws.{declared-numbers, role-role}
 use Rattle.decisions.proofs.ContextLaws.{is-valid-of}
 use Rattle.decisions.proofs.NameLaws.{declares-question, asks-role-known}
 
--- THE ROLE, in the order in which the code asks
-
-pub role-stays : (asks : Bool) (a b : ℕ) (may : Bool) → a ≡ b → true ≡ role_may asks a b may
-role-stays true a b may h = rw (eq-eqb a b h)
-role-stays false a b may h = refl
-
-pub role-allowed : (asks : Bool) (a b : ℕ) (may : Bool) → may ≡ true → true ≡ role_may asks a b may
-role-allowed asks a b may h = rw h (by (not asks || eqb a b))
-  where
-    by : (x : Bool) → true ≡ (x || true)
-    by true = refl
-    by false = refl
-
-pub role-asked : (asks : Bool) (a b : ℕ) (may : Bool) → (a ≡ b → ⊥) → may ≡ false → not asks ≡ role_may asks a b may
-role-asked true a b may d h = rw (ne_eqb a b d, h)
-role-asked false a b may d h = refl
-
--- ALL OF IT
-
 -- what the constraints of the image answer
 abbrev pub constraints_say : Image → Question → Answer
 constraints_say i q = first_failing 4 (entry_names q.class q.perm) (entry_holds i (contexts_of q)) 0 i.constraints
 
-module _ (t : List ℕ) (s : Sound t) {n : NameCounts} {x : SpecialNames} (known : Knows t n x) (q : Question) where
+module _ (t : List ℕ) (s : Sound t) {n : NameCounts} {x : Option SpecialNumbers} (known : Knows t n x) (q : Question) where
   -- the numbers of a declared question
   record Numbers : Type 0 where
     source : declared_context s.image.names q.source ≡ true

@@ -5,24 +5,23 @@ use mathlib.Core.Path.{◌≡◌, refl, sym, ap, ◌∙◌}
 use mathlib.Core.List.{List}
 use lib.Dec.{ltb}
 use lib.ListN.{length, get_or}
+use Rattle.std.specs.Prelude.{Option, Some, None}
 use Rattle.bitset.proofs.SetLaws.{length-tabulate, get_d_tabulate}
 use Rattle.policy.specs.Statements.{Declaration, class_names, permissions}
 use Rattle.policy.specs.declared.NameCounts.{NameCounts}
-use Rattle.sound_names.specs.declared.Counted as counted
 use Rattle.table_laws.specs.SoundTable.{Bytes}
 use Rattle.soundness.specs.TableCounts.{Tells}
 use Rattle.soundness.proofs.CountedNames.{is-sound, counted-table, counted-names, counted-permissions, counts-are}
 use Rattle.table_names.specs.TableNames.{permission_in, is_found_name}
-use Rattle.table_names.specs.declared.SpecialNames.{SpecialNames}
 use Rattle.decisions.specs.KnownNames.{Counts, Knows}
 use Rattle.decisions.proofs.NameLaws.{permission-found, class-below}
 
-module _ (t : List ℕ) (bytes : Bytes t) {ps : List ℕ} {r : counted.Counted} (h : Tells t r ps) {n : NameCounts} (is : r ≡ counted.Counted.Sound n) where
+module _ (t : List ℕ) (bytes : Bytes t) {ps : List ℕ} {r : Option NameCounts} (h : Tells t r ps) {n : NameCounts} (is : r ≡ Some n) where
   pub counts-known : Counts t n
   counts-known = record { sound = is-sound t bytes h is; counts = counts-are t bytes h is }
 
   -- nothing more has to be known: the names treated apart are looked at
-  pub names-known : Knows t n SpecialNames.Unknown
+  pub names-known : Knows t n None
   names-known = record { counted = counts-known; object = λ r l. refl; asks = λ c k l f. refl }
 
   abbrev held : List Declaration

@@ -25,7 +25,6 @@ use Rattle.table_laws.proofs.WellFormed.{formed}
 use Rattle.table_reader.proofs.SoundPlaces.{first_of}
 use Rattle.decisions.specs.TableAnswers.{declares_contexts, declares_question}
 use Rattle.policy.specs.declared.NameCounts.{NameCounts}
-use Rattle.table_names.specs.declared.SpecialNames.{SpecialNames}
 use Rattle.table_names.specs.TableNames.{counts_in, name_at, permission_in, is_found_name, has_name, asks_role_in, is_object_in, is_object_by, asks_role_by}
 use Rattle.decisions.specs.KnownNames.{Knows}
 use Rattle.soundness.proofs.SoundTable.{names-of, things-of, classes-of}
@@ -151,7 +150,7 @@ module _ (t : List ℕ) (s : Sound t) where
 
 -- WITH WHAT IS KNOWN
 
-module _ (t : List ℕ) (s : Sound t) {n : NameCounts} {x : SpecialNames} (known : Knows t n x) where
+module _ (t : List ℕ) (s : Sound t) {n : NameCounts} {x : _} (known : Knows t n x) where
   counts : n ≡ counts_in t
   counts = known.counted.counts
 

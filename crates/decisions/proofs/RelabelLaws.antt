@@ -5,6 +5,7 @@ use mathlib.Core.Bool.{Bool, true, false, ◌&&◌}
 use mathlib.Core.List.{List}
 use lib.Dec.{eqb, ltb}
 use lib.ListN.{length}
+use Rattle.std.specs.Prelude.{Option}
 use Rattle.policy.specs.Statements.{class_names}
 use Rattle.policy.specs.Image.{Image}
 use Rattle.policy.specs.Deciding.{Relabelling, relabel_contexts, Answer, first_failing, declared_context, declared_relabel, decide_relabel, ruled_relabel}
@@ -13,7 +14,7 @@ use Rattle.policy.proofs.Lists.{both_true}
 use Rattle.table_laws.specs.SoundTable.{Sound}
 use Rattle.table_laws.proofs.SoundLaws.{sound-read}
 use Rattle.policy.specs.declared.NameCounts.{NameCounts}
-use Rattle.table_names.specs.declared.SpecialNames.{SpecialNames}
+use Rattle.table_names.specs.declared.SpecialNumbers.{SpecialNumbers}
 use Rattle.decisions.specs.TableAnswers.{declares_contexts, declares_relabelling, is_valid_by}
 use Rattle.decisions.specs.KnownNames.{Knows}
 use Rattle.soundness.proofs.SoundTable.{classes-of}
@@ -24,7 +25,7 @@ use Rattle.decisions.proofs.ContextLaws.{is-valid-of}
 abbrev pub relabels_say : Image → Relabelling → Answer
 relabels_say i q = first_failing 6 (λ x. eqb x.class q.class) (λ x. rows_hold i (relabel_contexts q) x.rows) 0 i.relabels
 
-module _ (t : List ℕ) (s : Sound t) {n : NameCounts} {x : SpecialNames} (known : Knows t n x) (q : Relabelling) where
+module _ (t : List ℕ) (s : Sound t) {n : NameCounts} {x : Option SpecialNumbers} (known : Knows t n x) (q : Relabelling) where
   declares-relabelling : declares_relabelling n q ≡ declared_relabel s.image.names q
   unfolding declares_relabelling declares_contexts declared_relabel
   declares-relabelling =

@@ -4,11 +4,12 @@ use native.Mathlib.Omega.{arith}
 use mathlib.Core.Path.{◌≡◌, refl, sym, ap, ◌∙◌}
 use mathlib.Core.Bool.{Bool, true, false, ◌&&◌, cond}
 use mathlib.Core.List.{List}
-use lib.Dec.{ltb}
+use lib.Dec.{eqb, ltb}
 use lib.ListN.{length, get_or, take, drop}
 use lib.Seq.{drop-drop, get_or-drop}
 use Rattle.byte_slices.specs.Parts.{part}
 use Rattle.bitset.specs.Relations.{joined}
+use Rattle.bitset.specs.Sets.{member}
 use Rattle.policy.specs.Basics.{each}
 use Rattle.policy.specs.Statements.{roles, types, thing_of}
 use Rattle.policy.specs.Image.{TransitionEntry}
@@ -49,27 +50,31 @@ transition-fields at t = λ i. record {
         let place : at + k + 0 ≡ at + k = omega arith in
         ap (λ (l : List ℕ). get_or l 0 0) (drop-drop k at t) ∙ get_or-drop (at + k) t 0 0 ∙ ap (λ (n : ℕ). get_or t n 0) place
 
+pub matches-fields : (r y c at : ℕ) (t : List ℕ)
+    → matches r y c (transition_at (drop at t)) ≡ (member (part t at 16) r && member (part t (at + 16) 64) y && eqb (get_or t (at + 80) 0) c)
+matches-fields r y c at t = ap (matches r y c) (transition-fields at t)
+
 module _ (r y c : ℕ) (t : List ℕ) (at left : ℕ) where
   -- the transitions that are left
   abbrev left_over : List TransitionEntry
   left_over = records 82 transition_at left (drop at t)
 
-  module _ (some_left : 0 < left) (next : ℕ) (behind : next ≡ at + 82) where
+  module _ (rest : ℕ) (some_left : left ≡ rest + 1) (next : ℕ) (behind : next ≡ at + 82) where
     abbrev later : List TransitionEntry
-    later = records 82 transition_at (left - 1) (drop next t)
+    later = records 82 transition_at rest (drop next t)
 
     first-left : (b : Bool) → matches r y c (transition_at (drop at t)) ≡ b
         → first_transition r y c left_over ≡ cond b (transition_at (drop at t)).new (first_transition r y c later)
     unfolding first_transition
     first-left b q =
-        ap (first_transition r y c) (records-step 82 transition_at t at next left (left - 1) (omega arith) behind)
+        ap (first_transition r y c) (records-step 82 transition_at t at next left rest some_left behind)
         ∙ ap (λ (b : Bool). cond b (transition_at (drop at t)).new (first_transition r y c later)) q
 
     pub transition-passed : matches r y c (transition_at (drop at t)) ≡ false → first_transition r y c later ≡ first_transition r y c left_over
     transition-passed q = sym (first-left false q)
 
   pub transition-found : 0 < left → matches r y c (transition_at (drop at t)) ≡ true → get_or t (at + 81) 0 ≡ first_transition r y c left_over
-  transition-found h q = sym (first-left h (at + 82) refl true q ∙ ap (λ (m : TransitionEntry). m.new) (transition-fields at t))
+  transition-found h q = sym (first-left (left - 1) (omega arith) (at + 82) refl true q ∙ ap (λ (m : TransitionEntry). m.new) (transition-fields at t))
 
   pub transition-none : left ≡ 0 → r ≡ first_transition r y c left_over
   unfolding first_transition

@@ -1,5 +1,5 @@
 -- What the bytes of a table say of a question's parts, whatever the bytes are. On a sound table it is what the image says. Assumes nothing.
-use Rattle.std.specs.Prelude.{ℕ, ◌+◌, ◌*◌, ◌/◌, Bool, true, false, ◌&&◌, ◌||◌, cond, List, [], ◌∷◌, ltb, drop}
+use Rattle.std.specs.Prelude.{ℕ, ◌+◌, ◌*◌, ◌/◌, Bool, true, false, ◌&&◌, ◌||◌, cond, List, [], ◌∷◌, ltb, drop, Option, Some, None}
 use Rattle.bitset.specs.Sets.{member}
 use Rattle.byte_slices.specs.Parts.{part}
 use Rattle.policy.specs.Meaning.{Context}
@@ -7,8 +7,9 @@ use Rattle.policy.specs.Image.{TransitionEntry}
 use Rattle.policy.specs.Sound.{transition_at}
 use Rattle.policy.specs.Deciding.{Question, Relabelling}
 use Rattle.policy.specs.declared.NameCounts.{NameCounts}
+use Rattle.policy.specs.declared.Denial.{Denial}
 use Rattle.table_reader.specs.Records.{records, start_in, length_in}
-use Rattle.table_names.specs.declared.SpecialNames.{SpecialNames}
+use Rattle.table_names.specs.declared.SpecialNumbers.{SpecialNumbers}
 use Rattle.table_names.specs.TableNames.{permission_in, is_found_name, is_object_by}
 
 -- "number not declared in the table": a context's numbers are declared
@@ -37,16 +38,16 @@ unfoldable pub is_given_in : List ℕ → Context → Bool
 is_given_in t c = set_has t 1 16 c.user c.role && set_has t 2 64 c.role c.type
 
 -- or the "role is named `object_r`" (document 02, W-201)
-unfoldable pub is_valid_by : List ℕ → SpecialNames → Context → Bool
+unfoldable pub is_valid_by : List ℕ → Option SpecialNumbers → Context → Bool
 is_valid_by t x c = is_given_in t c || is_object_by t x c.role
 
--- "1 source not valid; 2 target not valid", "1 old, 2 new": the denial of the first of two contexts that is not valid; 0 where both are
-abbrev pub context_denial : Bool → Bool → ℕ
-context_denial false b = 1
-context_denial true false = 2
-context_denial true true = 0
+-- "1 source not valid; 2 target not valid", "1 old, 2 new": the denial of the first of two contexts that is not valid
+abbrev pub context_denial : Bool → Bool → Option Denial
+context_denial false b = Some Denial.SourceNotValid
+context_denial true false = Some Denial.TargetNotValid
+context_denial true true = None
 
-abbrev pub context_denial_by : List ℕ → SpecialNames → Context → Context → ℕ
+abbrev pub context_denial_by : List ℕ → Option SpecialNumbers → Context → Context → Option Denial
 context_denial_by t x a b = context_denial (is_valid_by t x a) (is_valid_by t x b)
 
 -- the nine numbers of three contexts, u1 u2 r1 r2 t1 t2 u3 r3 t3

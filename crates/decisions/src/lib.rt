@@ -5,10 +5,10 @@
 // questions promise.
 #![tactic(auto)]
 
-ghost use Rattle.std.specs.Prelude.{◌≡◌, List, ℕ, ◌≤◌, ◌<◌, eqb, drop};
+ghost use Rattle.std.specs.Prelude.{◌≡◌, List, ℕ, ◌≤◌, ◌<◌, ◌&&◌, eqb, ltb, drop};
 ghost use Rattle.policy.specs.Sound.{transition_at};
 ghost use Rattle.policy.specs.Deciding.{contexts_of, relabel_contexts, first_failing, role_may};
-ghost use Rattle.policy.specs.Answers.{validity_of, change_of, new_role_of};
+ghost use Rattle.policy.specs.Answers.{validity_of, ruling_of, change_of, new_role_of};
 ghost use Rattle.policy.specs.Questions.{matches, first_transition, entry_names, entry_holds, rows_hold, valid_on, new_role_on, change_on, relabel_on};
 ghost use Rattle.table_laws.specs.SoundTable.{Sound};
 ghost use Rattle.decisions.specs.Asked.{context, context_of, question, relabelling};
@@ -18,10 +18,9 @@ ghost use Rattle.decisions.specs.KnownNames.{Counts, Knows};
 ghost use Rattle.table_names.specs.TableNames.{counts_in, is_found_name, permission_in, asks_role_by};
 
 use policy::{
-    Attribute, Change, Component, Denial, NameCounts, NewRole, Refusal, Role, Section, Transition,
-    Type, Validity,
+    Attribute, Change, Component, Denial, Fault, NameCounts, Role, Section, Transition, Type,
 };
-use table_names::SpecialNames;
+use table_names::SpecialNumbers;
 
 // A context by its numbers. `kind` is the type: the language has another use for that word.
 #[derive(Clone, Copy)]
@@ -36,20 +35,15 @@ pub struct Context {
 #[derive(Clone, Copy)]
 pub struct KnownNames {
     pub counts: NameCounts,
-    pub special: SpecialNames,
+    pub special: Option<SpecialNumbers>,
 }
 
 // Whether a context's numbers are declared.
+#[tactic(auto, unfolding(crate::specs::TableAnswers::declares_context))]
 fn declares_context(counts: NameCounts, asked: Context) -> bool
     ensures { result ≡ declares_context counts (context_of asked) }
 {
-    if counts.users <= asked.user {
-        return false;
-    }
-    if counts.roles <= asked.role {
-        return false;
-    }
-    asked.kind < counts.types
+    asked.user < counts.users && asked.role < counts.roles && asked.kind < counts.types
 }
 
 // ---- valid context
@@ -58,6 +52,7 @@ fn declares_context(counts: NameCounts, asked: Context) -> bool
 const SET_LIMIT: usize = 65_536;
 
 // Whether the set of this number, among the sets of `width` bytes of a body, has a number.
+#[tactic(auto, unfolding(crate::specs::TableAnswers::set_has))]
 fn set_has(table: &[u8], body: u8, width: u16, set: usize, number: usize) -> bool
     ensures { result ≡ set_has table.now body width set number }
 {
@@ -69,19 +64,17 @@ fn set_has(table: &[u8], body: u8, width: u16, set: usize, number: usize) -> boo
 }
 
 // Whether the role is among the user's, and the type among the role's.
+#[tactic(auto, unfolding(crate::specs::TableAnswers::is_given_in))]
 fn is_given(table: &[u8], asked: Context) -> bool
     ensures { result ≡ is_given_in table.now (context_of asked) }
 {
-    if !set_has(
+    set_has(
         table,
         Section::USER_ROLES,
         Role::SET_BYTES as u16,
         asked.user,
         asked.role,
-    ) {
-        return false;
-    }
-    set_has(
+    ) && set_has(
         table,
         Section::ROLE_TYPES,
         Type::SET_BYTES as u16,
@@ -91,32 +84,29 @@ fn is_given(table: &[u8], asked: Context) -> bool
 }
 
 // Whether a context is valid. The name comes last, since it may be found by a walk.
-fn is_valid(table: &[u8], special: SpecialNames, asked: Context) -> bool
+#[tactic(auto, unfolding(crate::specs::TableAnswers::is_valid_by))]
+fn is_valid(table: &[u8], special: Option<SpecialNumbers>, asked: Context) -> bool
     ensures { result ≡ is_valid_by table.now special (context_of asked) }
 {
-    if is_given(table, asked) {
-        return true;
-    }
-    table_names::is_object(table, special, asked.role)
+    is_given(table, asked) || table_names::is_object(table, special, asked.role)
 }
 
 // **Valid context**: whether the role is among the user's, and the type, `kind`, among the role's, or the role is
 // `object_r`.
-pub fn valid(table: &[u8], names: KnownNames, user: usize, role: usize, kind: usize) -> Validity
+pub fn valid(
+    table: &[u8],
+    names: KnownNames,
+    user: usize,
+    role: usize,
+    kind: usize,
+) -> Result<bool, Fault>
     ensures { Knows table.now names.counts names.special → validity_of result ≡ valid_on table.now (context user role kind) }
 {
     let asked = Context { user, role, kind };
-    let counts = names.counts;
-    let special = names.special;
-    if !declares_context(counts, asked) {
-        return Validity::Refused {
-            number: Refusal::NUMBER_UNDECLARED,
-        };
+    if !declares_context(names.counts, asked) {
+        return Err(Fault::NumberUndeclared);
     }
-    if is_valid(table, special, asked) {
-        return Validity::Valid;
-    }
-    Validity::NotValid
+    Ok(is_valid(table, names.special, asked))
 }
 
 // ---- new role
@@ -127,13 +117,9 @@ fn matches_at(table: &[u8], at: usize, role: usize, kind: usize, class: usize) -
     requires { at ≤ 1099511627776 }
     ensures { result ≡ matches role kind class (transition_at (drop at table.now)) }
 {
-    if !set_rows::contains_at(table, at, Role::SET_BYTES, role) {
-        return false;
-    }
-    if !set_rows::contains_at(table, at + Transition::TYPES_AT, Type::SET_BYTES, kind) {
-        return false;
-    }
-    byte_slices::byte(table, at + Transition::CLASS_AT) as usize == class
+    set_rows::contains_at(table, at, Role::SET_BYTES, role)
+        && set_rows::contains_at(table, at + Transition::TYPES_AT, Type::SET_BYTES, kind)
+        && byte_slices::byte(table, at + Transition::CLASS_AT) as usize == class
 }
 
 // The new role of the first transition that matches; else the role given.
@@ -142,68 +128,65 @@ fn first_transition(table: &[u8], role: usize, kind: usize, class: usize) -> usi
 {
     let start = table_reader::body_start(table, Section::TRANSITIONS) as usize;
     let count = table_reader::body_length(table, Section::TRANSITIONS) / Transition::BYTES as u32;
-    let mut left = count;
-    while 0 < left {
-        let at = start + Transition::BYTES * ((count - left) as usize);
+    for number in 0..count {
+        let at = start + Transition::BYTES * (number as usize);
         if matches_at(table, at, role, kind, class) {
             return byte_slices::byte(table, at + Transition::NEW_ROLE_AT) as usize;
         }
-        left -= 1;
     }
     role
 }
 
+// Whether the numbers of a role, a type and a class are declared.
+fn declares_transition(counts: NameCounts, role: usize, kind: usize, class: usize) -> bool
+    ensures { result ≡ (ltb role counts.roles && ltb kind counts.types && ltb class counts.classes) }
+{
+    role < counts.roles && kind < counts.types && class < counts.classes
+}
+
 // **New role**: that of the first transition for the role, the type and the class, else the role given. It is a
 // proposal; the change is still asked.
-pub fn new_role(table: &[u8], counts: NameCounts, role: usize, kind: usize, class: usize) -> NewRole
+pub fn new_role(
+    table: &[u8],
+    counts: NameCounts,
+    role: usize,
+    kind: usize,
+    class: usize,
+) -> Result<usize, Fault>
     ensures { Counts table.now counts → new_role_of result ≡ new_role_on table.now role kind class }
 {
-    if counts.roles <= role {
-        return NewRole::Refused {
-            number: Refusal::NUMBER_UNDECLARED,
-        };
+    if !declares_transition(counts, role, kind, class) {
+        return Err(Fault::NumberUndeclared);
     }
-    if counts.types <= kind {
-        return NewRole::Refused {
-            number: Refusal::NUMBER_UNDECLARED,
-        };
-    }
-    if counts.classes <= class {
-        return NewRole::Refused {
-            number: Refusal::NUMBER_UNDECLARED,
-        };
-    }
-    NewRole::Role {
-        number: first_transition(table, role, kind, class),
-    }
+    Ok(first_transition(table, role, kind, class))
 }
 
 // ---- the two contexts of a change, or the old and the new one of a relabelling
 
 // Whether the numbers of both are declared.
+#[tactic(auto, unfolding(crate::specs::TableAnswers::declares_contexts))]
 fn declares_contexts(counts: NameCounts, source: Context, target: Context) -> bool
     ensures { result ≡ declares_contexts counts (context_of source) (context_of target) }
 {
-    if !declares_context(counts, source) {
-        return false;
-    }
-    declares_context(counts, target)
+    declares_context(counts, source) && declares_context(counts, target)
 }
 
-// No denial has this number.
-const NO_DENIAL: usize = 0;
-
-// The denial of the first of the two that is not valid.
-fn context_denial(table: &[u8], special: SpecialNames, source: Context, target: Context) -> usize
+// The denial of the first of the two that is not valid, if one is not.
+fn context_denial(
+    table: &[u8],
+    special: Option<SpecialNumbers>,
+    source: Context,
+    target: Context,
+) -> Option<Denial>
     ensures { result ≡ context_denial_by table.now special (context_of source) (context_of target) }
 {
     if !is_valid(table, special, source) {
-        return Denial::SOURCE_NOT_VALID;
+        return Some(Denial::SourceNotValid);
     }
     if !is_valid(table, special, target) {
-        return Denial::TARGET_NOT_VALID;
+        return Some(Denial::TargetNotValid);
     }
-    NO_DENIAL
+    None
 }
 
 // ---- what statements are asked of
@@ -241,6 +224,7 @@ fn attribute_count(attributes: usize) -> u16
 // ---- change: the numbers of a question
 
 // Whether all numbers of a question are declared, where it is known of a declared class whether it has the permission.
+#[tactic(auto, unfolding(crate::specs::TableAnswers::declares_question))]
 fn declares_question(
     counts: NameCounts,
     has: bool,
@@ -251,13 +235,7 @@ fn declares_question(
     ensures { (t : List ℕ) (permission : ℕ) → (class < counts.classes → has ≡ is_found_name (permission_in t class permission))
         → result ≡ declares_question t counts (question source target class permission) }
 {
-    if !declares_contexts(counts, source, target) {
-        return false;
-    }
-    if counts.classes <= class {
-        return false;
-    }
-    has
+    declares_contexts(counts, source, target) && class < counts.classes && has
 }
 
 // ---- change: the role
@@ -266,7 +244,7 @@ fn declares_question(
 // by a walk.
 fn role_may(
     table: &[u8],
-    special: SpecialNames,
+    special: Option<SpecialNumbers>,
     source: usize,
     target: usize,
     class: usize,
@@ -274,19 +252,15 @@ fn role_may(
 ) -> bool
     ensures { result ≡ role_may (asks_role_by table.now special class permission) source target (set_has table.now 3 16 source target) }
 {
-    if source == target {
-        return true;
-    }
-    if set_has(
-        table,
-        Section::ROLE_ROLES,
-        Role::SET_BYTES as u16,
-        source,
-        target,
-    ) {
-        return true;
-    }
-    !table_names::asks_role(table, special, class, permission)
+    source == target
+        || set_has(
+            table,
+            Section::ROLE_ROLES,
+            Role::SET_BYTES as u16,
+            source,
+            target,
+        )
+        || !table_names::asks_role(table, special, class, permission)
 }
 
 // ---- change: the constraints
@@ -302,7 +276,7 @@ fn ask_constraints(
     permission: usize,
 ) -> Change
     ensures { (s : Sound table.now) → counts ≡ counts_in table.now
-        → change_of result ≡ first_failing 4 (entry_names class permission) (entry_holds s.image (contexts_of (question source target class permission))) 0 s.image.constraints }
+        → ruling_of result ≡ first_failing 4 (entry_names class permission) (entry_holds s.image (contexts_of (question source target class permission))) 0 s.image.constraints }
 {
     let sides = sides_of(source, target, source);
     let users = attribute_count(counts.user_attributes);
@@ -321,32 +295,28 @@ pub fn change(
     target: Context,
     class: usize,
     permission: usize,
-) -> Change
+) -> Result<Change, Fault>
     ensures { Knows table.now names.counts names.special → (class < names.counts.classes → has ≡ is_found_name (permission_in table.now class permission))
         → change_of result ≡ change_on table.now (question source target class permission) }
 {
     let counts = names.counts;
     let special = names.special;
     if !declares_question(counts, has, source, target, class) {
-        return Change::Refused {
-            number: Refusal::NUMBER_UNDECLARED,
-        };
+        return Err(Fault::NumberUndeclared);
     }
-    let denial = context_denial(table, special, source, target);
-    if denial != NO_DENIAL {
-        return Change::Denied { number: denial };
+    if let Some(denial) = context_denial(table, special, source, target) {
+        return Ok(Change::Denied(denial));
     }
     if !role_may(table, special, source.role, target.role, class, permission) {
-        return Change::Denied {
-            number: Denial::ROLE_MAY_NOT_CHANGE,
-        };
+        return Ok(Change::Denied(Denial::RoleMayNotChange));
     }
-    ask_constraints(table, counts, source, target, class, permission)
+    Ok(ask_constraints(table, counts, source, target, class, permission))
 }
 
 // ---- relabelling
 
 // Whether all numbers of a relabelling are declared.
+#[tactic(auto, unfolding(crate::specs::TableAnswers::declares_relabelling))]
 fn declares_relabelling(
     counts: NameCounts,
     class: usize,
@@ -356,13 +326,9 @@ fn declares_relabelling(
 ) -> bool
     ensures { result ≡ declares_relabelling counts (relabelling class old new process) }
 {
-    if !declares_contexts(counts, old, new) {
-        return false;
-    }
-    if !declares_context(counts, process) {
-        return false;
-    }
-    class < counts.classes
+    declares_contexts(counts, old, new)
+        && declares_context(counts, process)
+        && class < counts.classes
 }
 
 // What the validatetrans statements answer, where the table is sound.
@@ -375,7 +341,7 @@ fn ask_relabels(
     process: Context,
 ) -> Change
     ensures { (s : Sound table.now) → counts ≡ counts_in table.now
-        → change_of result ≡ first_failing 6 (λ x. eqb x.class class) (λ x. rows_hold s.image (relabel_contexts (relabelling class old new process)) x.rows) 0 s.image.relabels }
+        → ruling_of result ≡ first_failing 6 (λ x. eqb x.class class) (λ x. rows_hold s.image (relabel_contexts (relabelling class old new process)) x.rows) 0 s.image.relabels }
 {
     let sides = sides_of(old, new, process);
     let users = attribute_count(counts.user_attributes);
@@ -394,24 +360,19 @@ pub fn relabel(
     old: Context,
     new: Context,
     process: Context,
-) -> Change
+) -> Result<Change, Fault>
     ensures { Knows table.now names.counts names.special → change_of result ≡ relabel_on table.now (relabelling class old new process) }
 {
     let counts = names.counts;
     let special = names.special;
     if !declares_relabelling(counts, class, old, new, process) {
-        return Change::Refused {
-            number: Refusal::NUMBER_UNDECLARED,
-        };
+        return Err(Fault::NumberUndeclared);
     }
-    let denial = context_denial(table, special, old, new);
-    if denial != NO_DENIAL {
-        return Change::Denied { number: denial };
+    if let Some(denial) = context_denial(table, special, old, new) {
+        return Ok(Change::Denied(denial));
     }
     if !is_valid(table, special, process) {
-        return Change::Denied {
-            number: Denial::PROCESS_NOT_VALID,
-        };
+        return Ok(Change::Denied(Denial::ProcessNotValid));
     }
-    ask_relabels(table, counts, class, old, new, process)
+    Ok(ask_relabels(table, counts, class, old, new, process))
 }

@@ -1,5 +1,8 @@
 -- What declaring a class comes to: a permission that occurs twice and its full name among the classes are fault 4, the length of that name and the count of the
 -- classes and of its permissions fault 6, and otherwise its entries have room and are written. Assumes nothing.
+use Rattle.std.specs.Option.{ok_or}
+use Rattle.std.specs.Prelude.{Err, None, Ok, Option, Result, Some}
+use Rattle.policy.specs.declared.Fault.{Fault}
 use mathlib.Core.Path.{◌≡◌, refl, sym, ap, subst, ◌∙◌}
 use mathlib.Core.Bool.{true, false, not, and-false, false≢true}
 use mathlib.Core.List.{List, [], ◌∷◌, ◌++◌}
@@ -23,21 +26,17 @@ use Rattle.reading_laws.proofs.FullNames.{declaration-good}
 use Rattle.table_laws.proofs.NamesFit.{part-is-good}
 use Rattle.table_laws.proofs.NamesRoom.{name-short, entries-room}
 use Rattle.symbols.specs.Lookup.{family_number, first_named}
-use Rattle.symbols.specs.SearchAnswers.{is_found}
-use Rattle.symbols.specs.declared.Found.{Found}
+use Rattle.std.specs.Prelude.{Option, is_some}
+use Rattle.symbols.specs.declared.Symbol.{Symbol}
 use Rattle.symbols.proofs.ClassesFound.{class-found}
 use Rattle.symbols.proofs.DeclaredEntries.{entries-more}
 use Rattle.symbols.specs.Section.{name_bytes}
 use Rattle.name_chains.specs.Chains.{Chained}
 use Rattle.scopes.specs.Scope.{InScope}
-use Rattle.name_rows.specs.WordRows.{words_in, WordHere, WordIs, Inside}
-use Rattle.name_rows.specs.declared.NextWord.{NextWord}
+use Rattle.name_rows.specs.WordRows.{words_in, WordHere, Inside}
 use Rattle.declarations.specs.SortCounts.{Stands}
-use Rattle.declarations.specs.NewEntries.{Entered, Fitting, Enters, answer_of, Indexable}
+use Rattle.declarations.specs.NewEntries.{Entered, Fitting, Enters, Indexable}
 use Rattle.declarations.specs.Declares.{Holds, Declares, DeclaresAt, DeclaresClass}
-use Rattle.declarations.specs.declared.Declared.{Declared}
-use Rattle.declarations.specs.declared.Added.{Added}
-use Rattle.declarations.specs.declared.NameStatus.{NameStatus}
 use Rattle.declarations.proofs.SymbolMemory.{long-missing, room_for}
 use Rattle.declarations.proofs.NewEntryLaws.{bytes-append, entered-then}
 use Rattle.declarations.proofs.NewPermissions.{permissions-indexable}
@@ -61,19 +60,20 @@ short-permissions n (p ∷ ps) h =
 -- ---- a class of a full name and permissions
 
 module _ (v : Name) (ps : List Name) (before : List ℕ) (end : ℕ) where
-  abbrev found : List Declaration → Found
+  abbrev found : List Declaration → Option Symbol
   found ds = first_named (family_number 6 0) v (entries ds)
 
   -- "name declared again in its family"
-  pub class-taken : Stands before 6 v NameStatus.Declared → DeclaresClass v ps before before end Declared.DeclaredAgain
-  class-taken q = record {
+  pub class-taken : (f : Fault) → Stands before 6 v (Err f) → DeclaresClass v ps before before end (Err f)
+  class-taken f q = record {
     says = λ ds y once good.
-        let has : is_in v (class_names ds) ≡ true = sym (class-found ds v) ∙ taken-found (found ds) (length (class_names ds)) (q.classes end ds y refl) in
-        (rw has, refl);
+        let h = taken-found (found ds) (length (class_names ds)) f (q.classes end ds y refl) in
+        let has : is_in v (class_names ds) ≡ true = sym (class-found ds v) ∙ h.0 in
+        subst (λ (x : Fault). Declares before before end ds (class v ps) (Err x)) (sym h.1) (rw has, refl);
   }
 
-  module _ (number : ℕ) (q : Stands before 6 v (NameStatus.Undeclared number)) where
-    is_free : {ds : List Declaration} → Holds before end ds → (is_found (found ds) ≡ false) × (length (class_names ds) ≡ number)
+  module _ (number : ℕ) (q : Stands before 6 v (Ok number)) where
+    is_free : {ds : List Declaration} → Holds before end ds → (is_some (found ds) ≡ false) × (length (class_names ds) ≡ number)
     is_free {ds} y = free-missing (found ds) (length (class_names ds)) number (q.classes end ds y refl)
 
     is-new : {ds : List Declaration} → Holds before end ds → differ ps ≡ true → is_new ds (class v ps) ≡ true
@@ -82,15 +82,15 @@ module _ (v : Name) (ps : List Name) (before : List ℕ) (end : ℕ) where
     count-is : {ds : List Declaration} → Holds before end ds → length (class_names ds) ≡ number
     count-is y = (is_free y).1
 
-    no_room : ((ds : List Declaration) → Holds before end ds → has_room ds (class v ps) ≡ false) → DeclaresClass v ps before before end Declared.MaximumPassed
+    no_room : ((ds : List Declaration) → Holds before end ds → has_room ds (class v ps) ≡ false) → DeclaresClass v ps before before end (Err Fault.MaximumPassed)
     no_room n = record { says = λ ds y once good. (is-new y once, rw (n ds y), refl) }
 
     -- "classes 32"
-    pub class-full : 32 ≤ number → DeclaresClass v ps before before end Declared.MaximumPassed
+    pub class-full : 32 ≤ number → DeclaresClass v ps before before end (Err Fault.MaximumPassed)
     class-full l = no_room (λ ds y. rw (le-ltb (length (class_names ds)) 32 (omega (arith, count-is y))))
 
     -- "permissions 32 per class"
-    pub class-too-many : 32 < length ps → DeclaresClass v ps before before end Declared.MaximumPassed
+    pub class-too-many : 32 < length ps → DeclaresClass v ps before before end (Err Fault.MaximumPassed)
     class-too-many l = no_room (λ ds y. rw (lt-leb (length ps) 32 l) (and-false (ltb (length (class_names ds)) 32)))
 
     abbrev one : List NameEntry
@@ -122,12 +122,12 @@ module _ (v : Name) (ps : List Name) (before : List ℕ) (end : ℕ) where
       short-name : good_names (class v ps) ≡ true → length v ≤ 64
       short-name good = name-short v (both_true (is_good v) (good_permissions ps) good).0
 
-      pub class-no-room : (after : List ℕ) (r : Declared) → Enters before after end one Added.NoRoom → DeclaresClass v ps before after end r
+      pub class-no-room : (after : List ℕ) (r : Result ℕ Fault) → Enters before after end one None → DeclaresClass v ps before after end r
       class-no-room after r n = record {
         says = λ ds y once good. absurd (n.is (record { room = omega (arith, all_fit ds y once good); short = (short-name good, tt) }));
       }
 
-      module _ (mid after : List ℕ) (past : ℕ) (n : Enters before mid end one (Added.Past past)) where
+      module _ (mid after : List ℕ) (past : ℕ) (n : Enters before mid end one (Some past)) where
         rest-fits : (ds : List Declaration) → Holds before end ds → differ ps ≡ true → good_names (class v ps) ≡ true → Fitting past others
         rest-fits ds y once good = record {
           room = omega (arith, all_fit ds y once good, n.is.moved);
@@ -146,9 +146,9 @@ module _ (v : Name) (ps : List Name) (before : List ℕ) (end : ℕ) where
               permissions-indexable ds v fewer (omega (arith, room, fewer)) ps few,
             )
 
-        added : (a : Added) → Enters mid after past others a → (ds : List Declaration) → Holds before end ds → differ ps ≡ true
-            → good_names (class v ps) ≡ true → Declares before after end ds (class v ps) (answer_of a)
-        added (Added.Past next) e ds y once good =
+        added : (a : Option ℕ) → Enters mid after past others a → (ds : List Declaration) → Holds before end ds → differ ps ≡ true
+            → good_names (class v ps) ≡ true → Declares before after end ds (class v ps) (ok_or a Fault.MaximumPassed)
+        added (Some next) e ds y once good =
             let all = entered-then n.is e.is in
             let x = subst (λ (es : List NameEntry). Entered before after end es next) (entries-are y) all in
             record {
@@ -163,16 +163,16 @@ module _ (v : Name) (ps : List Name) (before : List ℕ) (end : ℕ) where
                   (all.chained (entries ds) y.chained (entries-indexable y));
               scope = x.scope;
             }
-        added Added.NoRoom e ds y once good = absurd (e.is (rest-fits ds y once good))
+        added None e ds y once good = absurd (e.is (rest-fits ds y once good))
 
-        pub class-added : (a : Added) (r : Declared) → Enters mid after past others a → r ≡ answer_of a → DeclaresClass v ps before after end r
+        pub class-added : (a : Option ℕ) (r : Result ℕ Fault) → Enters mid after past others a → r ≡ ok_or a Fault.MaximumPassed → DeclaresClass v ps before after end r
         class-added a r e z = record { says = λ ds y once good. subst (Declares before after end ds (class v ps)) (sym z) (added a e ds y once good) }
 
 -- ---- a class as it is in the text
 
 module _ (t : List ℕ) (at : ℕ) (before : List ℕ) (end : ℕ) where
-  pub no-class : (after : List ℕ) (r : Declared) → WordIs t at NextWord.Missing → DeclaresAt t at class_k before after end r
-  no-class after r h = record { says = λ ds path d y sc gp g f. absurd (class-has-word d h f) }
+  pub no-class : (after : List ℕ) (r : Result ℕ Fault) → words_in (frames_at t at).here ≡ [] → DeclaresAt t at class_k before after end r
+  no-class after r h = record { says = λ ds path d y sc gp g f. absurd (class-has-word t at d h f) }
 
   module _ (start len row : ℕ) (h : WordHere t at start len) (i : Inside t (start + len) row) where
     abbrev w : Name
@@ -182,21 +182,21 @@ module _ (t : List ℕ) (at : ℕ) (before : List ℕ) (end : ℕ) where
     names = words_in (frames_at t row).here
 
     -- "permission twice in a class"
-    pub class-repeats : not (differ names) ≡ true → DeclaresAt t at class_k before before end Declared.DeclaredAgain
+    pub class-repeats : not (differ names) ≡ true → DeclaresAt t at class_k before before end (Err Fault.DeclaredAgain)
     class-repeats q = record {
       says = λ ds path d y sc gp g f.
-          subst (λ (x : Declaration). Declares before before end ds (full_declaration path x) Declared.DeclaredAgain) (sym (class-here h i d g f).0)
+          subst (λ (x : Declaration). Declares before before end ds (full_declaration path x) (Err Fault.DeclaredAgain)) (sym (class-here h i d g f).0)
           (rw (not-true (differ names) q) (and-false (not (is_in (full path w) (class_names ds)))), refl);
     }
 
     module _ (once : not (differ names) ≡ false) where
       -- "6 for a full name too long": none of the names before it is so long, so it is new
-      pub class-too-long : ((path : List Name) → InScope before path → 64 < length (full path w)) → DeclaresAt t at class_k before before end Declared.MaximumPassed
+      pub class-too-long : ((path : List Name) → InScope before path → 64 < length (full path w)) → DeclaresAt t at class_k before before end (Err Fault.MaximumPassed)
       class-too-long l = record {
         says = λ ds path d y sc gp g f.
             let v = full path w in
-            let missing : is_in v (class_names ds) ≡ false = sym (class-found ds v) ∙ ap is_found (long-missing 3 v y (l path sc)) in
-            subst (λ (x : Declaration). Declares before before end ds (full_declaration path x) Declared.MaximumPassed) (sym (class-here h i d g f).0) (
+            let missing : is_in v (class_names ds) ≡ false = sym (class-found ds v) ∙ ap is_some (long-missing 3 v y (l path sc)) in
+            subst (λ (x : Declaration). Declares before before end ds (full_declaration path x) (Err Fault.MaximumPassed)) (sym (class-here h i d g f).0) (
               true-both (not (is_in v (class_names ds))) (differ names) (ap not missing) (not-false (differ names) once),
               rw (lt-leb (length v) 64 (l path sc)) (and-false (has_room ds (class v names))),
               refl,
@@ -204,7 +204,7 @@ module _ (t : List ℕ) (at : ℕ) (before : List ℕ) (end : ℕ) where
       }
 
       -- under the full name v
-      pub class-named : {v : Name} → FullIs before w v → {after : List ℕ} {r : Declared} → DeclaresClass v names before after end r
+      pub class-named : {v : Name} → FullIs before w v → {after : List ℕ} {r : Result ℕ Fault} → DeclaresClass v names before after end r
           → DeclaresAt t at class_k before after end r
       class-named {v} full-name {after} {r} q = record {
         says = λ ds path d y sc gp g f.

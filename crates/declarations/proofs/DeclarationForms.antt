@@ -18,8 +18,7 @@ use Rattle.policy.proofs.Lists.{both_true, true-both}
 use Rattle.policy.proofs.Options.{given-some}
 use Rattle.reading_laws.proofs.FullNames.{good_parts, part-good}
 use Rattle.table_laws.proofs.ListLaws.{bound-then, more-some}
-use Rattle.name_rows.specs.WordRows.{words_in, WordHere, WordIs, Inside}
-use Rattle.name_rows.specs.declared.NextWord.{NextWord}
+use Rattle.name_rows.specs.WordRows.{words_in, WordHere, Inside}
 use Rattle.name_rows.proofs.Rows.{words-here}
 
 -- ---- rows of names
@@ -67,10 +66,10 @@ plain_row s f d h = by (row_of as_part f) refl h
         record { name = w; row = e; is = sym (declared_same (plain s w) d (some-injective (declare (plain s w)) (declare d) q)) }
     by (some (w ∷ v ∷ ws)) e q = absurd (none-ne-some (declare d) q)
 
-pub plain-has-word : {t : List ℕ} {at : ℕ} (s : Sort) (d : Declaration) → WordIs t at NextWord.Missing → formed (declare_k s) (frames_at t at).here ≡ some (declare d) → ⊥
-plain-has-word {t} {at} s d h f =
+pub plain-has-word : (t : List ℕ) (at : ℕ) (s : Sort) (d : Declaration) → words_in (frames_at t at).here ≡ [] → formed (declare_k s) (frames_at t at).here ≡ some (declare d) → ⊥
+plain-has-word t at s d h f =
     let p = plain_row s (frames_at t at).here d f in
-    no-first p.name (sym h.is ∙ names-words (frames_at t at).here (p.name ∷ []) p.row)
+    no-first p.name (sym h ∙ names-words (frames_at t at).here (p.name ∷ []) p.row)
   where
     no-first : (w : Name) → [] ≡ w ∷ [] → ⊥
     no-first w e = let z : ◌≡◌ {A = ℕ} 0 1 = cc in omega arith
@@ -135,11 +134,11 @@ class-row (word at w (part p i closed)) d h =
           (many.1 (names-good i ps (both_true (names_good i) true b.1).0 names));
     }
 
-pub class-has-word : {t : List ℕ} {at : ℕ} (d : Declaration) → WordIs t at NextWord.Missing → formed class_k (frames_at t at).here ≡ some (declare d) → ⊥
+pub class-has-word : (t : List ℕ) (at : ℕ) (d : Declaration) → words_in (frames_at t at).here ≡ [] → formed class_k (frames_at t at).here ≡ some (declare d) → ⊥
 unfolding words_in
-class-has-word {t} {at} d h f =
+class-has-word t at d h f =
     let c = class-row (frames_at t at).here d f in
-    no-first c.name (words_in (part c.opening c.row closed)) (sym h.is ∙ ap words_in c.form)
+    no-first c.name (words_in (part c.opening c.row closed)) (sym h ∙ ap words_in c.form)
   where
     no-first : (w : Name) (ws : List Name) → [] ≡ w ∷ ws → ⊥
     no-first w ws e = let z : ◌≡◌ {A = ℕ} 0 1 = cc in omega arith

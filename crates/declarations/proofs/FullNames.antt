@@ -13,7 +13,7 @@ use Rattle.policy.specs.Sound.{is_good_part}
 use Rattle.table_laws.proofs.NamesFit.{part-is-good}
 use Rattle.table_laws.proofs.NamesRoom.{name-short}
 use Rattle.scopes.specs.Scope.{InScope, is_open, InBlock, ComposedBy, Names}
-use Rattle.scopes.specs.declared.ComposedName.{ComposedName}
+use Rattle.std.specs.Prelude.{Option, Some, None}
 
 -- v is the full name of w, and short enough where w is a good part
 pub record FullIs (t : List ℕ) (w v : Name) : Type 0 where
@@ -32,15 +32,15 @@ whole_is {t} {w} {v} {q} h o e = record {
   short = λ path sc g. omega (arith, ap length e, name-short w (part-is-good w g));
 }
 
-module _ {t z whole : List ℕ} {w : Name} {r : ComposedName} (h : Names t w z whole r) where
-  pub full_is : {m : ℕ} {v : Name} → r ≡ ComposedName.Length m → v ≡ part whole 0 m → FullIs t w v
+module _ {t z whole : List ℕ} {w : Name} {r : Option ℕ} (h : Names t w z whole r) where
+  pub full_is : {m : ℕ} {v : Name} → r ≡ Some m → v ≡ part whole 0 m → FullIs t w v
   full_is {m} {v} e q = record {
     is = λ path sc. q ∙ (composed path sc).0;
     short = λ path sc g. omega (arith, ap length (q ∙ (composed path sc).0), (composed path sc).1, (composed path sc).2);
   }
     where
-      composed : (path : List Name) → InScope t path → ComposedBy (full path w) whole (ComposedName.Length m)
+      composed : (path : List Name) → InScope t path → ComposedBy (full path w) whole (Some m)
       composed path sc = subst (ComposedBy (full path w) whole) e (h.is path sc)
 
-  pub full-too-long : r ≡ ComposedName.TooLong → (path : List Name) → InScope t path → 64 < length (full path w)
+  pub full-too-long : r ≡ None → (path : List Name) → InScope t path → 64 < length (full path w)
   full-too-long e path sc = subst (ComposedBy (full path w) whole) e (h.is path sc)

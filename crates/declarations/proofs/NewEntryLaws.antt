@@ -1,4 +1,5 @@
 -- Entries written at the end of the symbols, one after the other. Assumes nothing.
+use Rattle.std.specs.Prelude.{None, Option, Some}
 use mathlib.Core.Path.{◌≡◌, refl, sym, ap, ap₂, subst, ◌∙◌}
 use mathlib.Core.List.{List, [], ◌∷◌, ◌++◌, append-nil, append_assoc}
 use Prim.Native.Nat.{ℕ, suc, ◌+◌, ◌-◌, ◌<◌, ◌≤◌}
@@ -20,7 +21,6 @@ use Rattle.symbols.proofs.DeclaredEntries.{permission-more}
 use Rattle.symbols.specs.Section.{name_bytes}
 use Rattle.scopes.proofs.SharedMemory.{scope_kept}
 use Rattle.declarations.specs.NewEntries.{Indexable, Entered, Fitting, Enters}
-use Rattle.declarations.specs.declared.Added.{Added}
 use Rattle.name_index.specs.Index.{index_bytes}
 
 -- the bytes of entries
@@ -84,17 +84,17 @@ module _ (t : List ℕ) (end s n : ℕ) (w : Name) where
   abbrev one : List NameEntry
   one = name_entry s n w ∷ []
 
-  pub too_long : 64 < length w → Enters t t end one Added.NoRoom
+  pub too_long : 64 < length w → Enters t t end one None
   too_long h = record { is = λ f. omega (arith, f.short.0) }
 
-  pub past_end : name_bytes < end → Enters t t end one Added.NoRoom
+  pub past_end : name_bytes < end → Enters t t end one None
   past_end h = record { is = λ f. omega (arith, f.room) }
 
-  pub no_room : end ≤ name_bytes → name_bytes - end < 4 + length w → Enters t t end one Added.NoRoom
+  pub no_room : end ≤ name_bytes → name_bytes - end < 4 + length w → Enters t t end one None
   no_room g h = record { is = λ f. omega (arith, f.room, long-one (name_entry s n w)) }
 
   pub appended : (u : List ℕ) (r : ℕ) → index_bytes ≤ length t → s < 8 → length w ≤ 64 → symbol.Entered t u end (name_entry s n (part w 0 (length w))) r
-      → Enters t u end one (Added.Past r)
+      → Enters t u end one (Some r)
   unfolding Indexable
   appended u r room known short whole =
       let a = subst (λ (v : Name). symbol.Entered t u end (name_entry s n v) r) (part-whole w) whole in
@@ -111,12 +111,12 @@ module _ (t : List ℕ) (end s n : ℕ) (w : Name) where
         };
       }
 
--- what a caller of `add` knows of the answer k
-pub enters-told : {a b : List ℕ} {end : ℕ} {es : List NameEntry} {r k : Added} → Enters a b end es r → r ≡ k → Enters a b end es k
+-- what is known of the answer k
+pub enters-told : {a b : List ℕ} {end : ℕ} {es : List NameEntry} {r k : Option ℕ} → Enters a b end es r → r ≡ k → Enters a b end es k
 enters-told {a} {b} {end} {es} h e = subst (Enters a b end es) e h
 
 -- by another name for the name
-pub enters-named : {a b : List ℕ} {end s n : ℕ} {v w : Name} {r : Added} → v ≡ w → Enters a b end (name_entry s n v ∷ []) r → Enters a b end (name_entry s n w ∷ []) r
+pub enters-named : {a b : List ℕ} {end s n : ℕ} {v w : Name} {r : Option ℕ} → v ≡ w → Enters a b end (name_entry s n v ∷ []) r → Enters a b end (name_entry s n w ∷ []) r
 enters-named {a} {b} {end} {s} {n} {v} {w} {r} e h = subst (λ (x : Name). Enters a b end (name_entry s n x ∷ []) r) e h
 
 -- ---- the permissions of a class
@@ -144,7 +144,7 @@ module _ {a b : List ℕ} {end first : ℕ} {ws left : List Name} {past place : 
   so-far-long = h.entered.long
 
   -- none is left
-  pub all-written : left ≡ [] → Enters a b end (permission_entries first ws) (Added.Past past)
+  pub all-written : left ≡ [] → Enters a b end (permission_entries first ws) (Some past)
   all-written e =
       let all : ws ≡ h.done = h.whole ∙ ap (λ (l : List Name). h.done ++ l) e ∙ append-nil h.done in
       record { is = subst (λ (l : List Name). Entered a b end (permission_entries first l) past) (sym all) h.entered }
@@ -179,11 +179,11 @@ module _ {a b : List ℕ} {end first : ℕ} {ws left : List Name} {past place : 
           short = (each.0, tt);
         }
 
-    pub next-no-room : (c : List ℕ) → Enters b c past (name_entry 7 (first + place) w ∷ []) Added.NoRoom
-        → Enters a c end (permission_entries first ws) Added.NoRoom
+    pub next-no-room : (c : List ℕ) → Enters b c past (name_entry 7 (first + place) w ∷ []) None
+        → Enters a c end (permission_entries first ws) None
     next-no-room c g = record { is = λ f. g.is (next_fits f) }
 
-    pub next-written : (c : List ℕ) (q : ℕ) → Enters b c past (name_entry 7 (first + place) w ∷ []) (Added.Past q)
+    pub next-written : (c : List ℕ) (q : ℕ) → Enters b c past (name_entry 7 (first + place) w ∷ []) (Some q)
         → SoFar a c end first ws rest q (place + 1)
     next-written c q g = record {
       done = h.done ++ (w ∷ []);

@@ -1,5 +1,7 @@
 -- What the chains say of a sort and of a name: how many entries the sort has, and whether the name's family has it. Assumes nothing.
-use mathlib.Core.Path.{◌≡◌, sym, ap, subst, ◌∙◌}
+use Rattle.std.specs.Prelude.{Err, Ok}
+use Rattle.policy.specs.declared.Fault.{Fault}
+use mathlib.Core.Path.{◌≡◌, sym, ap, ◌∙◌}
 use mathlib.Core.List.{List}
 use Prim.Native.Nat.{ℕ, ◌+◌, ◌<◌}
 use native.Mathlib.Omega.{arith}
@@ -9,14 +11,14 @@ use Rattle.policy.specs.Statements.{Declaration, class_names}
 use Rattle.policy.specs.Statements as statements
 use Rattle.policy.specs.Encode.{entries}
 use Rattle.policy.proofs.Sorts.{code_below}
-use Rattle.symbols.specs.Lookup.{family_number, first_named, count_sort}
+use Rattle.symbols.specs.Lookup.{family_number, first_named, count_sort, found_at}
 use Rattle.name_index.specs.Index.{word_in, index_bytes}
 use Rattle.name_chains.specs.Chains.{Tries}
 use Rattle.name_chains.specs.declared.Tried.{Tried}
-use Rattle.symbols.specs.declared.Found.{Found}
+use Rattle.std.specs.Prelude.{Option, None}
+use Rattle.symbols.specs.declared.Symbol.{Symbol}
 use Rattle.symbols.proofs.CountLaws.{count-things, count-classes}
 use Rattle.declarations.specs.SortCounts.{standing, Counts, Stands}
-use Rattle.declarations.specs.declared.NameStatus.{NameStatus}
 use Rattle.declarations.specs.Declares.{Holds}
 
 -- ---- counts
@@ -44,18 +46,14 @@ module _ {t : List ℕ} (sort : ℕ) {family : ℕ} {w : Name} {tried : Tried} (
   looked : (end : ℕ) (ds : List Declaration) → Holds t end ds → tried.found ≡ first_named (family_number sort 0) w (entries ds)
   looked end ds y = (h.tries end (entries ds) y.chained).finds ∙ ap (λ (n : ℕ). first_named n w (entries ds)) f
 
-  pub is-taken : (s n : ℕ) → tried.found ≡ Found.At s n → Stands t sort w NameStatus.Declared
+  pub is-taken : (s n : ℕ) → tried.found ≡ found_at s n → Stands t sort w (Err Fault.DeclaredAgain)
   is-taken s n e = record {
-    names = λ end ds k y q. ap (λ (x : Found). standing x (statements.count k ds)) (sym e ∙ looked end ds y);
-    classes = λ end ds y q. ap (λ (x : Found). standing x (length (class_names ds))) (sym e ∙ looked end ds y);
+    names = λ end ds k y q. ap (λ (x : Option Symbol). standing x (statements.count k ds)) (sym e ∙ looked end ds y);
+    classes = λ end ds y q. ap (λ (x : Option Symbol). standing x (length (class_names ds))) (sym e ∙ looked end ds y);
   }
 
-  pub is_free : {r : ℕ} → tried.found ≡ Found.Missing → Counts t sort r → Stands t sort w (NameStatus.Undeclared r)
+  pub is_free : {r : ℕ} → tried.found ≡ None → Counts t sort r → Stands t sort w (Ok r)
   is_free e c = record {
-    names = λ end ds k y q. ap NameStatus.Undeclared (c.things end ds k y q) ∙ ap (λ (x : Found). standing x (statements.count k ds)) (sym e ∙ looked end ds y);
-    classes = λ end ds y q. ap NameStatus.Undeclared (c.classes end ds y q) ∙ ap (λ (x : Found). standing x (length (class_names ds))) (sym e ∙ looked end ds y);
+    names = λ end ds k y q. ap Ok (c.things end ds k y q) ∙ ap (λ (x : Option Symbol). standing x (statements.count k ds)) (sym e ∙ looked end ds y);
+    classes = λ end ds y q. ap Ok (c.classes end ds y q) ∙ ap (λ (x : Option Symbol). standing x (length (class_names ds))) (sym e ∙ looked end ds y);
   }
-
--- what a caller of `stands` knows of the answer k
-pub stands-told : {t : List ℕ} {sort : ℕ} {w : Name} {r k : NameStatus} → Stands t sort w r → r ≡ k → Stands t sort w k
-stands-told {t} {sort} {w} h e = subst (Stands t sort w) e h

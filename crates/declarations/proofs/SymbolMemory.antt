@@ -19,7 +19,7 @@ use Rattle.scopes.specs.Scope.{InScope}
 use Rattle.scopes.specs.Symbols.{Symbols}
 use Rattle.scopes.proofs.TryLaws.{too-long-tries}
 use Rattle.symbols.specs.Lookup.{first_named}
-use Rattle.symbols.specs.declared.Found.{Found}
+use Rattle.std.specs.Prelude.{None}
 use Rattle.symbols.proofs.DeclaredEntries.{entries-more}
 use Rattle.symbols.specs.Section.{name_bytes}
 use Rattle.table_laws.proofs.NamesRoom.{names-length, names-room}
@@ -32,7 +32,7 @@ holds-symbols {end = end} {ds} {path} h sc = record { declared = ds; path = path
 
 -- no name of theirs is longer than 64 bytes, so a longer one is not found
 pub long-missing : {table : List ℕ} {end : ℕ} {ds : List Declaration} (f : ℕ) (w : Name) → Holds table end ds → 64 < length w
-    → first_named f w (entries ds) ≡ Found.Missing
+    → first_named f w (entries ds) ≡ None
 long-missing {table} {end} {ds} f w h l = sym ((too-long-tries {t = table} {f = f} {w = w} l).tries end (entries ds) h.chained).finds
 
 -- ---- one more declaration

@@ -1,5 +1,5 @@
 -- Entries written at the end of the symbols. Assumes nothing.
-use Rattle.std.specs.Prelude.{ℕ, ◌+◌, ◌≤◌, ◌<◌, ◌≡◌, List, [], ◌∷◌, ◌++◌, length, take}
+use Rattle.std.specs.Prelude.{ℕ, ◌+◌, ◌≤◌, ◌<◌, ◌≡◌, List, [], ◌∷◌, ◌++◌, length, take, Option, MatchOption}
 use Rattle.byte_slices.specs.Parts.{put}
 use Rattle.bitset.specs.Relations.{joined}
 use Rattle.policy.specs.Basics.{Name, each, All}
@@ -8,8 +8,6 @@ use Rattle.symbols.specs.Lookup.{family_number}
 use Rattle.symbols.specs.Section.{name_bytes}
 use Rattle.name_chains.specs.Chains.{Chained}
 use Rattle.scopes.specs.Scope.{InScope}
-use Rattle.declarations.specs.declared.Declared.{Declared}
-use Rattle.declarations.specs.declared.Added.{Added}
 use Rattle.name_index.specs.Index.{index_bytes}
 
 -- there is room in the index for the entries es after the entries xs, and a chain for each of them: their numbers fit 2 bytes, and their families are
@@ -35,14 +33,5 @@ pub record Fitting (end : ℕ) (es : List NameEntry) : Type 0 where
   pub short : All (λ (e : NameEntry). length e.name ≤ 64) es
 
 -- they are written, unless they do not fit
-abbrev pub EntersBy : List ℕ → List ℕ → ℕ → List NameEntry → Added → Type 0
-EntersBy before after end es (Added.Past past) = Entered before after end es past
-EntersBy before after end es Added.NoRoom = Fitting end es → ⊥
-
-pub record Enters (before after : List ℕ) (end : ℕ) (es : List NameEntry) (r : Added) : Type 0 where
-  pub is : EntersBy before after end es r
-
--- where there is no room for a declaration's entries, a maximum is passed
-abbrev pub answer_of : Added → Declared
-answer_of (Added.Past past) = Declared.Next past
-answer_of Added.NoRoom = Declared.MaximumPassed
+pub record Enters (before after : List ℕ) (end : ℕ) (es : List NameEntry) (r : Option ℕ) : Type 0 where
+  pub is : MatchOption r (Fitting end es → ⊥) (λ past. Entered before after end es past)

@@ -3,8 +3,8 @@ use Prim.Native.Nat.{ℕ}
 use mathlib.Core.Path.{◌≡◌, refl, sym, ap, subst, ◌∙◌}
 use mathlib.Core.List.{List, [], ◌++◌}
 use lib.ListN.{take}
+use Rattle.std.specs.Prelude.{Ok}
 use Rattle.lexer.specs.Spell.{bytes}
-use Rattle.policy.specs.declared.Compiling.{Compiling}
 use Rattle.policy.specs.Statements.{Policy}
 use Rattle.policy.specs.Reading.{Read, policy, refused}
 use Rattle.policy.specs.Deciding.{Question, Relabelling, Answer}
@@ -29,7 +29,7 @@ abbrev statements_of : Read → Policy
 statements_of (policy p) = p
 statements_of (refused n at) = []
 
-module _ {text before now : List ℕ} {n : ℕ} (c : Compiles (of_text text) before now (Compiling.Accepted n)) where
+module _ {text before now : List ℕ} {n : ℕ} (c : Compiles (of_text text) before now (Ok n)) where
   -- the text's statements, and that their table is written
   pub accepts : Accepts (of_text text) before n
   accepts = accepted-table (of_text text) before n (sym c.answer)
@@ -43,8 +43,8 @@ module _ {text before now : List ℕ} {n : ℕ} (c : Compiles (of_text text) bef
   moved f behind = ap (λ (t : List ℕ). f (t ++ behind)) written
 
 -- a text that says the same and then one statement, compiled too
-module _ {text before now text' before' now' : List ℕ} {n n' : ℕ} (c : Compiles (of_text text) before now (Compiling.Accepted n))
-    (c' : Compiles (of_text text') before' now' (Compiling.Accepted n')) where
+module _ {text before now text' before' now' : List ℕ} {n n' : ℕ} (c : Compiles (of_text text) before now (Ok n))
+    (c' : Compiles (of_text text') before' now' (Ok n')) where
   -- what holds of the tables of the statements holds of the bytes
   of-tables : (P : List ℕ → List ℕ → Type 0) → P (encode newest (image_of (accepts c).statements)) (encode newest (image_of (accepts c').statements)) → P (take n now) (take n' now')
   of-tables P h = rw (written c, written c') h
@@ -61,7 +61,7 @@ module _ {text before now text' before' now' : List ℕ} {n n' : ℕ} (c : Compi
   keeps-with-relabel m =
       of-tables RelabelsKept (relabel-table-keeps (of_text text) (of_text text') (accepts c).statements (accepts c').statements m (accepts c).read (accepts c').read)
 
-pub demand-3 : {text before now : List ℕ} {n : ℕ} → Compiles (of_text text) before now (Compiling.Accepted n) → Demand3 text (take n now)
+pub demand-3 : {text before now : List ℕ} {n : ℕ} → Compiles (of_text text) before now (Ok n) → Demand3 text (take n now)
 demand-3 {text} {before} {now} {n} c =
     let p = (accepts c).statements in
     let r = (accepts c).read in

@@ -6,7 +6,7 @@ use mathlib.Core.Bool.{cond}
 use lib.Dec.{eqb}
 use lib.ListN.{length}
 use borrow.Author.Tests.{eq-eqb, ne_eqb}
-use Rattle.policy.specs.Answers.{refusal_in}
+use Rattle.policy.specs.Answers.{fault_number, refusal_in}
 use Rattle.policy.specs.Outcome as outcomes
 use Rattle.policy.specs.Outcome.{Input, Compiled, compiles, refuses, compiled, line_at, Refusal, refusal_of, outcome_of, outcome, after}
 use Rattle.demands.specs.Lines.{answer_before, without_line, Lines}
@@ -27,6 +27,6 @@ pub lines : Lines
 unfolding outcome after
 lines = record {
   same = λ x before now r c. (ap without_line c.answer ∙ same_by x (compiled x (length before)), c.memory);
-  placed = λ x before now r c other. ruled x (refusal_in r) (compiled x (length before)) c.answer ∙ rw (ne_eqb r.number 10 other) refl;
-  others = λ x before now r c e. ruled x (refusal_in r) (compiled x (length before)) c.answer ∙ rw (eq-eqb r.number 10 e) refl;
+  placed = λ x before now r c other. ruled x (refusal_in r) (compiled x (length before)) c.answer ∙ rw (ne_eqb (fault_number r.fault) 10 other) refl;
+  others = λ x before now r c e. ruled x (refusal_in r) (compiled x (length before)) c.answer ∙ rw (eq-eqb (fault_number r.fault) 10 e) refl;
 }

@@ -1,7 +1,6 @@
 -- DEMAND 3, word for word, with W-205, of a text that was accepted and of the table that was written for it. Assumes nothing.
-use Rattle.std.specs.Prelude.{ℕ, ◌≡◌, ◌↔◌, true, false, List, ◌∷◌, ◌++◌, take}
+use Rattle.std.specs.Prelude.{ℕ, ◌≡◌, ◌↔◌, true, false, List, ◌∷◌, ◌++◌, take, Ok}
 use Rattle.std.proofs.Math.Option.{some}
-use Rattle.policy.specs.declared.Compiling.{Compiling}
 use Rattle.policy.specs.Statements.{Policy, declarations}
 use Rattle.policy.specs.Reading.{policy}
 use Rattle.policy.specs.Meaning.{Context}
@@ -32,10 +31,10 @@ pub record Demand3 (text table : List ℕ) : Type 0 where
   pub grants-when : (behind : List ℕ) (q : Question) → declared_question (declarations statements) q ≡ true → Grants statements q → (change_on (table ++ behind) q).verdict ≡ granted
   -- "Add one constrain statement at the end: if the longer policy is accepted, its table denies every question that the first table denies": of every text
   -- that says the same statements in order, wherever they are in it, and then one constrain
-  pub longer-denies : (longer before now : List ℕ) (n : ℕ) → Compiles (of_text longer) before now (Compiling.Accepted n) → (said : Policy) → policy_of (of_text longer) ≡ policy said
+  pub longer-denies : (longer before now : List ℕ) (n : ℕ) → Compiles (of_text longer) before now (Ok n) → (said : Policy) → policy_of (of_text longer) ≡ policy said
       → OneConstrainMore statements said → KeepsDenials table (take n now)
   -- and of the bytes: this text, a line feed, and the bytes of one constrain
-  pub added-denies : (more before now : List ℕ) (n : ℕ) → Compiles (of_text (text ++ (10 ∷ more))) before now (Compiling.Accepted n) → ConstrainText more
+  pub added-denies : (more before now : List ℕ) (n : ℕ) → Compiles (of_text (text ++ (10 ∷ more))) before now (Ok n) → ConstrainText more
       → KeepsDenials table (take n now)
   -- W-205: "Demand 3 covers this question", that of relabelling: the answer that the statements give, in declared numbers never a refusal, and granted
   -- exactly when by the statements all three contexts are valid and every validatetrans of the class is true as written
@@ -45,14 +44,14 @@ pub record Demand3 (text table : List ℕ) : Type 0 where
   pub relabels-grant : (behind : List ℕ) (q : Relabelling) → ((relabel_on (table ++ behind) q).verdict ≡ granted) ↔ GrantsRelabel statements q
   -- ".. and a validatetrans added at the end": a constrain more leaves the answers to relabellings as they are; a validatetrans more denies every relabelling
   -- that the first table denies, and leaves the answers to changes as they are. Of every text that says the same statements and then one more
-  pub longer-relabels : (longer before now : List ℕ) (n : ℕ) → Compiles (of_text longer) before now (Compiling.Accepted n) → (said : Policy) → policy_of (of_text longer) ≡ policy said
+  pub longer-relabels : (longer before now : List ℕ) (n : ℕ) → Compiles (of_text longer) before now (Ok n) → (said : Policy) → policy_of (of_text longer) ≡ policy said
       → OneConstrainMore statements said → KeepsAnswersOn relabel_on table (take n now)
-  pub longer-keeps : (longer before now : List ℕ) (n : ℕ) → Compiles (of_text longer) before now (Compiling.Accepted n) → (said : Policy) → policy_of (of_text longer) ≡ policy said
+  pub longer-keeps : (longer before now : List ℕ) (n : ℕ) → Compiles (of_text longer) before now (Ok n) → (said : Policy) → policy_of (of_text longer) ≡ policy said
       → OneRelabelMore statements said → RelabelsKept table (take n now)
   -- and of the bytes
-  pub added-relabels : (more before now : List ℕ) (n : ℕ) → Compiles (of_text (text ++ (10 ∷ more))) before now (Compiling.Accepted n) → ConstrainText more
+  pub added-relabels : (more before now : List ℕ) (n : ℕ) → Compiles (of_text (text ++ (10 ∷ more))) before now (Ok n) → ConstrainText more
       → KeepsAnswersOn relabel_on table (take n now)
-  pub added-keeps : (more before now : List ℕ) (n : ℕ) → Compiles (of_text (text ++ (10 ∷ more))) before now (Compiling.Accepted n) → RelabelText more
+  pub added-keeps : (more before now : List ℕ) (n : ℕ) → Compiles (of_text (text ++ (10 ∷ more))) before now (Ok n) → RelabelText more
       → RelabelsKept table (take n now)
   -- valid context and new role give back what the statements say
   pub valid : (behind : List ℕ) (c : Context) → valid_on (table ++ behind) c ≡ valid_reply (given_by statements) c

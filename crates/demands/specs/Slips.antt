@@ -1,10 +1,10 @@
 -- Document 01, "Slips we have seen", tried against the promise of compile: what a compiler that keeps the promise must answer on texts where each slip
 -- answers something else. Assumes nothing.
-use Rattle.std.specs.Prelude.{ℕ, ◌+◌, ◌/◌, ◌%◌, ◌≡◌, List, ◌∷◌, ◌++◌, take}
+use Rattle.std.specs.Prelude.{ℕ, ◌+◌, ◌/◌, ◌%◌, ◌≡◌, List, ◌∷◌, ◌++◌, take, Result, Ok}
 use Rattle.lexer.specs.Spell.{bytes}
 use Rattle.bitset.specs.Relations.{joined}
 use Rattle.bitset.specs.Sets.{tabulate}
-use Rattle.policy.specs.declared.Compiling.{Compiling}
+use Rattle.policy.specs.declared.Refusal as theRefusal
 use Rattle.policy.specs.Deciding.{Question, Answer, granted, denied, unconsulted}
 use Rattle.policy.specs.Answers.{compiling_of}
 use Rattle.policy.specs.Questions.{change_on}
@@ -14,7 +14,7 @@ use Rattle.compiler.specs.Promise.{Compiles}
 
 -- every table that compile can write for the text answers so, whatever the memory held and whatever is after the table
 abbrev pub Answers : List ℕ → Question → Answer → Type 0
-Answers text q a = (before now behind : List ℕ) (n : ℕ) → Compiles (of_text text) before now (Compiling.Accepted n) → change_on (take n now ++ behind) q ≡ a
+Answers text q a = (before now behind : List ℕ) (n : ℕ) → Compiles (of_text text) before now (Ok n) → change_on (take n now ++ behind) q ≡ a
 
 -- user 0 from role r to role s, with type 0, in a class and permission
 abbrev pub asking : ℕ → ℕ → ℕ → ℕ → Question
@@ -51,7 +51,7 @@ pub record NoSlip : Type 0 where
   pub role-64 : Answers role64 (asking 0 0 0 0) (unconsulted (denied 1))
   pub role-64-itself : Answers role64 (asking 64 64 0 0) (unconsulted granted)
   -- "Dropping the oldest operand on a full stack instead of refusing 7": it would accept
-  pub six-deep : (before now : List ℕ) (r : Compiling) → Compiles (of_text six_deep) before now r → compiling_of r ≡ rejected (refusal_at 7 13 1)
+  pub six-deep : (before now : List ℕ) (r : Result ℕ theRefusal.Refusal) → Compiles (of_text six_deep) before now r → compiling_of r ≡ rejected (refusal_at 7 13 1)
   -- "Asking a role allow where the role stays the same": it would deny, 3
   pub same-role : Answers office (asking 0 0 0 0) (unconsulted granted)
   -- "or on a class other than `process`": it would deny, 3

@@ -81,13 +81,11 @@ pub fn final_sets(code: &[u16], family: Family, total: usize, sets: &mut [u8; FA
 {
     bitset::clear(sets);
     let mut next = [0u8; FAMILY_BYTES];
-    let mut rounds: usize = 0;
-    while rounds < Attribute::MAX {
+    for _round in 0..Attribute::MAX {
         round(code, family, total, sets, &mut next);
         if same_rows(sets, &next) {
             return;
         }
         *sets = next;
-        rounds += 1;
     }
 }

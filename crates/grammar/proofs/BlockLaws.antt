@@ -5,6 +5,7 @@ use mathlib.Core.List.{List}
 use mathlib.Core.Option.{none}
 use Prim.Native.Nat.{ℕ, ◌+◌}
 use lib.Dec.{eqb}
+use Rattle.std.specs.Prelude.{Some, None}
 use lib.ListN.{take, drop}
 use Rattle.lexer.specs.Forms.{word, frames_at}
 use Rattle.policy.specs.Basics.{Name}
@@ -18,7 +19,6 @@ use Rattle.items.proofs.Items.{Looked, sees}
 use Rattle.items.proofs.Frames as frames
 use Rattle.items.proofs.Frames.{here_of, around-of, word_next}
 use Rattle.grammar.specs.Shapes.{starts_block, HeaderIs}
-use Rattle.grammar.specs.declared.Header.{Header}
 
 -- ---- whether there is a block
 
@@ -44,17 +44,17 @@ module _ (t : List ℕ) (at : ℕ) {s n k q : ℕ} {first : Item} (e : first ≡
   looked : frames.FramesSeen t at (Item.Word s n k q)
   looked = frames.sees e f
 
-  pub unnamed : false ≡ may_be NameKind.Part name → HeaderIs t at Header.Bad
+  pub unnamed : false ≡ may_be NameKind.Part name → HeaderIs t at None
   unnamed h = record { is = ap header_in (here_of looked) ∙ rw (sym h) }
 
-  pub not-alone : parts_alone (frames_at t q).here ≡ false → HeaderIs t at Header.Bad
+  pub not-alone : parts_alone (frames_at t q).here ≡ false → HeaderIs t at None
   not-alone h = record { is = ap header_in (here_of looked) ∙ go (may_be NameKind.Part name) refl }
     where
       go : (b : Bool) → may_be NameKind.Part name ≡ b → header_in (word s name (frames_at t q).here) ≡ none
       go true d = rw (d, h)
       go false d = rw d
 
-  pub named : true ≡ may_be NameKind.Part name → parts_alone (frames_at t q).here ≡ true → HeaderIs t at (Header.Name s n)
+  pub named : true ≡ may_be NameKind.Part name → parts_alone (frames_at t q).here ≡ true → HeaderIs t at (Some (record { start = s; length = n }))
   named h g =
       let next : q ≡ s + n = word_next t at e f in
       record {

@@ -1,4 +1,4 @@
--- The law that ties the reader's shapes to policy's forms: there is something `written` exactly if the row is of the shape that its keyword asks for.
+-- The law that ties the reader's forms to policy's: there is something `written` exactly if the row is of the form that its keyword asks for.
 -- Assumes nothing.
 use mathlib.Core.Path.{◌≡◌, refl, sym, ap, ◌∙◌}
 use mathlib.Core.Bool.{Bool, true, false, not, ◌&&◌, and-false, and-true}
@@ -20,11 +20,11 @@ use Rattle.words.proofs.Meaning.{keyword-number}
 use Rattle.items.specs.Reads.{is_some, counted}
 use Rattle.items.specs.declared.Item.{Item}
 use Rattle.items.specs.declared.Wanted.{Wanted}
-use Rattle.items.proofs.Items.{Looked, by_word}
+use Rattle.items.proofs.Items as items
+use Rattle.items.proofs.Items.{Looked}
 use Rattle.items.proofs.Counts.{of_one_lem, of_two_lem}
-use Rattle.grammar.specs.Shapes.{is_statement, content_of, name_and_part, class_and_constraint, shape_of, by_shape}
+use Rattle.grammar.specs.Shapes.{is_statement, content_of, name_and_part, class_and_constraint, by_keyword, by_word}
 use Rattle.grammar.specs.declared.Content.{Content}
-use Rattle.grammar.specs.declared.Shape.{Shape}
 
 -- ---- what is written
 
@@ -125,7 +125,7 @@ four (some (r ∷ t ∷ c ∷ n ∷ [])) = refl
 four (some (r ∷ t ∷ c ∷ n ∷ x ∷ xs)) = ne_eqb (0 + suc (suc (suc (suc (suc (length xs)))))) 4 (λ z. omega arith)
 
 -- what follows a keyword
-formed-is : (k : Keyword) (f : Forms) → is_some (formed k f) ≡ by_shape (shape_of (some k)) f
+formed-is : (k : Keyword) (f : Forms) → is_some (formed k f) ≡ by_keyword k f
 formed-is (declare_k s) f = sym (of_one_lem (λ w. declare (plain s w)) (row_of as_part f))
 formed-is class_k f = class-is NameKind.Part (λ c ps. some (declare (class c ps))) true (λ c ps. refl) f ∙ and-true (name_and_part NameKind.Part Content.Permissions f)
 formed-is (set_k a) f =
@@ -138,23 +138,22 @@ formed-is relabel_k f =
     word-and-part (λ c i. as_name c >>= λ c. expression_in three_sides i >>= λ e. some (validatetrans c e)) NameKind.Name (Content.Constraint Sides.Three) true relabel-asks f
     ∙ and-true (name_and_part NameKind.Name (Content.Constraint Sides.Three) f)
 
-by-keyword : (k : Option Keyword) (f : Forms) → is_some (k >>= λ k. formed k f) ≡ by_shape (shape_of k) f
-by-keyword none f = refl
-by-keyword (some k) f = formed-is k f
+by-word : (k : Option Keyword) (f : Forms) → is_some (k >>= λ k. formed k f) ≡ by_word k f
+by-word none f = refl
+by-word (some k) f = formed-is k f
 
 -- what the parentheses of a statement hold
 pub statement-is : (f : Forms) → is_some (written f) ≡ is_statement f
 statement-is closed = refl
 statement-is ended = refl
-statement-is (word s w f) = by-keyword (keyword_of w) f
+statement-is (word s w f) = by-word (keyword_of w) f
 statement-is (part p f g) = refl
 
--- the same at a place, by the shape of the first word
-pub statement-row : {t : List ℕ} {i s n k j : ℕ} (levels : ℕ) → Looked t i (Item.Word s n k j) → (r : Shape) → r ≡ shape_of (keyword_of (word_of k))
-    → is_some (written (trim (frames_at t i).here levels)) ≡ by_shape r (trim (frames_at t j).here levels)
-statement-row {t} {i} {s} {n} {k} {j} levels l r e =
-    let w = take n (drop s t) in
+-- the same at a place, by the keyword that the first word is
+pub statement-row : {t : List ℕ} {i s n k j : ℕ} (levels : ℕ) → Looked t i (Item.Word s n k j) → (o : Option Keyword) → keyword_of (word_of k) ≡ o
+    → is_some (written (trim (frames_at t i).here levels)) ≡ by_word o (trim (frames_at t j).here levels)
+statement-row {t} {i} {s} {n} {k} {j} levels l o e =
     statement-is (trim (frames_at t i).here levels)
-    ∙ by_word is_statement levels l
-    ∙ ap (λ (x : Option Keyword). by_shape (shape_of x) (trim (frames_at t j).here levels)) (keyword-number w ∙ ap (λ (m : ℕ). keyword_of (word_of m)) l.ahead.2)
-    ∙ ap (λ (x : Shape). by_shape x (trim (frames_at t j).here levels)) (sym e)
+    ∙ items.by_word is_statement levels l
+    ∙ ap (λ (x : Option Keyword). by_word x (trim (frames_at t j).here levels))
+    (keyword-number (take n (drop s t)) ∙ ap (λ (m : ℕ). keyword_of (word_of m)) l.ahead.2 ∙ e)

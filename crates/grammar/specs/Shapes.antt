@@ -1,7 +1,8 @@
--- The forms of the statements as the reader goes through them, by the shape that a keyword asks for. They are policy's forms: `statement-is` of
+-- The forms of the statements as the reader goes through them, by what a keyword asks for. They are policy's forms: `statement-is` of
 -- proofs/Statements.antt. Assumes nothing.
-use Rattle.std.specs.Prelude.{ℕ, ◌+◌, ◌<◌, ◌≤◌, ◌≡◌, Bool, false, ◌&&◌, List, eqb, length, take, drop}
-use Rattle.std.proofs.Math.Option.{Option, none, some}
+use Rattle.std.specs.Prelude.{ℕ, ◌+◌, ◌<◌, ◌≤◌, ◌≡◌, Bool, false, ◌&&◌, List, eqb, length, take, drop, Option, Some, None, MatchOption}
+use Rattle.std.proofs.Math.Option as maybe
+use Rattle.byte_slices.specs.declared.Span.{Span}
 use Rattle.lexer.specs.Forms.{Forms, closed, ended, word, part, frames_at}
 use Rattle.policy.specs.Words as words
 use Rattle.policy.specs.Words.{keyword_of, declare_k, class_k, set_k, relation_k, transition_k, constrain_k, relabel_k}
@@ -16,20 +17,22 @@ use Rattle.items.specs.declared.Wanted.{Wanted}
 use Rattle.items.specs.declared.Item.{Item}
 use Rattle.grammar.specs.declared.Keyword.{Keyword}
 use Rattle.grammar.specs.declared.Content.{Content}
-use Rattle.grammar.specs.declared.Shape.{Shape}
-use Rattle.grammar.specs.declared.Header.{Header}
 
 -- the keyword that an enum of src/ stands for
-abbrev pub keyword_in : Keyword → Option words.Keyword
-keyword_in (Keyword.Thing f) = some (declare_k (thing_of (family_of f)))
-keyword_in (Keyword.Attribute f) = some (declare_k (attribute_of (family_of f)))
-keyword_in Keyword.Class = some class_k
-keyword_in (Keyword.Set f) = some (set_k (family_of f))
-keyword_in (Keyword.Relation r) = some (relation_k (relation_of r))
-keyword_in Keyword.Transition = some transition_k
-keyword_in Keyword.Constrain = some constrain_k
-keyword_in Keyword.Relabel = some relabel_k
-keyword_in Keyword.Unknown = none
+abbrev pub named : Keyword → words.Keyword
+named (Keyword.Thing f) = declare_k (thing_of (family_of f))
+named (Keyword.Attribute f) = declare_k (attribute_of (family_of f))
+named Keyword.Class = class_k
+named (Keyword.Set f) = set_k (family_of f)
+named (Keyword.Relation r) = relation_k (relation_of r)
+named Keyword.Transition = transition_k
+named Keyword.Constrain = constrain_k
+named Keyword.Relabel = relabel_k
+
+-- the same, if there is one
+abbrev pub keyword_in : Option Keyword → maybe.Option words.Keyword
+keyword_in None = maybe.none
+keyword_in (Some k) = maybe.some (named k)
 
 -- what a part holds
 abbrev pub content_of : Content → Forms → Bool
@@ -58,30 +61,26 @@ class_and_constraint ended = false
 class_and_constraint (word s b f) = false
 class_and_constraint (part p f g) = name_and_part NameKind.Name Content.Permissions f && only_part (Content.Constraint Sides.Two) g
 
--- the shape of what follows a keyword
-abbrev pub shape_of : Option words.Keyword → Shape
-shape_of none = Shape.Unknown
-shape_of (some (declare_k s)) = Shape.Names NameKind.Part 1
-shape_of (some class_k) = Shape.Class
-shape_of (some (set_k f)) = Shape.Set
-shape_of (some (relation_k r)) = Shape.Names NameKind.Name 2
-shape_of (some transition_k) = Shape.Names NameKind.Name 4
-shape_of (some constrain_k) = Shape.Constrain
-shape_of (some relabel_k) = Shape.Relabel
+-- what follows a keyword
+abbrev pub by_keyword : words.Keyword → Forms → Bool
+by_keyword (declare_k s) f = counted (Wanted.Exactly 1) 0 (row_of (taken_as NameKind.Part) f)
+by_keyword class_k f = name_and_part NameKind.Part Content.Permissions f
+by_keyword (set_k a) f = name_and_part NameKind.Name Content.Set f
+by_keyword (relation_k r) f = counted (Wanted.Exactly 2) 0 (row_of (taken_as NameKind.Name) f)
+by_keyword transition_k f = counted (Wanted.Exactly 4) 0 (row_of (taken_as NameKind.Name) f)
+by_keyword constrain_k f = class_and_constraint f
+by_keyword relabel_k f = name_and_part NameKind.Name (Content.Constraint Sides.Three) f
 
-abbrev pub by_shape : Shape → Forms → Bool
-by_shape (Shape.Names k n) f = counted (Wanted.Exactly n) 0 (row_of (taken_as k) f)
-by_shape Shape.Class f = name_and_part NameKind.Part Content.Permissions f
-by_shape Shape.Set f = name_and_part NameKind.Name Content.Set f
-by_shape Shape.Constrain f = class_and_constraint f
-by_shape Shape.Relabel f = name_and_part NameKind.Name (Content.Constraint Sides.Three) f
-by_shape Shape.Unknown f = false
+-- what follows the first word of a statement, by the keyword that it is, if it is one
+abbrev pub by_word : maybe.Option words.Keyword → Forms → Bool
+by_word maybe.none f = false
+by_word (maybe.some k) f = by_keyword k f
 
 -- what the parentheses of a statement hold
 abbrev pub is_statement : Forms → Bool
 is_statement closed = false
 is_statement ended = false
-is_statement (word s w f) = by_shape (shape_of (keyword_of w)) f
+is_statement (word s w f) = by_word (keyword_of w) f
 is_statement (part p f g) = false
 
 -- ---- W-203: blocks
@@ -93,12 +92,13 @@ starts_block (Item.Open p q) = false
 starts_block (Item.Close q) = false
 starts_block Item.End = false
 
--- what follows the word `block` at a place of the text: the name, at its place, and parts alone after it; or that the block is of no form
-abbrev pub HeaderBy : List ℕ → ℕ → Header → Type 0
-HeaderBy t at (Header.Name s n) =
-    (header_in (frames_at t at).here ≡ some (take n (drop s t))) × ((frames_at t at).here ≡ word s (take n (drop s t)) (frames_at t (s + n)).here)
-    × ((frames_at t at).around ≡ (frames_at t (s + n)).around) × (at < s + n) × (s + n ≤ length t)
-HeaderBy t at Header.Bad = header_in (frames_at t at).here ≡ none
+-- what follows the word `block` at a place of the text: the name, at its place, and parts alone after it; or the block is of no form
+abbrev pub HeaderBy : List ℕ → ℕ → Option Span → Type 0
+HeaderBy t at r =
+    MatchOption r (header_in (frames_at t at).here ≡ maybe.none) (λ s.
+    (header_in (frames_at t at).here ≡ maybe.some (take s.length (drop s.start t)))
+    × ((frames_at t at).here ≡ word s.start (take s.length (drop s.start t)) (frames_at t (s.start + s.length)).here)
+    × ((frames_at t at).around ≡ (frames_at t (s.start + s.length)).around) × (at < s.start + s.length) × (s.start + s.length ≤ length t))
 
-pub record HeaderIs (t : List ℕ) (at : ℕ) (r : Header) : Type 0 where
+pub record HeaderIs (t : List ℕ) (at : ℕ) (r : Option Span) : Type 0 where
   pub is : HeaderBy t at r

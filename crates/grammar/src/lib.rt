@@ -9,15 +9,16 @@ ghost use Rattle.policy.specs.Grammar.{written};
 ghost use Rattle.words.specs.Numbers.{word_of};
 ghost use Rattle.items.specs.Looks.{item_at};
 ghost use Rattle.items.specs.Reads.{is_some, Reads};
-ghost use Rattle.grammar.specs.Shapes.{starts_block, HeaderIs, keyword_in, content_of, only_part, name_and_part, class_and_constraint, shape_of, by_shape};
+ghost use Rattle.grammar.specs.Shapes.{starts_block, HeaderIs, keyword_in, named, content_of, only_part, name_and_part, class_and_constraint, by_keyword};
 
-use items::{Item, Parsed, Wanted};
+use byte_slices::Span;
+use items::{Item, Wanted};
 use lexer::Level;
 use policy::{Family, Relation, Sides};
 use words::{NameKind, Word};
 
 // What a statement is by its first word: it declares a thing, an attribute or a class, fills an attribute, relates
-// two names, is a role transition, a constraint or a rule for relabelling. Or the word is no keyword.
+// two names, is a role transition, a constraint or a rule for relabelling.
 #[derive(Clone, Copy)]
 pub enum Keyword {
     Thing(Family),
@@ -28,7 +29,6 @@ pub enum Keyword {
     Transition,
     Constrain,
     Relabel,
-    Unknown,
 }
 
 // What a part of a statement holds.
@@ -39,72 +39,34 @@ enum Content {
     Constraint(Sides),
 }
 
-// What follows a keyword: so many names of a kind; a name and permissions; a name and a set expression; a class with
-// permissions and a constraint expression; a class and a constraint expression. Or the word is no keyword.
-#[derive(Clone, Copy)]
-enum Shape {
-    Names(NameKind, usize),
-    Class,
-    Set,
-    Constrain,
-    Relabel,
-    Unknown,
-}
-
-// The name of a block, by the place of its first byte and its length, or that the block is of no form.
-#[derive(Clone, Copy)]
-pub enum Header {
-    Name { start: usize, len: usize },
-    Bad,
-}
-
-// The keyword of a number.
-pub fn keyword_of(number: usize) -> Keyword
+// The keyword of a number, or None for a word that is no keyword.
+#[tactic(auto, unfolding(crate::proofs::Keywords::computing))]
+pub fn keyword_of(number: usize) -> Option<Keyword>
     ensures { keyword_of (word_of number) ≡ keyword_in result }
 {
-    if number <= Word::LAST_RESERVED {
-        return Keyword::Unknown;
-    }
     match number {
-        Word::USER => Keyword::Thing(Family::Users),
-        Word::ROLE => Keyword::Thing(Family::Roles),
-        Word::TYPE => Keyword::Thing(Family::Types),
-        Word::USERATTRIBUTE => Keyword::Attribute(Family::Users),
-        Word::ROLEATTRIBUTE => Keyword::Attribute(Family::Roles),
-        Word::TYPEATTRIBUTE => Keyword::Attribute(Family::Types),
-        Word::CLASS => Keyword::Class,
-        Word::USERATTRIBUTESET => Keyword::Set(Family::Users),
-        Word::ROLEATTRIBUTESET => Keyword::Set(Family::Roles),
-        Word::TYPEATTRIBUTESET => Keyword::Set(Family::Types),
-        Word::USERROLE => Keyword::Relation(Relation::UserRole),
-        Word::ROLETYPE => Keyword::Relation(Relation::RoleType),
-        Word::ROLEALLOW => Keyword::Relation(Relation::RoleAllow),
-        Word::ROLETRANSITION => Keyword::Transition,
-        Word::CONSTRAIN => Keyword::Constrain,
-        Word::VALIDATETRANS => Keyword::Relabel,
-        _ => Keyword::Unknown,
-    }
-}
-
-// The shape of what follows a keyword.
-fn shape_of(keyword: Keyword) -> Shape
-    ensures { result ≡ shape_of (keyword_in keyword) }
-{
-    match keyword {
-        Keyword::Thing(_) => Shape::Names(NameKind::Part, 1),
-        Keyword::Attribute(_) => Shape::Names(NameKind::Part, 1),
-        Keyword::Class => Shape::Class,
-        Keyword::Set(_) => Shape::Set,
-        Keyword::Relation(_) => Shape::Names(NameKind::Name, 2),
-        Keyword::Transition => Shape::Names(NameKind::Name, 4),
-        Keyword::Constrain => Shape::Constrain,
-        Keyword::Relabel => Shape::Relabel,
-        Keyword::Unknown => Shape::Unknown,
+        Word::USER => Some(Keyword::Thing(Family::Users)),
+        Word::ROLE => Some(Keyword::Thing(Family::Roles)),
+        Word::TYPE => Some(Keyword::Thing(Family::Types)),
+        Word::USERATTRIBUTE => Some(Keyword::Attribute(Family::Users)),
+        Word::ROLEATTRIBUTE => Some(Keyword::Attribute(Family::Roles)),
+        Word::TYPEATTRIBUTE => Some(Keyword::Attribute(Family::Types)),
+        Word::CLASS => Some(Keyword::Class),
+        Word::USERATTRIBUTESET => Some(Keyword::Set(Family::Users)),
+        Word::ROLEATTRIBUTESET => Some(Keyword::Set(Family::Roles)),
+        Word::TYPEATTRIBUTESET => Some(Keyword::Set(Family::Types)),
+        Word::USERROLE => Some(Keyword::Relation(Relation::UserRole)),
+        Word::ROLETYPE => Some(Keyword::Relation(Relation::RoleType)),
+        Word::ROLEALLOW => Some(Keyword::Relation(Relation::RoleAllow)),
+        Word::ROLETRANSITION => Some(Keyword::Transition),
+        Word::CONSTRAIN => Some(Keyword::Constrain),
+        Word::VALIDATETRANS => Some(Keyword::Relabel),
+        _ => None,
     }
 }
 
 // What a part holds, to its close.
-fn content_form(text: &[u8], at: usize, content: Content, levels: usize) -> Parsed
+fn content_form(text: &[u8], at: usize, content: Content, levels: usize) -> Option<usize>
     ensures { Reads text.now at (content_of content (trim (frames_at text.now at).here levels)) result }
 {
     match content {
@@ -117,130 +79,122 @@ fn content_form(text: &[u8], at: usize, content: Content, levels: usize) -> Pars
 }
 
 // One part, and the close.
-fn only_part(text: &[u8], at: usize, content: Content, levels: usize) -> Parsed
+fn only_part(text: &[u8], at: usize, content: Content, levels: usize) -> Option<usize>
     ensures { Reads text.now at (only_part content (trim (frames_at text.now at).here levels)) result }
 {
-    let item = items::next_item(text, at);
-    match item {
-        Item::Open { next, .. } => {
-            if levels == 0 {
-                return Parsed::Bad;
-            }
-            let inner = content_form(text, next, content, levels - 1);
-            match inner {
-                Parsed::Next(past) => items::close_form(text, past),
-                Parsed::Bad => Parsed::Bad,
-            }
-        }
-        Item::Word { .. } | Item::Close { .. } | Item::End => Parsed::Bad,
+    let Item::Open { next, .. } = items::next_item(text, at) else {
+        return None;
+    };
+    if levels == 0 {
+        return None;
     }
+    let past = content_form(text, next, content, levels - 1)?;
+    items::close_form(text, past)
 }
 
 // A name of a kind, one part, and the close.
-fn name_and_part(text: &[u8], at: usize, kind: NameKind, content: Content, levels: usize) -> Parsed
+fn name_and_part(
+    text: &[u8],
+    at: usize,
+    kind: NameKind,
+    content: Content,
+    levels: usize,
+) -> Option<usize>
     ensures { Reads text.now at (name_and_part kind content (trim (frames_at text.now at).here levels)) result }
 {
-    let item = items::next_item(text, at);
-    match item {
-        Item::Word {
-            start,
-            len,
-            next,
-            ..
-        } => {
-            if words::is_name(kind, text, start, len) {
-                return only_part(text, next, content, levels);
-            }
-            Parsed::Bad
-        }
-        Item::Open { .. } | Item::Close { .. } | Item::End => Parsed::Bad,
+    let Item::Word {
+        start,
+        len,
+        next,
+        ..
+    } = items::next_item(text, at)
+    else {
+        return None;
+    };
+    if !words::is_name(kind, text, start, len) {
+        return None;
     }
+    only_part(text, next, content, levels)
 }
 
 // A class with permissions in one part, a constraint expression in the next, and the close.
-fn constrain_form(text: &[u8], at: usize, levels: usize) -> Parsed
+fn constrain_form(text: &[u8], at: usize, levels: usize) -> Option<usize>
     ensures { Reads text.now at (class_and_constraint (trim (frames_at text.now at).here levels)) result }
 {
-    let item = items::next_item(text, at);
-    match item {
-        Item::Open { next, .. } => {
-            if levels == 0 {
-                return Parsed::Bad;
-            }
-            let class = name_and_part(text, next, NameKind::Name, Content::Permissions, levels - 1);
-            match class {
-                Parsed::Next(past) => {
-                    only_part(text, past, Content::Constraint(Sides::Two), levels)
-                },
-                Parsed::Bad => Parsed::Bad,
-            }
-        }
-        Item::Word { .. } | Item::Close { .. } | Item::End => Parsed::Bad,
+    let Item::Open { next, .. } = items::next_item(text, at) else {
+        return None;
+    };
+    if levels == 0 {
+        return None;
     }
+    let past = name_and_part(text, next, NameKind::Name, Content::Permissions, levels - 1)?;
+    only_part(text, past, Content::Constraint(Sides::Two), levels)
 }
 
-// What follows a keyword, by its shape.
-fn shape_form(text: &[u8], at: usize, shape: Shape, levels: usize) -> Parsed
-    ensures { Reads text.now at (by_shape shape (trim (frames_at text.now at).here levels)) result }
+// What follows a keyword: so many names; a name and permissions; a name and a set expression; a class with permissions
+// and a constraint expression; a class and a constraint expression.
+fn keyword_form(text: &[u8], at: usize, keyword: Keyword, levels: usize) -> Option<usize>
+    ensures { Reads text.now at (by_keyword (named keyword) (trim (frames_at text.now at).here levels)) result }
 {
-    match shape {
-        Shape::Names(kind, n) => items::names_form(text, at, kind, Wanted::Exactly(n)),
-        Shape::Class => name_and_part(text, at, NameKind::Part, Content::Permissions, levels),
-        Shape::Set => name_and_part(text, at, NameKind::Name, Content::Set, levels),
-        Shape::Constrain => constrain_form(text, at, levels),
-        Shape::Relabel => {
+    match keyword {
+        Keyword::Thing(_) | Keyword::Attribute(_) => {
+            items::names_form(text, at, NameKind::Part, Wanted::Exactly(1))
+        }
+        Keyword::Class => name_and_part(text, at, NameKind::Part, Content::Permissions, levels),
+        Keyword::Set(_) => name_and_part(text, at, NameKind::Name, Content::Set, levels),
+        Keyword::Relation(_) => items::names_form(text, at, NameKind::Name, Wanted::Exactly(2)),
+        Keyword::Transition => items::names_form(text, at, NameKind::Name, Wanted::Exactly(4)),
+        Keyword::Constrain => constrain_form(text, at, levels),
+        Keyword::Relabel => {
             let content = Content::Constraint(Sides::Three);
             name_and_part(text, at, NameKind::Name, content, levels)
         }
-        Shape::Unknown => Parsed::Bad,
     }
 }
 
-// What the parentheses of a statement hold, by the first item after the open one: the place past the close, or that
-// the statement is of no form.
-pub fn statement_form(text: &[u8], first: Item) -> Parsed
+// What the parentheses of a statement hold, by the first item after the open one: the place past the close, or None
+// where the statement is of no form.
+pub fn statement_form(text: &[u8], first: Item) -> Option<usize>
     ensures { (at : ℕ) → first ≡ item_at text.now at
         → Reads text.now at (is_some (written (trim (frames_at text.now at).here (max_level - 1)))) result }
 {
-    match first {
-        Item::Word { number, next, .. } => {
-            let shape = shape_of(keyword_of(number));
-            shape_form(text, next, shape, Level::MAX - 1)
-        }
-        Item::Open { .. } | Item::Close { .. } | Item::End => Parsed::Bad,
-    }
+    let Item::Word { number, next, .. } = first else {
+        return None;
+    };
+    let keyword = keyword_of(number)?;
+    keyword_form(text, next, keyword, Level::MAX - 1)
 }
 
 // Whether the first item after an open parenthesis says that it opens a block.
 pub fn starts_block(first: Item) -> bool
     ensures { result ≡ starts_block first }
 {
-    match first {
-        Item::Word { number, .. } => number == Word::BLOCK,
-        Item::Open { .. } | Item::Close { .. } | Item::End => false,
-    }
+    matches!(
+        first,
+        Item::Word {
+            number: Word::BLOCK,
+            ..
+        }
+    )
 }
 
-// What follows the word `block`: a name of one part, then parts alone, whatever they hold, and the close.
-pub fn block_form(text: &[u8], at: usize) -> Header
+// What follows the word `block`: a name of one part, then parts alone, whatever they hold, and the close. Answers
+// where the name is, or None where the block is of no form.
+pub fn block_form(text: &[u8], at: usize) -> Option<Span>
     ensures { HeaderIs text.now at result }
 {
-    let item = items::next_item(text, at);
     let Item::Word {
         start,
         len,
         next,
         ..
-    } = item
+    } = items::next_item(text, at)
     else {
-        return Header::Bad;
+        return None;
     };
     if !words::is_name(NameKind::Part, text, start, len) {
-        return Header::Bad;
+        return None;
     }
-    let rest = items::parts_form(text, next);
-    match rest {
-        Parsed::Next(_) => Header::Name { start, len },
-        Parsed::Bad => Header::Bad,
-    }
+    items::parts_form(text, next)?;
+    Some(Span { start, length: len })
 }

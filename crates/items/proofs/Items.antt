@@ -2,13 +2,13 @@
 -- where no level is left. Assumes nothing.
 use mathlib.Core.Path.{◌≡◌, refl, sym, ap, subst, ◌∙◌}
 use mathlib.Core.Bool.{Bool, true, false}
-use mathlib.Core.List.{List}
+use mathlib.Core.List.{List, [], ◌∷◌}
 use Prim.Native.Nat.{ℕ, ◌+◌, ◌-◌, ◌<◌, ◌≤◌}
 use native.Mathlib.Omega.{arith}
 use borrow.Author.Tests.{eqb-true, eqb-false}
 use lib.Dec.{eqb}
 use lib.ListN.{length, take, drop}
-use types.Run.{OneOf}
+use types.Run.{OneOf, hit}
 use mir.Val.{has_key}
 use denote.Enum.Declared.{tag_of}
 use Rattle.lexer.specs.Forms.{Forms, closed, ended, word, part, Frames, frames_at, trim}
@@ -135,6 +135,25 @@ among ks P a (Item.Word s n k q) h = one_of ks 0 ((s n k q : ℕ) → P (Item.Wo
 among ks P a (Item.Open p q) h = one_of ks 1 ((p q : ℕ) → P (Item.Open p q)) a.1 h p q
 among ks P a (Item.Close q) h = one_of ks 2 ((q : ℕ) → P (Item.Close q)) a.2 h q
 among ks P a Item.End h = one_of ks 3 (P Item.End) a.3 h
+
+-- an item that is no word, no part or no close is one of the others
+pub no_word : (r : Item) → ((s n k q : ℕ) → r ≡ Item.Word s n k q → ⊥) → OneOf (1 ∷ 2 ∷ 3 ∷ []) (tag r)
+no_word (Item.Word s n k q) h = absurd (h s n k q refl)
+no_word (Item.Open p q) h = hit (1 ∷ 2 ∷ 3 ∷ []) 1 tt
+no_word (Item.Close q) h = hit (1 ∷ 2 ∷ 3 ∷ []) 2 tt
+no_word Item.End h = hit (1 ∷ 2 ∷ 3 ∷ []) 3 tt
+
+pub no_part : (r : Item) → ((p q : ℕ) → r ≡ Item.Open p q → ⊥) → OneOf (0 ∷ 2 ∷ 3 ∷ []) (tag r)
+no_part (Item.Word s n k q) h = hit (0 ∷ 2 ∷ 3 ∷ []) 0 tt
+no_part (Item.Open p q) h = absurd (h p q refl)
+no_part (Item.Close q) h = hit (0 ∷ 2 ∷ 3 ∷ []) 2 tt
+no_part Item.End h = hit (0 ∷ 2 ∷ 3 ∷ []) 3 tt
+
+pub no_close : (r : Item) → ((q : ℕ) → r ≡ Item.Close q → ⊥) → OneOf (0 ∷ 1 ∷ 3 ∷ []) (tag r)
+no_close (Item.Word s n k q) h = hit (0 ∷ 1 ∷ 3 ∷ []) 0 tt
+no_close (Item.Open p q) h = hit (0 ∷ 1 ∷ 3 ∷ []) 1 tt
+no_close (Item.Close q) h = absurd (h q refl)
+no_close Item.End h = hit (0 ∷ 1 ∷ 3 ∷ []) 3 tt
 
 -- p and q say the same of every row that starts with one of them
 module _ {B : Type 0} (p q : Forms → B) where

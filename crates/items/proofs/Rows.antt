@@ -5,12 +5,13 @@ use mathlib.Core.List.{List}
 use Prim.Native.Nat.{ℕ, ◌<◌, ◌≤◌}
 use native.Mathlib.Omega.{arith}
 use lib.ListN.{length}
+use Rattle.std.specs.Prelude.{Option, Some, None}
+use Rattle.std.specs.Bool.{then_some}
 use Rattle.lexer.specs.Forms.{Forms, closed, ended, word, part, trim}
 use Rattle.lexer.proofs.Trim.{cut-or-whole}
 use Rattle.items.specs.Looks.{row_end}
-use Rattle.items.specs.Reads.{parsed, Reads, is_closed}
+use Rattle.items.specs.Reads.{Reads, is_closed}
 use Rattle.items.specs.declared.Item.{Item}
-use Rattle.items.specs.declared.Parsed.{Parsed}
 use Rattle.items.proofs.Items.{Looked}
 
 -- b holds of the row at the place at, and q is the place after its close
@@ -20,52 +21,49 @@ pub record Past (t : List ℕ) (at : ℕ) (b : Bool) (q : ℕ) : Type 0 where
   pub less : at < q
   pub fits : q ≤ length t
 
-abbrev pub Says : List ℕ → ℕ → Bool → Parsed → Type 0
-Says t at b (Parsed.Next q) = Past t at b q
-Says t at b Parsed.Bad = b ≡ false
+-- what a reader said that answered a place, and one that answered none
+pub passes : {t : List ℕ} {at q : ℕ} {b : Bool} → Reads t at b (Some q) → Past t at b q
+passes {t} {at} {q} {b} l = go b l.answer
+  where
+    go : (b : Bool) → Some q ≡ then_some b (row_end t at) → Past t at b q
+    go true e = record { good = refl; end = cc; less = l.ahead.0; fits = l.ahead.1 }
+    go false e = absurd cc
 
-by_answer : (t : List ℕ) (at : ℕ) (b : Bool) (k : Parsed) → Reads t at b k → Says t at b k
-by_answer t at true (Parsed.Next q) r = record { good = refl; end = cc r.answer; less = r.ahead.0; fits = r.ahead.1 }
-by_answer t at false (Parsed.Next q) r =
-    let e = r.answer in
-    absurd (let z : ◌≡◌ {A = ℕ} 0 1 = cc in omega arith)
-by_answer t at true Parsed.Bad r =
-    let e = r.answer in
-    absurd (let z : ◌≡◌ {A = ℕ} 0 1 = cc in omega arith)
-by_answer t at false Parsed.Bad r = refl
-
--- what a reader that answered k said
-pub told : {t : List ℕ} {at : ℕ} {b : Bool} {r k : Parsed} → Reads t at b r → r ≡ k → Says t at b k
-told {t} {at} {b} {r} {k} l e = by_answer t at b k (subst (λ (x : Parsed). Reads t at b x) e l)
+pub refuses : {t : List ℕ} {at : ℕ} {b : Bool} → Reads t at b None → b ≡ false
+refuses {t} {at} {b} l = go b l.answer
+  where
+    go : (b : Bool) → None ≡ then_some b (row_end t at) → b ≡ false
+    go true e = absurd cc
+    go false e = refl
 
 -- how an answer is given
-pub give : {t : List ℕ} {at q : ℕ} {b : Bool} → b ≡ true → row_end t at ≡ q → at < q → q ≤ length t → Reads t at b (Parsed.Next q)
+pub give : {t : List ℕ} {at q : ℕ} {b : Bool} → b ≡ true → row_end t at ≡ q → at < q → q ≤ length t → Reads t at b (Some q)
 give e f g h = record { answer = rw (e, f); ahead = (g, h) }
 
-pub refuse : {t : List ℕ} {at : ℕ} {b : Bool} → b ≡ false → Reads t at b Parsed.Bad
+pub refuse : {t : List ℕ} {at : ℕ} {b : Bool} → b ≡ false → Reads t at b None
 refuse e = record { answer = rw e; ahead = tt }
 
 -- an answer that `ended` gave
-pub at-close : {t : List ℕ} {at q : ℕ} {b : Bool} (r : Parsed) (d : Bool) → r ≡ parsed d q → b ≡ d → row_end t at ≡ q → at < q → q ≤ length t → Reads t at b r
-at-close {t} {at} {q} {b} r d e f g h l = subst (λ (x : Parsed). Reads t at b x) (sym e) (go d f)
+pub at-close : {t : List ℕ} {at q : ℕ} {b : Bool} (r : Option ℕ) (d : Bool) → r ≡ then_some d q → b ≡ d → row_end t at ≡ q → at < q → q ≤ length t → Reads t at b r
+at-close {t} {at} {q} {b} r d e f g h l = subst (λ (x : Option ℕ). Reads t at b x) (sym e) (go d f)
   where
-    go : (d : Bool) → b ≡ d → Reads t at b (parsed d q)
+    go : (d : Bool) → b ≡ d → Reads t at b (then_some d q)
     go true f = give f g h l
     go false f = refuse f
 
 -- what is read after a place from which the row ends at the same place
-moved : {t : List ℕ} {i q : ℕ} {b d : Bool} (r : Parsed) → row_end t i ≡ row_end t q → i < q → b ≡ d → Reads t q d r → Reads t i b r
-moved (Parsed.Next j) a h e g = record { answer = g.answer ∙ rw (e, a); ahead = (omega (arith, g.ahead), g.ahead.1) }
-moved Parsed.Bad a h e g = record { answer = g.answer ∙ rw (e, a); ahead = tt }
+moved : {t : List ℕ} {i q : ℕ} {b d : Bool} (r : Option ℕ) → row_end t i ≡ row_end t q → i < q → b ≡ d → Reads t q d r → Reads t i b r
+moved (Some j) a h e g = record { answer = g.answer ∙ rw (e, a); ahead = (omega (arith, g.ahead), g.ahead.1) }
+moved None a h e g = record { answer = g.answer ∙ rw (e, a); ahead = tt }
 
-pub after-word : {t : List ℕ} {i s n k q : ℕ} {b d : Bool} {r : Parsed} → Looked t i (Item.Word s n k q) → b ≡ d → Reads t q d r → Reads t i b r
+pub after-word : {t : List ℕ} {i s n k q : ℕ} {b d : Bool} {r : Option ℕ} → Looked t i (Item.Word s n k q) → b ≡ d → Reads t q d r → Reads t i b r
 after-word {r = r} l e g = moved r l.end l.ahead.0 e g
 
 -- where a row ends, past a part
 pub beyond : {t : List ℕ} {i p q : ℕ} (j : ℕ) → Looked t i (Item.Open p q) → row_end t q ≡ j → row_end t i ≡ row_end t j
 beyond {t} j l e = l.end ∙ ap (row_end t) e
 
-pub after-part : {t : List ℕ} {i p q j : ℕ} {a b d : Bool} {r : Parsed} → Looked t i (Item.Open p q) → Past t q a j → b ≡ d → Reads t j d r → Reads t i b r
+pub after-part : {t : List ℕ} {i p q j : ℕ} {a b d : Bool} {r : Option ℕ} → Looked t i (Item.Open p q) → Past t q a j → b ≡ d → Reads t j d r → Reads t i b r
 after-part {r = r} l o e g = moved r (beyond _ l o.end) (omega (arith, l.ahead.0, o.less)) e g
 
 -- a cut changes nothing in a close

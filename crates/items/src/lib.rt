@@ -2,11 +2,12 @@
 #![tactic(auto)]
 
 ghost use Rattle.std.specs.Prelude.{◌≡◌};
+ghost use Rattle.std.specs.Bool.{then_some};
 ghost use Rattle.lexer.specs.Forms.{frames_at};
 ghost use Rattle.policy.specs.Grammar.{row_of, parts_alone};
 ghost use Rattle.words.specs.Numbers.{taken_as};
 ghost use Rattle.items.specs.Looks.{item_at, row_end};
-ghost use Rattle.items.specs.Reads.{Reads, parsed, is_closed, counted};
+ghost use Rattle.items.specs.Reads.{Reads, is_closed, counted};
 ghost use Rattle.items.specs.Reads as spec;
 
 use lexer::Token;
@@ -31,13 +32,6 @@ pub enum Item {
     End,
 }
 
-// The place after the close of the row that was read, or that its form is wrong.
-#[derive(Clone, Copy)]
-pub enum Parsed {
-    Next(usize),
-    Bad,
-}
-
 // How many operands or names there must be.
 #[derive(Clone, Copy)]
 pub enum Wanted {
@@ -46,11 +40,11 @@ pub enum Wanted {
 }
 
 // The first item at or after a place.
+#[tactic(auto, unfolding(crate::specs::Looks::item_at))]
 pub fn next_item(text: &[u8], at: usize) -> Item
     ensures { result ≡ item_at text.now at }
 {
-    let token = lexer::next(text, at);
-    match token {
+    match lexer::next(text, at) {
         Token::Open(place) => Item::Open {
             place,
             next: place + 1,
@@ -76,45 +70,41 @@ fn enough(wanted: Wanted, count: usize) -> bool
     }
 }
 
-// The close of a row, after so many operands or names.
-pub fn ended(wanted: Wanted, count: usize, next: usize) -> Parsed
-    ensures { result ≡ parsed (spec.enough wanted count) next }
+// The close of a row, after so many operands or names. This reading of a row and those below answer the place after
+// its close, or None where its form is wrong.
+pub fn ended(wanted: Wanted, count: usize, next: usize) -> Option<usize>
+    ensures { result ≡ then_some (spec.enough wanted count) next }
 {
-    if enough(wanted, count) {
-        return Parsed::Next(next);
-    }
-    Parsed::Bad
+    enough(wanted, count).then_some(next)
 }
 
 // A close.
-pub fn close_form(text: &[u8], at: usize) -> Parsed
+pub fn close_form(text: &[u8], at: usize) -> Option<usize>
     ensures { Reads text.now at (is_closed (frames_at text.now at).here) result }
 {
-    let item = next_item(text, at);
-    match item {
-        Item::Close { next } => Parsed::Next(next),
-        Item::Word { .. } | Item::Open { .. } | Item::End => Parsed::Bad,
-    }
+    let Item::Close { next } = next_item(text, at) else {
+        return None;
+    };
+    Some(next)
 }
 
 // Names of a kind, and the close.
-pub fn names_form(text: &[u8], at: usize, kind: NameKind, wanted: Wanted) -> Parsed
+pub fn names_form(text: &[u8], at: usize, kind: NameKind, wanted: Wanted) -> Option<usize>
     ensures { Reads text.now at (counted wanted 0 (row_of (taken_as kind) (frames_at text.now at).here)) result }
 {
     let mut i = at;
     let mut count: usize = 0;
     loop {
-        let token = lexer::next(text, i);
-        match token {
+        match lexer::next(text, i) {
             Token::Word { start, len } => {
                 if !words::is_name(kind, text, start, len) {
-                    return Parsed::Bad;
+                    return None;
                 }
                 i = start + len;
                 count += 1;
             }
             Token::Close(place) => return ended(wanted, count, place + 1),
-            Token::Open(_) | Token::End => return Parsed::Bad,
+            Token::Open(_) | Token::End => return None,
         }
     }
 }
@@ -127,8 +117,7 @@ pub fn row_end(text: &[u8], at: usize) -> usize
     let mut i = at;
     let mut inside: usize = 0;
     loop {
-        let token = lexer::next(text, i);
-        match token {
+        match lexer::next(text, i) {
             Token::Open(place) => {
                 i = place + 1;
                 inside += 1;
@@ -147,16 +136,15 @@ pub fn row_end(text: &[u8], at: usize) -> usize
 }
 
 // Parts, whatever they hold, or nothing, and the close.
-pub fn parts_form(text: &[u8], at: usize) -> Parsed
+pub fn parts_form(text: &[u8], at: usize) -> Option<usize>
     ensures { Reads text.now at (parts_alone (frames_at text.now at).here) result }
 {
     let mut i = at;
     loop {
-        let item = next_item(text, i);
-        match item {
+        match next_item(text, i) {
             Item::Open { next, .. } => i = row_end(text, next),
-            Item::Close { next } => return Parsed::Next(next),
-            Item::Word { .. } | Item::End => return Parsed::Bad,
+            Item::Close { next } => return Some(next),
+            Item::Word { .. } | Item::End => return None,
         }
     }
 }

@@ -1,6 +1,8 @@
 -- What a clean scan says of a text's forms: they are balanced, at most 32 levels deep, and every word is a name.
 -- One induction over the bytes that are left: with so many parentheses open, so many rows are still to be closed, each of them with
 -- room for one level more than the row in it. Assumes nothing.
+use Rattle.lexer.specs.declared.ScanFault.{ScanFault}
+use Rattle.std.specs.Prelude.{Err}
 use mathlib.Core.Path.{◌≡◌, refl, sym, ap, ◌∙◌}
 use mathlib.Core.Bool.{Bool, true, false, ◌&&◌, cond, and-eq-true_iff}
 use mathlib.Core.List.{List, [], ◌∷◌, ◌++◌}
@@ -11,12 +13,11 @@ use borrow.Author.Tests.{ltb-true, ltb-false, eqb-false}
 use lib.Dec.{ltb, eqb, eqb-suc-zero}
 use lib.ListN.{length, take, drop}
 use Rattle.lexer.specs.Class.{class_of, in_word, ends_comment, is_name}
-use Rattle.lexer.specs.Scan.{max_text, max_level, Mode, between, in_comment, in_name, going, stopped, comment_then, step_between, step_name, closed_at, scan_from, scan}
+use Rattle.lexer.specs.Scan.{max_text, max_level, Mode, between, in_comment, in_name, going, stopped, comment_then, step_between, step_name, closed_at, scan_from, scan, no_fault}
 use Rattle.lexer.specs.Token.{between_then, own_token, mode_then, ending, tokens_from, tokens_at}
 use Rattle.lexer.specs.Forms.{Forms, ended, word, part, Frames, head, tail, step, build, frames_at, forms_of, trim, closes, balanced, names_good}
 use Rattle.lexer.specs.declared.ByteClass.{ByteClass}
 use Rattle.lexer.specs.declared.ByteClass.TheVariants.{Blank, LineFeed, Comment, Open, Close, Letter, Digit, Dot, Wrong}
-use Rattle.lexer.specs.declared.Scanned.{Scanned}
 use Rattle.lexer.specs.declared.Token.{Token}
 use Rattle.lexer.proofs.Scans.{halted}
 use Rattle.lexer.proofs.Trim.{uncut}
@@ -80,18 +81,18 @@ comment-under level k = go (ends_comment k) refl
     go true e = rw e tt
     go false e = rw e tt
 
-not-wrong : (place : ℕ) → Scanned.Wrong place ≡ Scanned.Clean → ⊥
+not-wrong : (place : ℕ) → Err (ScanFault.Wrong place) ≡ no_fault → ⊥
 not-wrong place h =
     let z : ◌≡◌ {A = ℕ} 0 1 = cc in
     omega arith
 
-pub never : (t bs : List ℕ) (place at : ℕ) → scan_from t bs (stopped place) at ≡ Scanned.Clean → ⊥
+pub never : (t bs : List ℕ) (place at : ℕ) → scan_from t bs (stopped place) at ≡ no_fault → ⊥
 never t bs place at h = not-wrong place (sym (halted t bs place at) ∙ h)
 
 module _ (t bs : List ℕ) (b at : ℕ)
-    (ih : (m : Mode) (level room : ℕ) → Under m level → scan_from t bs (going m level) (at + 1) ≡ Scanned.Clean → level + room ≡ max_level
+    (ih : (m : Mode) (level room : ℕ) → Under m level → scan_from t bs (going m level) (at + 1) ≡ no_fault → level + room ≡ max_level
     → Good (build t (tokens_from bs m (at + 1))) level room) where
-  opened : (level room : ℕ) (q : Bool) → ltb level max_level ≡ q → scan_from t bs (cond q (going between (level + 1)) (stopped at)) (at + 1) ≡ Scanned.Clean
+  opened : (level room : ℕ) (q : Bool) → ltb level max_level ≡ q → scan_from t bs (cond q (going between (level + 1)) (stopped at)) (at + 1) ≡ no_fault
       → level + room ≡ max_level → Good (step t (Token.Open at) (build t (tokens_from bs between (at + 1)))) level room
   opened level room false e h r = absurd (never t bs at (at + 1) h)
   opened level zero true e h r = absurd (omega (arith, ltb-true level max_level e))
@@ -99,7 +100,7 @@ module _ (t bs : List ℕ) (b at : ℕ)
       let f = build t (tokens_from bs between (at + 1)) in
       part-rows f.around level room at f.here (ih between (suc level) room tt (rw (add-one level) at h) (omega arith))
 
-  shut : (level room : ℕ) → scan_from t bs (step_between level at Close) (at + 1) ≡ Scanned.Clean → level + room ≡ max_level
+  shut : (level room : ℕ) → scan_from t bs (step_between level at Close) (at + 1) ≡ no_fault → level + room ≡ max_level
       → Good (step t (Token.Close at) (build t (tokens_from bs between (at + 1)))) level room
   unfolding closes names_good trim
   shut zero room h r = absurd (never t bs at (at + 1) h)
@@ -109,12 +110,12 @@ module _ (t bs : List ℕ) (b at : ℕ)
         ih between level (suc room) tt (rw (eqb-suc-zero level, e) at h) (omega arith),
       )
 
-  begun : (level room : ℕ) (q : Bool) → eqb level 0 ≡ q → scan_from t bs (cond q (stopped at) (going (in_name at 1) level)) (at + 1) ≡ Scanned.Clean
+  begun : (level room : ℕ) (q : Bool) → eqb level 0 ≡ q → scan_from t bs (cond q (stopped at) (going (in_name at 1) level)) (at + 1) ≡ no_fault
       → level + room ≡ max_level → Good (build t (tokens_from bs (in_name at 1) (at + 1))) level room
   begun level room true e h r = absurd (never t bs at (at + 1) h)
   begun level room false e h r = ih (in_name at 1) level room (omega (arith, eqb-false level 0 e)) h r
 
-  in_between : (level room : ℕ) (k : ByteClass) → scan_from t bs (step_between level at k) (at + 1) ≡ Scanned.Clean → level + room ≡ max_level
+  in_between : (level room : ℕ) (k : ByteClass) → scan_from t bs (step_between level at k) (at + 1) ≡ no_fault → level + room ≡ max_level
       → Good (build t (own_token at k ++ tokens_from bs (between_then at k) (at + 1))) level room
   unfolding build
   in_between level room Blank h r = ih between level room tt h r
@@ -129,14 +130,14 @@ module _ (t bs : List ℕ) (b at : ℕ)
 
   -- a run that is over is a name
   run-over : (level room s n : ℕ) (k : ByteClass) (q : Bool) → is_name (take n (drop s t)) ≡ q → 0 < level
-      → scan_from t bs (cond q (step_between level at k) (stopped s)) (at + 1) ≡ Scanned.Clean → level + room ≡ max_level
+      → scan_from t bs (cond q (step_between level at k) (stopped s)) (at + 1) ≡ no_fault → level + room ≡ max_level
       → Good (step t (Token.Word s n) (build t (own_token at k ++ tokens_from bs (between_then at k) (at + 1)))) level room
   run-over level room s n k true e u h r =
       let f = build t (own_token at k ++ tokens_from bs (between_then at k) (at + 1)) in
       word_rows f.around level room s (take n (drop s t)) f.here u e (in_between level room k h r)
   run-over level room s n k false e u h r = absurd (never t bs s (at + 1) h)
 
-  in-name : (level room s n : ℕ) (k : ByteClass) → 0 < level → scan_from t bs (step_name t s n level at k) (at + 1) ≡ Scanned.Clean
+  in-name : (level room s n : ℕ) (k : ByteClass) → 0 < level → scan_from t bs (step_name t s n level at k) (at + 1) ≡ no_fault
       → level + room ≡ max_level → Good (build t (ending (in_name s n) at k ++ tokens_from bs (mode_then (in_name s n) at k) (at + 1))) level room
   unfolding build
   in-name level room s n k u h r = go (in_word k) refl
@@ -146,18 +147,18 @@ module _ (t bs : List ℕ) (b at : ℕ)
       go false g = rw g (run-over level room s n k (is_name (take n (drop s t))) refl u (rw g at h) r)
 
 -- the end of the text, where nothing is open
-at-end : (level room at : ℕ) → closed_at level at ≡ Scanned.Clean → Good (record { here = ended; around = [] }) level room
+at-end : (level room at : ℕ) → closed_at level at ≡ no_fault → Good (record { here = ended; around = [] }) level room
 unfolding balanced names_good trim
 at-end zero room at h = record { shut = refl; deep = refl; names = refl }
 at-end (suc level) room at h = absurd (not-wrong at (rw (eqb-suc-zero level) at h))
 
 -- a run that ends with the text lies within parentheses, which are not closed
-pub unclosed : (level at first : ℕ) (q : Bool) → 0 < level → cond q (closed_at level at) (Scanned.Wrong first) ≡ Scanned.Clean → ⊥
+pub unclosed : (level at first : ℕ) (q : Bool) → 0 < level → cond q (closed_at level at) (Err (ScanFault.Wrong first)) ≡ no_fault → ⊥
 unclosed zero at first q u h = omega arith
 unclosed (suc level) at first true u h = not-wrong at (rw (eqb-suc-zero level) at h)
 unclosed (suc level) at first false u h = not-wrong first h
 
-from : (t bs : List ℕ) (m : Mode) (level room at : ℕ) → Under m level → scan_from t bs (going m level) at ≡ Scanned.Clean
+from : (t bs : List ℕ) (m : Mode) (level room at : ℕ) → Under m level → scan_from t bs (going m level) at ≡ no_fault
     → level + room ≡ max_level → Good (build t (tokens_from bs m at)) level room
 unfolding scan_from tokens_from build
 from t [] between level room at u h r = at-end level room at h
@@ -176,15 +177,15 @@ outermost : (a : List Forms) (f : Forms) (room : ℕ) → Rows a 0 f room → Ro
 outermost [] f room r = r
 outermost (g ∷ gs) f room r = absurd r
 
-not-long : (t : List ℕ) (q : Bool) → ltb max_text (length t) ≡ q → cond q Scanned.TooLong (scan_from t t (going between 0) 0) ≡ Scanned.Clean
-    → (length t ≤ max_text) × (scan_from t t (going between 0) 0 ≡ Scanned.Clean)
+not-long : (t : List ℕ) (q : Bool) → ltb max_text (length t) ≡ q → cond q (Err ScanFault.TooLong) (scan_from t t (going between 0) 0) ≡ no_fault
+    → (length t ≤ max_text) × (scan_from t t (going between 0) 0 ≡ no_fault)
 not-long t true e g =
     let z : ◌≡◌ {A = ℕ} 0 1 = cc in
     absurd (omega arith)
 not-long t false e g = (ltb-false max_text (length t) e, g)
 
-module _ (t : List ℕ) (h : scan t ≡ Scanned.Clean) where
-  scanned : (length t ≤ max_text) × (scan_from t t (going between 0) 0 ≡ Scanned.Clean)
+module _ (t : List ℕ) (h : scan t ≡ no_fault) where
+  scanned : (length t ≤ max_text) × (scan_from t t (going between 0) 0 ≡ no_fault)
   unfolding scan
   scanned = not-long t (ltb max_text (length t)) refl h
 

@@ -1,5 +1,7 @@
 -- How the scan of a text goes on by a byte, over a comment, and at its end: what the loop of `scan` does, stated once.
 -- Assumes nothing.
+use Rattle.lexer.specs.declared.ScanFault.{ScanFault}
+use Rattle.std.specs.Prelude.{Err}
 use mathlib.Core.Path.{◌≡◌, refl, sym, ap, ◌∙◌}
 use mathlib.Core.Bool.{Bool, true, false, not, ◌&&◌, cond, false≢true}
 use mathlib.Core.List.{List, [], ◌∷◌, ◌++◌}
@@ -15,14 +17,13 @@ use Rattle.lexer.specs.Scan.{max_text, max_level, Mode, between, in_comment, in_
 use Rattle.lexer.specs.Answers.{word_goes_on, part_starts, bare_dot, name_goes_on, counted_from, comment_end, state_of}
 use Rattle.lexer.specs.declared.ByteClass.{ByteClass}
 use Rattle.lexer.specs.declared.ByteClass.TheVariants.{Blank, LineFeed, Comment, Open, Close, Letter, Digit, Dot, Wrong}
-use Rattle.lexer.specs.declared.Scanned.{Scanned}
 use Rattle.lexer.specs.declared.Step.{Step}
 use Rattle.lexer.proofs.Ends.{bytes-there, over-comment, byte-there, byte-goes-on, name-word, name-over, name-not-bare}
 use Rattle.lexer.proofs.Names.{fits, no_part, SoFar, letter-first, dot-first, grown, one-too-many, spoiled, finished}
 use Rattle.lexer.proofs.Variants.{by-class}
 
 -- a text that is too long is fault 1, and only such a text
-pub too_long : (t : List ℕ) → max_text < length t → scan t ≡ Scanned.TooLong
+pub too_long : (t : List ℕ) → max_text < length t → scan t ≡ (Err ScanFault.TooLong)
 unfolding scan
 too_long t h = rw (lt-ltb max_text (length t) h)
 
@@ -31,7 +32,7 @@ unfolding scan
 not-long t h = rw (le-ltb max_text (length t) h)
 
 -- a scan that has stopped says where
-pub halted : (t bs : List ℕ) (place at : ℕ) → scan_from t bs (stopped place) at ≡ Scanned.Wrong place
+pub halted : (t bs : List ℕ) (place at : ℕ) → scan_from t bs (stopped place) at ≡ Err (ScanFault.Wrong place)
 unfolding scan_from
 halted t [] place at = refl
 halted t (b ∷ bs) place at = refl
@@ -50,13 +51,13 @@ blank-too level at Wrong e = cc
 
 -- a run is over where it goes on no more, at another byte or at the end of the text: it is a name, or a fault at its first byte
 run-over : (t bs : List ℕ) (first len level at : ℕ) → word_goes_on bs ≡ false
-    → scan_from t bs (going (in_name first len) level) at ≡ if_name t first len (scan_from t bs (going between level) at) (Scanned.Wrong first)
+    → scan_from t bs (going (in_name first len) level) at ≡ if_name t first len (scan_from t bs (going between level) at) (Err (ScanFault.Wrong first))
 unfolding scan_from
 run-over t [] first len level at e = refl
 run-over t (b ∷ bs) first len level at e = rw e (go (is_name (take len (drop first t))))
   where
     go : (q : Bool) → scan_from t bs (cond q (step_between level at (class_of b)) (stopped first)) (at + 1)
-        ≡ cond q (scan_from t bs (step_between level at (class_of b)) (at + 1)) (Scanned.Wrong first)
+        ≡ cond q (scan_from t bs (step_between level at (class_of b)) (at + 1)) (Err (ScanFault.Wrong first))
     go true = refl
     go false = halted t bs first (at + 1)
 
@@ -68,7 +69,7 @@ now t first len h =
 
 -- a run that is no name however many of the bytes to come it has is a fault at its first byte
 doomed : (t bs : List ℕ) (first len level at : ℕ) → ((j : ℕ) → is_name (take (len + j) (drop first t)) ≡ false)
-    → scan_from t bs (going (in_name first len) level) at ≡ Scanned.Wrong first
+    → scan_from t bs (going (in_name first len) level) at ≡ Err (ScanFault.Wrong first)
 unfolding scan_from
 doomed t [] first len level at h = rw (now t first len h)
 doomed t (b ∷ bs) first len level at h =
@@ -76,8 +77,8 @@ doomed t (b ∷ bs) first len level at h =
     (doomed t bs first (len + 1) level (at + 1)
     (λ j. let e : len + 1 + j ≡ len + (1 + j) = omega arith in ap (λ (n : ℕ). is_name (take n (drop first t))) e ∙ h (1 + j)))
   where
-    go : (q : Bool) → in_word (class_of b) ≡ q → scan_from t bs (going (in_name first (len + 1)) level) (at + 1) ≡ Scanned.Wrong first
-        → scan_from t bs (step_name t first len level at (class_of b)) (at + 1) ≡ Scanned.Wrong first
+    go : (q : Bool) → in_word (class_of b) ≡ q → scan_from t bs (going (in_name first (len + 1)) level) (at + 1) ≡ Err (ScanFault.Wrong first)
+        → scan_from t bs (step_name t first len level at (class_of b)) (at + 1) ≡ Err (ScanFault.Wrong first)
     go true e i = rw e i
     go false e i = rw (e, now t first len h) (halted t bs first (at + 1))
 
@@ -166,18 +167,18 @@ module _ (t : List ℕ) (first from level at : ℕ) (x : InName t first from lev
   further : scan_from t (drop (at + 1) t) (going (in_name first (at - first + 1)) level) (at + 1) ≡ scan t
   further = turn t at (in_name first (at - first)) level (class_of b) _ there refl (rw (byte-goes-on t at g)) x.left
 
-  dooms : ((j : ℕ) → is_name (w ++ b ∷ take j (drop (at + 1) t)) ≡ false) → Scanned.Wrong first ≡ scan t
+  dooms : ((j : ℕ) → is_name (w ++ b ∷ take j (drop (at + 1) t)) ≡ false) → Err (ScanFault.Wrong first) ≡ scan t
   dooms h = sym (doomed t (drop (at + 1) t) first (at - first + 1) level (at + 1) (λ j. ap is_name (cut j) ∙ h j)) ∙ further
 
   -- the 65th byte
-  long : max_name ≤ at - from → Scanned.Wrong first ≡ scan t
+  long : max_name ≤ at - from → Err (ScanFault.Wrong first) ≡ scan t
   long h = dooms (λ j. one-too-many w (at - from) x.fresh x.so_far b h (take j (drop (at + 1) t)))
 
   dot-here : bare_dot (drop at t) ≡ is_dot (class_of b) && not (part_starts (drop (at + 1) t))
   dot-here = ap bare_dot (bytes-there t at there)
 
   -- a dot with no part after it
-  bare-here : bare_dot (drop at t) ≡ true → Scanned.Wrong first ≡ scan t
+  bare-here : bare_dot (drop at t) ≡ true → Err (ScanFault.Wrong first) ≡ scan t
   bare-here e =
       let p = bare (is_dot (class_of b)) (part_starts (drop (at + 1) t)) (sym dot-here ∙ e) in
       dooms (λ j. spoiled w (at - from) x.fresh x.so_far b p.0 (take j (drop (at + 1) t)) (none-starts j (drop (at + 1) t) p.1))
@@ -216,14 +217,14 @@ part-goes (b ∷ bs) e = start-goes (class_of b) e
 
 module _ (t : List ℕ) (first from level at : ℕ) (x : InName t first from level at) where
   -- where the name goes on: the 65th byte, or one that fits
-  pub overlong : name_goes_on (drop at t) ≡ true → max_name ≤ at - from → Scanned.Wrong first ≡ scan t
+  pub overlong : name_goes_on (drop at t) ≡ true → max_name ≤ at - from → Err (ScanFault.Wrong first) ≡ scan t
   overlong g h = long t first from level at x (name-word (drop at t) g) h
 
   pub goes : name_goes_on (drop at t) ≡ true → at - from < max_name → InName t first from level (at + 1)
   goes g h = more t first from level at x (name-word (drop at t) g) h (name-not-bare (drop at t) g)
 
   -- where it goes on no more: a dot with no part after it spoils the run, or the run is over and is a name
-  pub no-part-behind : name_goes_on (drop at t) ≡ false → bare_dot (drop at t) ≡ true → Scanned.Wrong first ≡ scan t
+  pub no-part-behind : name_goes_on (drop at t) ≡ false → bare_dot (drop at t) ≡ true → Err (ScanFault.Wrong first) ≡ scan t
   no-part-behind g e = bare-here t first from level at x (name-over (drop at t) g ∙ e) e
 
   pub leaves : name_goes_on (drop at t) ≡ false → bare_dot (drop at t) ≡ false → scan_from t (drop at t) (going between level) at ≡ scan t
@@ -267,7 +268,7 @@ module _ (t : List ℕ) (at level : ℕ) (h : at < length t) (i : scan_from t (d
   first-dot = ap bare_dot (bytes-there t at h)
 
   -- a dot in front with no part after it
-  pub bare-first : bare_dot (drop at t) ≡ true → Scanned.Wrong at ≡ scan t
+  pub bare-first : bare_dot (drop at t) ≡ true → Err (ScanFault.Wrong at) ≡ scan t
   bare-first e =
       let p = bare (is_dot (class_of (get_or t at 0))) (part_starts (drop (at + 1) t)) (sym first-dot ∙ e) in
       sym

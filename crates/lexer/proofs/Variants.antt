@@ -8,7 +8,9 @@ use lib.Dec.{T}
 use lib.ListN.{get_or}
 use types.Run.{OneOf, miss}
 use mir.Val.{has_key}
+use denote.Enum.Bare.{sameb}
 use denote.Enum.Declared.{tag_of}
+use Rattle.lexer.specs.Class.{ends_comment}
 use Rattle.lexer.specs.declared.ByteClass.{ByteClass}
 use Rattle.lexer.specs.declared.ByteClass.TheVariants.{Blank, LineFeed, Comment, Open, Close, Letter, Digit, Dot, Wrong}
 use Rattle.lexer.specs.contracts.ByteClass.{the_type}
@@ -28,6 +30,10 @@ by-class {A} f g e Letter = ap (λ (l : List A). get_or l 5 (f Blank)) e
 by-class {A} f g e Digit = ap (λ (l : List A). get_or l 6 (f Blank)) e
 by-class {A} f g e Dot = ap (λ (l : List A). get_or l 7 (f Blank)) e
 by-class {A} f g e Wrong = ap (λ (l : List A). get_or l 8 (f Blank)) e
+
+-- a comment ends with a line feed and nothing else
+pub same-as-line-feed : (k : ByteClass) → sameb the_type k LineFeed ≡ ends_comment k
+same-as-line-feed = by-class (λ k. sameb the_type k LineFeed) ends_comment refl
 
 -- the place of a class among the variants, as the check has it
 abbrev pub tag : ByteClass → ℕ

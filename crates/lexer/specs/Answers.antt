@@ -1,5 +1,5 @@
 -- What the answers of the lexer's own functions say of a text. Assumes nothing.
-use Rattle.std.specs.Prelude.{ℕ, ◌+◌, ◌<◌, ◌≡◌, Bool, true, false, not, ◌||◌, ◌&&◌, cond, List, [], ◌∷◌, get_or, drop}
+use Rattle.std.specs.Prelude.{ℕ, ◌+◌, Bool, true, false, not, ◌||◌, ◌&&◌, cond, List, [], ◌∷◌, drop}
 use Prim.Native.Char.{code}
 use Rattle.lexer.specs.Class.{class_of, starts, goes_on, is_dot, in_word, ends_comment}
 use Rattle.lexer.specs.Scan.{between, in_comment, in_name, State, going, stopped}
@@ -7,7 +7,7 @@ use Rattle.lexer.specs.declared.ByteClass.{ByteClass}
 use Rattle.lexer.specs.declared.ByteClass.TheVariants.{Blank, LineFeed, Comment, Open, Close, Letter, Digit, Dot, Wrong}
 use Rattle.lexer.specs.declared.Step.{Step}
 
--- the mark of a class in the table: a capital where names are made of it, the last of them for the dot
+-- "One table of 256 entries says what each byte is": the mark of a class in the table: a capital where names are made of it, the last of them for the dot
 abbrev pub mark_of : ByteClass → ℕ
 mark_of Blank = code "b"
 mark_of LineFeed = code "n"
@@ -18,10 +18,6 @@ mark_of Letter = code "L"
 mark_of Digit = code "D"
 mark_of Dot = code "P"
 mark_of Wrong = code "w"
-
--- "One table of 256 entries says what each byte is": a table that has the mark of each byte's class
-pub record Classes (table : List ℕ) : Type 0 where
-  pub mark : (b : ℕ) → b < 256 → get_or table b 0 ≡ mark_of (class_of b)
 
 -- a word goes on with the first of the bytes, if there is one
 abbrev pub word_goes_on : List ℕ → Bool

@@ -1,10 +1,10 @@
 -- Document 01, "Reading the text" and "Refusal numbers" 1 and 2, and W-203: the scan of a text, as a state that goes over its bytes.
 -- Assumes nothing.
-use Rattle.std.specs.Prelude.{ℕ, ◌+◌, ◌-◌, cond, List, [], ◌∷◌, eqb, ltb, length, take, drop}
+use Rattle.lexer.specs.declared.ScanFault.{ScanFault}
+use Rattle.std.specs.Prelude.{ℕ, ◌+◌, ◌-◌, cond, List, [], ◌∷◌, eqb, ltb, length, take, drop, Ok, Err, Result}
 use Rattle.lexer.specs.Class.{class_of, in_word, ends_comment, is_name}
 use Rattle.lexer.specs.declared.ByteClass.{ByteClass}
 use Rattle.lexer.specs.declared.ByteClass.TheVariants.{Blank, LineFeed, Comment, Open, Close, Letter, Digit, Dot, Wrong}
-use Rattle.lexer.specs.declared.Scanned.{Scanned}
 
 -- "Text 65,535 bytes."
 abbrev pub max_text : ℕ
@@ -58,25 +58,32 @@ step text between level at k = step_between level at k
 step text in_comment level at k = going (comment_then k) level
 step text (in_name first len) level at k = step_name text first len level at k
 
+-- what the scan says of a text: nothing, or fault 1, or fault 2 at a place
+abbrev pub Scanned : Type 0
+Scanned = Result (Unit {0}) ScanFault
+
+abbrev pub no_fault : Scanned
+no_fault = Ok tt
+
 -- the end of the text: "unclosed at end": "text length if unclosed"
 abbrev pub closed_at : ℕ → ℕ → Scanned
-closed_at level at = cond (eqb level 0) Scanned.Clean (Scanned.Wrong at)
+closed_at level at = cond (eqb level 0) no_fault (Err (ScanFault.Wrong at))
 
 abbrev pub end_of : List ℕ → Mode → ℕ → ℕ → Scanned
 end_of text between level at = closed_at level at
 end_of text in_comment level at = closed_at level at
-end_of text (in_name first len) level at = if_name text first len (closed_at level at) (Scanned.Wrong first)
+end_of text (in_name first len) level at = if_name text first len (closed_at level at) (Err (ScanFault.Wrong first))
 
 -- "2, where the scan stops at the first byte that is wrong (lowest place)": the bytes that are left of a text
 unfoldable pub scan_from : List ℕ → List ℕ → State → ℕ → Scanned
-scan_from text [] (stopped place) at = Scanned.Wrong place
+scan_from text [] (stopped place) at = Err (ScanFault.Wrong place)
 scan_from text [] (going mode level) at = end_of text mode level at
-scan_from text (b ∷ bs) (stopped place) at = Scanned.Wrong place
+scan_from text (b ∷ bs) (stopped place) at = Err (ScanFault.Wrong place)
 scan_from text (b ∷ bs) (going mode level) at = scan_from text bs (step text mode level at (class_of b)) (at + 1)
 
 -- "Order: 1; then 2": a text that is too long is fault 1, whatever else is wrong in it
 unfoldable pub scan : List ℕ → Scanned
-scan text = cond (ltb max_text (length text)) Scanned.TooLong (scan_from text text (going between 0) 0)
+scan text = cond (ltb max_text (length text)) (Err ScanFault.TooLong) (scan_from text text (going between 0) 0)
 
 -- what document 01 says of a text: no fault, or a refusal by its number and place
 pub data Verdict : Type 0 where
@@ -85,6 +92,6 @@ pub data Verdict : Type 0 where
 
 -- "1 | text too long | 65,535"; "2 | .. | the byte; first byte of the name; text length if unclosed"
 abbrev pub verdict_of : Scanned → Verdict
-verdict_of Scanned.Clean = clean
-verdict_of Scanned.TooLong = refused 1 max_text
-verdict_of (Scanned.Wrong place) = refused 2 place
+verdict_of (Ok _) = clean
+verdict_of (Err ScanFault.TooLong) = refused 1 max_text
+verdict_of (Err (ScanFault.Wrong place)) = refused 2 place

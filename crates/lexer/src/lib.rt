@@ -2,11 +2,11 @@
 #![tactic(auto)]
 
 ghost use Rattle.std.specs.Prelude.{◌≡◌, ℕ, ◌≤◌, length, drop};
-ghost use Rattle.lexer.specs.Class.{class_of, starts, goes_on, is_dot, ends_comment};
+ghost use Rattle.lexer.specs.Class.{class_of, starts, goes_on, is_dot};
 ghost use Rattle.lexer.specs.Scan as spec;
 ghost use Rattle.lexer.specs.Scan.{max_text, step_between, closed_at};
 ghost use Rattle.lexer.specs.Token.{token_at};
-ghost use Rattle.lexer.specs.Answers.{mark_of, Classes, word_goes_on, part_starts, bare_dot, name_goes_on, counted_from, comment_end, word_end, state_of};
+ghost use Rattle.lexer.specs.Answers.{mark_of, word_goes_on, part_starts, bare_dot, name_goes_on, counted_from, comment_end, word_end, state_of};
 
 // A text: how many bytes it may have.
 #[derive(Clone, Copy)]
@@ -36,7 +36,7 @@ impl Level {
 
 // What a byte is. A line feed is a blank that also ends a comment. A dot is between the parts of a name or in front
 // of it.
-#[derive(Clone, Copy)]
+#[derive(Clone, Copy, PartialEq, Eq)]
 pub enum ByteClass {
     Blank,
     LineFeed,
@@ -49,10 +49,9 @@ pub enum ByteClass {
     Wrong,
 }
 
-// What the scan says of a text: no fault, fault 1, or fault 2 at a place.
-#[derive(Clone, Copy)]
-pub enum Scanned {
-    Clean,
+// What the scan finds in a text: that it is too long, fault 1, or fault 2 at a place.
+#[derive(Clone, Copy, PartialEq, Eq)]
+pub enum ScanFault {
     TooLong,
     Wrong(usize),
 }
@@ -66,7 +65,8 @@ pub enum Token {
     End,
 }
 
-// What a byte between names does: it leads to a level, starts a comment or a name, or is a fault.
+// What a byte between names does: it leads to a level, starts a comment or a name, or is a fault. (As a Result it would
+// be no plainer: three of the four go on, each in its own way.)
 #[derive(Clone, Copy)]
 enum Step {
     Level(usize),
@@ -77,7 +77,7 @@ enum Step {
 
 // The class of each byte, 32 bytes to a line: b blank, n line feed, s start of a comment, o open, c close, w wrong,
 // and as capitals those that names are made of: L letter, D digit, P dot.
-const CLASSES: [u8; 256] = *b"\
+static CLASSES: [u8; 256] = *b"\
     wwwwwwwwwbnwwbwwwwwwwwwwwwwwwwww\
     bwwwwwwwocwwwDPwDDDDDDDDDDwswwww\
     wLLLLLLLLLLLLLLLLLLLLLLLLLLwwwwL\
@@ -87,28 +87,18 @@ const CLASSES: [u8; 256] = *b"\
     wwwwwwwwwwwwwwwwwwwwwwwwwwwwwwww\
     wwwwwwwwwwwwwwwwwwwwwwwwwwwwwwww";
 
-// The table, for callers that judge many bytes: they bind it once and lend it.
-pub fn class_table() -> [u8; 256]
-    ensures { Classes result }
-{
-    CLASSES
-}
-
-// The mark of a byte's class, by the table that is lent.
-fn mark_in(classes: &[u8; 256], b: u8) -> u8
-    requires { Classes classes.now }
+// The mark of a byte's class.
+fn mark(b: u8) -> u8
     ensures { result ≡ mark_of (class_of b) }
 {
-    classes[b as usize]
+    CLASSES[b as usize]
 }
 
-// What a byte is, by the table that is lent.
-fn class_in(classes: &[u8; 256], b: u8) -> ByteClass
-    requires { Classes classes.now }
+// What a byte is.
+fn class_of(b: u8) -> ByteClass
     ensures { result ≡ class_of b }
 {
-    let mark = mark_in(classes, b);
-    match mark {
+    match mark(b) {
         b'b' => ByteClass::Blank,
         b'n' => ByteClass::LineFeed,
         b's' => ByteClass::Comment,
@@ -121,24 +111,13 @@ fn class_in(classes: &[u8; 256], b: u8) -> ByteClass
     }
 }
 
-// Whether a byte of the class ends a comment.
-fn ends_comment(class: ByteClass) -> bool
-    ensures { result ≡ ends_comment class }
-{
-    match class {
-        ByteClass::LineFeed => true,
-        _ => false,
-    }
-}
-
 // Where the comment ends that is under way at a place: at its line feed, or with the text.
-fn comment_end(classes: &[u8; 256], text: &[u8], at: usize) -> usize
-    requires { Classes classes.now }
+fn comment_end(text: &[u8], at: usize) -> usize
     ensures { result ≡ comment_end text.now at }
 {
     let mut i = at;
     while i < text.len() {
-        if ends_comment(class_in(classes, text[i])) {
+        if class_of(text[i]) == ByteClass::LineFeed {
             return i;
         }
         i += 1;
@@ -146,105 +125,96 @@ fn comment_end(classes: &[u8; 256], text: &[u8], at: usize) -> usize
     i
 }
 
-// Whether a part of a name starts with the byte, by the table that is lent.
-pub fn starts_part(classes: &[u8; 256], b: u8) -> bool
-    requires { Classes classes.now }
+// Whether a part of a name starts with the byte.
+pub fn starts_part(b: u8) -> bool
     ensures { result ≡ starts (class_of b) }
 {
-    mark_in(classes, b) == b'L'
+    mark(b) == b'L'
 }
 
-// Whether a part of a name goes on with the byte, by the table that is lent: its mark is a capital before that of the
+// Whether a part of a name goes on with the byte: its mark is a capital before that of the
 // dot.
-pub fn is_in_part(classes: &[u8; 256], b: u8) -> bool
-    requires { Classes classes.now }
+pub fn is_in_part(b: u8) -> bool
     ensures { result ≡ goes_on (class_of b) }
 {
-    mark_in(classes, b) < b'P'
+    mark(b) < b'P'
 }
 
-// Whether the byte is a dot, by the table that is lent.
-pub fn is_dot(classes: &[u8; 256], b: u8) -> bool
-    requires { Classes classes.now }
+// Whether the byte is a dot.
+pub fn is_dot(b: u8) -> bool
     ensures { result ≡ is_dot (class_of b) }
 {
-    mark_in(classes, b) == b'P'
+    mark(b) == b'P'
 }
 
 // Whether there is a byte at a place with which a word goes on, a dot too: its mark is a capital.
-fn word_goes_on(classes: &[u8; 256], text: &[u8], at: usize) -> bool
-    requires { Classes classes.now }
+fn word_goes_on(text: &[u8], at: usize) -> bool
     ensures { result ≡ word_goes_on (drop at text.now) }
 {
     if text.len() <= at {
         return false;
     }
-    mark_in(classes, text[at]) < b'a'
+    mark(text[at]) < b'a'
 }
 
 // Where the word ends that is under way at a place: at the first byte that does not go on a word, or with the text.
-fn word_end(classes: &[u8; 256], text: &[u8], at: usize) -> usize
-    requires { Classes classes.now }
+fn word_end(text: &[u8], at: usize) -> usize
     ensures { result ≡ word_end text.now at }
 {
     let mut i = at;
-    while word_goes_on(classes, text, i) {
+    while word_goes_on(text, i) {
         i += 1;
     }
     i
 }
 
 // Whether a part of a name starts at a place.
-fn part_starts(classes: &[u8; 256], text: &[u8], at: usize) -> bool
-    requires { Classes classes.now }
+fn part_starts(text: &[u8], at: usize) -> bool
     ensures { result ≡ part_starts (drop at text.now) }
 {
     if text.len() <= at {
         return false;
     }
-    starts_part(classes, text[at])
+    starts_part(text[at])
 }
 
 // Whether there is a dot at a place with no part after it.
-fn bare_dot(classes: &[u8; 256], text: &[u8], at: usize) -> bool
-    requires { Classes classes.now }
+fn bare_dot(text: &[u8], at: usize) -> bool
     ensures { result ≡ bare_dot (drop at text.now) }
 {
     if text.len() <= at {
         return false;
     }
-    if is_dot(classes, text[at]) {
-        return !part_starts(classes, text, at + 1);
+    if is_dot(text[at]) {
+        return !part_starts(text, at + 1);
     }
     false
 }
 
 // Whether a name goes on at a place: with a byte of the part that is under way, or with a dot and a part after it.
-fn name_goes_on(classes: &[u8; 256], text: &[u8], at: usize) -> bool
-    requires { Classes classes.now }
+fn name_goes_on(text: &[u8], at: usize) -> bool
     ensures { result ≡ name_goes_on (drop at text.now) }
 {
     if text.len() <= at {
         return false;
     }
-    if is_in_part(classes, text[at]) {
+    if is_in_part(text[at]) {
         return true;
     }
-    if is_dot(classes, text[at]) {
-        return part_starts(classes, text, at + 1);
+    if is_dot(text[at]) {
+        return part_starts(text, at + 1);
     }
     false
 }
 
 // The place from which the bytes of the name at a place are counted: after a dot in front.
-fn counted_from(classes: &[u8; 256], text: &[u8], at: usize) -> usize
-    requires { Classes classes.now }
+fn counted_from(text: &[u8], at: usize) -> usize
     ensures { result ≡ counted_from (drop at text.now) at }
 {
     if text.len() <= at {
         return at;
     }
-    if is_dot(classes, text[at]) {
+    if is_dot(text[at]) {
         return at + 1;
     }
     at
@@ -288,18 +258,18 @@ fn step_between(level: usize, class: ByteClass) -> Step
 }
 
 // What the scan says where the text ends with so many parentheses open.
-fn closed_at(level: usize, at: usize) -> Scanned
+fn closed_at(level: usize, at: usize) -> Result<(), ScanFault>
     ensures { result ≡ closed_at level at }
 {
     if level == 0 {
-        return Scanned::Clean;
+        return Ok(());
     }
-    Scanned::Wrong(at)
+    Err(ScanFault::Wrong(at))
 }
 
-// Fault 2 of a text that is not too long, by the table that is lent.
-fn scan_in(classes: &[u8; 256], text: &[u8]) -> Scanned
-    requires { Classes classes.now × (length text.now ≤ max_text) }
+// Fault 2 of a text that is not too long.
+fn scan_bytes(text: &[u8]) -> Result<(), ScanFault>
+    requires { length text.now ≤ max_text }
     ensures { result ≡ spec.scan text.now }
 {
     let mut at: usize = 0;
@@ -308,62 +278,60 @@ fn scan_in(classes: &[u8; 256], text: &[u8]) -> Scanned
         if text.len() <= at {
             return closed_at(level, at);
         }
-        let step = step_between(level, class_in(classes, text[at]));
+        let step = step_between(level, class_of(text[at]));
         match step {
             Step::Level(next) => {
                 level = next;
                 at += 1;
             }
-            Step::Comment => at = comment_end(classes, text, at + 1),
+            Step::Comment => at = comment_end(text, at + 1),
             Step::Name => {
                 let start = at;
-                let limit = counted_from(classes, text, start) + Name::MAX;
-                if bare_dot(classes, text, start) {
+                let limit = counted_from(text, start) + Name::MAX;
+                if bare_dot(text, start) {
                     break 'text start; // a dot in front that no part follows
                 }
                 at += 1;
-                while name_goes_on(classes, text, at) {
+                while name_goes_on(text, at) {
                     if limit <= at {
                         break 'text start; // the 65th byte
                     }
                     at += 1;
                 }
-                if bare_dot(classes, text, at) {
+                if bare_dot(text, at) {
                     break 'text start; // any other dot that no part follows
                 }
             }
             Step::Fault => break 'text at,
         }
     };
-    Scanned::Wrong(place)
+    Err(ScanFault::Wrong(place))
 }
 
 // Faults 1 and 2 of a text: none, or the first.
-pub fn scan(text: &[u8]) -> Scanned
+pub fn scan(text: &[u8]) -> Result<(), ScanFault>
     ensures { result ≡ spec.scan text.now }
 {
     if Text::MAX < text.len() {
-        return Scanned::TooLong;
+        return Err(ScanFault::TooLong);
     }
-    let classes = class_table();
-    scan_in(&classes, text)
+    scan_bytes(text)
 }
 
-// The first token at or after a place, by the table that is lent.
-fn next_in(classes: &[u8; 256], text: &[u8], at: usize) -> Token
-    requires { Classes classes.now }
+// The first token at or after a place.
+pub fn next(text: &[u8], at: usize) -> Token
     ensures { result ≡ token_at text.now at }
 {
     let mut i = at;
     while i < text.len() {
-        let class = class_in(classes, text[i]);
+        let class = class_of(text[i]);
         match class {
             ByteClass::Blank | ByteClass::LineFeed | ByteClass::Wrong => i += 1,
-            ByteClass::Comment => i = comment_end(classes, text, i + 1),
+            ByteClass::Comment => i = comment_end(text, i + 1),
             ByteClass::Open => return Token::Open(i),
             ByteClass::Close => return Token::Close(i),
             ByteClass::Letter | ByteClass::Digit | ByteClass::Dot => {
-                let end = word_end(classes, text, i + 1);
+                let end = word_end(text, i + 1);
                 return Token::Word {
                     start: i,
                     len: end - i,
@@ -372,12 +340,4 @@ fn next_in(classes: &[u8; 256], text: &[u8], at: usize) -> Token
         }
     }
     Token::End
-}
-
-// The first token at or after a place.
-pub fn next(text: &[u8], at: usize) -> Token
-    ensures { result ≡ token_at text.now at }
-{
-    let classes = class_table();
-    next_in(&classes, text, at)
 }

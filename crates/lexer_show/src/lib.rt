@@ -1,18 +1,14 @@
 // The line that a program writes of a scan: `clean`, or the refusal with its number, place and line.
 #![tactic(auto)]
 
-use lexer::{Scanned, Text};
-use policy::Refusal;
+use lexer::{ScanFault, Text};
+use policy::{Fault, Refusal};
 use std::io;
 use std::io::Write;
 
-fn refused<W: Write>(out: &mut W, text: &[u8], number: usize, place: usize) -> io::Result<()> {
+fn refused<W: Write>(out: &mut W, text: &[u8], fault: Fault, place: usize) -> io::Result<()> {
     let line = lines::line_of(text, place);
-    let refusal = Refusal {
-        number,
-        place,
-        line,
-    };
+    let refusal = Refusal { fault, place, line };
     answer_show::show_refusal(out, refusal)
 }
 
@@ -20,8 +16,8 @@ fn refused<W: Write>(out: &mut W, text: &[u8], number: usize, place: usize) -> i
 pub fn show<W: Write>(out: &mut W, text: &[u8]) -> io::Result<()> {
     let found = lexer::scan(text);
     match found {
-        Scanned::Clean => out.write_all(b"clean\n"),
-        Scanned::TooLong => refused(out, text, 1, Text::MAX),
-        Scanned::Wrong(place) => refused(out, text, 2, place),
+        Ok(()) => out.write_all(b"clean\n"),
+        Err(ScanFault::TooLong) => refused(out, text, Fault::TextTooLong, Text::MAX),
+        Err(ScanFault::Wrong(place)) => refused(out, text, Fault::WrongByte, place),
     }
 }

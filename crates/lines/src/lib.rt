@@ -15,14 +15,6 @@ pub fn line_of(text: &[u8], place: usize) -> usize
     if Text::MAX < place {
         return 0;
     }
-    let end = byte_slices::least(place, text.len());
-    let mut line: usize = 1;
-    let mut i = 0;
-    while i < end {
-        if text[i] == LINE_FEED {
-            line += 1;
-        }
-        i += 1;
-    }
-    line
+    let before = byte_slices::part(text, 0, place);
+    1 + before.iter().filter(|b| **b == LINE_FEED).count()
 }

@@ -1,5 +1,7 @@
 // Numbers in bytes, lowest byte first. Each width is read and put as two of half its width. There is no loop over the
-// width: bytes that are read or put one after the other, with no test between them, become one load or store.
+// width: bytes that are read or put one after the other, with no test between them, become one load or store. The
+// `from_le_bytes` and `to_le_bytes` of std would be no plainer: they are for arrays, which would have to be made of the
+// bytes first.
 #![tactic(auto)]
 
 ghost use Rattle.std.specs.Prelude.{◌≡◌, ◌+◌, ◌^◌, ◌≤◌, ◌<◌, length, take, drop};
@@ -27,7 +29,7 @@ pub fn get2(bytes: &[u8], at: usize) -> usize
     requires { at + 2 ≤ length bytes.now }
     ensures { (result ≡ unle (take 2 (drop at bytes.now))) × (result < 65536) }
 {
-    wide(bytes[at]) + ONE_ON * wide(bytes[at + 1])
+    usize::from(bytes[at]) + ONE_ON * usize::from(bytes[at + 1])
 }
 
 pub fn get4(bytes: &[u8], at: usize) -> usize
@@ -49,11 +51,9 @@ pub fn number(bytes: &[u8]) -> usize
     requires { length bytes.now ≤ 8 }
     ensures { (result ≡ unle bytes.now) × (result < 256 ^ length bytes.now) }
 {
-    let mut left = bytes.len();
     let mut n: usize = 0;
-    while 0 < left {
-        left -= 1;
-        n = ONE_ON * n + wide(bytes[left]);
+    for byte in bytes.iter().rev() {
+        n = ONE_ON * n + usize::from(*byte);
     }
     n
 }

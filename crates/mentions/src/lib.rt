@@ -15,7 +15,7 @@ ghost use Rattle.code_reader.specs.Reading.{operands_of, found_of};
 ghost use Rattle.code_reader.specs.AttributeSets.{added};
 ghost use Rattle.mentions.specs.Closure.{column_of, through_of, closed_of};
 
-use code_reader::{FAMILY_BYTES, Found};
+use code_reader::FAMILY_BYTES;
 use policy::{Attribute, Family, Type};
 use statement_code::Unit;
 
@@ -25,16 +25,14 @@ fn mentioned(code: &[u16], from: usize, out: &mut [u8; Type::SET_BYTES])
     ensures { out.new ≡ set_of 64 (λ b. is_among (1024 + b) (operands_of (drop from code.now))) }
 {
     bitset::clear(out);
-    let mut at = from;
-    while at < code.len() {
-        let operand = code[at];
-        if Unit::DECLARE_ATTRIBUTE <= operand {
+    let ahead = code_reader::rest(code, from);
+    for operand in ahead {
+        if Unit::DECLARE_ATTRIBUTE <= *operand {
             return;
         }
-        if Unit::ATTRIBUTE <= operand {
-            bitset::insert(out, (operand - Unit::ATTRIBUTE) as usize);
+        if Unit::ATTRIBUTE <= *operand {
+            bitset::insert(out, (*operand - Unit::ATTRIBUTE) as usize);
         }
-        at += 1;
     }
 }
 
@@ -69,12 +67,10 @@ fn attributes_mentioning(rows: &[u8; FAMILY_BYTES], k: usize, out: &mut [u8; Typ
     ensures { out.new ≡ column_of rows.now k }
 {
     bitset::clear(out);
-    let mut a = 0;
-    while a < Attribute::MAX {
+    for a in 0..Attribute::MAX {
         if set_rows::contains_at(rows, Type::SET_BYTES * a, Type::SET_BYTES, k) {
             bitset::insert(out, a);
         }
-        a += 1;
     }
 }
 
@@ -105,10 +101,8 @@ fn close_through(rows: &mut [u8; FAMILY_BYTES], k: usize)
 fn close(rows: &mut [u8; FAMILY_BYTES])
     ensures { rows.new ≡ closed_of 64 rows.old }
 {
-    let mut k = 0;
-    while k < Attribute::MAX {
+    for k in 0..Attribute::MAX {
         close_through(rows, k);
-        k += 1;
     }
 }
 
@@ -116,28 +110,23 @@ fn close(rows: &mut [u8; FAMILY_BYTES])
 fn mentions_itself(rows: &[u8; FAMILY_BYTES], a: usize) -> bool
     ensures { result ≡ (ltb a 64 && sets_in rows.now a a) }
 {
-    if Attribute::MAX <= a {
-        return false;
-    }
-    set_rows::contains_at(rows, Type::SET_BYTES * a, Type::SET_BYTES, a)
+    a < Attribute::MAX && set_rows::contains_at(rows, Type::SET_BYTES * a, Type::SET_BYTES, a)
 }
 
 // Whether no attribute is in its own row.
 fn is_acyclic(rows: &[u8; FAMILY_BYTES]) -> bool
     ensures { result ≡ all_below 64 (λ a. not (sets_in rows.now a a)) }
 {
-    let mut a = 0;
-    while a < Attribute::MAX {
+    for a in 0..Attribute::MAX {
         if mentions_itself(rows, a) {
             return false;
         }
-        a += 1;
     }
     true
 }
 
 // The declaration of the first attribute of a family that is in its own row.
-fn first_cycle(code: &[u16], family: Family, rows: &[u8; FAMILY_BYTES]) -> Found
+fn first_cycle(code: &[u16], family: Family, rows: &[u8; FAMILY_BYTES]) -> Option<usize>
     ensures { (p : Policy) → Accepted p → code.now ≡ code_of p
         → ((a : ℕ) → (ltb a 64 && sets_in rows.now a a) ≡ faults.on_cycle p (family_of family) a)
         → found_of result ≡ faults.family_cycle p (family_of family) }
@@ -149,25 +138,25 @@ fn first_cycle(code: &[u16], family: Family, rows: &[u8; FAMILY_BYTES]) -> Found
         let next = code_reader::next_statement(code, at);
         if code[at] == tag {
             if mentions_itself(rows, a) {
-                return Found::At(code_reader::unit(code, at, 1) as usize);
+                return Some(code_reader::unit(code, at, 1) as usize);
             }
             a += 1;
         }
         at = next;
     }
-    Found::Nowhere
+    None
 }
 
 // The declaration of the first attribute of a family whose sets mention it, directly or through others. Each row has
 // what an attribute mentions directly, and gains what it mentions through others.
-pub fn family_cycle(code: &[u16], family: Family, rows: &mut [u8; FAMILY_BYTES]) -> Found
+pub fn family_cycle(code: &[u16], family: Family, rows: &mut [u8; FAMILY_BYTES]) -> Option<usize>
     ensures { (rows.new ≡ closed_of 64 rows.old)
         × ((p : Policy) → Accepted p → code.now ≡ code_of p → rows.old ≡ relation 64 64 (λ a b. is_among b (faults.mentions p (family_of family) a))
         → found_of result ≡ faults.family_cycle p (family_of family)) }
 {
     close(rows);
     if is_acyclic(rows) {
-        return Found::Nowhere;
+        return None;
     }
     first_cycle(code, family, rows)
 }

@@ -13,9 +13,9 @@ use Rattle.policy.specs.Encode.{NameEntry, name_entry}
 use Rattle.policy.proofs.Lists.{same-is}
 use Rattle.policy.proofs.AsNumbers.{Small, alike}
 use Rattle.symbols.specs.Section.{entries_at, between, EntryIs}
-use Rattle.symbols.specs.Lookup.{family_number, first_named}
+use Rattle.symbols.specs.Lookup.{family_number, first_named, found_at}
 use Rattle.symbols.specs.declared.Entry.{Entry}
-use Rattle.symbols.specs.declared.Found.{Found}
+use Rattle.std.specs.Prelude.{None}
 use Rattle.byte_slices.proofs.PartLaws.{part-whole}
 use Rattle.name_chains.specs.Compared.{is_candidate, compared_in, TriedIn}
 use Rattle.name_chains.specs.Chains.{how_many, Nth, Chained, ChainIs, HasChain, Tries, Compares}
@@ -24,7 +24,7 @@ use Rattle.name_chains.specs.declared.Tried.{Tried}
 use Rattle.name_index.specs.declared.Chain.{Chain}
 use Rattle.name_index.specs.declared.Link.{Link}
 use Rattle.name_chains.proofs.CandidateLaws.{candidate-is, candidate-self}
-use Rattle.name_chains.proofs.TryLaws.{Going, starts, is-hit, goes_on, this-first, this-compared}
+use Rattle.name_chains.proofs.TryLaws.{past_first, past-compared, Going, starts, is-hit, goes_on, this-first, this-compared}
 
 -- ---- comparing
 
@@ -123,7 +123,7 @@ module _ {t : List ℕ} {f : ℕ} {w : Name} where
     read : (end : ℕ) (es : List NameEntry) (h : Chained t end es) → link ≡ link_in (word_in t (2 * ((g end es h).here some).k + 1))
     read end es h = i ∙ ap (λ (a : ℕ). link_in (word_in t (a + 1))) ((g end es h).here some).word
 
-    pub hit-tries : q ≡ true → Tries t f w (record { found = Found.At link.sort link.number; compared = compared + 1 })
+    pub hit-tries : q ≡ true → Tries t f w (record { found = found_at link.sort link.number; compared = compared + 1 })
     hit-tries z = record {
       tries = λ end es h.
           let x = (g end es h).here some in
@@ -139,9 +139,9 @@ module _ {t : List ℕ} {f : ℕ} {w : Name} where
         goes_on x (sym (told end es h) ∙ z) link.next
         (λ m. ap (λ (a : Link). a.next) (read end es h) ∙ h.links x.k x.entry x.nth f (length w) x.like m)
 
-  pub chain-ends : {count at compared : ℕ} → count ≤ compared → Walks t f w count at compared
-      → Tries t f w (record { found = Found.Missing; compared = compared })
-  chain-ends z g = record { tries = λ end es h. let d = (g end es h).done z in record { finds = d.0; counts = d.1 } }
+  pub chain-ends : {count at compared : ℕ} → compared ≡ count → Walks t f w count at compared
+      → Tries t f w (record { found = None; compared = count })
+  chain-ends z g = record { tries = λ end es h. let d = (g end es h).done (omega arith) in record { finds = d.0; counts = sym z ∙ d.1 } }
 
 -- by another name for the name
 pub tries-as : {t : List ℕ} {f : ℕ} {v w : Name} {r : Tried} → v ≡ w → Tries t f v r → Tries t f w r
@@ -153,11 +153,13 @@ name-long : {t : List ℕ} {at end s n past : ℕ} → EntryIs t at end (Entry.N
 name-long {t} {at} {end} {s} {n} {past} h = length-part-min t (at + 4) (past - (at + 4)) ∙ omega (arith, h.within)
 
 module _ {t : List ℕ} {at end s n past : ℕ} (h : EntryIs t at end (Entry.Named s n past)) (f : ℕ) (w : Name) where
-  pub other_length : (past - (at + 4) ≡ length w → ⊥) → is_candidate f (length w) (name_entry s n (between t (at + 4) past)) ≡ false
-  other_length d = not-like f (length w) (name_entry s n (between t (at + 4) past)) (λ a b. d (sym (name-long h) ∙ b))
-
-  pub other-family : {g : ℕ} → g ≡ family_number s n → (g ≡ f → ⊥) → is_candidate f (length w) (name_entry s n (between t (at + 4) past)) ≡ false
-  other-family e d = not-like f (length w) (name_entry s n (between t (at + 4) past)) (λ a b. d (e ∙ a))
+  -- an entry of another length or family is passed over
+  pub passed-over : (past - (at + 4) ≡ length w → family_number s n ≡ f → ⊥)
+      → (first_named f w (entries_at t past end) ≡ first_named f w (entries_at t at end))
+      × (compared_in f w (entries_at t past end) ≡ compared_in f w (entries_at t at end))
+  passed-over d =
+      let q = not-like f (length w) (name_entry s n (between t (at + 4) past)) (λ a b. d (sym (name-long h) ∙ b) a) in
+      (past_first h f w q, past-compared h f w q)
 
   module _ {g : ℕ} (e : g ≡ family_number s n) (i : g ≡ f) (l : past - (at + 4) ≡ length w) {r : Bool}
       (q : r ≡ same (part w 0 (length w)) (part t (at + 4) (length w))) where
@@ -169,11 +171,11 @@ module _ {t : List ℕ} {at end s n past : ℕ} (h : EntryIs t at end (Entry.Nam
 
     pub is-this : (start c : ℕ) → r ≡ true → first_named f w (entries_at t at end) ≡ first_named f w (entries_at t start end)
         → c + compared_in f w (entries_at t at end) ≡ compared_in f w (entries_at t start end)
-        → TriedIn f w (entries_at t start end) (record { found = Found.At s n; compared = c + 1 })
+        → TriedIn f w (entries_at t start end) (record { found = found_at s n; compared = c + 1 })
     is-this start c z a b =
         let yes-same = sym compared-as ∙ z in
         let one : compared_in f w (entries_at t at end) ≡ 1 = this-compared h f w like ∙ rw yes-same in
-        let this : first_named f w (entries_at t at end) ≡ Found.At s n = this-first h f w like ∙ rw yes-same in
+        let this : first_named f w (entries_at t at end) ≡ found_at s n = this-first h f w like ∙ rw yes-same in
         record { finds = sym this ∙ a; counts = sym (ap (λ (k : ℕ). c + k) one) ∙ b }
 
     pub not-this : r ≡ false → (first_named f w (entries_at t past end) ≡ first_named f w (entries_at t at end))
@@ -183,9 +185,9 @@ module _ {t : List ℕ} {at end s n past : ℕ} (h : EntryIs t at end (Entry.Nam
         (sym (this-first h f w like ∙ rw no_same), sym (this-compared h f w like ∙ rw no_same))
 
 pub section-ends : (f : ℕ) (w : Name) (es all : List NameEntry) (c : ℕ) → es ≡ [] → first_named f w es ≡ first_named f w all
-    → c + compared_in f w es ≡ compared_in f w all → TriedIn f w all (record { found = Found.Missing; compared = c })
+    → c + compared_in f w es ≡ compared_in f w all → TriedIn f w all (record { found = None; compared = c })
 unfolding first_named compared_in
 section-ends f w es all c e a b =
     let none : compared_in f w es ≡ 0 = ap (compared_in f w) e in
-    let missing : first_named f w es ≡ Found.Missing = ap (first_named f w) e in
+    let missing : first_named f w es ≡ None = ap (first_named f w) e in
     record { finds = sym missing ∙ a; counts = omega (arith, none, b) }

@@ -11,9 +11,9 @@ use lib.Seq.{drop-drop}
 use Rattle.policy.specs.Basics.{Name, same}
 use Rattle.policy.specs.Encode.{NameEntry, name_entry}
 use Rattle.symbols.specs.Section.{entries_at, between, EntryIs}
-use Rattle.symbols.specs.Lookup.{family_number, first_named}
+use Rattle.symbols.specs.Lookup.{family_number, first_named, found_at}
 use Rattle.symbols.specs.declared.Entry.{Entry}
-use Rattle.symbols.specs.declared.Found.{Found}
+use Rattle.std.specs.Prelude.{None}
 use Rattle.symbols.proofs.SameLaws.{same_length}
 use Rattle.symbols.proofs.FindLaws.{ahead}
 use Rattle.symbols.proofs.SearchLaws.{own-entry}
@@ -25,7 +25,7 @@ use Rattle.name_chains.proofs.CandidateLaws.{candidate-is, none-many}
 
 module _ (f : ℕ) (w : Name) (e : NameEntry) (es : List NameEntry) where
   -- an entry of the family and length is compared
-  pub first_by : is_candidate f (length w) e ≡ true → first_named f w (e ∷ es) ≡ cond (same w e.name) (Found.At e.sort e.number) (first_named f w es)
+  pub first_by : is_candidate f (length w) e ≡ true → first_named f w (e ∷ es) ≡ cond (same w e.name) (found_at e.sort e.number) (first_named f w es)
   first_by q = own-entry f w e es (candidate-is f (length w) e q).0
 
   pub compared-by : is_candidate f (length w) e ≡ true → compared_in f w (e ∷ es) ≡ cond (same w e.name) 1 (1 + compared_in f w es)
@@ -71,7 +71,7 @@ pub record Met (f : ℕ) (w : Name) (xs : List NameEntry) (i : ℕ) : Type 0 whe
   pub nth : Nth xs i entry
   pub like : is_candidate f (length w) entry ≡ true
   pub many : how_many f (length w) xs ≡ 1 + how_many f (length w) (drop (suc i) xs)
-  pub finds : first_named f w xs ≡ cond (same w entry.name) (Found.At entry.sort entry.number) (first_named f w (drop (suc i) xs))
+  pub finds : first_named f w xs ≡ cond (same w entry.name) (found_at entry.sort entry.number) (first_named f w (drop (suc i) xs))
   pub compares : compared_in f w xs ≡ cond (same w entry.name) 1 (1 + compared_in f w (drop (suc i) xs))
 
 module _ (f : ℕ) (w : Name) where
@@ -103,13 +103,13 @@ module _ (f : ℕ) (w : Name) where
           }
 
   -- where the chain is empty, nothing is found and nothing compared
-  pub nothing : (xs : List NameEntry) → how_many f (length w) xs ≡ 0 → (first_named f w xs ≡ Found.Missing) × (compared_in f w xs ≡ 0)
+  pub nothing : (xs : List NameEntry) → how_many f (length w) xs ≡ 0 → (first_named f w xs ≡ None) × (compared_in f w xs ≡ 0)
   unfolding first_named compared_in
   nothing [] h = (refl, refl)
   nothing (x ∷ xs) h = by (λ g. nothing xs g) (is_candidate f (length w) x) refl
     where
-      by : (how_many f (length w) xs ≡ 0 → (first_named f w xs ≡ Found.Missing) × (compared_in f w xs ≡ 0)) → (q : Bool) → is_candidate f (length w) x ≡ q
-          → (first_named f w (x ∷ xs) ≡ Found.Missing) × (compared_in f w (x ∷ xs) ≡ 0)
+      by : (how_many f (length w) xs ≡ 0 → (first_named f w xs ≡ None) × (compared_in f w xs ≡ 0)) → (q : Bool) → is_candidate f (length w) x ≡ q
+          → (first_named f w (x ∷ xs) ≡ None) × (compared_in f w (x ∷ xs) ≡ 0)
       by ih true q = absurd (omega (arith, many_by f w x xs q))
       by ih false q =
           let n = ih (sym (many-past f w x xs q) ∙ h) in
@@ -123,12 +123,12 @@ pub record Here (f : ℕ) (w : Name) (es : List NameEntry) (count at compared : 
   pub nth : Nth es k entry
   pub like : is_candidate f (length w) entry ≡ true
   pub many : count ≡ compared + (1 + how_many f (length w) (drop (suc k) es))
-  pub finds : first_named f w es ≡ cond (same w entry.name) (Found.At entry.sort entry.number) (first_named f w (drop (suc k) es))
+  pub finds : first_named f w es ≡ cond (same w entry.name) (found_at entry.sort entry.number) (first_named f w (drop (suc k) es))
   pub compares : compared_in f w es ≡ compared + cond (same w entry.name) 1 (1 + compared_in f w (drop (suc k) es))
 
 pub record Going (f : ℕ) (w : Name) (es : List NameEntry) (count at compared : ℕ) : Type 0 where
   pub here : compared < count → Here f w es count at compared
-  pub done : count ≤ compared → (Found.Missing ≡ first_named f w es) × (compared ≡ compared_in f w es)
+  pub done : count ≤ compared → (None ≡ first_named f w es) × (compared ≡ compared_in f w es)
 
 module _ {f : ℕ} {w : Name} {es : List NameEntry} where
   -- it begins at the first entry of the chain
@@ -155,9 +155,9 @@ module _ {f : ℕ} {w : Name} {es : List NameEntry} where
   module _ {count at compared : ℕ} (h : Here f w es count at compared) where
     -- the name is that of the entry
     pub is-hit : same w h.entry.name ≡ true → (s n : ℕ) → s ≡ h.entry.sort → n ≡ h.entry.number
-        → TriedIn f w es (record { found = Found.At s n; compared = compared + 1 })
+        → TriedIn f w es (record { found = found_at s n; compared = compared + 1 })
     is-hit q s n a b = record {
-      finds = sym (h.finds ∙ rw q (ap₂ Found.At (sym a) (sym b)));
+      finds = sym (h.finds ∙ rw q (ap₂ found_at (sym a) (sym b)));
       counts = sym (h.compares ∙ rw q);
     }
 
@@ -187,7 +187,7 @@ module _ {f : ℕ} {w : Name} {es : List NameEntry} where
                 many = omega (arith, h.many, m.many, ap (how_many f (length w)) past);
                 finds =
                     found ∙ m.finds
-                    ∙ ap (λ (l : List NameEntry). cond (same w m.entry.name) (Found.At m.entry.sort m.entry.number) (first_named f w l)) past;
+                    ∙ ap (λ (l : List NameEntry). cond (same w m.entry.name) (found_at m.entry.sort m.entry.number) (first_named f w l)) past;
                 compares =
                     so_far
                     ∙ ap (λ (a : ℕ). compared + (1 + a))
@@ -213,7 +213,7 @@ module _ {t : List ℕ} {at end s n past : ℕ} (h : EntryIs t at end (Entry.Nam
     past-compared q = sym (ap (compared_in f w) (ahead h) ∙ compared-past f w (name_entry s n (between t (at + 4) past)) (entries_at t past end) q)
 
     pub this-first : is_candidate f (length w) (name_entry s n (between t (at + 4) past)) ≡ true
-        → first_named f w (entries_at t at end) ≡ cond (same w (between t (at + 4) past)) (Found.At s n) (first_named f w (entries_at t past end))
+        → first_named f w (entries_at t at end) ≡ cond (same w (between t (at + 4) past)) (found_at s n) (first_named f w (entries_at t past end))
     this-first q = ap (first_named f w) (ahead h) ∙ first_by f w (name_entry s n (between t (at + 4) past)) (entries_at t past end) q
 
     pub this-compared : is_candidate f (length w) (name_entry s n (between t (at + 4) past)) ≡ true

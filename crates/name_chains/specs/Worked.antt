@@ -4,8 +4,8 @@ use Prim.Native.String.{String}
 use Rattle.lexer.specs.Spell.{bytes}
 use Rattle.policy.specs.Basics.{same}
 use Rattle.policy.specs.Encode.{NameEntry, name_entry}
-use Rattle.symbols.specs.Lookup.{first_named}
-use Rattle.symbols.specs.declared.Found.{Found}
+use Rattle.symbols.specs.Lookup.{first_named, found_at}
+use Rattle.std.specs.Prelude.{None}
 use Rattle.name_chains.specs.Compared.{compared_in}
 
 abbrev named : ℕ → ℕ → String → NameEntry
@@ -18,17 +18,17 @@ roll = named 1 0 "a" ∷ named 1 1 "bb" ∷ named 1 2 "c" ∷ named 4 0 "d" ∷ 
 
 -- a try in a family: what it finds, and how many entries it compares
 pub record Worked : Type 0 where
-  pub hit-found : first_named 1 (bytes "c") roll ≡ Found.At 1 2
+  pub hit-found : first_named 1 (bytes "c") roll ≡ found_at 1 2
   pub hit : compared_in 1 (bytes "c") roll ≡ 2
   pub first-hit : compared_in 1 (bytes "a") roll ≡ 1
   pub attribute : compared_in 1 (bytes "d") roll ≡ 3
-  pub missing-found : first_named 1 (bytes "zz") roll ≡ Found.Missing
+  pub missing-found : first_named 1 (bytes "zz") roll ≡ None
   pub missing : compared_in 1 (bytes "zz") roll ≡ 1
   pub no-such-length : compared_in 1 (bytes "zzz") roll ≡ 0
   pub other-family : compared_in 0 (bytes "c") roll ≡ 1
   pub class-hit : compared_in 3 (bytes "port") roll ≡ 2
   pub permission : compared_in 4 (bytes "open") roll ≡ 2
-  pub permission-of-another-class : first_named 5 (bytes "read") roll ≡ Found.Missing
+  pub permission-of-another-class : first_named 5 (bytes "read") roll ≡ None
   pub other-class-not-compared : compared_in 5 (bytes "open") roll ≡ 2
 
 pub worked : Worked

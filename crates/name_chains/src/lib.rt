@@ -17,12 +17,12 @@ use name_index::{
     ALL, CHAIN_BYTES, CHAINS, COUNTS, Chain, ENTRIES, FRONT, LENGTHS, Link, SYMBOL_BYTES,
 };
 use policy::NameEntry;
-use symbols::{Entry, Found, NameFamily};
+use symbols::{Entry, NameFamily, Symbol};
 
 // What a try found, and how many entries it compared byte by byte.
 #[derive(Clone, Copy)]
 pub struct Tried {
-    pub found: Found,
+    pub found: Option<Symbol>,
     pub compared: usize,
 }
 
@@ -33,13 +33,7 @@ pub struct Tried {
 fn chain_of(symbols: &[u8], family: usize, long: usize) -> Chain
     ensures { HasChain symbols.now family long result }
 {
-    if symbols.len() < SYMBOL_BYTES {
-        return name_index::chain_in(0);
-    }
-    if NameFamily::COUNT <= family {
-        return name_index::chain_in(0);
-    }
-    if LENGTHS <= long {
+    if symbols.len() < SYMBOL_BYTES || NameFamily::COUNT <= family || LENGTHS <= long {
         return name_index::chain_in(0);
     }
     name_index::chain_in(name_index::word(symbols, CHAINS + LENGTHS * family + long))
@@ -68,27 +62,20 @@ pub fn find(symbols: &[u8], family: usize, name: &[u8]) -> Tried
 {
     let front = name_index::front_of(name);
     let chain = chain_of(symbols, family, name.len());
-    let count = chain.count;
     let mut at = chain.first;
-    let mut others: usize = 0;
-    while others < count {
+    for others in 0..chain.count {
         if is_same(symbols, at, front, name) {
-            let link = name_index::link_at(symbols, at);
+            let Link { sort, number, .. } = name_index::link_at(symbols, at);
             return Tried {
-                found: Found::At {
-                    sort: link.sort,
-                    number: link.number,
-                },
+                found: Some(Symbol { sort, number }),
                 compared: others + 1,
             };
         }
-        let link = name_index::link_at(symbols, at);
-        at = link.next;
-        others += 1;
+        at = name_index::link_at(symbols, at).next;
     }
     Tried {
-        found: Found::Missing,
-        compared: others,
+        found: None,
+        compared: chain.count,
     }
 }
 
@@ -98,38 +85,24 @@ pub fn find_in_section(table: &[u8], start: usize, end: usize, family: usize, na
     ensures { TriedIn family name.now (entries_at table.now start end) result }
 {
     let long = name.len();
-    let mut others: usize = 0;
+    let mut compared: usize = 0;
     let mut at = start;
-    loop {
-        let k = symbols::next_entry(table, at, end);
-        match k {
-            Entry::Named { sort, number, past } => {
-                let first = at + NameEntry::HEAD_BYTES;
-                at = past;
-                if past - first != long {
-                    continue;
-                }
-                if symbols::family_of(sort, number) != family {
-                    continue;
-                }
-                if symbols::same(name, 0, table, first, long) {
-                    let compared = others + 1;
-                    return Tried {
-                        found: Found::At { sort, number },
-                        compared,
-                    };
-                }
-                others += 1;
+    while let Entry::Named { sort, number, past } = symbols::next_entry(table, at, end) {
+        let first = at + NameEntry::HEAD_BYTES;
+        if past - first == long && symbols::family_of(sort, number) == family {
+            compared += 1;
+            if symbols::same(name, 0, table, first, long) {
+                return Tried {
+                    found: Some(Symbol { sort, number }),
+                    compared,
+                };
             }
-            Entry::Done => return Tried {
-                found: Found::Missing,
-                compared: others,
-            },
-            Entry::Broken => return Tried {
-                found: Found::Missing,
-                compared: others,
-            },
         }
+        at = past;
+    }
+    Tried {
+        found: None,
+        compared,
     }
 }
 

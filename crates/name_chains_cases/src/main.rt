@@ -7,18 +7,14 @@
 
 ghost use Rattle.std.specs.Prelude.{◌≡◌, length};
 
-use corpus::Next;
 use name_chains::Tried;
 use name_index::SYMBOL_BYTES;
 use std::io;
 use std::io::{Read, Write};
-use symbols::{Entry, Found};
+use symbols::{Entry, Symbol};
 
 // The greatest length of a name that is looked up: some more than a name may have.
 const NAME_MAX: usize = 2 * lexer::Name::MAX;
-
-// The greatest number of cases: more than a corpus of 1 MB can have.
-const CASES: usize = 1_000_000;
 
 const PERMISSION: usize = 7;
 
@@ -49,23 +45,15 @@ fn enter_all(section: &[u8], symbols: &mut [u8; SYMBOL_BYTES])
     }
 }
 
-fn numbered<W: Write>(out: &mut W, word: &[u8], number: usize) -> io::Result<()> {
-    out.write_all(word)?;
-    write!(out, "{number}")
-}
-
 // `chains found 1 2 compared 3` or `section missing compared 0`.
-fn show<W: Write>(out: &mut W, way: &[u8], tried: Tried) -> io::Result<()> {
-    out.write_all(way)?;
+fn show<W: Write>(out: &mut W, way: &str, tried: Tried) -> io::Result<()> {
+    let compared = tried.compared;
     match tried.found {
-        Found::At { sort, number } => {
-            numbered(out, b" found ", sort)?;
-            numbered(out, b" ", number)?;
+        Some(Symbol { sort, number }) => {
+            writeln!(out, "{way} found {sort} {number} compared {compared}")
         }
-        Found::Missing => out.write_all(b" missing")?,
+        None => writeln!(out, "{way} missing compared {compared}"),
     }
-    numbered(out, b" compared ", tried.compared)?;
-    out.write_all(b"\n")
 }
 
 // Reads a name of that length and looks it up both ways; answers whether there was one.
@@ -87,26 +75,28 @@ fn look_up<R: Read, W: Write>(
     if !corpus::fill(input, name)? {
         return Ok(false);
     }
-    show(out, b"chains", name_chains::find(symbols, family, name))?;
+    show(out, "chains", name_chains::find(symbols, family, name))?;
     let walked = name_chains::find_in_section(section, 0, section.len(), family, name);
-    show(out, b"section", walked)?;
+    show(out, "section", walked)?;
     Ok(true)
 }
 
-// Reads so many tries and shows them; answers whether there were as many.
+// Reads the tries after a section and shows them; answers whether there were as many.
 fn tries<R: Read, W: Write>(
     input: &mut R,
     out: &mut W,
     section: &[u8],
     symbols: &[u8; SYMBOL_BYTES],
-    count: usize,
 ) -> io::Result<bool> {
+    let Some(count) = corpus::length(input)? else {
+        return Ok(false);
+    };
     let mut names = [0u8; NAME_MAX];
     for _ in 0..count {
-        let Next::Number(family) = corpus::length(input)? else {
+        let Some(family) = corpus::length(input)? else {
             return Ok(false);
         };
-        let Next::Number(len) = corpus::length(input)? else {
+        let Some(len) = corpus::length(input)? else {
             return Ok(false);
         };
         if !look_up(input, out, section, symbols, family, &mut names, len)? {
@@ -116,42 +106,16 @@ fn tries<R: Read, W: Write>(
     Ok(true)
 }
 
-// Reads a section of that length and the tries in it; answers whether there was one.
-fn case<R: Read, W: Write>(
-    input: &mut R,
-    out: &mut W,
-    sections: &mut [u8],
-    len: usize,
-    symbols: &mut [u8; SYMBOL_BYTES],
-) -> io::Result<bool>
-    ensures { length symbols.new ≡ length symbols.old }
-{
-    if sections.len() < len {
-        return Ok(false);
-    }
-    let section = &mut sections[..len];
-    if !corpus::fill(input, section)? {
-        return Ok(false);
-    }
-    enter_all(section, symbols);
-    let Next::Number(count) = corpus::length(input)? else {
-        return Ok(false);
-    };
-    tries(input, out, section, symbols, count)
-}
-
 fn main(rt: HostRuntime) -> io::Result<()> {
-    let mut input = rt.stdin();
-    let mut out = rt.stdout();
     let mut sections = [0u8; symbols::NAME_BYTES];
     let mut symbols = [0u8; SYMBOL_BYTES];
-    for _ in 0..CASES {
-        let Next::Number(len) = corpus::length(&mut input)? else {
-            break;
-        };
-        if !case(&mut input, &mut out, &mut sections, len, &mut symbols)? {
-            break;
-        }
-    }
-    out.flush()
+    corpus::each_case(
+        &mut rt.stdin(),
+        &mut rt.stdout(),
+        &mut sections,
+        |input, out, section| {
+            enter_all(section, &mut symbols);
+            tries(input, out, section, &symbols)
+        },
+    )
 }

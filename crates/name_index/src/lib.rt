@@ -172,12 +172,7 @@ fn set_next(symbols: &mut [u8], at: usize, next: usize)
     ensures { symbols.new ≡ put_next symbols.old at next }
 {
     let link = link_at(symbols, at);
-    let linked = link_word(Link {
-        next,
-        sort: link.sort,
-        number: link.number,
-        place: link.place,
-    });
+    let linked = link_word(Link { next, ..link });
     set_word(symbols, at + 1, linked);
 }
 
@@ -199,8 +194,8 @@ pub fn set_last(symbols: &mut [u8], k: usize, at: usize)
     set_next(symbols, chain.last, at);
     let longer = chain_word(Chain {
         count: chain.count + 1,
-        first: chain.first,
         last: at,
+        ..chain
     });
     set_word(symbols, k, longer);
 }

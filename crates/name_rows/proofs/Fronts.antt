@@ -2,51 +2,29 @@
 use mathlib.Core.Path.{◌≡◌, refl, sym, ap, ap₂, ◌∙◌}
 use mathlib.Core.Bool.{Bool, true, false, ◌||◌, or-true, false≢true}
 use mathlib.Core.List.{List, [], ◌∷◌, ◌++◌, append_assoc}
-use Prim.Native.Nat.{ℕ, zero, suc, ◌+◌, ◌-◌, ◌<◌, ◌≤◌}
+use Prim.Native.Nat.{ℕ, zero, suc, ◌+◌, ◌<◌, ◌≤◌}
 use native.Mathlib.Omega.{arith}
-use borrow.Author.Tests.{ltb-false, lt-ltb, le-ltb, eq-eqb, ne_eqb}
+use borrow.Author.Tests.{ltb-false, eq-eqb}
+use Rattle.std.specs.List.{list_any}
+use Rattle.std.proofs.lemmas.Bool.Decides.{nat_tests}
 use lib.Dec.{eqb, ltb}
-use lib.ListN.{length, take, drop, set, get_or, length-set, length-append}
-use lib.Seq.{take-add, drop-cons, set_split, take_at, length-take-le}
+use lib.ListN.{length, take, drop, set, length-set, length-append}
+use lib.Seq.{set_split, take_at, length-take-le}
 use Rattle.policy.specs.Basics.{Name, same, any, each, is_in}
-use Rattle.policy.proofs.Lists.{any_append, any-over, each_append, neither, same-is}
+use Rattle.policy.proofs.Lists.{each_append, neither, same-is}
 use Rattle.name_index.specs.Index.{front_of}
 use Rattle.name_rows.specs.WordRows.{may_be_among}
 
--- ---- is a number among the first of a list
+-- ---- is a number among those of a list
 
-module _ (fs : List ℕ) (x : ℕ) where
-  pub too_few : (n : ℕ) → length fs < n → true ≡ may_be_among fs n x
-  too_few n l = rw (lt-ltb (length fs) n l)
+eqb-swap : (x y : ℕ) → eqb y x ≡ eqb x y
+eqb-swap x y = grind (arith, nat_tests)
 
-  pub no-first : any (eqb x) (take 0 fs) ≡ false
-  unfolding any
-  no-first = refl
-
-  -- the first k, and the next
-  next : (k : ℕ) → k < length fs → take (k + 1) fs ≡ take k fs ++ (get_or fs k 0 ∷ [])
-  next k l = take-add k 1 fs ∙ ap (λ (r : List ℕ). take k fs ++ take 1 r) (drop-cons fs k 0 l)
-
-  pub other : (k : ℕ) → k < length fs → (get_or fs k 0 ≡ x → ⊥) → any (eqb x) (take k fs) ≡ false → any (eqb x) (take (k + 1) fs) ≡ false
-  other k l d q =
-      ap (any (eqb x)) (next k l) ∙ any-over (eqb x) (take k fs) (get_or fs k 0) (ne_eqb x (get_or fs k 0) (λ e. d (sym e))) ∙ q
-
-  has : (k m : ℕ) → k < length fs → get_or fs k 0 ≡ x → any (eqb x) (take (k + suc m) fs) ≡ true
-  unfolding any
-  has k m l e =
-      let all : take (k + suc m) fs ≡ take k fs ++ (get_or fs k 0 ∷ take m (drop (suc k) fs)) =
-      take-add k (suc m) fs ∙ ap (λ (r : List ℕ). take k fs ++ take (suc m) r) (drop-cons fs k 0 l) in
-      let this : any (eqb x) (get_or fs k 0 ∷ take m (drop (suc k) fs)) ≡ true = rw (eq-eqb x (get_or fs k 0) (sym e)) in
-      ap (any (eqb x)) all ∙ any_append (eqb x) (take k fs) (get_or fs k 0 ∷ take m (drop (suc k) fs)) ∙ rw (this, or-true (any (eqb x) (take k fs)))
-
-  pub hit : (k n : ℕ) → k < n → n ≤ length fs → get_or fs k 0 ≡ x → true ≡ may_be_among fs n x
-  hit k n a l e =
-      let at : k + suc (n - suc k) ≡ n = omega arith in
-      let found : any (eqb x) (take n fs) ≡ true = ap (λ (i : ℕ). any (eqb x) (take i fs)) (sym at) ∙ has k (n - suc k) (omega arith) e in
-      rw (found, or-true (ltb (length fs) n))
-
-  pub none : (k n : ℕ) → k ≤ n → n ≤ k → n ≤ length fs → any (eqb x) (take k fs) ≡ false → false ≡ may_be_among fs n x
-  none k n a b l q = let at : k ≡ n = omega arith in rw (le-ltb (length fs) n l) (sym (ap (λ (i : ℕ). any (eqb x) (take i fs)) (sym at) ∙ q))
+-- std's test and that of the specs
+pub among-are : (x : ℕ) (ys : List ℕ) → list_any (λ (y : ℕ). eqb y x) ys ≡ any (eqb x) ys
+unfolding any
+among-are x [] = refl
+among-are x (y ∷ ys) = ap₂ (λ (a b : Bool). a || b) (eqb-swap x y) (among-are x ys)
 
 -- a store past the end changes nothing
 pub set_past : (fs : List ℕ) (k x : ℕ) → length fs ≤ k → set fs k x ≡ fs
@@ -88,12 +66,11 @@ keeps-more fs k x w ws more e h l =
     ∙ sym (ap (each front_of) more ∙ each_append front_of (take k ws) (w ∷ []))
 
 -- a name that may not be among them is not
-pub not-among : (fs : List ℕ) (k x : ℕ) (w : Name) (ws : List Name) {q : Bool} → x ≡ front_of w → Keeps fs k ws → q ≡ may_be_among fs k x → q ≡ false
-    → is_in w (take k ws) ≡ false
-not-among fs k x w ws {q} e h g f = by (is_in w (take k ws)) refl
+pub not-among : (fs : List ℕ) (k x : ℕ) (w : Name) (ws : List Name) → x ≡ front_of w → Keeps fs k ws → false ≡ may_be_among fs k x → is_in w (take k ws) ≡ false
+not-among fs k x w ws e h g = by (is_in w (take k ws)) refl
   where
     is : (ltb (length fs) k ≡ false) × (any (eqb x) (take k fs) ≡ false)
-    is = neither (ltb (length fs) k) (any (eqb x) (take k fs)) (sym g ∙ f)
+    is = neither (ltb (length fs) k) (any (eqb x) (take k fs)) (sym g)
 
     by : (b : Bool) → is_in w (take k ws) ≡ b → b ≡ false
     by false b = refl

@@ -62,9 +62,8 @@ module _ (t : List ℕ) (at : ℕ) where
       next = p.left ∙ words-here h
 
       -- where its first eight bytes are not those of one of them, it is none of them
-      pub not-passed : {q : Bool} (front : ℕ) → front ≡ front_of (part t start len) → q ≡ may_be_among fs k front → q ≡ false
-          → is_among_first t at k (part t start len) ≡ false
-      not-passed front e g f = not-among fs k front (part t start len) ws e p.keeps g f
+      pub not-passed : (front : ℕ) → front ≡ front_of (part t start len) → false ≡ may_be_among fs k front → is_among_first t at k (part t start len) ≡ false
+      not-passed front e g = not-among fs k front (part t start len) ws e p.keeps g
 
       pub stands-twice : is_among_first t at k (part t start len) ≡ true → true ≡ not (differ ws)
       stands-twice q = ap not (sym (not-apart ws k (part t start len) (words_in (frames_at t (start + len)).here) next q))

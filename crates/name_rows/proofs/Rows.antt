@@ -1,6 +1,6 @@
 -- The words of a row, one after the other: what is at a place, whether a name is among the first of them, and how many they are.
 -- Assumes nothing.
-use mathlib.Core.Path.{◌≡◌, sym, ap, subst, ◌∙◌}
+use mathlib.Core.Path.{◌≡◌, refl, sym, ap, ◌∙◌}
 use mathlib.Core.Bool.{true, false}
 use mathlib.Core.List.{List, [], ◌∷◌}
 use Prim.Native.Nat.{ℕ, suc, ◌+◌, ◌-◌, ◌<◌, ◌≤◌}
@@ -13,29 +13,26 @@ use Rattle.lexer.specs.Forms.{Forms, part, Frames, frames_at}
 use Rattle.lexer.specs.declared.Token.{Token}
 use Rattle.lexer.proofs.Seen.{seen}
 use Rattle.policy.specs.Basics.{Name, same, any, is_in}
-use Rattle.name_rows.specs.WordRows.{words_in, is_among_first, WordHere, WordIs, Inside}
-use Rattle.name_rows.specs.declared.NextWord.{NextWord}
+use Rattle.name_rows.specs.WordRows.{words_in, is_among_first, WordHere, Inside}
 
 -- ---- the item at a place
 
 module _ (t : List ℕ) (at : ℕ) (r : Token) (e : r ≡ token_at t at) where
-  pub a_word : (s n : ℕ) → r ≡ Token.Word s n → WordIs t at (NextWord.At s n)
+  pub a_word : (s n : ℕ) → r ≡ Token.Word s n → WordHere t at s n
   unfolding parts.part
   a_word s n f =
       let l = seen t at r (Token.Word s n) e f in
-      record { is = record { here = ap (λ (x : Frames). x.here) l.frames; ahead = omega (arith, l.ahead); within = omega (arith, l.ahead) } }
+      record { here = ap (λ (x : Frames). x.here) l.frames; ahead = omega (arith, l.ahead); within = omega (arith, l.ahead) }
 
-  pub open-no-word : (p : ℕ) → r ≡ Token.Open p → WordIs t at NextWord.Missing
+  pub no-word : ((s n : ℕ) → r ≡ Token.Word s n → ⊥) → words_in (frames_at t at).here ≡ []
   unfolding words_in
-  open-no-word p f = record { is = ap (λ (x : Frames). words_in x.here) (seen t at r (Token.Open p) e f).frames }
-
-  pub close-no-word : (p : ℕ) → r ≡ Token.Close p → WordIs t at NextWord.Missing
-  unfolding words_in
-  close-no-word p f = record { is = ap (λ (x : Frames). words_in x.here) (seen t at r (Token.Close p) e f).frames }
-
-  pub end-no-word : r ≡ Token.End → WordIs t at NextWord.Missing
-  unfolding words_in
-  end-no-word f = record { is = ap (λ (x : Frames). words_in x.here) (seen t at r Token.End e f).frames }
+  no-word never = by r refl
+    where
+      by : (k : Token) → r ≡ k → words_in (frames_at t at).here ≡ []
+      by (Token.Word s n) f = absurd (never s n f)
+      by (Token.Open p) f = ap (λ (x : Frames). words_in x.here) (seen t at r (Token.Open p) e f).frames
+      by (Token.Close p) f = ap (λ (x : Frames). words_in x.here) (seen t at r (Token.Close p) e f).frames
+      by Token.End f = ap (λ (x : Frames). words_in x.here) (seen t at r Token.End e f).frames
 
   -- ---- a part's own row
 
@@ -45,25 +42,20 @@ module _ (t : List ℕ) (at : ℕ) (r : Token) (e : r ≡ token_at t at) where
       inner : (p q : ℕ) (a b c d : Forms) → part p a b ≡ part q c d → a ≡ c
       inner p q a b c d h = cc
 
-  module _ (k : Token) (f : r ≡ k) where
-    no_part : (g : Forms) → ((q : ℕ) (i after : Forms) → g ≡ part q i after → ⊥) → (frames_at t at).here ≡ g → Inside t at at
-    no_part g never z = record { row = λ q i after h. absurd (never q i after (sym z ∙ h)) }
+  pub no-part : ((p : ℕ) → r ≡ Token.Open p → ⊥) → Inside t at at
+  no-part never = by r refl
+    where
+      other : (k : Token) → r ≡ k → (g : Forms) → ((q : ℕ) (i after : Forms) → g ≡ part q i after → ⊥) → (frames_at t at).here ≡ g → Inside t at at
+      other k f g apart z = record { row = λ q i after h. absurd (apart q i after (sym z ∙ h)) }
 
-  pub word-no-part : (s n : ℕ) → r ≡ Token.Word s n → Inside t at at
-  word-no-part s n f =
-      no_part (Token.Word s n) f _ (λ q i after h. let z : ◌≡◌ {A = ℕ} 0 1 = cc in omega arith) (ap (λ (x : Frames). x.here) (seen t at r (Token.Word s n) e f).frames)
-
-  pub close-no-part : (p : ℕ) → r ≡ Token.Close p → Inside t at at
-  close-no-part p f =
-      no_part (Token.Close p) f _ (λ q i after h. let z : ◌≡◌ {A = ℕ} 0 1 = cc in omega arith) (ap (λ (x : Frames). x.here) (seen t at r (Token.Close p) e f).frames)
-
-  pub end-no-part : r ≡ Token.End → Inside t at at
-  end-no-part f =
-      no_part Token.End f _ (λ q i after h. let z : ◌≡◌ {A = ℕ} 0 1 = cc in omega arith) (ap (λ (x : Frames). x.here) (seen t at r Token.End e f).frames)
-
--- what a caller of `word_at` knows of the word k that it answered
-pub told : {t : List ℕ} {at : ℕ} {r k : NextWord} → WordIs t at r → r ≡ k → WordIs t at k
-told {t} {at} h e = subst (WordIs t at) e h
+      by : (k : Token) → r ≡ k → Inside t at at
+      by (Token.Open p) f = absurd (never p f)
+      by (Token.Word s n) f =
+          other (Token.Word s n) f _ (λ q i after h. let z : ◌≡◌ {A = ℕ} 0 1 = cc in omega arith) (ap (λ (x : Frames). x.here) (seen t at r (Token.Word s n) e f).frames)
+      by (Token.Close p) f =
+          other (Token.Close p) f _ (λ q i after h. let z : ◌≡◌ {A = ℕ} 0 1 = cc in omega arith) (ap (λ (x : Frames). x.here) (seen t at r (Token.Close p) e f).frames)
+      by Token.End f =
+          other Token.End f _ (λ q i after h. let z : ◌≡◌ {A = ℕ} 0 1 = cc in omega arith) (ap (λ (x : Frames). x.here) (seen t at r Token.End e f).frames)
 
 -- ---- the words of the row
 

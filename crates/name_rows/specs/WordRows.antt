@@ -3,7 +3,6 @@ use Rattle.std.specs.Prelude.{ℕ, ◌+◌, ◌<◌, ◌≤◌, ◌≡◌, Bool,
 use Rattle.byte_slices.specs.Parts as parts
 use Rattle.lexer.specs.Forms.{Forms, closed, ended, word, part, frames_at}
 use Rattle.policy.specs.Basics.{Name, any, is_in}
-use Rattle.name_rows.specs.declared.NextWord.{NextWord}
 
 -- the words before anything else
 unfoldable pub words_in : Forms → List Name
@@ -26,13 +25,6 @@ pub record WordHere (t : List ℕ) (at s n : ℕ) : Type 0 where
   pub here : (frames_at t at).here ≡ word s (parts.part t s n) (frames_at t (s + n)).here
   pub ahead : at < s + n
   pub within : s + n ≤ length t
-
-abbrev pub WordBy : List ℕ → ℕ → NextWord → Type 0
-WordBy t at (NextWord.At s n) = WordHere t at s n
-WordBy t at NextWord.Missing = words_in (frames_at t at).here ≡ []
-
-pub record WordIs (t : List ℕ) (at : ℕ) (r : NextWord) : Type 0 where
-  pub is : WordBy t at r
 
 -- where a part is next, its own row is at r
 pub record Inside (t : List ℕ) (at r : ℕ) : Type 0 where

@@ -2,77 +2,47 @@
 // permissions must not.
 #![tactic(auto)]
 
-ghost use Rattle.std.specs.Prelude.{◌≡◌, not, false, ◌+◌, ◌≤◌, length, set};
-ghost use Rattle.byte_slices.specs.Parts.{part};
+ghost use Rattle.std.specs.Prelude.{◌≡◌, [], not, ◌≤◌, length, set, MatchOption};
 ghost use Rattle.lexer.specs.Forms.{frames_at};
-ghost use Rattle.policy.specs.Basics as basics;
 ghost use Rattle.policy.specs.Basics.{differ};
-ghost use Rattle.name_rows.specs.WordRows.{words_in, is_among_first, may_be_among, WordIs, Inside};
+ghost use Rattle.name_rows.specs.WordRows.{words_in, is_among_first, may_be_among, WordHere, Inside};
 
+use byte_slices::Span;
 use lexer::Token;
 
-// The word that is next in a row, or that there is none.
-#[derive(Clone, Copy)]
-pub enum NextWord {
-    At { start: usize, len: usize },
-    Missing,
-}
-
-// Whether the m bytes of a at i are the n bytes of b at j. Lengths are compared first.
-fn same_name(a: &[u8], i: usize, m: usize, b: &[u8], j: usize, n: usize) -> bool
-    requires { (i + m ≤ length a.now) × (j + n ≤ length b.now) }
-    ensures { result ≡ basics.same (part a.now i m) (part b.now j n) }
+// Where the word that is next in the row at a place stands, if there is one.
+pub fn word_at(text: &[u8], at: usize) -> Option<Span>
+    ensures { MatchOption result (words_in (frames_at text.now at).here ≡ []) (λ word. WordHere text.now at word.start word.length) }
 {
-    if m != n {
-        return false;
-    }
-    symbols::same(a, i, b, j, m)
-}
-
-// The word that is next in the row at a place.
-pub fn word_at(text: &[u8], at: usize) -> NextWord
-    ensures { WordIs text.now at result }
-{
-    let token = lexer::next(text, at);
-    match token {
-        Token::Word { start, len } => NextWord::At { start, len },
-        Token::Open(_p) => NextWord::Missing,
-        Token::Close(_p) => NextWord::Missing,
-        Token::End => NextWord::Missing,
-    }
+    let Token::Word { start, len: length } = lexer::next(text, at) else {
+        return None;
+    };
+    Some(Span { start, length })
 }
 
 // The place after the open parenthesis that is next, or the same place where none is.
 pub fn inside(text: &[u8], at: usize) -> usize
     ensures { Inside text.now at result }
 {
-    let token = lexer::next(text, at);
-    match token {
-        Token::Open(place) => place + 1,
-        Token::Word { start: _s, len: _n } => at,
-        Token::Close(_p) => at,
-        Token::End => at,
-    }
+    let Token::Open(place) = lexer::next(text, at) else {
+        return at;
+    };
+    place + 1
 }
 
-// Whether the name of len bytes of the text at a start is one of the first names of the row at a place, of so many of
-// them.
-fn is_among_first(text: &[u8], at: usize, count: usize, start: usize, len: usize) -> bool
-    requires { start + len ≤ length text.now }
-    ensures { result ≡ is_among_first text.now at count (part text.now start len) }
+// Whether a name is one of the first names of the row at a place, of so many of them.
+fn is_among_first(text: &[u8], at: usize, count: usize, name: &[u8]) -> bool
+    ensures { result ≡ is_among_first text.now at count name.now }
 {
     let mut i = at;
-    let mut left = count;
-    while 0 < left {
-        let other = word_at(text, i);
-        let NextWord::At { start: s, len: n } = other else {
+    for _ in 0..count {
+        let Some(word) = word_at(text, i) else {
             return false;
         };
-        if same_name(text, start, len, text, s, n) {
+        if name == byte_slices::part(text, word.start, word.length) {
             return true;
         }
-        i = s + n;
-        left -= 1;
+        i = word.start + word.length;
     }
     false
 }
@@ -82,20 +52,11 @@ fn is_among_first(text: &[u8], at: usize, count: usize, start: usize, len: usize
 fn may_be_among(fronts: &[usize], count: usize, front: usize) -> bool
     ensures { result ≡ may_be_among fronts.now count front }
 {
-    if fronts.len() < count {
-        return true;
-    }
-    let mut k: usize = 0;
-    while k < count {
-        if fronts[k] == front {
-            return true;
-        }
-        k += 1;
-    }
-    false
+    fronts.len() < count || fronts[..count].contains(&front)
 }
 
-// Keeps the first eight bytes of a name by the name's number in the row, if there is room for so many.
+// Keeps the first eight bytes of a name by the name's number in the row, if there is room for so many. By `get_mut`
+// that was tried and did not prove: std does not say what the slice then ends as.
 fn keep_front(fronts: &mut [usize], k: usize, front: usize)
     ensures { fronts.new ≡ set fronts.old k front }
 {
@@ -104,47 +65,26 @@ fn keep_front(fronts: &mut [usize], k: usize, front: usize)
     }
 }
 
-// Whether a name is one of the first of the row, where their first eight bytes were asked first: only a name that may
-// be among them is compared with them.
-fn is_repeated(
-    text: &[u8],
-    at: usize,
-    count: usize,
-    start: usize,
-    len: usize,
-    possible: bool,
-) -> bool
-    requires { (start + len ≤ length text.now) × (possible ≡ false → is_among_first text.now at count (part text.now start len) ≡ false) }
-    ensures { result ≡ is_among_first text.now at count (part text.now start len) }
-{
-    if !possible {
-        return false;
-    }
-    is_among_first(text, at, count, start, len)
-}
-
 // Whether a name occurs twice in the row at a place: each is looked for among those before it. The first eight bytes
-// are kept of as many names as a class may have.
+// are kept of as many names as a class may have, and asked first: only a name that may be among those before it is
+// compared with them.
 pub fn repeats(text: &[u8], at: usize) -> bool
     ensures { result ≡ not (differ (words_in (frames_at text.now at).here)) }
 {
     let mut fronts = [0usize; policy::Permission::MAX];
     let mut i = at;
     let mut count: usize = 0;
-    loop {
-        let name = word_at(text, i);
-        let NextWord::At { start, len } = name else {
-            return false;
-        };
-        let front = name_index::front_of(byte_slices::part(text, start, len));
-        let possible = may_be_among(&fronts, count, front);
-        if is_repeated(text, at, count, start, len, possible) {
+    while let Some(word) = word_at(text, i) {
+        let name = byte_slices::part(text, word.start, word.length);
+        let front = name_index::front_of(name);
+        if may_be_among(&fronts, count, front) && is_among_first(text, at, count, name) {
             return true;
         }
         keep_front(&mut fronts, count, front);
         count += 1;
-        i = start + len;
+        i = word.start + word.length;
     }
+    false
 }
 
 // How many names are in the row at a place.
@@ -153,12 +93,9 @@ pub fn count_names(text: &[u8], at: usize) -> usize
 {
     let mut i = at;
     let mut count: usize = 0;
-    loop {
-        let name = word_at(text, i);
-        let NextWord::At { start, len } = name else {
-            return count;
-        };
+    while let Some(word) = word_at(text, i) {
         count += 1;
-        i = start + len;
+        i = word.start + word.length;
     }
+    count
 }

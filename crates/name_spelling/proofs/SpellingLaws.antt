@@ -2,7 +2,7 @@
 -- Assumes nothing.
 use mathlib.Core.Path.{◌≡◌, refl, sym, ap, ap₂, ◌∙◌}
 use mathlib.Core.Logic.{⊎_elim}
-use mathlib.Core.Bool.{Bool, true, false, not, ◌&&◌, ◌||◌, false≢true, and-true, and-false}
+use mathlib.Core.Bool.{Bool, true, false, not, ◌&&◌, ◌||◌, cond, false≢true, and-true, and-false}
 use mathlib.Core.List.{List, [], ◌∷◌, ◌++◌}
 use Prim.Native.Nat.{ℕ, suc, ◌+◌, ◌-◌, ◌≤◌, ◌<◌}
 use native.Mathlib.Omega.{arith}
@@ -10,6 +10,7 @@ use borrow.Author.Tests.{lt-ltb, ltb-true, ltb-false, le-leb, lt-leb, leb-true, 
 use lib.Dec.{leb, ltb}
 use lib.ListN.{length, get_or, drop}
 use lib.Seq.{get_or-take, get_or-drop}
+use Rattle.std.specs.Prelude.{Option, Some, None}
 use Rattle.byte_slices.specs.Parts.{part}
 use Rattle.byte_slices.proofs.PartLaws.{length-part-min}
 use Rattle.lexer.specs.Answers.{part_starts}
@@ -150,15 +151,19 @@ module _ (t : List ℕ) (from past before hash : ℕ) (g : past ≤ length t) wh
 -- ---- a name, part by part
 
 -- what is no name stays none
-no-hash : (q : Bool) (h : ℕ) → h ≡ 4294967296 → 4294967296 ≡ hash_if q h
-no-hash true h e = sym e
-no-hash false h e = refl
+no-hash : (q : Bool) (o : Option ℕ) → o ≡ None → cond q o None ≡ None
+no-hash true o e = e
+no-hash false o e = refl
+
+stays-none : (q : Bool) (o : Option ℕ) → o ≡ None → cond q None o ≡ None
+stays-none true o e = refl
+stays-none false o e = e
 
 -- where no part may stand; where none starts
-none_left : (w : Name) (h : ℕ) → parts_spelled 0 w h ≡ 4294967296
+none_left : (w : Name) (h : ℕ) → parts_spelled 0 w h ≡ None
 none_left w h = rw (lt-leb (length (parts w)) 0 (some-part w), and-false (has_good_parts w))
 
-none-starts : (n : ℕ) (w : Name) (h : ℕ) → part_starts w ≡ false → parts_spelled n w h ≡ 4294967296
+none-starts : (n : ℕ) (w : Name) (h : ℕ) → part_starts w ≡ false → parts_spelled n w h ≡ None
 none-starts n w h e = rw (dotted-from w, no_part w e)
 
 -- one part alone
@@ -190,19 +195,19 @@ module _ (n : ℕ) (p : Name) (b : ℕ) (v : Name) (h : ℕ) (l : 0 < n) (e : is
       joined true y = refl
       joined false y = refl
 
-  part-and-more : goes_on (class_of b) ≡ false → parts_spelled n (p ++ (b ∷ v)) h ≡ hash_if (not (is_reserved p)) (behind_part (n - 1) b v (hash_from p h))
+  part-and-more : goes_on (class_of b) ≡ false → parts_spelled n (p ++ (b ∷ v)) h ≡ cond (is_reserved p) None (behind_part (n - 1) b v (hash_from p h))
   unfolding hash_from
   part-and-more g = by (is_dot (class_of b)) refl
     where
-      split : (x y z : Bool) (k : ℕ) → hash_if (x && not (y || z)) k ≡ hash_if (not y) (hash_if (x && not z) k)
+      split : (x y z : Bool) (k : ℕ) → hash_if (x && not (y || z)) k ≡ cond y None (hash_if (x && not z) k)
       split x true z k = rw (and-false x)
       split x false z k = refl
 
-      by : (q : Bool) → is_dot (class_of b) ≡ q → parts_spelled n (p ++ (b ∷ v)) h ≡ hash_if (not (is_reserved p)) (hash_if q (parts_spelled (n - 1) v (stepped (hash_from p h) b)))
+      by : (q : Bool) → is_dot (class_of b) ≡ q → parts_spelled n (p ++ (b ∷ v)) h ≡ cond (is_reserved p) None (cond q (parts_spelled (n - 1) v (stepped (hash_from p h) b)) None)
       by true d =
           rw (dotted-behind d, few d, reserved-behind d, hash-append p (b ∷ v) h)
           (split (has_good_parts v && leb (length (parts v)) (n - 1)) (is_reserved p) (is_reserved v) (hash_from v (stepped (hash_from p h) b)))
-      by false d = rw (no_name p b v g d) (no-hash (not (is_reserved p)) 4294967296 refl)
+      by false d = rw (no_name p b v g d) (sym (stays-none (is_reserved p) None refl))
 
 -- ---- a part that was read, in its name
 
@@ -214,27 +219,38 @@ starts-there t at past g = by (ltb at past) refl
     by true e = sym (ap part_starts (first_byte t at past (ltb-true at past e) g))
     by false e = sym (ap part_starts (part_none t at (past - at) (omega (arith, ltb-false at past e))))
 
-pub no_start : (t : List ℕ) (n at past h : ℕ) → past ≤ length t → (ltb at past && starts (class_of (get_or t at 0))) ≡ false → parts_spelled n (between t at past) h ≡ 4294967296
+pub no_start : (t : List ℕ) (n at past h : ℕ) → past ≤ length t → (ltb at past && starts (class_of (get_or t at 0))) ≡ false → parts_spelled n (between t at past) h ≡ None
 no_start t n at past h g e = none-starts n (between t at past) h (sym (starts-there t at past g) ∙ e)
 
 -- what is after a part at a dot: no part may; there is no dot; no part starts there; and else parts
 module _ (t : List ℕ) (from dot past before left : ℕ) where
-  pub more-none : left ≡ 0 → 4294967296 ≡ more_spelled t from dot past before left
+  pub more-none : left ≡ 0 → None ≡ more_spelled t from dot past before left
   more-none e =
-      no-hash (not (is_reserved (between t from dot))) _
-      (sym (no-hash (is_dot (class_of (get_or t dot 0))) _ (rw e (none_left (between t (dot + 1) past) (stepped before (get_or t dot 0))))))
+      sym (stays-none (is_reserved (between t from dot)) _
+      (no-hash (is_dot (class_of (get_or t dot 0))) _ (rw e (none_left (between t (dot + 1) past) (stepped before (get_or t dot 0))))))
 
-  pub more-no-dot : is_dot (class_of (get_or t dot 0)) ≡ false → 4294967296 ≡ more_spelled t from dot past before left
-  more-no-dot e = no-hash (not (is_reserved (between t from dot))) _ (rw e)
+  pub more-no-dot : is_dot (class_of (get_or t dot 0)) ≡ false → None ≡ more_spelled t from dot past before left
+  more-no-dot e = sym (stays-none (is_reserved (between t from dot)) _ (rw e))
 
-  pub more-no-start : past ≤ length t → (ltb (dot + 1) past && starts (class_of (get_or t (dot + 1) 0))) ≡ false → 4294967296 ≡ more_spelled t from dot past before left
+  pub more-no-start : past ≤ length t → (ltb (dot + 1) past && starts (class_of (get_or t (dot + 1) 0))) ≡ false → None ≡ more_spelled t from dot past before left
   more-no-start g e =
-      no-hash (not (is_reserved (between t from dot))) _
-      (sym (no-hash (is_dot (class_of (get_or t dot 0))) _ (no_start t left (dot + 1) past (stepped before (get_or t dot 0)) g e)))
+      sym (stays-none (is_reserved (between t from dot)) _
+      (no-hash (is_dot (class_of (get_or t dot 0))) _ (no_start t left (dot + 1) past (stepped before (get_or t dot 0)) g e)))
 
-  pub more_parts : (h hash r : ℕ) → is_dot (class_of (get_or t dot 0)) ≡ true → h ≡ stepped before (get_or t dot 0) → hash ≡ parts_spelled left (between t (dot + 1) past) h
-      → r ≡ hash_if (not (is_reserved (between t from dot))) hash → r ≡ more_spelled t from dot past before left
-  more_parts h hash r d e f x = x ∙ ap (hash_if (not (is_reserved (between t from dot)))) (f ∙ rw (d, e))
+  module _ (h : ℕ) (d : is_dot (class_of (get_or t dot 0)) ≡ true) (e : h ≡ stepped before (get_or t dot 0)) where
+    parts_behind : (o : Option ℕ) → o ≡ parts_spelled left (between t (dot + 1) past) h → cond (is_reserved (between t from dot)) None o ≡ more_spelled t from dot past before left
+    parts_behind o f = ap (cond (is_reserved (between t from dot)) None) (f ∙ rw (d, e))
+
+    pub more-no-parts : None ≡ parts_spelled left (between t (dot + 1) past) h → None ≡ more_spelled t from dot past before left
+    more-no-parts f = sym (stays-none (is_reserved (between t from dot)) None refl) ∙ parts_behind None f
+
+    pub more_parts : (hash : ℕ) (r : Option ℕ) → Some hash ≡ parts_spelled left (between t (dot + 1) past) h
+        → r ≡ hash_if (not (is_reserved (between t from dot))) hash → r ≡ more_spelled t from dot past before left
+    more_parts hash r f x = x ∙ turned (is_reserved (between t from dot)) ∙ parts_behind (Some hash) f
+      where
+        turned : (q : Bool) → hash_if (not q) hash ≡ cond q None (Some hash)
+        turned true = refl
+        turned false = refl
 
 -- a part that was read
 module _ (t : List ℕ) (from past before : ℕ) (r : Part) (g : past ≤ length t) (s : (ltb from past && starts (class_of (get_or t from 0))) ≡ true)
@@ -268,7 +284,7 @@ module _ (t : List ℕ) (from past before : ℕ) (r : Part) (g : past ≤ length
 -- ---- whole names
 
 module _ (t : List ℕ) (from past n : ℕ) (l : from ≤ past) (g : past ≤ length t) where
-  pub too_long : max_name < past - from → 4294967296 ≡ spelled n (between t from past)
+  pub too_long : max_name < past - from → None ≡ spelled n (between t from past)
   too_long h = rw (lt-leb (length (between t from past)) max_name (omega (arith, long t from past l g)), and-false (has_good_parts (between t from past)))
 
   pub by_parts : past - from ≤ max_name → parts_spelled n (between t from past) 0 ≡ spelled n (between t from past)
@@ -280,21 +296,21 @@ hash-small [] h l = l
 hash-small (b ∷ w) h l = hash-small w (stepped h b) (omega arith)
 
 -- what a hash says of its name
-pub is_spelled : (n : ℕ) (w : Name) (h : ℕ) → h ≡ spelled n w → (h ≡ 4294967296 → ⊥) → (is_spelt n w ≡ true) × (h ≡ hash_from w 0) × (h < 4294967296)
-is_spelled n w h e z = by (is_spelt n w) refl
+pub is_spelled : (n : ℕ) (w : Name) (h : ℕ) → Some h ≡ spelled n w → (is_spelt n w ≡ true) × (h ≡ hash_from w 0) × (h < 4294967296)
+is_spelled n w h e = by (is_spelt n w) e
   where
-    by : (q : Bool) → is_spelt n w ≡ q → (q ≡ true) × (h ≡ hash_from w 0) × (h < 4294967296)
+    by : (q : Bool) → Some h ≡ hash_if q (hash_from w 0) → (q ≡ true) × (h ≡ hash_from w 0) × (h < 4294967296)
     by true x =
-        let f : h ≡ hash_from w 0 = e ∙ ap (λ (q : Bool). hash_if q (hash_from w 0)) x in
+        let f : h ≡ hash_from w 0 = cc in
         (refl, f, omega (arith, f, hash-small w 0 (omega arith)))
-    by false x = absurd (z (e ∙ ap (λ (q : Bool). hash_if q (hash_from w 0)) x))
+    by false x = absurd (cc)
 
-pub not-spelled : (n : ℕ) (w : Name) (h : ℕ) → h ≡ spelled n w → h ≡ 4294967296 → is_spelt n w ≡ false
-not-spelled n w h e z = by (is_spelt n w) refl
+pub not-spelled : (n : ℕ) (w : Name) → None ≡ spelled n w → is_spelt n w ≡ false
+not-spelled n w e = by (is_spelt n w) e
   where
-    by : (q : Bool) → is_spelt n w ≡ q → q ≡ false
+    by : (q : Bool) → None ≡ hash_if q (hash_from w 0) → q ≡ false
     by false x = refl
-    by true x = absurd (omega (arith, e ∙ ap (λ (q : Bool). hash_if q (hash_from w 0)) x, z, hash-small w 0 (omega arith)))
+    by true x = absurd (cc)
 
 -- "a permission's one": a good name of one part is a good part
 pub spelt-part : (w : Name) → is_spelt 1 w ≡ is_good_part w

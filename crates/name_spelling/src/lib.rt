@@ -3,15 +3,11 @@
 #![tactic(auto)]
 
 ghost use Rattle.std.specs.Prelude.{◌≡◌, true, not, ◌&&◌, ◌≤◌, ◌<◌, ltb, length, get_or};
-ghost use Rattle.lexer.specs.Answers.{Classes};
 ghost use Rattle.lexer.specs.Class.{class_of, starts, goes_on, is_part};
 ghost use Rattle.policy.specs.Words.{is_reserved};
 ghost use Rattle.symbols.specs.Section.{between};
 ghost use Rattle.name_spelling.specs.Spelling as spec;
 ghost use Rattle.name_spelling.specs.Spelling.{may_be_reserved, hash_if, PartRead, more_spelled, spelled};
-
-// What stands for the hash of bytes that are no name: one more than the greatest hash.
-pub const NO_NAME: usize = 4_294_967_296;
 
 // A part that was read: the hash of the name up to its end, and the place after it.
 #[derive(Clone, Copy)]
@@ -79,51 +75,51 @@ fn is_reserved(table: &[u8], from: usize, past: usize) -> bool
 
 // The hash, unless the part from a place to before another is reserved. Few parts end like a reserved word of their
 // length, so that few are compared.
-fn unless_reserved(table: &[u8], from: usize, past: usize, hash: usize) -> usize
+fn unless_reserved(table: &[u8], from: usize, past: usize, hash: usize) -> Option<usize>
     requires { (from < past) × (past ≤ length table.now) × (is_part (between table.now from past) ≡ true) }
     ensures { result ≡ hash_if (not (is_reserved (between table.now from past))) hash }
 {
     if !may_be_reserved(past - from, table[past - 1]) {
-        return hash;
+        return Some(hash);
     }
     if is_reserved(table, from, past) {
-        return NO_NAME;
+        return None;
     }
-    hash
+    Some(hash)
 }
 
 // ---- parts
 
 // Whether a part goes on at a place before another.
-fn goes_on(classes: &[u8; 256], table: &[u8], at: usize, past: usize) -> bool
-    requires { Classes classes.now × (past ≤ length table.now) }
+fn goes_on(table: &[u8], at: usize, past: usize) -> bool
+    requires { past ≤ length table.now }
     ensures { result ≡ (ltb at past && goes_on (class_of (get_or table.now at 0))) }
 {
     if past <= at {
         return false;
     }
-    lexer::is_in_part(classes, table[at])
+    lexer::is_in_part(table[at])
 }
 
 // Whether a part starts at a place before another.
-fn starts_part(classes: &[u8; 256], table: &[u8], at: usize, past: usize) -> bool
-    requires { Classes classes.now × (past ≤ length table.now) }
+fn starts_part(table: &[u8], at: usize, past: usize) -> bool
+    requires { past ≤ length table.now }
     ensures { result ≡ (ltb at past && starts (class_of (get_or table.now at 0))) }
 {
     if past <= at {
         return false;
     }
-    lexer::starts_part(classes, table[at])
+    lexer::starts_part(table[at])
 }
 
 // The part that starts at a place, with the hash of the name up to there.
-fn read_part(classes: &[u8; 256], table: &[u8], from: usize, past: usize, before: usize) -> Part
-    requires { Classes classes.now × (from < past) × (past ≤ length table.now) × (before < 4294967296) }
+fn read_part(table: &[u8], from: usize, past: usize, before: usize) -> Part
+    requires { (from < past) × (past ≤ length table.now) × (before < 4294967296) }
     ensures { PartRead table.now from past before result }
 {
     let mut hash = bloom_filter::hash_step(before, little_endian::wide(table[from]));
     let mut i = from + 1;
-    while goes_on(classes, table, i, past) {
+    while goes_on(table, i, past) {
         hash = bloom_filter::hash_step(hash, little_endian::wide(table[i]));
         i += 1;
     }
@@ -134,29 +130,27 @@ fn read_part(classes: &[u8; 256], table: &[u8], from: usize, past: usize, before
 // parts at most. Few names have a dot. Since this function calls itself, the compiler keeps it apart from `spell`,
 // which then is as quick as if there were no dots.
 fn spell_more(
-    classes: &[u8; 256],
     table: &[u8],
     from: usize,
     dot: usize,
     past: usize,
     before: usize,
     left: usize,
-) -> usize
-    requires { Classes classes.now × (from < dot) × (dot < past) × (past ≤ length table.now) × (before < 4294967296) × (is_part (between table.now from dot) ≡ true) }
+) -> Option<usize>
+    requires { (from < dot) × (dot < past) × (past ≤ length table.now) × (before < 4294967296) × (is_part (between table.now from dot) ≡ true) }
     ensures { result ≡ more_spelled table.now from dot past before left }
 {
     if left == 0 {
-        return NO_NAME;
+        return None;
     }
-    if !lexer::is_dot(classes, table[dot]) {
-        return NO_NAME;
+    if !lexer::is_dot(table[dot]) {
+        return None;
     }
     let start = dot + 1;
-    if !starts_part(classes, table, start, past) {
-        return NO_NAME;
+    if !starts_part(table, start, past) {
+        return None;
     }
     let part = read_part(
-        classes,
         table,
         start,
         past,
@@ -164,34 +158,28 @@ fn spell_more(
     );
     let end = part.end;
     let hash = if end < past {
-        spell_more(classes, table, start, end, past, part.hash, left - 1)
+        spell_more(table, start, end, past, part.hash, left - 1)?
     } else {
-        unless_reserved(table, start, past, part.hash)
+        unless_reserved(table, start, past, part.hash)?
     };
     unless_reserved(table, from, dot, hash)
 }
 
 // The hash of the bytes from a place to before another if they are a good name of so many parts at most.
-pub fn spell(
-    classes: &[u8; 256],
-    table: &[u8],
-    from: usize,
-    past: usize,
-    most_parts: usize,
-) -> usize
-    requires { Classes classes.now × (from ≤ past) × (past ≤ length table.now) × (0 < most_parts) }
+pub fn spell(table: &[u8], from: usize, past: usize, most_parts: usize) -> Option<usize>
+    requires { (from ≤ past) × (past ≤ length table.now) × (0 < most_parts) }
     ensures { result ≡ spelled most_parts (between table.now from past) }
 {
     if lexer::Name::MAX < past - from {
-        return NO_NAME;
+        return None;
     }
-    if !starts_part(classes, table, from, past) {
-        return NO_NAME;
+    if !starts_part(table, from, past) {
+        return None;
     }
-    let part = read_part(classes, table, from, past, 0);
+    let part = read_part(table, from, past, 0);
     let end = part.end;
     if end < past {
-        return spell_more(classes, table, from, end, past, part.hash, most_parts - 1);
+        return spell_more(table, from, end, past, part.hash, most_parts - 1);
     }
     unless_reserved(table, from, past, part.hash)
 }

@@ -1,5 +1,9 @@
 -- The way through the parts of a text: what was read so far and what is left, of the row at hand and of the rows around it, give what the whole text gives.
 -- Assumes nothing.
+use Rattle.std.specs.Prelude.{Result, Ok, Err}
+use Rattle.policy.specs.declared.Fault.{Fault}
+use Rattle.policy.specs.declared.FaultAt.{FaultAt}
+use Rattle.policy.specs.Answers.{fault_number}
 use Prim.Native.Nat.{ℕ, ◌+◌, ◌-◌, ◌≤◌, ◌<◌}
 use native.Mathlib.Omega.{arith}
 use mathlib.Core.Path.{◌≡◌, refl, sym, ap, subst, ◌∙◌}
@@ -11,9 +15,8 @@ use denote.Enum.Declared.{tag_of}
 use lib.Dec.{leb}
 use lib.ListN.{length, take, drop, replicate, length-drop}
 use lib.Seq.{length-take-le}
-use Rattle.lexer.specs.declared.Scanned.{Scanned}
 use Rattle.lexer.specs.declared.Token.{Token}
-use Rattle.lexer.specs.Scan.{scan}
+use Rattle.lexer.specs.Scan.{scan, no_fault}
 use Rattle.lexer.specs.Class.{is_name}
 use Rattle.lexer.specs.Token.{token_at}
 use Rattle.lexer.specs.Forms.{Forms, closed, ended, word, part, Frames, out, frames_at, forms_of, closes, balanced, names_good}
@@ -29,7 +32,7 @@ use Rattle.policy.specs.Words.{block_word}
 use Rattle.policy.specs.Scopes.{Scoped, scoped, scoped_in, block_of, blocks_in}
 use Rattle.policy.proofs.Lists.{both_true, gather_append, same-is}
 use Rattle.policy.specs.Reading.{Judged, reads, opens, fault, judge_statement, judge_block, judge, Read, policy, refused, read_from, row_count}
-use Rattle.policy.specs.Accepted.{Accepted, GoodPath}
+use Rattle.policy.specs.Accepted.{GoodPath}
 use Rattle.policy.specs.Encode.{constraint_records, entries_from, entries}
 use Rattle.policy.proofs.BlockLaws.{no_block}
 use Rattle.items.specs.Looks.{item_of, item_at}
@@ -68,10 +71,13 @@ use Rattle.statement_reader.specs.declared.Progress.{Progress}
 use Rattle.statement_reader.proofs.MemoryLaws.{empty}
 use Rattle.parser.specs.Parses.{Reads, Parses, ParsesCleared}
 use Rattle.parser.specs.Parts.{StatedBy, StatedAhead, States, Inside, EnteredBy, EnteredAhead, Enters, place_after}
-use Rattle.parser.specs.declared.Parsed.{Parsed}
 use Rattle.parser.specs.declared.Stated.{Stated}
 use Rattle.parser.specs.declared.Entered.{Entered}
 use Rattle.symbols.specs.Section.{name_bytes}
+
+-- the fault that is answered for one at a place
+abbrev pub fault_at : Fault → ℕ → FaultAt
+fault_at f place = record { fault = f; place = place }
 
 -- ---- before the first part
 
@@ -101,7 +107,7 @@ no_blocks : blocks_in [] ≡ []
 unfolding blocks_in gather
 no_blocks = refl
 
-pub begins : (t : List ℕ) (lent : Memory) (keys filter : List ℕ) (o : OpenBlocks) → scan t ≡ Scanned.Clean → Chained lent.symbols 0 [] → InScope lent.symbols []
+pub begins : (t : List ℕ) (lent : Memory) (keys filter : List ℕ) (o : OpenBlocks) → scan t ≡ no_fault → Chained lent.symbols 0 [] → InScope lent.symbols []
     → o.count ≡ 0 → Within t keys filter lent.symbols [] [] o → Rest t 0 lent lent keys filter nothing_read o
 unfolding forms_of
 begins t lent keys filter o clean index scope zero w = record {
@@ -119,7 +125,7 @@ begins t lent keys filter o clean index scope zero w = record {
 }
 
 pub starts : {t : List ℕ} {lent : Memory} {keys : List ℕ} {p : Progress} {o : OpenBlocks} → p ≡ nothing_read → o ≡ none_open
-    → scan t ≡ Scanned.Clean → Chained lent.symbols 0 [] → InScope lent.symbols [] → Rest t 0 lent lent keys (replicate 1024 0) p o
+    → scan t ≡ no_fault → Chained lent.symbols 0 [] → InScope lent.symbols [] → Rest t 0 lent lent keys (replicate 1024 0) p o
 starts {t} {lent} {keys} e f clean index scope =
     rw (e, f) (begins t lent keys (replicate 1024 0) none_open clean index scope refl (standing.begins t keys 1024 (omega arith) scope))
 
@@ -134,16 +140,16 @@ module _ {t : List ℕ} {at : ℕ} {lent now : Memory} {keys filter : List ℕ} 
       absurd (false≢true (sym c ∙ sym (ap (λ (x : Frames). parts_alone x.here && closes x.here) e) ∙ rw (r.rows.0.parts, r.rows.0.shut)))
 
   ended_here : {sofar : Policy} (path : List Name) {before : List Scoped} → frames_at t at ≡ record { here = ended; around = [] }
-      → Stands t at lent now keys filter s o sofar path before → Reads (whole t) lent now (Parsed.Accepted s)
+      → Stands t at lent now keys filter s o sofar path before → Reads (whole t) lent now (Ok s)
   unfolding read_from scoped_in closes parts_alone balanced
   ended_here {sofar} [] {before} e r =
-      subst (λ (x : Read). Reads x lent now (Parsed.Accepted s)) (sym (r.left ∙ ap (λ (f : Frames). read_from before (resumed [] f) sofar) e)) r.holds
+      subst (λ (x : Read). Reads x lent now (Ok s)) (sym (r.left ∙ ap (λ (f : Frames). read_from before (resumed [] f) sofar) e)) r.holds
   ended_here (b ∷ path) e r = absurd (false≢true (ap (λ (x : Frames). closes x.here) (sym e) ∙ r.rows.0.shut))
 
-  pub finishes : (i : Item) → i ≡ item_at t at → OneOf (0 ∷ 3 ∷ []) (tag_of the_type i) → Rest t at lent now keys filter s o → Reads (whole t) lent now (Parsed.Accepted s)
+  pub finishes : (i : Item) → i ≡ item_at t at → OneOf (0 ∷ 3 ∷ []) (tag_of the_type i) → Rest t at lent now keys filter s o → Reads (whole t) lent now (Ok s)
   unfolding closes parts_alone balanced
   finishes i e h r =
-      among (0 ∷ 3 ∷ []) (λ (k : Item). FramesSeen t at k → Reads (whole t) lent now (Parsed.Accepted s)) (
+      among (0 ∷ 3 ∷ []) (λ (k : Item). FramesSeen t at k → Reads (whole t) lent now (Ok s)) (
         λ a n k q l. odd r.path _ l.frames refl refl r.stands,
         tt,
         tt,
@@ -166,7 +172,7 @@ pub record Opens (t : List ℕ) (at place next : ℕ) : Type 0 where
   pub below : place < 65536
   pub inside : next ≤ length t
 
-pub opens_at : {t : List ℕ} {at place next : ℕ} {i : Item} → scan t ≡ Scanned.Clean → i ≡ item_at t at → i ≡ Item.Open place next → Opens t at place next
+pub opens_at : {t : List ℕ} {at place next : ℕ} {i : Item} → scan t ≡ no_fault → i ≡ item_at t at → i ≡ Item.Open place next → Opens t at place next
 unfolding item_at
 opens_at {t} {at} {place} {next} clean e f =
     let l = sees e f in
@@ -209,10 +215,11 @@ module _ {t : List ℕ} {at place next : ℕ} {lent now : Memory} {keys filter :
     first-left none e = (_, after-statement r.path place row e)
     first-left (some b) e = (_, after-header r.path place row b e)
 
-    pub refuses : (n m : ℕ) → judge r.before r.sofar this ≡ fault n → m ≡ n → (after : Memory) → Reads (whole t) lent after (Parsed.Refused m place)
+    pub refuses : (n : ℕ) (m : Fault) → judge r.before r.sofar this ≡ fault n → fault_number m ≡ n → (after : Memory)
+        → Reads (whole t) lent after (Err (fault_at m place))
     refuses n m e f after =
         let x = first-left (block_in row.here) refl in
-        subst (λ (y : Read). Reads y lent after (Parsed.Refused m place)) (sym (left_by x.0 x.1 (fault n) e)) (f, refl)
+        subst (λ (y : Read). Reads y lent after (Err (fault_at m place))) (sym (left_by x.0 x.1 (fault n) e)) (f, refl)
 
     weight-here : weight_in r.path (frames_at t at) ≡ weight row.here + weight_in r.path (out row) + 1
     unfolding weight
@@ -256,7 +263,7 @@ blocks_more before x = gather_append block_of before (x ∷ [])
 -- ---- a statement
 
 module _ {t : List ℕ} {at place next : ℕ} {lent now now' : Memory} {keys filter : List ℕ} {s : Progress} {o : OpenBlocks} (r : Rest t at lent now keys filter s o)
-    (p : Opens t at place next) (plain : is_block (frames_at t next).here ≡ false) {k : Stated} (y : States t next place now now' s k) where
+    (p : Opens t at place next) (plain : is_block (frames_at t next).here ≡ false) {k : Result Stated Fault} (y : States t next place now now' s k) where
   judged : judge r.before r.sofar (this r p) ≡ judge_statement r.path r.sofar (written (row r p).here)
   judged = judge-statement r.before r.sofar (this r p) plain
 
@@ -266,12 +273,12 @@ module _ {t : List ℕ} {at place next : ℕ} {lent now now' : Memory} {keys fil
       (statement-deep r.path place (row r p) r.stands.holds.blocks.few (rows-here r p))
       (λ st q. omega (arith, statement-fits r.before r.sofar (this r p) st (judged ∙ q), r.stands.room, weight-here r p))
 
-  pub statement-stops : {n : ℕ} → k ≡ Stated.Fault n → Reads (whole t) lent now' (Parsed.Refused n place)
+  pub statement-stops : {n : Fault} → k ≡ Err n → Reads (whole t) lent now' (Err (fault_at n place))
   statement-stops {n} e = go (judge_statement r.path r.sofar (written (row r p).here)) refl
       (subst (StatedBy (judge_statement r.path r.sofar (written (row r p).here)) t next r.sofar r.path place lent now') e stated)
     where
-      go : (j : Judged) → judge_statement r.path r.sofar (written (row r p).here) ≡ j → StatedBy j t next r.sofar r.path place lent now' (Stated.Fault n)
-          → Reads (whole t) lent now' (Parsed.Refused n place)
+      go : (j : Judged) → judge_statement r.path r.sofar (written (row r p).here) ≡ j → StatedBy j t next r.sofar r.path place lent now' (Err n)
+          → Reads (whole t) lent now' (Err (fault_at n place))
       go (reads st) i g = absurd g
       go opens i g = absurd g
       go (fault m) i g = refuses r p m n (judged ∙ i) g now'
@@ -282,10 +289,10 @@ module _ {t : List ℕ} {at place next : ℕ} {lent now now' : Memory} {keys fil
       blocks_more r.before (this r p)
       ∙ ap (λ (b : Option Name). blocks_in r.before ++ keep (b >>= λ b. some (full r.path b)) []) (no_block (row r p).here plain) ∙ append-nil _
 
-  filled_on : {past : ℕ} {q : Progress} → next < past → (st : Statement) → judge_statement r.path r.sofar (written (row r p).here) ≡ reads st
-      → StatedBy (reads st) t next r.sofar r.path place lent now' (Stated.Next past q) → Rest t past lent now' keys filter q o
-  filled_on {past} {q} far st i (end, g) =
-      let there : out (row r p) ≡ frames_at t past = leaves t next ∙ ap (frames_at t) (sym end) in
+  filled_on : {q : Stated} → next < q.past → (st : Statement) → judge_statement r.path r.sofar (written (row r p).here) ≡ reads st
+      → StatedBy (reads st) t next r.sofar r.path place lent now' (Ok q) → Rest t q.past lent now' keys filter q.progress o
+  filled_on {q} far st i (end, g) =
+      let there : out (row r p) ≡ frames_at t q.past = leaves t next ∙ ap (frames_at t) (sym end) in
       let j = judged ∙ i in
       record {
         sofar = r.sofar ++ (line place st ∷ []);
@@ -306,12 +313,12 @@ module _ {t : List ℕ} {at place next : ℕ} {lent now now' : Memory} {keys fil
         };
       }
 
-  pub statement-on : {past : ℕ} {q : Progress} → k ≡ Stated.Next past q → Rest t past lent now' keys filter q o
-  statement-on {past} {q} e = go (judge_statement r.path r.sofar (written (row r p).here)) refl
+  pub statement-on : {q : Stated} → k ≡ Ok q → Rest t q.past lent now' keys filter q.progress o
+  statement-on {q} e = go (judge_statement r.path r.sofar (written (row r p).here)) refl
       (subst (StatedBy (judge_statement r.path r.sofar (written (row r p).here)) t next r.sofar r.path place lent now') e stated)
     where
-      go : (j : Judged) → judge_statement r.path r.sofar (written (row r p).here) ≡ j → StatedBy j t next r.sofar r.path place lent now' (Stated.Next past q)
-          → Rest t past lent now' keys filter q o
+      go : (j : Judged) → judge_statement r.path r.sofar (written (row r p).here) ≡ j → StatedBy j t next r.sofar r.path place lent now' (Ok q)
+          → Rest t q.past lent now' keys filter q.progress o
       go (reads st) i g = filled_on (subst (StatedAhead t next) e y.ahead).0 st i g
       go opens i g = absurd g
       go (fault m) i g = absurd g
@@ -341,8 +348,8 @@ pub record Word (t : List ℕ) (next start past : ℕ) (w : Name) : Type 0 where
   pub is : same w block_word ≡ true
 
 module _ {t : List ℕ} {at place next : ℕ} {lent : Memory} {sy sy' co cs rs keys keys' filter filter' : List ℕ} {s : Progress} {o : OpenBlocks}
-    (r : Rest t at lent (memory sy co cs rs) keys filter s o) (p : Opens t at place next) (clean : scan t ≡ Scanned.Clean)
-    {start past : ℕ} {w : Name} (b : Word t next start past w) {k : Entered} (y : Enters t past keys keys' filter filter' sy sy' o k) where
+    (r : Rest t at lent (memory sy co cs rs) keys filter s o) (p : Opens t at place next) (clean : scan t ≡ no_fault)
+    {start past : ℕ} {w : Name} (b : Word t next start past w) {k : Result Entered Fault} (y : Enters t past keys keys' filter filter' sy sy' o k) where
   block_row : (row r p).here ≡ word start w (frames_at t past).here
   block_row = ap (λ (f : Frames). f.here) b.frames
 
@@ -375,22 +382,22 @@ module _ {t : List ℕ} {at place next : ℕ} {lent : Memory} {sy sy' co cs rs k
   entered : EnteredBy (judge_block r.path (blocks_in r.before) (header_in (frames_at t past).here)) t past keys' filter' sy sy' r.path (blocks_in r.before) o k
   entered = y.says r.path (blocks_in r.before) r.stands.within behind-names (omega (arith, clean-short t clean)) block_room
 
-  header_refused : {n : ℕ} → k ≡ Entered.Fault n → Reads (whole t) lent (memory sy' co cs rs) (Parsed.Refused n place)
+  header_refused : {n : Fault} → k ≡ Err n → Reads (whole t) lent (memory sy' co cs rs) (Err (fault_at n place))
   header_refused {n} e = go (judge_block r.path (blocks_in r.before) (header_in (frames_at t past).here)) refl
       (subst (EnteredBy (judge_block r.path (blocks_in r.before) (header_in (frames_at t past).here)) t past keys' filter' sy sy' r.path
       (blocks_in r.before) o) e entered)
     where
       go : (j : Judged) → judge_block r.path (blocks_in r.before) (header_in (frames_at t past).here) ≡ j
-          → EnteredBy j t past keys' filter' sy sy' r.path (blocks_in r.before) o (Entered.Fault n) → Reads (whole t) lent (memory sy' co cs rs) (Parsed.Refused n place)
+          → EnteredBy j t past keys' filter' sy sy' r.path (blocks_in r.before) o (Err n) → Reads (whole t) lent (memory sy' co cs rs) (Err (fault_at n place))
       go (reads st) i g = absurd g
       go opens i g = absurd g
       go (fault m) i g = refuses r p m n (opening-is ∙ i) g (memory sy' co cs rs)
 
-  inside_on : {q : OpenBlocks} {place_in : ℕ} → past < place_in → judge_block r.path (blocks_in r.before) (header_in (frames_at t past).here) ≡ opens
-      → Inside t past keys' filter' sy sy' r.path (blocks_in r.before) o q place_in → Rest t place_in lent (memory sy' co cs rs) keys' filter' s q
+  inside_on : {q : Entered} → past < q.inside → judge_block r.path (blocks_in r.before) (header_in (frames_at t past).here) ≡ opens
+      → Inside t past keys' filter' sy sy' r.path (blocks_in r.before) o q.blocks q.inside → Rest t q.inside lent (memory sy' co cs rs) keys' filter' s q.blocks
   unfolding weight
-  inside_on {q} {place_in} far i g =
-      let f = frames_at t place_in in
+  inside_on {q} far i g =
+      let f = frames_at t q.inside in
       let both : row r p ≡ resuming.header start w g.start g.name f =
       b.frames ∙ ap (λ (x : Frames). record { here = word start w x.here; around = x.around }) g.row in
       let name : block_in (row r p).here ≡ some g.name = header_is ∙ g.header in
@@ -405,7 +412,7 @@ module _ {t : List ℕ} {at place next : ℕ} {lent : Memory} {sy sy' co cs rs k
         before = r.before ++ (this r p ∷ []);
         stands = record {
           holds = scoped-holds r.stands.holds g.kept g.within.good g.within.scope;
-          within = subst (λ (ns : List Name). Within t keys' filter' sy' (g.name ∷ r.path) ns q) more g.within;
+          within = subst (λ (ns : List Name). Within t keys' filter' sy' (g.name ∷ r.path) ns q.blocks) more g.within;
           left = left_by r p _ (after-header r.path place (row r p) g.name name) opens (opening-is ∙ i)
               ∙ ap (λ (x : Frames). read_from (r.before ++ (this r p ∷ [])) (resumed (g.name ∷ r.path) x) r.sofar) both
               ∙ ap (λ (x : List Scoped). read_from (r.before ++ (this r p ∷ [])) x r.sofar) (block-left r.path start w g.start g.name f g.name);
@@ -415,13 +422,13 @@ module _ {t : List ℕ} {at place next : ℕ} {lent : Memory} {sy sy' co cs rs k
         };
       }
 
-  header_read : {q : OpenBlocks} {place_in : ℕ} → k ≡ Entered.Inside place_in q → Rest t place_in lent (memory sy' co cs rs) keys' filter' s q
-  header_read {q} {place_in} e = go (judge_block r.path (blocks_in r.before) (header_in (frames_at t past).here)) refl
+  header_read : {q : Entered} → k ≡ Ok q → Rest t q.inside lent (memory sy' co cs rs) keys' filter' s q.blocks
+  header_read {q} e = go (judge_block r.path (blocks_in r.before) (header_in (frames_at t past).here)) refl
       (subst (EnteredBy (judge_block r.path (blocks_in r.before) (header_in (frames_at t past).here)) t past keys' filter' sy sy' r.path
       (blocks_in r.before) o) e entered)
     where
       go : (j : Judged) → judge_block r.path (blocks_in r.before) (header_in (frames_at t past).here) ≡ j
-          → EnteredBy j t past keys' filter' sy sy' r.path (blocks_in r.before) o (Entered.Inside place_in q) → Rest t place_in lent (memory sy' co cs rs) keys' filter' s q
+          → EnteredBy j t past keys' filter' sy sy' r.path (blocks_in r.before) o (Ok q) → Rest t q.inside lent (memory sy' co cs rs) keys' filter' s q.blocks
       go (reads st) i g = absurd g
       go opens i g = inside_on (subst (EnteredAhead t past) e y.ahead).0 i g
       go (fault m) i g = absurd g
@@ -463,15 +470,15 @@ block-word t next (Item.Close q) e h = absurd (false≢true h)
 block-word t next Item.End e h = absurd (false≢true h)
 
 module _ {t : List ℕ} {at place next : ℕ} {lent : Memory} {sy sy' co cs rs keys keys' filter filter' : List ℕ} {s : Progress} {o : OpenBlocks}
-    (r : Rest t at lent (memory sy co cs rs) keys filter s o) (p : Opens t at place next) (clean : scan t ≡ Scanned.Clean)
-    {first : Item} (w : BlockWord t next first) {past : ℕ} (d : past ≡ place_after first) {k : Entered} (y : Enters t past keys keys' filter filter' sy sy' o k) where
+    (r : Rest t at lent (memory sy co cs rs) keys filter s o) (p : Opens t at place next) (clean : scan t ≡ no_fault)
+    {first : Item} (w : BlockWord t next first) {past : ℕ} (d : past ≡ place_after first) {k : Result Entered Fault} (y : Enters t past keys keys' filter filter' sy sy' o k) where
   there : Word t next w.start past w.name
   there = subst (λ (n : ℕ). Word t next w.start n w.name) (sym d) w.word
 
-  pub header-on : {q : OpenBlocks} {place_in : ℕ} → k ≡ Entered.Inside place_in q → Rest t place_in lent (memory sy' co cs rs) keys' filter' s q
+  pub header-on : {q : Entered} → k ≡ Ok q → Rest t q.inside lent (memory sy' co cs rs) keys' filter' s q.blocks
   header-on e = header_read r p clean there y e
 
-  pub header-stops : {n : ℕ} → k ≡ Entered.Fault n → Reads (whole t) lent (memory sy' co cs rs) (Parsed.Refused n place)
+  pub header-stops : {n : Fault} → k ≡ Err n → Reads (whole t) lent (memory sy' co cs rs) (Err (fault_at n place))
   header-stops e = header_refused r p clean there y e
 
 -- and what starts no block is none
@@ -514,8 +521,8 @@ roomy e f g = rw (e, f, g)
 
 -- the symbols lent may be others after the room for the entries
 module _ (lent other c k r : List ℕ) (same : take name_bytes other ≡ take name_bytes lent) where
-  pub lent_alike : (x : Read) (now : Memory) (y : Parsed) → Reads x (memory other c k r) now y → Reads x (memory lent c k r) now y
-  lent_alike (policy p) now (Parsed.Accepted s) h =
+  pub lent_alike : (x : Read) (now : Memory) (y : Result Progress FaultAt) → Reads x (memory other c k r) now y → Reads x (memory lent c k r) now y
+  lent_alike (policy p) now (Ok s) h =
       let g = h.filled in
       record {
         accepted = h.accepted;
@@ -536,12 +543,12 @@ module _ (lent other c k r : List ℕ) (same : take name_bytes other ≡ take na
           relabel-row-count = g.relabel-row-count;
         };
       }
-  lent_alike (policy p) now (Parsed.Refused m q) h = h
-  lent_alike (refused n at) now (Parsed.Accepted s) h = h
-  lent_alike (refused n at) now (Parsed.Refused m q) h = h
+  lent_alike (policy p) now (Err f) h = h
+  lent_alike (refused n at) now (Ok s) h = h
+  lent_alike (refused n at) now (Err f) h = h
 
 -- with the chains cleared first and no block open, the text is read whatever the memory held
-pub parses : {t lent cleared started c k r : List ℕ} {now : Memory} {y : Parsed} → Cleared lent cleared → scope.Starts cleared started → symbol_bytes ≤ length lent
+pub parses : {t lent cleared started c k r : List ℕ} {now : Memory} {y : Result Progress FaultAt} → Cleared lent cleared → scope.Starts cleared started → symbol_bytes ≤ length lent
     → ParsesCleared t (memory started c k r) now y → Parses t (memory lent c k r) now y
 parses {t} {lent} {cleared} {started} {c} {k} {r} {now} {y} a b room h = record {
   reads = λ clean.
@@ -551,8 +558,8 @@ parses {t} {lent} {cleared} {started} {c} {k} {r} {now} {y} a b room h = record 
 
 -- ---- what is left of the text falls
 
-pub past-statement : {t : List ℕ} (at : ℕ) {place next past : ℕ} {before after : Memory} {s : Progress} {i : Item} {k : Stated} {q : Progress}
-    → i ≡ item_at t at → i ≡ Item.Open place next → States t next place before after s k → k ≡ Stated.Next past q → length t - past < length t - at
+pub past-statement : {t : List ℕ} (at : ℕ) {place next : ℕ} {before after : Memory} {s : Progress} {i : Item} {k : Result Stated Fault} {q : Stated}
+    → i ≡ item_at t at → i ≡ Item.Open place next → States t next place before after s k → k ≡ Ok q → length t - q.past < length t - at
 past-statement {t} at {next = next} e f y h =
     let l = (sees e f).ahead in
     let a = subst (StatedAhead t next) h y.ahead in

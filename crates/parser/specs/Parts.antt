@@ -1,8 +1,10 @@
 -- What the reading of one part of the text comes to: a statement, or the header of a block. Assumes nothing.
-use Rattle.std.specs.Prelude.{ℕ, ◌+◌, ◌-◌, ◌<◌, ◌≤◌, ◌≡◌, true, List, [], ◌∷◌, ◌++◌, length}
+use Rattle.std.specs.Prelude.{ℕ, ◌+◌, ◌-◌, ◌<◌, ◌≤◌, ◌≡◌, true, List, [], ◌∷◌, ◌++◌, length, Result, MatchResult, IfOk}
 use Rattle.std.proofs.Math.Option.{some}
 use Rattle.lexer.specs.Scan.{max_level}
 use Rattle.lexer.specs.Forms.{word, frames_at, trim, names_good}
+use Rattle.policy.specs.declared.Fault.{Fault}
+use Rattle.policy.specs.Answers.{fault_number}
 use Rattle.policy.specs.Basics.{Name}
 use Rattle.policy.specs.Names.{full}
 use Rattle.policy.specs.Statements.{Statement, Policy}
@@ -22,21 +24,18 @@ use Rattle.parser.specs.declared.Entered.{Entered}
 -- ---- a statement
 
 -- the statement whose row is at a place, by how it is judged: it is read, and the answer has the place after its close; or its fault is answered
-abbrev pub StatedBy : Judged → List ℕ → ℕ → Policy → List Name → ℕ → Memory → Memory → Stated → Type 0
-StatedBy (reads s) t at p path place lent now (Stated.Next past q) =
-    (past ≡ row_end t at) × Filled (p ++ (record { place = place; says = s } ∷ [])) path lent now q
-StatedBy (reads s) t at p path place lent now (Stated.Fault m) = ⊥
+abbrev pub StatedBy : Judged → List ℕ → ℕ → Policy → List Name → ℕ → Memory → Memory → Result Stated Fault → Type 0
+StatedBy (reads s) t at p path place lent now r =
+    MatchResult r (λ q. (q.past ≡ row_end t at) × Filled (p ++ (record { place = place; says = s } ∷ [])) path lent now q.progress) (λ f. ⊥)
 StatedBy opens t at p path place lent now r = ⊥
-StatedBy (fault n) t at p path place lent now (Stated.Next past q) = ⊥
-StatedBy (fault n) t at p path place lent now (Stated.Fault m) = m ≡ n
+StatedBy (fault n) t at p path place lent now r = MatchResult r (λ q. ⊥) (λ f. fault_number f ≡ n)
 
 -- the place after a statement lies ahead and in the text
-abbrev pub StatedAhead : List ℕ → ℕ → Stated → Type 0
-StatedAhead t at (Stated.Next past q) = (at < past) × (past ≤ length t)
-StatedAhead t at (Stated.Fault m) = Unit {0}
+abbrev pub StatedAhead : List ℕ → ℕ → Result Stated Fault → Type 0
+StatedAhead t at r = IfOk r (λ q. (at < q.past) × (q.past ≤ length t))
 
 -- after the statements of p, in the blocks of a path, where its words are names, no part of it lies too deep, and there is room for its code
-pub record States (t : List ℕ) (at place : ℕ) (before after : Memory) (s : Progress) (r : Stated) : Type 0 where
+pub record States (t : List ℕ) (at place : ℕ) (before after : Memory) (s : Progress) (r : Result Stated Fault) : Type 0 where
   pub says : (lent : Memory) (p : Policy) (path : List Name) → Holds p path lent before s → place < 65536 → names_good (frames_at t at).here ≡ true
       → trim (frames_at t at).here (max_level - 1) ≡ (frames_at t at).here
       → ((st : Statement) → judge_statement path p (written (frames_at t at).here) ≡ reads st → length (code_of p) + length (statement_code place st) ≤ 65536)
@@ -55,20 +54,17 @@ pub record Inside (t : List ℕ) (at : ℕ) (keys filter sy sy' : List ℕ) (pat
   pub counted : q.count ≡ o.count + 1
   pub kept : SymbolsKept sy sy'
 
-abbrev pub EnteredBy : Judged → List ℕ → ℕ → List ℕ → List ℕ → List ℕ → List ℕ → List Name → List Name → OpenBlocks → Entered → Type 0
+abbrev pub EnteredBy : Judged → List ℕ → ℕ → List ℕ → List ℕ → List ℕ → List ℕ → List Name → List Name → OpenBlocks → Result Entered Fault → Type 0
 EnteredBy (reads s) t at keys filter sy sy' path names o r = ⊥
-EnteredBy opens t at keys filter sy sy' path names o (Entered.Inside next q) = Inside t at keys filter sy sy' path names o q next
-EnteredBy opens t at keys filter sy sy' path names o (Entered.Fault m) = ⊥
-EnteredBy (fault n) t at keys filter sy sy' path names o (Entered.Inside next q) = ⊥
-EnteredBy (fault n) t at keys filter sy sy' path names o (Entered.Fault m) = m ≡ n
+EnteredBy opens t at keys filter sy sy' path names o r = MatchResult r (λ q. Inside t at keys filter sy sy' path names o q.blocks q.inside) (λ f. ⊥)
+EnteredBy (fault n) t at keys filter sy sy' path names o r = MatchResult r (λ q. ⊥) (λ f. fault_number f ≡ n)
 
 -- and so does the place after a block's name
-abbrev pub EnteredAhead : List ℕ → ℕ → Entered → Type 0
-EnteredAhead t at (Entered.Inside next q) = (at < next) × (next ≤ length t)
-EnteredAhead t at (Entered.Fault m) = Unit {0}
+abbrev pub EnteredAhead : List ℕ → ℕ → Result Entered Fault → Type 0
+EnteredAhead t at r = IfOk r (λ q. (at < q.inside) × (q.inside ≤ length t))
 
 -- what follows the word `block` at a place, in the blocks of a path, where blocks of these full names were opened
-pub record Enters (t : List ℕ) (at : ℕ) (keys keys' filter filter' sy sy' : List ℕ) (o : OpenBlocks) (r : Entered) : Type 0 where
+pub record Enters (t : List ℕ) (at : ℕ) (keys keys' filter filter' sy sy' : List ℕ) (o : OpenBlocks) (r : Result Entered Fault) : Type 0 where
   pub says : (path names : List Name) → Within t keys filter sy path names o → names_good (frames_at t at).here ≡ true → length t < 65536 → o.count < 8192
       → EnteredBy (judge_block path names (header_in (frames_at t at).here)) t at keys' filter' sy sy' path names o r
   pub ahead : EnteredAhead t at r

@@ -1,7 +1,7 @@
 -- What the reading of a run of statements comes to, and the reading of all that comes after one. Assumes nothing.
-use Rattle.std.specs.Prelude.{ℕ, ◌<◌, ◌≤◌, ◌≡◌, true, List, length, replicate}
-use Rattle.lexer.specs.declared.Scanned.{Scanned}
-use Rattle.lexer.specs.Scan.{scan}
+use Rattle.std.specs.Prelude.{ℕ, ◌<◌, ◌≤◌, ◌≡◌, true, List, length, replicate, Result, Ok, Err, MatchResult, IfOk}
+use Rattle.lexer.specs.Scan.{scan, no_fault}
+use Rattle.policy.specs.declared.FaultAt.{FaultAt}
 use Rattle.items.specs.Looks.{item_at}
 use Rattle.items.specs.declared.Item.{Item}
 use Rattle.grammar.specs.Shapes.{starts_block}
@@ -12,7 +12,6 @@ use Rattle.statement_reader.specs.declared.Progress.{Progress}
 use Rattle.parser.specs.Remaining.{whole, Rest}
 use Rattle.parser.specs.Parses.{Reads}
 use Rattle.parser.specs.Parts.{place_after}
-use Rattle.parser.specs.declared.Parsed.{Parsed}
 use Rattle.parser.specs.declared.Run.{Run}
 
 -- the reading is at a place where a block is next
@@ -36,23 +35,21 @@ pub record CloseNext (t : List ℕ) (lent now : Memory) (keys filter : List ℕ)
 abbrev pub RunBy : List ℕ → Memory → Memory → List ℕ → List ℕ → OpenBlocks → Run → Type 0
 RunBy t lent now keys filter o (Run.Block place at s) = BlockNext t lent now keys filter o place at s
 RunBy t lent now keys filter o (Run.Close next s) = CloseNext t lent now keys filter o next s
-RunBy t lent now keys filter o (Run.End s) = Reads (whole t) lent now (Parsed.Accepted s)
-RunBy t lent now keys filter o (Run.Fault n place) = Reads (whole t) lent now (Parsed.Refused n place)
+RunBy t lent now keys filter o (Run.End s) = Reads (whole t) lent now (Ok s)
 
 -- the place at which the reading goes on lies ahead and in the text
 abbrev pub RunAhead : List ℕ → ℕ → Run → Type 0
 RunAhead t start (Run.Block place at s) = (start < at) × (at ≤ length t)
 RunAhead t start (Run.Close next s) = (start < next) × (next ≤ length t)
 RunAhead t start (Run.End s) = Unit {0}
-RunAhead t start (Run.Fault n place) = Unit {0}
 
--- statements from a place on, whatever blocks are open there
-pub record Runs (t : List ℕ) (start : ℕ) (before after : Memory) (s : Progress) (r : Run) : Type 0 where
-  pub says : (lent : Memory) (keys filter : List ℕ) (o : OpenBlocks) → scan t ≡ Scanned.Clean → Rest t start lent before keys filter s o
-      → RunBy t lent after keys filter o r
-  pub ahead : RunAhead t start r
+-- statements from a place on, whatever blocks are open there: what comes after them, or the first fault of the text
+pub record Runs (t : List ℕ) (start : ℕ) (before after : Memory) (s : Progress) (r : Result Run FaultAt) : Type 0 where
+  pub says : (lent : Memory) (keys filter : List ℕ) (o : OpenBlocks) → scan t ≡ no_fault → Rest t start lent before keys filter s o
+      → MatchResult r (λ run. RunBy t lent after keys filter o run) (λ f. Reads (whole t) lent after (Err f))
+  pub ahead : IfOk r (λ run. RunAhead t start run)
 
 -- all that comes after a first run, where no block was opened yet
-pub record ParsesAfter (t : List ℕ) (first : Run) (before after : Memory) (r : Parsed) : Type 0 where
-  pub reads : (lent : Memory) → scan t ≡ Scanned.Clean → RunBy t lent before (replicate 8192 0) (replicate 1024 0) none_open first
+pub record ParsesAfter (t : List ℕ) (first : Run) (before after : Memory) (r : Result Progress FaultAt) : Type 0 where
+  pub reads : (lent : Memory) → scan t ≡ no_fault → RunBy t lent before (replicate 8192 0) (replicate 1024 0) none_open first
       → Reads (whole t) lent after r

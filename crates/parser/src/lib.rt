@@ -10,37 +10,29 @@ ghost use Rattle.parser.specs.Parts.{States, Enters, place_after};
 ghost use Rattle.parser.specs.Runs.{Runs, ParsesAfter};
 ghost use Rattle.statement_reader.specs.Steps.{nothing_read};
 
-use block_reader::{BLOCKS, FILTER, OpenBlocks, Opened};
+use block_reader::{BLOCKS, FILTER, OpenBlocks};
 use declarations::SYMBOL_BYTES;
-use grammar::Header;
 use items::Item;
 use lexer::Text;
-use policy::Refusal;
-use statement_reader::{CODE_UNITS, Progress, RECORD_BYTES, ROW_BYTES, Step};
+use policy::{Fault, FaultAt};
+use statement_reader::{CODE_UNITS, Progress, RECORD_BYTES, ROW_BYTES};
 
-// The statements are read, or the number of the first fault and its place.
+// A statement that is read: the place after it, and the progress with it.
 #[derive(Clone, Copy)]
-pub enum Parsed {
-    Accepted(Progress),
-    Refused { number: usize, place: usize },
+struct Stated {
+    past: usize,
+    progress: Progress,
 }
 
-// A statement is read, and the place after it; or the number of its fault.
+// A block that is opened: the place after its name, and the blocks that are open then.
 #[derive(Clone, Copy)]
-enum Stated {
-    Next(usize, Progress),
-    Fault(usize),
+struct Entered {
+    inside: usize,
+    blocks: OpenBlocks,
 }
 
-// A block is opened, and the place after its name; or the number of its fault.
-#[derive(Clone, Copy)]
-enum Entered {
-    Inside(usize, OpenBlocks),
-    Fault(usize),
-}
-
-// A run of statements is read, and what comes after it: a block, by its place and the place after the word `block`;
-// the close of a block, by the place after it; or the end. Or the first fault, by its number and place.
+// What comes after a run of statements: a block, by its place and the place after the word `block`; the close of a
+// block, by the place after it; or the end.
 #[derive(Clone, Copy)]
 enum Run {
     Block {
@@ -53,10 +45,6 @@ enum Run {
         progress: Progress,
     },
     End(Progress),
-    Fault {
-        number: usize,
-        place: usize,
-    },
 }
 
 // The unit of a place: no place of a clean text is too great for one.
@@ -108,20 +96,19 @@ fn read(
     constraints: &mut [u8; RECORD_BYTES],
     rows: &mut [u8; ROW_BYTES],
     progress: Progress,
-) -> Stated
+) -> Result<Stated, Fault>
     ensures { (at : ℕ) → first ≡ item_at text.now at → States text.now at place
         (memory symbols.old code.old constraints.old rows.old)
         (memory symbols.new code.new constraints.new rows.new) progress result }
 {
     if !has_room(code, constraints, rows) {
-        return Stated::Fault(Refusal::MAXIMUM_PASSED);
+        return Err(Fault::MaximumPassed);
     }
-    let form = grammar::statement_form(text, first);
-    let items::Parsed::Next(past) = form else {
-        return Stated::Fault(Refusal::NO_FORM);
+    let Some(past) = grammar::statement_form(text, first) else {
+        return Err(Fault::NoForm);
     };
     let unit = place_unit(place);
-    let step = statement_reader::statement(
+    let progress = statement_reader::statement(
         text,
         first,
         unit,
@@ -130,11 +117,8 @@ fn read(
         constraints,
         rows,
         progress,
-    );
-    match step {
-        Step::Read(further) => Stated::Next(past, further),
-        Step::Fault(number) => Stated::Fault(number),
-    }
+    )?;
+    Ok(Stated { past, progress })
 }
 
 // The header of a block, after the word `block`: its form is judged first, with all that the block holds, then its
@@ -146,18 +130,25 @@ fn enter(
     keys: &mut [u64; BLOCKS],
     filter: &mut [u64; FILTER],
     state: OpenBlocks,
-) -> Entered
+) -> Result<Entered, Fault>
     ensures { Enters text.now at keys.old keys.new filter.old filter.new symbols.old symbols.new state result }
 {
-    let header = grammar::block_form(text, at);
-    let Header::Name { start, len } = header else {
-        return Entered::Fault(Refusal::NO_FORM);
+    let Some(name) = grammar::block_form(text, at) else {
+        return Err(Fault::NoForm);
     };
-    let opened = block_reader::open_block(text, start, len, symbols, keys, filter, state);
-    match opened {
-        Opened::Read(further) => Entered::Inside(start + len, further),
-        Opened::Fault(number) => Entered::Fault(number),
-    }
+    let blocks = block_reader::open_block(
+        text,
+        name.start,
+        name.length,
+        symbols,
+        keys,
+        filter,
+        state,
+    )?;
+    Ok(Entered {
+        inside: name.start + name.length,
+        blocks,
+    })
 }
 
 // The place after the first item of a block, which is the word `block`.
@@ -182,7 +173,7 @@ fn read_statements(
     constraints: &mut [u8; RECORD_BYTES],
     rows: &mut [u8; ROW_BYTES],
     before: Progress,
-) -> Run
+) -> Result<Run, FaultAt>
     ensures { Runs text.now start
         (memory symbols.old code.old constraints.old rows.old)
         (memory symbols.new code.new constraints.new rows.new) before result }
@@ -195,13 +186,13 @@ fn read_statements(
             Item::Open { place, next } => {
                 let first = items::next_item(text, next);
                 if grammar::starts_block(first) {
-                    return Run::Block {
+                    return Ok(Run::Block {
                         place,
                         at: place_after(first),
                         progress,
-                    };
+                    });
                 }
-                let stated = read(
+                let read_here = read(
                     text,
                     first,
                     place,
@@ -211,16 +202,16 @@ fn read_statements(
                     rows,
                     progress,
                 );
-                match stated {
-                    Stated::Next(past, further) => {
-                        at = past;
-                        progress = further;
+                match read_here {
+                    Ok(stated) => {
+                        at = stated.past;
+                        progress = stated.progress;
                     }
-                    Stated::Fault(number) => return Run::Fault { number, place },
+                    Err(fault) => return Err(FaultAt { fault, place }),
                 }
             }
-            Item::Close { next } => return Run::Close { next, progress },
-            Item::Word { .. } | Item::End => return Run::End(progress),
+            Item::Close { next } => return Ok(Run::Close { next, progress }),
+            Item::Word { .. } | Item::End => return Ok(Run::End(progress)),
         }
     }
 }
@@ -234,7 +225,7 @@ fn parse_blocks(
     code: &mut [u16; CODE_UNITS],
     constraints: &mut [u8; RECORD_BYTES],
     rows: &mut [u8; ROW_BYTES],
-) -> Parsed
+) -> Result<Progress, FaultAt>
     ensures { ParsesAfter text.now first
         (memory symbols.old code.old constraints.old rows.old)
         (memory symbols.new code.new constraints.new rows.new) result }
@@ -250,29 +241,28 @@ fn parse_blocks(
                 at,
                 progress,
             } => {
-                let entered = enter(text, at, symbols, &mut keys, &mut filter, blocks);
-                match entered {
-                    Entered::Inside(inside, further) => {
-                        blocks = further;
+                let opened = enter(text, at, symbols, &mut keys, &mut filter, blocks);
+                match opened {
+                    Ok(entered) => {
+                        blocks = entered.blocks;
                         run = read_statements(
                             text,
-                            inside,
+                            entered.inside,
                             symbols,
                             code,
                             constraints,
                             rows,
                             progress,
-                        );
+                        )?;
                     }
-                    Entered::Fault(number) => return Parsed::Refused { number, place },
+                    Err(fault) => return Err(FaultAt { fault, place }),
                 }
             }
             Run::Close { next, progress } => {
                 blocks = block_reader::close_block(symbols, &keys, blocks);
-                run = read_statements(text, next, symbols, code, constraints, rows, progress);
+                run = read_statements(text, next, symbols, code, constraints, rows, progress)?;
             }
-            Run::End(progress) => return Parsed::Accepted(progress),
-            Run::Fault { number, place } => return Parsed::Refused { number, place },
+            Run::End(progress) => return Ok(progress),
         }
     }
 }
@@ -284,13 +274,13 @@ fn parse_cleared(
     code: &mut [u16; CODE_UNITS],
     constraints: &mut [u8; RECORD_BYTES],
     rows: &mut [u8; ROW_BYTES],
-) -> Parsed
+) -> Result<Progress, FaultAt>
     ensures { ParsesCleared text.now
         (memory symbols.old code.old constraints.old rows.old)
         (memory symbols.new code.new constraints.new rows.new) result }
 {
     let nothing = nothing_read();
-    let run = read_statements(text, 0, symbols, code, constraints, rows, nothing);
+    let run = read_statements(text, 0, symbols, code, constraints, rows, nothing)?;
     match run {
         Run::Block { .. } | Run::Close { .. } => parse_blocks(
             text,
@@ -300,19 +290,19 @@ fn parse_cleared(
             constraints,
             rows,
         ),
-        Run::End(progress) => Parsed::Accepted(progress),
-        Run::Fault { number, place } => Parsed::Refused { number, place },
+        Run::End(progress) => Ok(progress),
     }
 }
 
-// The statements of a text that the scan leaves clean, whatever the memory held.
+// The statements of a text that the scan leaves clean, whatever the memory held: how far the memory is filled, or the
+// first fault 3 to 7 with its place.
 pub fn parse(
     text: &[u8],
     symbols: &mut [u8; SYMBOL_BYTES],
     code: &mut [u16; CODE_UNITS],
     constraints: &mut [u8; RECORD_BYTES],
     rows: &mut [u8; ROW_BYTES],
-) -> Parsed
+) -> Result<Progress, FaultAt>
     ensures { Parses text.now
         (memory symbols.old code.old constraints.old rows.old)
         (memory symbols.new code.new constraints.new rows.new) result }

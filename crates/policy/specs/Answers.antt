@@ -1,14 +1,16 @@
 -- What the enums and structs of src/ stand for: the documents' numbers and values for each of their cases. Assumes nothing.
-use Rattle.std.specs.Prelude.{ℕ, Bool, true, false}
+use Rattle.std.specs.Prelude.{ℕ, Bool, Result, Ok, Err}
+use Rattle.byte_slices.specs.declared.Span.{Span}
+use Rattle.lexer.specs.declared.ScanFault.{ScanFault}
+use Rattle.lexer.specs.Scan.{max_text}
+use Rattle.policy.specs.declared.FaultAt as theFaultAt
 use Rattle.policy.specs.declared.Family as theFamily
 use Rattle.policy.specs.declared.Relation as theRelation
 use Rattle.policy.specs.declared.Sides as theSides
+use Rattle.policy.specs.declared.Fault as theFault
 use Rattle.policy.specs.declared.Refusal as theRefusal
-use Rattle.policy.specs.declared.Compiling.{Compiling}
-use Rattle.policy.specs.declared.Validity.{Validity}
+use Rattle.policy.specs.declared.Denial as theDenial
 use Rattle.policy.specs.declared.Change.{Change}
-use Rattle.policy.specs.declared.NewRole.{NewRole}
-use Rattle.policy.specs.declared.Place.{Place}
 use Rattle.policy.specs.Statements.{Family, users, roles, types, Relation, userrole, roletype, roleallow}
 use Rattle.policy.specs.Words.{Sides, two_sides, three_sides}
 use Rattle.policy.specs.Deciding.{Answer, granted, denied, fails, refuses, unconsulted, Reply, answered, refused}
@@ -31,33 +33,65 @@ relation_of theRelation.Relation.UserRole = userrole
 relation_of theRelation.Relation.RoleType = roletype
 relation_of theRelation.Relation.RoleAllow = roleallow
 
+-- the number of each refusal: "1 text too long" to "10 lent memory too short", then 11 and 12, those of questions
+abbrev pub fault_number : theFault.Fault → ℕ
+fault_number theFault.Fault.TextTooLong = 1
+fault_number theFault.Fault.WrongByte = 2
+fault_number theFault.Fault.NoForm = 3
+fault_number theFault.Fault.DeclaredAgain = 4
+fault_number theFault.Fault.NameUndeclared = 5
+fault_number theFault.Fault.MaximumPassed = 6
+fault_number theFault.Fault.StackTooSmall = 7
+fault_number theFault.Fault.Cycle = 8
+fault_number theFault.Fault.Clash = 9
+fault_number theFault.Fault.MemoryTooShort = 10
+fault_number theFault.Fault.NotSound = 11
+fault_number theFault.Fault.NumberUndeclared = 12
+
+-- "1 | text too long | 65,535"; "2 | .. | the byte; first byte of the name; text length if unclosed": the fault of the scan, and its place
+abbrev pub placed : ScanFault → theFaultAt.FaultAt
+placed ScanFault.TooLong = record { fault = theFault.Fault.TextTooLong; place = max_text }
+placed (ScanFault.Wrong p) = record { fault = theFault.Fault.WrongByte; place = p }
+
 -- a refusal's number, place and line
 abbrev pub refusal_in : theRefusal.Refusal → Refusal
-refusal_in r = refusal_at r.number r.place r.line
+refusal_in r = refusal_at (fault_number r.fault) r.place r.line
 
 -- accepted with the length, or refused
-abbrev pub compiling_of : Compiling → Outcome
-compiling_of (Compiling.Accepted n) = accepted n
-compiling_of (Compiling.Refused r) = rejected (refusal_in r)
+abbrev pub compiling_of : Result ℕ theRefusal.Refusal → Outcome
+compiling_of (Ok n) = accepted n
+compiling_of (Err r) = rejected (refusal_in r)
 
--- 11 and 12 have the place 0
-abbrev pub validity_of : Validity → Reply Bool
-validity_of Validity.Valid = answered true
-validity_of Validity.NotValid = answered false
-validity_of (Validity.Refused n) = refused n 0
+-- whether a context is valid; 11 and 12 have the place 0
+abbrev pub validity_of : Result Bool theFault.Fault → Reply Bool
+validity_of (Ok b) = answered b
+validity_of (Err f) = refused (fault_number f) 0
 
--- "Denials in order: 1 source not valid; 2 target not valid; 3 ..; 4 the first failing constraint, with its number"; the number consulted is "0 for denials 1
--- to 3 and for refusals"; W-205: "denials 1 old, 2 new, 5 process not valid, 6 with the first failing statement's number"
-abbrev pub change_of : Change → Answer
-change_of (Change.Granted k) = record { verdict = granted; consulted = k }
-change_of (Change.Denied n) = unconsulted (denied n)
-change_of (Change.Failed n i k) = record { verdict = fails n i; consulted = k }
-change_of (Change.Refused n) = unconsulted (refuses n 0)
+-- "Denials in order: 1 source not valid; 2 target not valid; 3 ..; 4 the first failing constraint, with its number"; W-205: "denials 1 old, 2 new, 5 process
+-- not valid, 6 with the first failing statement's number"
+abbrev pub denial_number : theDenial.Denial → ℕ
+denial_number theDenial.Denial.SourceNotValid = 1
+denial_number theDenial.Denial.TargetNotValid = 2
+denial_number theDenial.Denial.RoleMayNotChange = 3
+denial_number theDenial.Denial.ConstraintFails = 4
+denial_number theDenial.Denial.ProcessNotValid = 5
+denial_number theDenial.Denial.RelabelFails = 6
 
-abbrev pub new_role_of : NewRole → Reply ℕ
-new_role_of (NewRole.Role r) = answered r
-new_role_of (NewRole.Refused n) = refused n 0
+-- the number consulted is "0 for denials 1 to 3 and for refusals"
+abbrev pub ruling_of : Change → Answer
+ruling_of (Change.Granted k) = record { verdict = granted; consulted = k }
+ruling_of (Change.Denied d) = unconsulted (denied (denial_number d))
+ruling_of (Change.Failed d i k) = record { verdict = fails (denial_number d) i; consulted = k }
 
-abbrev pub place_of : Place → Reply Part
-place_of (Place.Part s n) = answered (record { start = s; size = n })
-place_of (Place.Refused n) = refused n 0
+abbrev pub change_of : Result Change theFault.Fault → Answer
+change_of (Ok c) = ruling_of c
+change_of (Err f) = unconsulted (refuses (fault_number f) 0)
+
+abbrev pub new_role_of : Result ℕ theFault.Fault → Reply ℕ
+new_role_of (Ok r) = answered r
+new_role_of (Err f) = refused (fault_number f) 0
+
+-- where a name or an entry is in the lent table
+abbrev pub place_of : Result Span theFault.Fault → Reply Part
+place_of (Ok s) = answered (record { start = s.start; size = s.length })
+place_of (Err f) = refused (fault_number f) 0

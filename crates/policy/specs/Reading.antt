@@ -1,8 +1,8 @@
 -- Document 01, "Refusal numbers", and document 02, W-203: the reading of a text into its statements, with faults 1 to 7 in their order. Assumes nothing.
-use Rattle.std.specs.Prelude.{ℕ, ◌+◌, Bool, true, false, not, ◌&&◌, cond, List, [], ◌∷◌, ◌++◌, leb, ltb, length}
+use Rattle.lexer.specs.declared.ScanFault.{ScanFault}
+use Rattle.std.specs.Prelude.{ℕ, ◌+◌, Bool, true, false, not, ◌&&◌, cond, List, [], ◌∷◌, ◌++◌, leb, ltb, length, Ok, Err}
 use Rattle.std.proofs.Math.Option.{Option, none, some}
-use Rattle.lexer.specs.declared.Scanned.{Scanned}
-use Rattle.lexer.specs.Scan.{scan, max_text}
+use Rattle.lexer.specs.Scan.{scan, max_text, Scanned}
 use Rattle.lexer.specs.Class.{max_name}
 use Rattle.lexer.specs.Forms.{forms_of}
 use Rattle.policy.specs.Basics.{Name, ◌>>=◌, each_of, is_in, differ}
@@ -158,9 +158,9 @@ read_all xs = read_from [] xs []
 
 -- "Order: 1; then 2, where the scan stops at the first byte that is wrong (lowest place); then statements in text order"
 abbrev pub after_scan : Scanned → Read → Read
-after_scan Scanned.TooLong r = refused 1 max_text
-after_scan (Scanned.Wrong p) r = refused 2 p
-after_scan Scanned.Clean r = r
+after_scan (Err ScanFault.TooLong) r = refused 1 max_text
+after_scan (Err (ScanFault.Wrong p)) r = refused 2 p
+after_scan (Ok _) r = r
 
 unfoldable pub read_policy : List ℕ → Read
 read_policy text = after_scan (scan text) (read_all (scoped_in [] (forms_of text)))

@@ -2,6 +2,11 @@
 // are in a table, and the answers. What the documents say of them is in specs/.
 #![tactic(auto)]
 
+ghost use Rattle.std.specs.Prelude.{◌≡◌};
+ghost use Rattle.policy.specs.Answers.{fault_number, denial_number, placed};
+
+use lexer::{ScanFault, Text};
+
 // The number of a user, from 0 in text order.
 #[derive(Clone, Copy)]
 pub struct User(pub u64);
@@ -146,7 +151,8 @@ impl Row {
     // The bytes of body 7 where it has as many as there may be.
     pub const MAX_BODY_BYTES: usize = Row::MAX * Row::BYTES;
 
-    // The kinds: three operators on the stack, and three comparisons.
+    // The kinds: three operators on the stack, and three comparisons. (Numbers, as are components and operators below:
+    // any byte may stand in a table, and an enum would need a case for all that are none.)
     pub const NOT: u8 = 0;
 
     pub const AND: u8 = 1;
@@ -226,7 +232,8 @@ impl FullName {
     pub const MAX_PARTS: usize = Block::MAX_DEPTH + 1;
 }
 
-// What a name is declared as, by the number that is in a table.
+// What a name is declared as, by the number that is in a table. (Numbers, since any number may be asked for, and is
+// answered: `name_of` of the library takes each.)
 #[derive(Clone, Copy)]
 pub struct Sort;
 
@@ -351,106 +358,116 @@ pub enum Relation {
     RoleAllow,
 }
 
-// A refusal of a text: its number, 1 to 10, its place, and the line of a place in the text, else 0.
+// Why a text is refused, or a question about a table.
+#[derive(Clone, Copy, PartialEq, Eq)]
+pub enum Fault {
+    TextTooLong,
+    WrongByte,
+    NoForm,
+    DeclaredAgain,
+    NameUndeclared,
+    MaximumPassed,
+    StackTooSmall,
+    Cycle,
+    Clash,
+    MemoryTooShort,
+    NotSound,
+    NumberUndeclared,
+}
+
+impl Fault {
+    // The number that the refusal has: 1 to 10 for texts, 11 and 12 for questions.
+    pub fn number(self) -> usize
+        ensures { result ≡ fault_number self }
+    {
+        match self {
+            Fault::TextTooLong => 1,
+            Fault::WrongByte => 2,
+            Fault::NoForm => 3,
+            Fault::DeclaredAgain => 4,
+            Fault::NameUndeclared => 5,
+            Fault::MaximumPassed => 6,
+            Fault::StackTooSmall => 7,
+            Fault::Cycle => 8,
+            Fault::Clash => 9,
+            Fault::MemoryTooShort => 10,
+            Fault::NotSound => 11,
+            Fault::NumberUndeclared => 12,
+        }
+    }
+}
+
+// A fault of a text, and its place.
+#[derive(Clone, Copy)]
+pub struct FaultAt {
+    pub fault: Fault,
+    pub place: usize,
+}
+
+impl From<ScanFault> for FaultAt {
+    ghost from_gives = { λ f e. e ≡ placed f };
+
+    fn from(fault: ScanFault) -> FaultAt {
+        match fault {
+            ScanFault::TooLong => FaultAt {
+                fault: Fault::TextTooLong,
+                place: Text::MAX,
+            },
+            ScanFault::Wrong(place) => FaultAt {
+                fault: Fault::WrongByte,
+                place,
+            },
+        }
+    }
+}
+
+// A refusal of a text: its fault, one of the first ten, its place, and the line of a place in the text, else 0.
 #[derive(Clone, Copy)]
 pub struct Refusal {
-    pub number: usize,
+    pub fault: Fault,
     pub place: usize,
     pub line: usize,
 }
 
-// The numbers of the refusals: 11 and 12 are those of questions.
-impl Refusal {
-    pub const TEXT_TOO_LONG: usize = 1;
-
-    pub const WRONG_BYTE: usize = 2;
-
-    pub const NO_FORM: usize = 3;
-
-    pub const DECLARED_AGAIN: usize = 4;
-
-    pub const NAME_UNDECLARED: usize = 5;
-
-    pub const MAXIMUM_PASSED: usize = 6;
-
-    pub const STACK_TOO_SMALL: usize = 7;
-
-    pub const CYCLE: usize = 8;
-
-    pub const CLASH: usize = 9;
-
-    pub const MEMORY_TOO_SHORT: usize = 10;
-
-    pub const NOT_SOUND: usize = 11;
-
-    pub const NUMBER_UNDECLARED: usize = 12;
+// Why a change or a relabelling is denied. Of a relabelling the source is the old context and the target the new one.
+#[derive(Clone, Copy, PartialEq, Eq)]
+pub enum Denial {
+    SourceNotValid,
+    TargetNotValid,
+    RoleMayNotChange,
+    ConstraintFails,
+    ProcessNotValid,
+    RelabelFails,
 }
-
-// The numbers of the denials of a change and of a relabelling. A statement that fails comes with its number. Of a
-// relabelling the source is the old context and the target the new one.
-#[derive(Clone, Copy)]
-pub struct Denial;
 
 impl Denial {
-    pub const SOURCE_NOT_VALID: usize = 1;
-
-    pub const TARGET_NOT_VALID: usize = 2;
-
-    pub const ROLE_MAY_NOT_CHANGE: usize = 3;
-
-    pub const CONSTRAINT_FAILS: usize = 4;
-
-    pub const PROCESS_NOT_VALID: usize = 5;
-
-    pub const RELABEL_FAILS: usize = 6;
+    // The number that the denial has.
+    pub fn number(self) -> usize
+        ensures { result ≡ denial_number self }
+    {
+        match self {
+            Denial::SourceNotValid => 1,
+            Denial::TargetNotValid => 2,
+            Denial::RoleMayNotChange => 3,
+            Denial::ConstraintFails => 4,
+            Denial::ProcessNotValid => 5,
+            Denial::RelabelFails => 6,
+        }
+    }
 }
 
-// What compiling a text answers: the length of its table, or a refusal.
-#[derive(Clone, Copy)]
-pub enum Compiling {
-    Accepted { length: usize },
-    Refused(Refusal),
-}
-
-// Whether a context is valid; or a refusal, 11 or 12.
-#[derive(Clone, Copy)]
-pub enum Validity {
-    Valid,
-    NotValid,
-    Refused { number: usize },
-}
-
-// What a change question, or one of relabelling, answers: granted; denial 1, 2, 3 or 5; denial 4 or 6 with the number
-// of the statement that fails; or a refusal, 11 or 12. `consulted` counts the statements that were asked; where it is
-// missing it is 0.
+// What a change, or a relabelling, comes to: granted; denied before any statement is asked; or denied by the statement
+// that fails, a constraint or a validatetrans statement, with its number. `consulted` counts the statements that were
+// asked; where it is missing it is 0.
 #[derive(Clone, Copy)]
 pub enum Change {
     Granted {
         consulted: usize,
     },
-    Denied {
-        number: usize,
-    },
+    Denied(Denial),
     Failed {
-        number: usize,
+        denial: Denial,
         constraint: usize,
         consulted: usize,
     },
-    Refused {
-        number: usize,
-    },
-}
-
-// The role that a transition proposes, or the role given; or a refusal, 11 or 12.
-#[derive(Clone, Copy)]
-pub enum NewRole {
-    Role { number: usize },
-    Refused { number: usize },
-}
-
-// Where a name or an entry is in the lent table; or a refusal, 11 or 12.
-#[derive(Clone, Copy)]
-pub enum Place {
-    Part { start: usize, length: usize },
-    Refused { number: usize },
 }

@@ -1,14 +1,15 @@
 -- "Order: 1; then 2, ..; then statements in text order, each tried for 3, 4, 5, 6, 7", and with W-203 "A block is tried before the statements in it", for 3, 4
 -- and 6: a text is refused with a number and a place exactly where this is its first fault in that order. The place of 3 to 7 is that of the statement or the
 -- block, all before it having been read. By induction on the statements and blocks; the converse by reading them in two parts. Assumes nothing.
+use Rattle.lexer.specs.declared.ScanFault.{ScanFault}
+use Rattle.std.specs.Prelude.{Ok, Err}
 use Prim.Native.Nat.{ℕ, ◌≤◌}
 use native.Mathlib.Omega.{arith}
 use mathlib.Core.Path.{◌≡◌, refl, sym, ap, ◌∙◌, subst, subst₂}
 use mathlib.Core.Bool.{Bool, true, false, cond}
 use mathlib.Core.List.{List, [], ◌∷◌, ◌++◌, append_assoc, append-nil}
 use mathlib.Core.Option.{Option, none, some}
-use Rattle.lexer.specs.declared.Scanned.{Scanned}
-use Rattle.lexer.specs.Scan.{scan, max_text}
+use Rattle.lexer.specs.Scan.{scan, max_text, Scanned, no_fault}
 use Rattle.lexer.specs.Forms.{forms_of}
 use Rattle.policy.specs.Basics.{Name, is_in}
 use Rattle.policy.specs.Statements.{Statement, Written, Policy, declarations}
@@ -212,9 +213,9 @@ refused-stops earlier p (x ∷ xs) n at h = go (judge earlier p x) refl (sym (re
 
 -- why a text is refused
 pub data RefusedFor (text : List ℕ) : ℕ → ℕ → Type 0 where
-  too_long : scan text ≡ Scanned.TooLong → RefusedFor text 1 max_text
-  wrong_byte : (at : ℕ) → scan text ≡ Scanned.Wrong at → RefusedFor text 2 at
-  at-statement : (n at : ℕ) → scan text ≡ Scanned.Clean → Stops (scoped_in [] (forms_of text)) n at → RefusedFor text n at
+  too_long : scan text ≡ (Err ScanFault.TooLong) → RefusedFor text 1 max_text
+  wrong_byte : (at : ℕ) → scan text ≡ Err (ScanFault.Wrong at) → RefusedFor text 2 at
+  at-statement : (n at : ℕ) → scan text ≡ no_fault → Stops (scoped_in [] (forms_of text)) n at → RefusedFor text n at
 
 pub refusal-number : {text : List ℕ} {n at : ℕ} → RefusedFor text n at → (1 ≤ n) × (n ≤ 7)
 refusal-number (too_long e) = (omega arith, omega arith)
@@ -231,9 +232,9 @@ module _ (text : List ℕ) where
   fault-order n at h = go (scan text) refl h
     where
       go : (s : Scanned) → scan text ≡ s → after_scan s (read_all (scoped_in [] (forms_of text))) ≡ refused n at → RefusedFor text n at
-      go Scanned.TooLong e k = same-refusal k (too_long e)
-      go (Scanned.Wrong b) e k = same-refusal k (wrong_byte b e)
-      go Scanned.Clean e k = at-statement n at e (refused-stops [] [] (scoped_in [] (forms_of text)) n at k)
+      go (Err ScanFault.TooLong) e k = same-refusal k (too_long e)
+      go (Err (ScanFault.Wrong b)) e k = same-refusal k (wrong_byte b e)
+      go (Ok _) e k = at-statement n at e (refused-stops [] [] (scoped_in [] (forms_of text)) n at k)
 
   -- and one that has the fault as its first is refused so
   pub order-fault : (n at : ℕ) → RefusedFor text n at → read_policy text ≡ refused n at

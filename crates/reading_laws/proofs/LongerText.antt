@@ -1,5 +1,7 @@
 -- A text, a line feed, and the bytes of one statement more: if the whole is read, it says what the first text says, and then that statement. "The longer
 -- policy has the same statements in order, then one constrain". Assumes nothing.
+use Rattle.lexer.specs.declared.ScanFault.{ScanFault}
+use Rattle.std.specs.Prelude.{Ok, Err}
 use Prim.Native.Nat.{ℕ, ◌+◌}
 use native.Mathlib.Omega.{arith}
 use mathlib.Core.Path.{◌≡◌, refl, sym, ap, ◌∙◌}
@@ -7,8 +9,7 @@ use mathlib.Core.Bool.{false≢true}
 use mathlib.Core.List.{List, [], ◌∷◌, ◌++◌, append_assoc}
 use mathlib.Core.Option.{none, some}
 use lib.ListN.{length, length-append}
-use Rattle.lexer.specs.declared.Scanned.{Scanned}
-use Rattle.lexer.specs.Scan.{scan}
+use Rattle.lexer.specs.Scan.{scan, Scanned, no_fault}
 use Rattle.lexer.specs.Forms.{Forms, ended, part, frames_at, forms_of}
 use Rattle.policy.specs.Basics.{Name, each_of}
 use Rattle.policy.specs.Statements.{Reference, Constraint, constrain, validatetrans, Written, Statement, Policy, declarations}
@@ -26,14 +27,14 @@ use Rattle.reading_laws.proofs.TextMoved.{text-moved}
 use Rattle.reading_laws.proofs.TextThen.{text-then}
 
 -- a text that is read is clean
-pub read-clean : (t : List ℕ) (p : Policy) → read_policy t ≡ policy p → (scan t ≡ Scanned.Clean) × (read_all (scoped_in [] (forms_of t)) ≡ policy p)
+pub read-clean : (t : List ℕ) (p : Policy) → read_policy t ≡ policy p → (scan t ≡ no_fault) × (read_all (scoped_in [] (forms_of t)) ≡ policy p)
 unfolding read_policy
 read-clean t p h = go (scan t) refl h
   where
-    go : (s : Scanned) → scan t ≡ s → after_scan s (read_all (scoped_in [] (forms_of t))) ≡ policy p → (scan t ≡ Scanned.Clean) × (read_all (scoped_in [] (forms_of t)) ≡ policy p)
-    go Scanned.TooLong e k = let z : ◌≡◌ {A = ℕ} 0 1 = cc in absurd (omega arith)
-    go (Scanned.Wrong at) e k = let z : ◌≡◌ {A = ℕ} 0 1 = cc in absurd (omega arith)
-    go Scanned.Clean e k = (e, k)
+    go : (s : Scanned) → scan t ≡ s → after_scan s (read_all (scoped_in [] (forms_of t))) ≡ policy p → (scan t ≡ no_fault) × (read_all (scoped_in [] (forms_of t)) ≡ policy p)
+    go (Err ScanFault.TooLong) e k = let z : ◌≡◌ {A = ℕ} 0 1 = cc in absurd (omega arith)
+    go (Err (ScanFault.Wrong at)) e k = let z : ◌≡◌ {A = ℕ} 0 1 = cc in absurd (omega arith)
+    go (Ok _) e k = (e, k)
 
 -- a statement more, at the whole-text level: what is in its parentheses, resolved, is the last line
 pub record OneStatementMore (p p' : Policy) (w : Written) : Type 0 where
@@ -70,7 +71,7 @@ alone at i e = scoped-statement [] at i ended e
 
 module _ (t u : List ℕ) where
   -- the whole is read on after the statements of the first text
-  longer-text : (p : Policy) → read_policy t ≡ policy p → scan (t ++ (10 ∷ u)) ≡ Scanned.Clean
+  longer-text : (p : Policy) → read_policy t ≡ policy p → scan (t ++ (10 ∷ u)) ≡ no_fault
       → read_policy (t ++ (10 ∷ u)) ≡ read_from (scoped_in [] (forms_of t)) (scoped_in [] (frames_at (t ++ (10 ∷ u)) (length t + 1)).here) p
   unfolding read_policy
   longer-text p h k =

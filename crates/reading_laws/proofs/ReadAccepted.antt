@@ -1,14 +1,15 @@
 -- A text that is read gives statements with the facts of `Accepted`: these facts hold of no statements, each statement that is judged
 -- good keeps them, and each block that is opened leaves the blocks around those in it good. Induction on the row. That every word of a clean text is a name is the
 -- lexer's law. Assumes nothing.
+use Rattle.lexer.specs.declared.ScanFault.{ScanFault}
+use Rattle.std.specs.Prelude.{Ok, Err}
 use Prim.Native.Nat.{ℕ}
 use native.Mathlib.Omega.{arith}
 use mathlib.Core.Path.{◌≡◌, refl, ap, ◌∙◌, subst}
 use mathlib.Core.Bool.{true}
 use mathlib.Core.List.{List, [], ◌∷◌, ◌++◌}
 use mathlib.Core.Option.{Option, none, some}
-use Rattle.lexer.specs.declared.Scanned.{Scanned}
-use Rattle.lexer.specs.Scan.{scan}
+use Rattle.lexer.specs.Scan.{scan, Scanned}
 use Rattle.lexer.specs.Forms.{Forms, closed, ended, word, part, names_good, forms_of}
 use Rattle.lexer.specs.Class.{is_name}
 use Rattle.lexer.proofs.Clean.{clean-names}
@@ -85,9 +86,9 @@ unfolding read_policy
 read-accepted text p h = go (scan text) refl h
   where
     go : (s : Scanned) → scan text ≡ s → after_scan s (read_all (scoped_in [] (forms_of text))) ≡ policy p → Accepted p
-    go Scanned.TooLong e k = let z : ◌≡◌ {A = ℕ} 0 1 = cc in absurd (omega arith)
-    go (Scanned.Wrong at) e k = let z : ◌≡◌ {A = ℕ} 0 1 = cc in absurd (omega arith)
-    go Scanned.Clean e k = row-accepted [] (forms_of text) good-top (clean-names text e) [] [] p none-accepted k
+    go (Err ScanFault.TooLong) e k = let z : ◌≡◌ {A = ℕ} 0 1 = cc in absurd (omega arith)
+    go (Err (ScanFault.Wrong at)) e k = let z : ◌≡◌ {A = ℕ} 0 1 = cc in absurd (omega arith)
+    go (Ok _) e k = row-accepted [] (forms_of text) good-top (clean-names text e) [] [] p none-accepted k
 
 pub policy-accepted : (x : Input) (p : Policy) → policy_of x ≡ policy p → Accepted p × (cycle p ≡ none) × (clash p ≡ none)
 unfolding policy_of

@@ -1,38 +1,33 @@
 -- What the parts of a validatetrans statement of good form say together: the first of 5, 6 and 7, or its record and its rows. Assumes nothing.
 use mathlib.Core.Path.{◌≡◌, refl, sym, ap, subst, ◌∙◌}
-use mathlib.Core.List.{List, [], ◌∷◌}
+use mathlib.Core.List.{List}
 use mathlib.Core.Option.{Option, none, some}
-use Prim.Native.Nat.{ℕ, ◌+◌, ◌-◌, ◌*◌, ◌/◌, ◌≤◌, ◌<◌}
+use Prim.Native.Nat.{ℕ, ◌+◌, ◌-◌, ◌*◌, ◌<◌}
 use native.Mathlib.Omega.{arith}
-use lib.ListN.{length}
-use types.Run.{OneOf}
+use Rattle.std.specs.Prelude as prelude
+use Rattle.std.specs.Prelude.{None, Some, Result, Err}
 use Rattle.byte_slices.specs.Parts.{put}
 use Rattle.byte_slices.proofs.PartLaws.{put_then}
 use Rattle.lexer.specs.Scan.{max_level}
 use Rattle.lexer.specs.Forms.{closed, part, frames_at, trim}
-use Rattle.lexer.proofs.Trim.{starts_part}
 use Rattle.policy.specs.Basics.{Name, ◌>>=◌, le}
 use Rattle.policy.specs.Words.{three_sides}
 use Rattle.policy.specs.Statements.{Reference, Constraint, Written, Statement, validatetrans, size}
 use Rattle.policy.specs.Maxima.{max_relabels, max_relabel_rows}
-use Rattle.policy.specs.Grammar.{expression_in}
 use Rattle.policy.specs.Names.{Environment}
 use Rattle.policy.specs.Reading.{refer_e, resolved}
 use Rattle.policy.specs.Encode.{relabel_bytes}
 use Rattle.scopes.specs.Symbols.{Symbols}
-use Rattle.items.specs.Looks.{item_at, row_end}
-use Rattle.items.specs.declared.Item.{Item}
-use Rattle.items.proofs.Items.{Looked, by_part}
-use Rattle.constraint_writer.specs.ExpressionWrites.{Writes}
 use Rattle.constraint_writer.specs.declared.RowsWritten.{RowsWritten}
-use Rattle.constraint_writer.proofs.Answers.{undeclared, declared}
-use Rattle.constraint_writer.proofs.WrittenRows.{told}
+use Rattle.constraint_writer.proofs.Answers.{declared}
+use Rattle.constraint_writer.proofs.WrittenRows.{unresolved}
 use Rattle.constrain_statement.specs.ClassNames.{Classes}
+use Rattle.constrain_statement.specs.Expressions.{IsExpression, WritesExpression}
 use Rattle.constrain_statement.specs.Limits.{Records, Admits}
-use Rattle.constrain_statement.specs.declared.Constrained.{Constrained}
+use Rattle.policy.specs.declared.Fault.{Fault}
 use Rattle.constrain_statement.specs.declared.NamedClass.{NamedClass}
-use Rattle.constrain_statement.proofs.Masks.{tag}
-use Rattle.constrain_statement.proofs.ClassLaws.{not_there, no_part, same_parts, class-told}
+use Rattle.constrain_statement.proofs.ClassLaws.{class-told}
+use Rattle.constrain_statement.proofs.ExpressionLaws.{told}
 use Rattle.constrain_statement.proofs.LimitLaws.{admitted}
 use Rattle.constrain_statement.proofs.Answers.{need-kept, rows_of}
 use Rattle.relabel_statement.specs.RelabelWrites.{record_with, Answers, WritesRelabel}
@@ -44,9 +39,6 @@ use Rattle.relabel_statement.proofs.RelabelShapes.{RelabelShape, relabel-shape}
 pub recorded : (t : List ℕ) (n c rows : ℕ) {p u : List ℕ} → p ≡ put t (4 * n) (le 2 c) → u ≡ put p (4 * n + 2) (le 2 rows) → Records 4 (relabel_bytes (record_with c rows)) t u n
 unfolding le
 recorded t n c rows class count room = put_then t (4 * n) (le 2 c) (le 2 rows) (omega arith) class (omega arith) count
-
-pub no_room : (t bytes : List ℕ) (n : ℕ) → length t / 4 ≤ n → Records 4 bytes t t n
-no_room t bytes n h g = absurd (omega arith)
 
 -- ---- the statement with its names resolved
 
@@ -77,63 +69,57 @@ levels = max_level - 1
 abbrev ShapeAt : List ℕ → ℕ → Written → Type 0
 ShapeAt t at w = RelabelShape (trim (frames_at t at).here levels) w
 
-module _ {t table : List ℕ} {at class q : ℕ} (k : Classes t at table (NamedClass.Is class q)) {env : Environment} (y : Symbols table env) {w : Written} (s : ShapeAt t at w) where
-  class-then : (env.class s.class ≡ some class) × (trim (frames_at t q).here levels ≡ part s.expression-place s.expression closed)
+module _ {t table : List ℕ} {at : ℕ} {n : NamedClass} (k : Classes t at table (Some n)) {env : Environment} (y : Symbols table env) {w : Written} (s : ShapeAt t at w) where
+  class-then : (env.class s.class ≡ some n.class) × (trim (frames_at t n.next).here levels ≡ part s.expression-place s.expression closed)
   class-then = k.says env levels s.class-place s.class (part s.expression-place s.expression closed) y s.row
 
-  expression-there : {x z : ℕ} → Looked t q (Item.Open x z) → expression_in three_sides (trim (frames_at t z).here (max_level - 2)) ≡ some s.body
-  expression-there {x} {z} l =
-      ap (expression_in three_sides) (same_parts (sym (by_part (λ f. f) levels (row_end t z) l refl (λ z. omega arith)) ∙ class-then.1)).0 ∙ s.expressed
+  expression-there : IsExpression three_sides t n.next s.body
+  expression-there = record { place = s.expression-place; inner = s.expression; row = class-then.1; form = s.expressed }
 
 -- ---- the answers
 
 module _ {t : List ℕ} {at : ℕ} {table : List ℕ} {before : List ℕ} {count : ℕ} {rowsBefore : List ℕ} {row : ℕ} where
   -- 5, where a name is not declared
   undeclared-by : {after rowsAfter : List ℕ} → ((env : Environment) (w : Written) → Symbols table env → ShapeAt t at w → resolved env w ≡ none)
-      → WritesRelabel t at table before after count rowsBefore rowsAfter row Constrained.Undeclared
+      → WritesRelabel t at table before after count rowsBefore rowsAfter row (Err Fault.NameUndeclared)
   undeclared-by {after} {rowsAfter} h = record {
     says = λ env w y a b c f.
-        subst (λ (o : Option Statement). Answers o before after count rowsBefore rowsAfter row Constrained.Undeclared)
-        (sym (h env w y (relabel-shape (trim (frames_at t at).here levels) w f))) tt;
+        subst (λ (o : Option Statement). Answers o before after count rowsBefore rowsAfter row (Err Fault.NameUndeclared))
+        (sym (h env w y (relabel-shape (trim (frames_at t at).here levels) w f))) refl;
   }
 
-  pub past-rows : {after rowsAfter : List ℕ} {r : Constrained} → 1024 < row → WritesRelabel t at table before after count rowsBefore rowsAfter row r
+  pub past-rows : {after rowsAfter : List ℕ} {r : Result ℕ Fault} → 1024 < row → WritesRelabel t at table before after count rowsBefore rowsAfter row r
   past-rows h = record { says = λ env w y a b c f. absurd (omega (arith, h, a)) }
 
-  module _ {r : NamedClass} (u : Classes t at table r) where
-    pub class-undeclared : r ≡ NamedClass.Undeclared → WritesRelabel t at table before before count rowsBefore rowsBefore row Constrained.Undeclared
+  module _ {r : prelude.Option NamedClass} (u : Classes t at table r) where
+    pub class-undeclared : r ≡ None → WritesRelabel t at table before before count rowsBefore rowsBefore row (Err Fault.NameUndeclared)
     class-undeclared d = undeclared-by (λ env w y s.
         ap (resolved env) s.written
         ∙ class-none env s.class s.body ((class-told u d).says env levels s.class-place s.class _ y s.row))
 
-    module _ {class q : ℕ} (d : r ≡ NamedClass.Is class q) where
-      pub expression-missing : {k : Item} → k ≡ item_at t q → OneOf (0 ∷ 2 ∷ 3 ∷ []) (tag k)
-          → WritesRelabel t at table before before count rowsBefore rowsBefore row Constrained.Undeclared
-      expression-missing e o = undeclared-by (λ env w y s.
-          not_there starts_part t q levels _ (class-then (class-told u d) y s).1 refl (0 ∷ 2 ∷ 3 ∷ []) no_part e o)
-
-      module _ {x z : ℕ} (l : Looked t q (Item.Open x z)) {rowsAfter : List ℕ} {k : RowsWritten}
-          (v : Writes t z (expression_in three_sides (trim (frames_at t z).here (max_level - 2))) table rowsBefore rowsAfter row k) where
-        pub name-undeclared : k ≡ RowsWritten.Undeclared → WritesRelabel t at table before before count rowsBefore rowsAfter row Constrained.Undeclared
+    module _ {n : NamedClass} (d : r ≡ Some n) where
+      module _ {rowsAfter : List ℕ} {k : prelude.Option RowsWritten} (v : WritesExpression three_sides t n.next table rowsBefore rowsAfter row k) where
+        pub name-undeclared : k ≡ None → WritesRelabel t at table before before count rowsBefore rowsAfter row (Err Fault.NameUndeclared)
         name-undeclared e = undeclared-by (λ env w y s.
             let c = class-told u d in
             ap (resolved env) s.written
-            ∙ expression-none env s.class s.body (class-then c y s).0 (undeclared y (expression-there c y s l) (told v e)))
+            ∙ expression-none env s.class s.body (class-then c y s).0
+            (unresolved env s.body rowsBefore rowsAfter row ((told v e).rows env s.body y (expression-there c y s))))
 
         -- 6 and 7, and what is written, by what the maxima and the stack need allow
-        pub answered : {a n deep : ℕ} → k ≡ RowsWritten.Next a n deep → {after : List ℕ} {b : Constrained}
-            → Records 4 (relabel_bytes (record_with class (n - row))) before after count → Admits max_relabels max_relabel_rows count n deep b
+        pub answered : {o : RowsWritten} → k ≡ Some o → {after : List ℕ} {b : Result ℕ Fault}
+            → Records 4 (relabel_bytes (record_with n.class (o.row - row))) before after count → Admits max_relabels max_relabel_rows count o.row o.need b
             → WritesRelabel t at table before after count rowsBefore rowsAfter row b
-        answered {a} {n} {deep} e {after} {b} stored m = record {
+        answered {o} e {after} {b} stored m = record {
           says = λ env w y g long rows_long f.
               let s = relabel-shape (trim (frames_at t at).here levels) w f in
               let c = class-told u d in
-              let there = expression-there c y s l in
+              let there = expression-there c y s in
               let written = told v e in
-              let i = declared y there written in
+              let i = declared (written.rows env s.body y there) in
               let p = need-kept env s.body i.expression i.refers ∙ sym (written.needs s.body there) in
-              subst (λ (o : Option Statement). Answers o before after count rowsBefore rowsAfter row b)
+              subst (λ (x : Option Statement). Answers x before after count rowsBefore rowsAfter row b)
               (sym (ap (resolved env) s.written ∙ resolves env s.class s.body (class-then c y s).0 i.expression i.refers))
-              (admitted max_relabels max_relabel_rows 4 _ before after count rowsBefore rowsAfter row n deep i.expression p i.count (λ h. omega (arith, h, long)) rows_long
-              i.bytes (ap (λ (k : ℕ). relabel_bytes (record_with class k)) (rows_of row n (size i.expression) i.count)) stored b m.says);
+              (admitted max_relabels max_relabel_rows 4 _ before after count rowsBefore rowsAfter row o.row o.need i.expression p i.count (λ h. omega (arith, h, long)) rows_long
+              i.bytes (ap (λ (k : ℕ). relabel_bytes (record_with n.class k)) (rows_of row o.row (size i.expression) i.count)) stored b m.says);
         }

@@ -3,7 +3,6 @@
 
 ghost use Rattle.std.specs.Prelude.{◌≡◌};
 ghost use Rattle.policy.specs.Answers.{family_of};
-ghost use Rattle.policy.specs.Basics.{or_else};
 ghost use Rattle.policy.specs.Statements as statements;
 ghost use Rattle.policy.specs.Statements.{Policy};
 ghost use Rattle.policy.specs.Meaning.{count_in};
@@ -14,8 +13,8 @@ ghost use Rattle.code_reader.specs.Reading.{found_of};
 ghost use Rattle.code_reader.specs.AttributeSets.{final_sets};
 ghost use Rattle.resolver.specs.LaterFaults.{Resolves};
 
-use code_reader::{FAMILY_BYTES, Found};
-use policy::Family;
+use code_reader::FAMILY_BYTES;
+use policy::{Family, Fault, FaultAt};
 
 // The final set of each attribute of a family, and fault 8 in the family. Where no attribute mentions another, one
 // round is all and there is no cycle.
@@ -24,7 +23,7 @@ fn resolve_family(
     family: Family,
     total: usize,
     sets: &mut [u8; FAMILY_BYTES],
-) -> Found
+) -> Option<usize>
     ensures { (p : Policy) → Accepted p → code.now ≡ code_of p → total ≡ count_in p (family_of family)
         → (sets.new ≡ final_sets p (family_of family)) × (found_of result ≡ faults.family_cycle p (family_of family)) }
 {
@@ -33,28 +32,10 @@ fn resolve_family(
     mentions::mentions(code, family, &mut rows);
     if final_sets::same_rows(&rows, sets) {
         final_sets::round(code, family, total, &rows, sets);
-        return Found::Nowhere;
+        return None;
     }
     final_sets::final_sets(code, family, total, sets);
     mentions::family_cycle(code, family, &mut rows)
-}
-
-// What becomes of a text without fault 1 to 7.
-#[derive(Clone, Copy)]
-pub enum Resolved {
-    Cycle(usize),
-    Clash(usize),
-    NoFault,
-}
-
-// The first of two places, if there is one.
-fn first_found(first: Found, second: Found) -> Found
-    ensures { found_of result ≡ or_else (found_of first) (found_of second) }
-{
-    match first {
-        Found::At(place) => Found::At(place),
-        Found::Nowhere => second,
-    }
 }
 
 // Fills the final sets of the three families, and looks for faults 8 and 9. Each total is how many things of the
@@ -67,7 +48,7 @@ pub fn resolve(
     user_sets: &mut [u8; FAMILY_BYTES],
     role_sets: &mut [u8; FAMILY_BYTES],
     type_sets: &mut [u8; FAMILY_BYTES],
-) -> Resolved
+) -> Result<(), FaultAt>
     ensures { (p : Policy) → Accepted p → code.now ≡ code_of p
         → users ≡ count_in p statements.users → roles ≡ count_in p statements.roles → types ≡ count_in p statements.types
         → Resolves p user_sets.new role_sets.new type_sets.new result }
@@ -75,12 +56,17 @@ pub fn resolve(
     let in_users = resolve_family(code, Family::Users, users, user_sets);
     let in_roles = resolve_family(code, Family::Roles, roles, role_sets);
     let in_types = resolve_family(code, Family::Types, types, type_sets);
-    let cycle = first_found(in_users, first_found(in_roles, in_types));
-    if let Found::At(place) = cycle {
-        return Resolved::Cycle(place);
+    if let Some(place) = in_users.or(in_roles).or(in_types) {
+        return Err(FaultAt {
+            fault: Fault::Cycle,
+            place,
+        });
     }
-    if let Found::At(place) = clashes::clash(code, role_sets, type_sets) {
-        return Resolved::Clash(place);
+    if let Some(place) = clashes::clash(code, role_sets, type_sets) {
+        return Err(FaultAt {
+            fault: Fault::Clash,
+            place,
+        });
     }
-    Resolved::NoFault
+    Ok(())
 }

@@ -11,7 +11,7 @@ ghost use Rattle.table_parts.specs.ShownPart.{shown_part};
 ghost use Rattle.text_writer.specs.WrittenText.{Appends};
 ghost use Rattle.roll_lines.specs.LineWrites.{acceptance, Printable, PutsLines, PutsRoll};
 
-use policy::{Place, Refusal, Sort};
+use policy::{Refusal, Sort};
 
 // ---- one line
 
@@ -42,7 +42,7 @@ pub fn put_refusal(out: &mut [u8], refused: Refusal) -> usize
     requires { 79 ≤ length out.old }
     ensures { Appends out.old 0 (refusal (refusal_in refused)) out.new result }
 {
-    let past_number = put_labelled(out, 0, b"refused ", refused.number);
+    let past_number = put_labelled(out, 0, b"refused ", refused.fault.number());
     let past_place = put_labelled(out, past_number, b" at ", refused.place);
     let past_line = put_labelled(out, past_place, b" line ", refused.line);
     text_writer::put_bytes(out, past_line, b"\n")
@@ -66,10 +66,7 @@ fn set_at(table: &[u8], body: usize, number: usize) -> &[u8]
     ensures { result.now ≡ shown_part (entry_on table.now body number) table.now }
 {
     let place = table_parts::entry_place_in_sound(table, body, number);
-    match place {
-        Place::Part { start, length } => byte_slices::part(table, start, length),
-        Place::Refused { number: _ } => byte_slices::part(table, 0, 0),
-    }
+    table_parts::part_at(table, place)
 }
 
 // Writes a line for each user or each role, by number, up to the first number that nothing has.
@@ -87,16 +84,13 @@ fn put_lines(
 {
     let mut end = at;
     let mut number = 0;
-    loop {
-        let place = table_parts::name_place_in_sound(table, sort, number);
-        let Place::Part { start, length } = place else {
-            return end;
-        };
-        let name = byte_slices::part(table, start, length);
+    while let Ok(place) = table_parts::name_place_in_sound(table, sort, number) {
+        let name = byte_slices::part(table, place.start, place.length);
         let set = set_at(table, body, number);
         end = put_line(out, end, kind, name, of, set);
         number += 1;
     }
+    end
 }
 
 // ---- the roll

@@ -8,7 +8,7 @@ use lib.ListN.{length}
 use Rattle.byte_slices.specs.Parts.{put}
 use Rattle.bitset.specs.Relations.{joined}
 use Rattle.policy.specs.declared.Refusal as theRefusal
-use Rattle.policy.specs.declared.Compiling.{Compiling}
+use Rattle.std.specs.Prelude.{Result, Ok, Err}
 use Rattle.policy.specs.Answers.{refusal_in, compiling_of}
 use Rattle.policy.specs.Outcome as outcomes
 use Rattle.policy.specs.Outcome.{Input, outcome}
@@ -30,13 +30,13 @@ bytes-printed {x} {table} {table'} {before} {after} {bytes} {past} m a e = recor
   long = omega (arith, a.ends, ap length e);
 }
 
-module _ {x : Input} {before after : List ℕ} {r : Compiling} (long : length before ≡ 65536) (c : Compiles x before after r) where
-  answer : (o : Compiling) → r ≡ o → compiling_of o ≡ outcome x 65536
+module _ {x : Input} {before after : List ℕ} {r : Result ℕ theRefusal.Refusal} (long : length before ≡ 65536) (c : Compiles x before after r) where
+  answer : (o : Result ℕ theRefusal.Refusal) → r ≡ o → compiling_of o ≡ outcome x 65536
   answer o e = ap compiling_of (sym e) ∙ c.answer ∙ ap (outcome x) long
 
-  module _ {n : ℕ} (e : r ≡ Compiling.Accepted n) where
+  module _ {n : ℕ} (e : r ≡ Ok n) where
     holds : Holds x after n
-    holds = subst (λ (m : List ℕ). Holds x m n) (sym c.memory) (roll-printed x n before long (answer (Compiling.Accepted n) e))
+    holds = subst (λ (m : List ℕ). Holds x m n) (sym c.memory) (roll-printed x n before long (answer (Ok n) e))
 
     -- an accepted text leaves a sound table
     pub table-sound : is_sound after ≡ true
@@ -48,6 +48,6 @@ module _ {x : Input} {before after : List ℕ} {r : Compiling} (long : length be
         bytes-printed c.memory (puts.says holds.image holds.read)
         (ap (λ (m : ℕ). joined (acceptance m ∷ roll_of holds.image ∷ [])) holds.long ∙ roll-parts holds.image ∙ sym holds.prints)
 
-  pub prints-refusal : {f : theRefusal.Refusal} → r ≡ Compiling.Refused f → {out out' : List ℕ} {past : ℕ} → Appends out 0 (refusal (refusal_in f)) out' past
+  pub prints-refusal : {f : theRefusal.Refusal} → r ≡ Err f → {out out' : List ℕ} {past : ℕ} → Appends out 0 (refusal (refusal_in f)) out' past
       → Prints x before after out out' past
-  prints-refusal {f} e puts = bytes-printed c.memory puts (sym (refusal-printed x (refusal_in f) (answer (Compiling.Refused f) e)))
+  prints-refusal {f} e puts = bytes-printed c.memory puts (sym (refusal-printed x (refusal_in f) (answer (Err f) e)))

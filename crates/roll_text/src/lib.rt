@@ -5,8 +5,6 @@
 ghost use Rattle.policy.specs.Outcome.{of_text};
 ghost use Rattle.roll_text.specs.PrintedText.{Prints};
 
-use policy::Compiling;
-
 // The memory of the table.
 pub const TABLE_BYTES: usize = 65_536;
 
@@ -20,7 +18,7 @@ pub fn write_roll(text: &[u8], table: &mut [u8; TABLE_BYTES], out: &mut [u8; ROL
 {
     let compiled = compiler::compile(text, table);
     match compiled {
-        Compiling::Accepted { length } => roll_lines::put_roll(table, length, out),
-        Compiling::Refused(refusal) => roll_lines::put_refusal(out, refusal),
+        Ok(length) => roll_lines::put_roll(table, length, out),
+        Err(refusal) => roll_lines::put_refusal(out, refusal),
     }
 }

@@ -9,8 +9,8 @@ use Rattle.byte_slices.proofs.PartLaws.{length-put, part-put-same, part-put-befo
 use Rattle.policy.specs.Basics.{Name}
 use Rattle.byte_slices.proofs.PartLaws.{part-whole, part_join}
 use Rattle.scopes.specs.Path.{scope_of}
-use Rattle.scopes.specs.Scope.{scope_length, scope_in, within, ComposedBy, Composes, ShortBy, Names, symbol_bytes}
-use Rattle.scopes.specs.declared.ComposedName.{ComposedName}
+use Rattle.scopes.specs.Scope.{scope_length, scope_in, within, ComposedBy, Composes, Names, symbol_bytes}
+use Rattle.std.specs.Prelude.{Option, Some, None, IfSome}
 use Rattle.scopes.proofs.PathLaws.{within-some, within-full}
 use Rattle.scopes.proofs.Memory.{scope-long, scope-none}
 
@@ -36,10 +36,10 @@ module _ (t : List ℕ) (n : ℕ) (w : Name) (z : List ℕ) (short : n ≤ 64) (
   alone-is : n ≡ 0 → within (scope_in t n) w ≡ w
   alone-is e = ap (λ (s : Name). within s w) (ap (scope_in t) e ∙ scope-none t)
 
-  pub alone-too-long : n ≡ 0 → 64 < length w → Composes (within (scope_in t n) w) z z ComposedName.TooLong
+  pub alone-too-long : n ≡ 0 → 64 < length w → Composes (within (scope_in t n) w) z z None
   alone-too-long e h = record { is = omega (arith, ap length (alone-is e)); long = refl }
 
-  pub alone : n ≡ 0 → length w ≤ 64 → {u : List ℕ} → u ≡ put z 0 (part w 0 (length w)) → Composes (within (scope_in t n) w) z u (ComposedName.Length (length w))
+  pub alone : n ≡ 0 → length w ≤ 64 → {u : List ℕ} → u ≡ put z 0 (part w 0 (length w)) → Composes (within (scope_in t n) w) z u (Some (length w))
   alone e h {u} q =
       let now : u ≡ put z 0 w = q ∙ ap (put z 0) (part-whole w) in
       record {
@@ -59,7 +59,7 @@ module _ (t : List ℕ) (n : ℕ) (w : Name) (z : List ℕ) (short : n ≤ 64) (
   inner-long : 0 < n → length (within (scope_in t n) w) ≡ n + 1 + length w
   inner-long some = ap length (inner-is some) ∙ omega (arith, length-append (scope_in t n) (46 ∷ w), scope-long t n short room)
 
-  pub inner-too-long : 0 < n → 64 - n ≤ length w → Composes (within (scope_in t n) w) z z ComposedName.TooLong
+  pub inner-too-long : 0 < n → 64 - n ≤ length w → Composes (within (scope_in t n) w) z z None
   inner-too-long some h = record { is = omega (arith, inner-long some); long = refl }
 
   -- the memory with the full name of the block in front
@@ -74,7 +74,7 @@ module _ (t : List ℕ) (n : ℕ) (w : Name) (z : List ℕ) (short : n ≤ 64) (
   front-is = ap (part (put z 0 (part t 188649 n)) 0) (sym front_long) ∙ part-put-same z 0 (part t 188649 n) (omega (arith, front_long))
 
   pub inner : 0 < n → length w < 64 - n → {u : List ℕ} → u ≡ put (set (put z 0 (part t 188649 n)) n 46) (n + 1) (part w 0 (length w))
-      → Composes (within (scope_in t n) w) z u (ComposedName.Length (n + 1 + length w))
+      → Composes (within (scope_in t n) w) z u (Some (n + 1 + length w))
   inner some fit {u} q =
       let front = put z 0 (part t 188649 n) in
       let now : u ≡ put (set front n 46) (n + 1) w = q ∙ ap (put (set front n 46) (n + 1)) (part-whole w) in
@@ -88,19 +88,12 @@ module _ (t : List ℕ) (n : ℕ) (w : Name) (z : List ℕ) (short : n ≤ 64) (
         long = ap length now ∙ length-put (set front n 46) (n + 1) w (omega (arith, length_front, length-set front n 46)) ∙ length-set front n 46 ∙ length_front;
       }
 
--- what was put together, by the answer
-pub composed-is : {v : Name} {z u : List ℕ} {r : ComposedName} {m : ℕ} → Composes v z u r → r ≡ ComposedName.Length m → part u 0 m ≡ v
-composed-is {v} {z} {u} h e = (subst (ComposedBy v u) e h.is).0
-
-pub composed-long : {v : Name} {z u : List ℕ} {r : ComposedName} → Composes v z u r → r ≡ ComposedName.TooLong → 64 < length v
-composed-long {v} {z} {u} h e = subst (ComposedBy v u) e h.is
-
-short-by : (v : Name) (u : List ℕ) (r : ComposedName) → ComposedBy v u r → ShortBy r
-short-by v u (ComposedName.Length m) h = h.2
-short-by v u ComposedName.TooLong h = tt
+short-by : (v : Name) (u : List ℕ) (r : Option ℕ) → ComposedBy v u r → IfSome r (λ m. m ≤ 64)
+short-by v u (Some m) h = h.2
+short-by v u None h = tt
 
 -- in the blocks that are open it is the full name
-pub named : {t : List ℕ} {n : ℕ} {v w : Name} {z u : List ℕ} {r : ComposedName} → (scope_length t ≤ 64 → n ≡ scope_length t) → v ≡ w
+pub named : {t : List ℕ} {n : ℕ} {v w : Name} {z u : List ℕ} {r : Option ℕ} → (scope_length t ≤ 64 → n ≡ scope_length t) → v ≡ w
     → Composes (within (scope_in t n) v) z u r → Names t w z u r
 named {t} {n} {v} {w} {z} {u} {r} e q h = record {
   is = λ path sc.

@@ -1,6 +1,5 @@
 pub mod PathLaws
 pub mod GoodParts
-pub mod Dots
 pub mod Unique
 pub mod Memory
 pub mod OpenTest

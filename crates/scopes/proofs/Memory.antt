@@ -1,17 +1,14 @@
--- Stores into the scope: what they keep, and what the scope is then; and its last dot. Assumes nothing.
-use mathlib.Core.Path.{◌≡◌, refl, sym, ap, ap₂, subst, ◌∙◌}
-use mathlib.Core.Bool.{true}
-use mathlib.Core.List.{List, [], ◌∷◌, ◌++◌}
-use Prim.Native.Nat.{ℕ, suc, ◌+◌, ◌-◌, ◌<◌, ◌≤◌}
+-- Stores into the scope: what they keep, and what the scope is then. Assumes nothing.
+use mathlib.Core.Path.{◌≡◌, refl, ap, ◌∙◌}
+use mathlib.Core.List.{List, [], ◌∷◌}
+use Prim.Native.Nat.{ℕ, ◌+◌, ◌<◌, ◌≤◌}
 use native.Mathlib.Omega.{arith}
-use lib.ListN.{length, get_or, take, drop, set, length-set}
-use lib.Seq.{split_at, drop-cons, length-take-le, get_or-set_same}
+use lib.ListN.{length, take, set, length-set}
+use lib.Seq.{get_or-set_same}
 use Rattle.byte_slices.specs.Parts.{part, put}
-use Rattle.byte_slices.proofs.PartLaws.{length_part, get_d_part, length-put, part-put-before, part-put-after, sets-put}
-use Rattle.policy.specs.Words.{dotless}
+use Rattle.byte_slices.proofs.PartLaws.{length_part, length-put, part-put-before, part-put-after, sets-put}
 use Rattle.byte_slices.proofs.PartLaws.{take_part}
-use Rattle.scopes.specs.Scope.{scope_length, scope_in, last_dot, SymbolsKept, symbol_bytes}
-use Rattle.scopes.proofs.PathLaws.{cut-dotless, cut-last, dotless-next, dotless-end}
+use Rattle.scopes.specs.Scope.{scope_length, scope_in, SymbolsKept, symbol_bytes}
 use Rattle.name_index.specs.Index.{index_bytes}
 
 -- a store of one byte puts it
@@ -60,35 +57,3 @@ module _ (t : List ℕ) (n : ℕ) (short : n ≤ 64) (room : symbol_bytes ≤ le
   pub scope-long : length (scope_in t n) ≡ n
   unfolding scope_in
   scope-long = length_part t 188649 n (omega arith)
-
-  -- ---- the last dot, from the end on
-  pub cut-starts : dotless (drop n (scope_in t n)) ≡ true
-  cut-starts = dotless-end (scope_in t n) n (omega (arith, scope-long))
-
-  module _ (i : ℕ) (some : 0 < i) (inside : i ≤ n) (rest : dotless (drop i (scope_in t n)) ≡ true) where
-    byte_at : get_or (scope_in t n) (i - 1) 0 ≡ get_or t (index_bytes + i) 0
-    unfolding scope_in
-    byte_at =
-        let e : 188649 + (i - 1) ≡ index_bytes + i = omega arith in
-        get_d_part t 188649 n (i - 1) (omega arith) ∙ ap (λ (k : ℕ). get_or t k 0) e
-
-    after : suc (i - 1) ≡ i
-    after = omega arith
-
-    pub cut-here : get_or t (index_bytes + i) 0 ≡ 46 → i - 1 ≡ last_dot (scope_in t n)
-    cut-here e =
-        let s = scope_in t n in
-        let split : s ≡ take (i - 1) s ++ (46 ∷ drop i s) =
-        split_at s (i - 1) 0 (omega (arith, scope-long))
-        ∙ ap₂ (λ (c k : ℕ). take (i - 1) s ++ (c ∷ drop k s)) (byte_at ∙ e) after in
-        sym (ap last_dot split ∙ cut-last (take (i - 1) s) (drop i s) rest ∙ length-take-le (i - 1) s (omega (arith, scope-long)))
-
-    pub cut_on : (get_or t (index_bytes + i) 0 ≡ 46 → ⊥) → dotless (drop (i - 1) (scope_in t n)) ≡ true
-    cut_on d =
-        let s = scope_in t n in
-        let split : drop (i - 1) s ≡ get_or s (i - 1) 0 ∷ drop i s =
-        drop-cons s (i - 1) 0 (omega (arith, scope-long)) ∙ ap (λ (k : ℕ). get_or s (i - 1) 0 ∷ drop k s) after in
-        ap dotless split ∙ dotless-next (get_or s (i - 1) 0) (drop i s) (λ e. d (sym byte_at ∙ e)) rest
-
-  pub cut-none : (i : ℕ) → i ≡ 0 → dotless (drop i (scope_in t n)) ≡ true → 0 ≡ last_dot (scope_in t n)
-  cut-none i e h = sym (cut-dotless (scope_in t n) (subst (λ (k : ℕ). dotless (drop k (scope_in t n)) ≡ true) e h))

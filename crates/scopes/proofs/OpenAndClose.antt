@@ -1,20 +1,20 @@
 -- Blocks opened and closed: what the scope is then. Assumes nothing.
 use mathlib.Core.Path.{◌≡◌, refl, sym, ap, subst, ◌∙◌}
-use mathlib.Core.Bool.{true, false, false≢true}
+use mathlib.Core.Bool.{true, false≢true}
 use mathlib.Core.List.{List}
 use Prim.Native.Nat.{ℕ, ◌+◌, ◌≤◌}
 use native.Mathlib.Omega.{arith}
 use lib.ListN.{length, take, set, length-set}
-use borrow.Author.Tests.{le-leb, lt-leb}
+use borrow.Author.Tests.{le-leb}
 use Rattle.byte_slices.specs.Parts.{part, put}
 use Rattle.byte_slices.proofs.PartLaws.{length_part, length-part-le, length-put, part-put-same}
 use Rattle.policy.specs.Basics.{Name, every}
 use Rattle.policy.specs.Names.{full}
 use Rattle.scopes.specs.Path.{scope_of}
-use Rattle.scopes.specs.Scope.{scope_length, scope_in, InScope, last_dot, ComposedBy, ShortBy, Names, Starts, EntersBlock, LeavesBlock, symbol_bytes}
-use Rattle.scopes.specs.declared.ComposedName.{ComposedName}
+use Rattle.scopes.specs.Scope.{scope_length, scope_in, InScope, last_dot, ComposedBy, Names, Starts, EntersBlock, LeavesBlock, symbol_bytes}
+use Rattle.std.specs.Prelude.{Some}
 use Rattle.scopes.proofs.PathLaws.{cut-full, front-full, first_part, other-parts, part-more}
-use Rattle.scopes.proofs.Memory.{kept-none, kept_on, kept_set, kept_put, long-set, scope-set, scope-take, scope-none}
+use Rattle.scopes.proofs.Memory.{kept_on, kept_set, kept_put, long-set, scope-set, scope-take, scope-none}
 use Rattle.name_index.specs.Index.{index_bytes}
 
 -- at the whole-text level
@@ -50,17 +50,9 @@ module _ (t : List ℕ) (n m : ℕ) (room : symbol_bytes ≤ length t) (short : 
 
 -- a block opened: its full name was put together in memory of its own
 module _ (t : List ℕ) (b : Name) (room : symbol_bytes ≤ length t) {z whole : List ℕ} where
-  pub not_entered : {r : ComposedName} → Names t b z whole r → r ≡ ComposedName.TooLong → EntersBlock t t b false
-  not_entered h e = record {
-    kept = kept-none t;
-    answers = λ path sc. sym (lt-leb (length (full path b)) 64 (subst (ComposedBy (full path b) whole) e (h.is path sc)));
-    enters = λ path sc p f. absurd (false≢true f);
-    stays = λ e. refl;
-  }
-
-  module _ {r : ComposedName} (h : Names t b z whole r) (m : ℕ) (e : r ≡ ComposedName.Length m) (lent : length z ≡ 64) where
+  module _ {m : ℕ} (h : Names t b z whole (Some m)) (lent : length z ≡ 64) where
     pub short : m ≤ 64
-    short = subst ShortBy e h.short
+    short = h.short
 
     pub lent-all : length whole ≡ 64
     lent-all = h.long ∙ lent
@@ -80,8 +72,8 @@ module _ (t : List ℕ) (b : Name) (room : symbol_bytes ≤ length t) {z whole :
     scope-mid =
         ap (part mid 188649) (sym (length_part whole 0 m (omega (arith, short, lent-all)))) ∙ part-put-same t 188649 (part whole 0 m) fits_in
 
-    composed : (path : List Name) → InScope t path → ComposedBy (full path b) whole (ComposedName.Length m)
-    composed path sc = subst (ComposedBy (full path b) whole) e (h.is path sc)
+    composed : (path : List Name) → InScope t path → ComposedBy (full path b) whole (Some m)
+    composed path sc = h.is path sc
 
     pub entered : {u : List ℕ} → u ≡ mid → EntersBlock t (set u index_bytes m) b true
     entered {u} q = subst (λ (l : List ℕ). EntersBlock t (set l index_bytes m) b true) (sym q) (record {

@@ -2,11 +2,13 @@
 use mathlib.Core.Path.{◌≡◌, refl, sym, ap, ◌∙◌}
 use mathlib.Core.Bool.{true, false, not, and-false}
 use mathlib.Core.List.{List, [], ◌∷◌, ◌++◌, append_assoc}
-use Prim.Native.Nat.{ℕ, ◌+◌, ◌<◌, ◌≤◌}
+use Prim.Native.Nat.{ℕ, suc, ◌+◌, ◌<◌, ◌≤◌}
 use native.Mathlib.Omega.{arith}
 use lib.Dec.{eqb, ltb}
-use lib.ListN.{length, take, drop, length-append, drop_of_length-le}
-use lib.Seq.{take-append_seam}
+use lib.ListN.{length, get_or, take, drop, length-append, length-drop}
+use lib.Seq.{take-append_seam, split_at, length-take-le}
+use Rattle.std.proofs.lemmas.List.{get_or-drop}
+use Rattle.std.specs.Prelude.{Option, MatchOption, unwrap_or, Some, None}
 use borrow.Author.Tests.{ltb-true, ne_eqb}
 use Rattle.policy.specs.Basics.{Name, every}
 use Rattle.policy.specs.Words.{dotless}
@@ -33,13 +35,34 @@ unfolding last_dot
 cut-last [] d h = rw h
 cut-last (c ∷ a) d h = rw (not-dotless a d, cut-last a d h) (omega arith)
 
-pub dotless-next : (c : ℕ) (s : Name) → (c ≡ 46 → ⊥) → dotless s ≡ true → dotless (c ∷ s) ≡ true
+-- a name with no dot in any place, or in none after one
+no-dot : (s : Name) → ((k : ℕ) → k < length s → get_or s k 0 ≡ 46 → ⊥) → dotless s ≡ true
 unfolding dotless
-dotless-next c s d h = rw (ne_eqb c 46 d) h
+no-dot [] h = refl
+no-dot (c ∷ s) h = rw (ne_eqb c 46 (h 0 (omega arith))) (no-dot s (λ k l. h (suc k) (omega arith)))
 
-pub dotless-end : (s : Name) (n : ℕ) → length s ≤ n → dotless (drop n s) ≡ true
-unfolding dotless
-dotless-end s n h = rw (drop_of_length-le s h)
+no_last : (s : Name) → ((k : ℕ) → k < length s → get_or s k 0 ≡ 46 → ⊥) → 0 ≡ last_dot s
+no_last s h = sym (cut-dotless s (no-dot s h))
+
+last-at : (s : Name) (i : ℕ) → i < length s → get_or s i 0 ≡ 46 → ((k : ℕ) → i + 1 ≤ k → k < length s → get_or s k 0 ≡ 46 → ⊥) → i ≡ last_dot s
+last-at s i inside here after =
+    let split : s ≡ take i s ++ (46 ∷ drop (suc i) s) =
+    split_at s i 0 inside ∙ ap (λ (c : ℕ). take i s ++ (c ∷ drop (suc i) s)) here in
+    let rest : dotless (drop (suc i) s) ≡ true =
+    no-dot (drop (suc i) s)
+    (λ k l e. after (suc i + k) (omega arith) (omega (arith, length-drop (suc i) s)) (sym (get_or-drop (suc i) s k 0) ∙ e)) in
+    sym (ap last_dot split ∙ cut-last (take i s) (drop (suc i) s) rest ∙ length-take-le i s (omega arith))
+
+-- the last place that has a dot, where there is one
+abbrev pub LastDot : Name → Option ℕ → Type 0
+LastDot s r =
+    MatchOption r ((k : ℕ) → k < length s → get_or s k 0 ≡ 46 → ⊥)
+    (λ i. (i < length s) × (get_or s i 0 ≡ 46) × ((k : ℕ) → i + 1 ≤ k → k < length s → get_or s k 0 ≡ 46 → ⊥))
+
+pub last-dot-is : (s : Name) (r : Option ℕ) → LastDot s r
+    → (unwrap_or r 0 ≡ last_dot s) × (0 < length s → unwrap_or r 0 < length s) × (unwrap_or r 0 ≤ length s)
+last-dot-is s None h = (no_last s h, λ l. l, omega arith)
+last-dot-is s (Some i) h = (last-at s i h.0 h.1 h.2, λ l. h.0, omega (arith, h.0))
 
 -- ---- full names
 

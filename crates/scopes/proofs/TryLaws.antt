@@ -9,59 +9,54 @@ use borrow.Author.Tests.{not-true}
 use Rattle.policy.specs.Basics.{Name, every}
 use Rattle.policy.specs.Encode.{NameEntry}
 use Rattle.symbols.specs.Lookup.{first_named}
-use Rattle.symbols.specs.declared.Found.{Found}
+use Rattle.symbols.proofs.ClassesFound.{or-none}
+use Rattle.std.specs.Prelude.{Option, Some, None, is_some}
+use Rattle.std.specs.Option.{option_or}
+use Rattle.symbols.specs.declared.Symbol.{Symbol}
 use Rattle.name_chains.specs.Compared.{compared_in, TriedIn}
 use Rattle.name_chains.specs.Chains.{Chained, Tries}
 use Rattle.name_chains.specs.declared.Tried.{Tried}
 use Rattle.policy.specs.Names.{full, outward, has_dot_in_front, tries}
 use Rattle.policy.proofs.Environments.{tried-once}
-use Rattle.scopes.specs.Path.{scope_of, or_else, found_first, if_found, deciding, Decides, is_one_part}
-use Rattle.scopes.specs.Scope.{scope_length, scope_in, InScope, within, last_dot, is_missing, is_plain, TriedOnce, Resolves, symbol_bytes}
+use Rattle.scopes.specs.Path.{scope_of, found_first, deciding, Decides, is_one_part}
+use Rattle.scopes.specs.Scope.{scope_in, InScope, within, last_dot, is_plain, TriedOnce, Resolves, symbol_bytes}
 use Rattle.scopes.proofs.PathLaws.{cut-full, front-full, first_part, other-parts, no_block, within-full}
 use Rattle.byte_slices.specs.Parts.{part}
 use Rattle.byte_slices.proofs.PartLaws.{drop-part, part-whole}
 use Rattle.name_chains.proofs.FindLaws.{no_length, chain-starts, chain-ends}
 use Rattle.scopes.proofs.Memory.{scope-long, scope-take, scope-none}
 
-pub is-missing : (x : Found) → is_missing x ≡ true → x ≡ Found.Missing
-is-missing (Found.At s n) h = absurd (false≢true h)
-is-missing Found.Missing h = refl
+is-none : (x : Option Symbol) → is_some x ≡ false → x ≡ None
+is-none (Some x) h = absurd (false≢true (sym h))
+is-none None h = refl
 
-last_or : (x : Found) → or_else x Found.Missing ≡ x
-last_or (Found.At s n) = refl
-last_or Found.Missing = refl
-
-hit-or : (x y : Found) → is_missing x ≡ false → or_else x y ≡ x
-hit-or (Found.At s n) y h = refl
-hit-or Found.Missing y h = absurd (false≢true (sym h))
-
-hit-name : (x : Found) (w v : Name) → is_missing x ≡ false → if_found x w v ≡ w
-hit-name (Found.At s n) w v h = refl
-hit-name Found.Missing w v h = absurd (false≢true (sym h))
+hit-or : (x y : Option Symbol) → is_some x ≡ true → option_or x y ≡ x
+hit-or (Some x) y h = refl
+hit-or None y h = absurd (false≢true h)
 
 module _ (f : ℕ) (es : List NameEntry) where
   -- one try alone
   pub one-try : {w : Name} {r : Tried} → TriedIn f w es r → Decides f (w ∷ []) es r
   unfolding found_first deciding
-  one-try {w} {r} h = record { finds = h.finds ∙ sym (last_or (first_named f w es)); counts = h.counts }
+  one-try {w} {r} h = record { finds = h.finds ∙ sym (or-none (first_named f w es)); counts = h.counts }
 
-  here-name : (w : Name) (ws : List Name) → is_missing (first_named f w es) ≡ false → deciding f (w ∷ ws) es ≡ w
+  here-name : (w : Name) (ws : List Name) → is_some (first_named f w es) ≡ true → deciding f (w ∷ ws) es ≡ w
   unfolding deciding
   here-name w [] h = refl
-  here-name w (v ∷ ws) h = hit-name (first_named f w es) w (deciding f (v ∷ ws) es) h
+  here-name w (v ∷ ws) h = rw h
 
   -- a hit decides
-  pub hit-decides : {w : Name} (ws : List Name) {r : Tried} → TriedIn f w es r → is_missing r.found ≡ false → Decides f (w ∷ ws) es r
+  pub hit-decides : {w : Name} (ws : List Name) {r : Tried} → TriedIn f w es r → is_some r.found ≡ true → Decides f (w ∷ ws) es r
   unfolding found_first
   hit-decides {w} ws {r} h m =
-      let hit : is_missing (first_named f w es) ≡ false = ap is_missing (sym h.finds) ∙ m in
+      let hit : is_some (first_named f w es) ≡ true = ap is_some (sym h.finds) ∙ m in
       record {
         finds = h.finds ∙ sym (hit-or (first_named f w es) (found_first f ws es) hit);
         counts = h.counts ∙ ap (λ (v : Name). compared_in f v es) (sym (here-name w ws hit));
       }
 
   -- where there is none, the others decide
-  pub miss-decides : {w : Name} (path : List Name) (x : Name) {r : Tried} → first_named f w es ≡ Found.Missing
+  pub miss-decides : {w : Name} (path : List Name) (x : Name) {r : Tried} → first_named f w es ≡ None
       → Decides f (outward path x) es r → Decides f (w ∷ outward path x) es r
   unfolding found_first deciding outward
   miss-decides [] x m h = record { finds = rw m h.finds; counts = rw m h.counts }
@@ -78,14 +73,6 @@ abbrev pub Outward : List ℕ → ℕ → Name → ℕ → Type 0
 Outward t f w n = (end : ℕ) (es : List NameEntry) (path : List Name) → Chained t end es → InScope t path → Left t f w n es path
 
 module _ (t : List ℕ) (f : ℕ) (w : Name) where
-  pub walk-starts : {n : ℕ} → (scope_length t ≤ 64 → n ≡ scope_length t) → Outward t f w n
-  walk-starts e end es path ch sc = record {
-    path = path;
-    stands = ap (scope_in t) (e sc.fits) ∙ sc.stands;
-    parts = sc.parts;
-    decides = λ r h. h;
-  }
-
   tries-outward : (path : List Name) → has_dot_in_front w ≡ false → tries path w ≡ outward path w
   unfolding tries
   tries-outward path h = rw h
@@ -100,7 +87,7 @@ module _ (t : List ℕ) (f : ℕ) (w : Name) where
     tried-in {end} {es} path ch st ps =
         subst (λ (v : Name). TriedIn f v es r) (ap (λ (s : Name). within s w) st ∙ within-full path w ps) (h.tries end es ch)
 
-    hit-left : {end : ℕ} {es : List NameEntry} (all : List Name) → Chained t end es → is_missing r.found ≡ false
+    hit-left : {end : ℕ} {es : List NameEntry} (all : List Name) → Chained t end es → is_some r.found ≡ true
         → (path : List Name) → scope_in t n ≡ scope_of path → every is_one_part path ≡ true
         → ((q : Tried) → Decides f (outward path w) es q → Decides f (outward all w) es q)
         → Decides f (outward all w) es r
@@ -108,14 +95,14 @@ module _ (t : List ℕ) (f : ℕ) (w : Name) where
     hit-left all ch m [] st ps d = absurd (not-whole st)
     hit-left {end} {es} all ch m (b ∷ path) st ps d = d r (hit-decides f es (outward path w) (tried-in (b ∷ path) ch st ps) m)
 
-    pub hit-resolves : is_missing r.found ≡ false → has_dot_in_front w ≡ false → Outward t f w n → Resolves t f w r
+    pub hit-resolves : is_some r.found ≡ true → has_dot_in_front w ≡ false → Outward t f w n → Resolves t f w r
     hit-resolves m l o = record {
       resolves = λ end es path ch sc.
           let left = o end es path ch sc in
           subst (λ (ws : List Name). Decides f ws es r) (sym (tries-outward path l)) (hit-left path ch m left.path left.stands left.parts left.decides);
     }
 
-    module _ (m : ℕ) (missing : is_missing r.found ≡ true) (cut : m ≡ last_dot (scope_in t n)) (inside : m ≤ n) where
+    module _ (m : ℕ) (missing : is_some r.found ≡ false) (cut : m ≡ last_dot (scope_in t n)) (inside : m ≤ n) where
       turn-left : {end : ℕ} {es : List NameEntry} {all : List Name} → Chained t end es
           → (path : List Name) → scope_in t n ≡ scope_of path → every is_one_part path ≡ true
           → ((q : Tried) → Decides f (outward path w) es q → Decides f (outward all w) es q)
@@ -124,7 +111,7 @@ module _ (t : List ℕ) (f : ℕ) (w : Name) where
       turn-left ch [] st ps d = absurd (not-whole st)
       turn-left {end} {es} ch (b ∷ path) st ps d =
           let length-is : m ≡ length (scope_of path) = cut ∙ ap last_dot st ∙ cut-full path b (first_part b path ps).1 in
-          let none : first_named f (full (b ∷ path) w) es ≡ Found.Missing = sym (tried-in (b ∷ path) ch st ps).finds ∙ is-missing r.found missing in
+          let none : first_named f (full (b ∷ path) w) es ≡ None = sym (tried-in (b ∷ path) ch st ps).finds ∙ is-none r.found missing in
           record {
             path = path;
             stands = sym (scope-take t n m inside) ∙ ap (take m) st ∙ ap (λ (k : ℕ). take k (full path b)) length-is ∙ front-full path b;
@@ -157,10 +144,10 @@ module _ (t : List ℕ) (f : ℕ) (w : Name) where
   }
 
   -- a leading dot: one try, at what follows it
-  pub dot-resolves : {r : Tried} {v : Name} → has_dot_in_front w ≡ true → v ≡ part w 1 (length w - 1) → Tries t f v r → Resolves t f w r
+  pub dot-resolves : {r : Tried} → has_dot_in_front w ≡ true → Tries t f (part w 1 (length w - 1)) r → Resolves t f w r
   unfolding tries
-  dot-resolves {r} {v} l e h =
-      let rest : drop 1 w ≡ v = sym (e ∙ sym (drop-part w 0 (length w) 1) ∙ ap (drop 1) (part-whole w)) in
+  dot-resolves {r} l h =
+      let rest : drop 1 w ≡ part w 1 (length w - 1) = sym (sym (drop-part w 0 (length w) 1) ∙ ap (drop 1) (part-whole w)) in
       record { resolves = λ end es path ch sc. rw (l, rest) (one-try f es (h.tries end es ch)) }
 
 -- ---- at the whole-text level
@@ -177,5 +164,5 @@ once-resolves {t} {f} {w} {q} {r} p e h = record {
 }
 
 -- no entry has a name that is too long, so a try at one misses
-pub too-long-tries : {t : List ℕ} {f : ℕ} {w : Name} → 64 < length w → Tries t f w (record { found = Found.Missing; compared = 0 })
+pub too-long-tries : {t : List ℕ} {f : ℕ} {w : Name} → 64 < length w → Tries t f w (record { found = None; compared = 0 })
 too-long-tries {t} {f} {w} h = chain-ends (omega arith) (chain-starts {t = t} {f = f} {w = w} (no_length (omega arith) refl))

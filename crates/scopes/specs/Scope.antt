@@ -1,17 +1,15 @@
 -- The scope in the memory of the symbols, after their index: at 188648 the length of the innermost block's full name, then its bytes, at most 64.
 -- Assumes nothing.
-use Rattle.std.specs.Prelude.{◌≡◌, Bool, true, false, not, cond, List, [], ◌∷◌, ◌++◌, ℕ, ◌+◌, ◌<◌, ◌≤◌, leb, length, get_or}
+use Rattle.std.specs.Prelude.{◌≡◌, Bool, true, false, not, cond, List, [], ◌∷◌, ◌++◌, ℕ, ◌+◌, ◌<◌, ◌≤◌, leb, length, get_or, Option, Some, None, IfSome}
 use Rattle.lexer.specs.Spell.{bytes}
 use Rattle.byte_slices.specs.Parts.{part}
 use Rattle.policy.specs.Basics.{Name, every}
 use Rattle.policy.specs.Words.{dotless}
 use Rattle.policy.specs.Names.{full, has_dot_in_front, tries}
 use Rattle.policy.specs.Encode.{NameEntry}
-use Rattle.symbols.specs.declared.Found.{Found}
 use Rattle.name_chains.specs.Chains.{Chained}
 use Rattle.name_chains.specs.declared.Tried.{Tried}
 use Rattle.scopes.specs.Path.{scope_of, Decides, is_one_part}
-use Rattle.scopes.specs.declared.ComposedName.{ComposedName}
 use Rattle.name_index.specs.Index.{index_bytes}
 
 -- the memory of the symbols with their index and the scope
@@ -44,10 +42,6 @@ unfoldable pub last_dot : Name → ℕ
 last_dot [] = 0
 last_dot (c ∷ s) = cond (dotless s) 0 (1 + last_dot s)
 
-abbrev pub is_missing : Found → Bool
-is_missing (Found.At s n) = false
-is_missing Found.Missing = true
-
 -- ---- full names
 
 -- a name in the block of a full name; the empty name is the whole text's
@@ -56,23 +50,18 @@ within [] w = w
 within (c ∷ s) w = (c ∷ s) ++ bytes "." ++ w
 
 -- the name v is in front of the memory, or it has more than 64 bytes
-abbrev pub ComposedBy : Name → List ℕ → ComposedName → Type 0
-ComposedBy v after (ComposedName.Length m) = (part after 0 m ≡ v) × (m ≡ length v) × (m ≤ 64)
-ComposedBy v after ComposedName.TooLong = 64 < length v
+abbrev pub ComposedBy : Name → List ℕ → Option ℕ → Type 0
+ComposedBy v after (Some m) = (part after 0 m ≡ v) × (m ≡ length v) × (m ≤ 64)
+ComposedBy v after None = 64 < length v
 
-pub record Composes (v : Name) (before after : List ℕ) (r : ComposedName) : Type 0 where
+pub record Composes (v : Name) (before after : List ℕ) (r : Option ℕ) : Type 0 where
   pub is : ComposedBy v after r
   pub long : length after ≡ length before
 
--- a length that is told is that of a name, whatever the memory has
-abbrev pub ShortBy : ComposedName → Type 0
-ShortBy (ComposedName.Length m) = m ≤ 64
-ShortBy ComposedName.TooLong = Unit {0}
-
--- the full name of w in whatever blocks the memory t has
-pub record Names (t : List ℕ) (w : Name) (before after : List ℕ) (r : ComposedName) : Type 0 where
+-- the full name of w in whatever blocks the memory t has. A length that is told is that of a name, whatever the memory has
+pub record Names (t : List ℕ) (w : Name) (before after : List ℕ) (r : Option ℕ) : Type 0 where
   pub is : (path : List Name) → InScope t path → ComposedBy (full path w) after r
-  pub short : ShortBy r
+  pub short : IfSome r (λ m. m ≤ 64)
   pub long : length after ≡ length before
 
 -- ---- uses

@@ -1,5 +1,5 @@
 -- The symbol table as the symbols of some declarations, in some blocks: what its names stand for. Assumes nothing.
-use Rattle.std.specs.Prelude.{◌≡◌, true, List, [], ℕ, ◌+◌, ◌<◌}
+use Rattle.std.specs.Prelude.{◌≡◌, true, List, [], ℕ, ◌+◌, ◌<◌, Option}
 use Rattle.std.proofs.Math.Option.{some}
 use Rattle.policy.specs.Basics.{Name}
 use Rattle.policy.specs.Statements.{Family, Declaration}
@@ -7,7 +7,7 @@ use Rattle.policy.specs.Names.{Named, Environment, environment_of}
 use Rattle.policy.specs.Encode.{entries}
 use Rattle.policy.specs.Sound.{good_from}
 use Rattle.symbols.specs.SearchAnswers.{family_code, found_named, found_class, found_permission}
-use Rattle.symbols.specs.declared.Found.{Found}
+use Rattle.symbols.specs.declared.Symbol.{Symbol}
 use Rattle.name_chains.specs.Chains.{Chained}
 use Rattle.scopes.specs.Scope.{InScope}
 
@@ -23,16 +23,16 @@ pub record Symbols (table : List ℕ) (env : Environment) : Type 0 where
   pub scope : InScope table path
 
 -- what is looked up is what the environment has: a thing or an attribute of a family, or a class
-pub record Looks (table : List ℕ) (family : ℕ) (w : Name) (r : Found) : Type 0 where
+pub record Looks (table : List ℕ) (family : ℕ) (w : Name) (r : Option Symbol) : Type 0 where
   pub names : (env : Environment) (f : Family) → Symbols table env → family_code f ≡ family → r ≡ found_named (env.find f w)
   pub classes : (env : Environment) → Symbols table env → 3 ≡ family → r ≡ found_class (env.class w)
 
 -- a class alone
-pub record LooksClass (table : List ℕ) (w : Name) (r : Found) : Type 0 where
+pub record LooksClass (table : List ℕ) (w : Name) (r : Option Symbol) : Type 0 where
   pub classes : (env : Environment) → Symbols table env → r ≡ found_class (env.class w)
 
 -- a permission of a class
-pub record LooksPermission (table : List ℕ) (family : ℕ) (w : Name) (r : Found) : Type 0 where
+pub record LooksPermission (table : List ℕ) (family : ℕ) (w : Name) (r : Option Symbol) : Type 0 where
   pub permissions : (env : Environment) (c : ℕ) → Symbols table env → 4 + c ≡ family → r ≡ found_permission c (env.permission c w)
 
 -- the numbers that names stand for are below the largest maximum of their kind

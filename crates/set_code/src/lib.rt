@@ -91,7 +91,8 @@ fn add_reference(unit: u16, sets: &[u8], out: &mut [u8; Type::SET_BYTES])
 }
 
 // The set becomes that of the S whose code is at a place. Answers where the code ends. It calls itself on each
-// operand that is not added as it stands; the number that falls is the length of the code that is left.
+// operand that is not added as it stands, and goes on where that ends, so no `for` counts the places; the number that
+// falls is the length of the code that is left.
 pub fn evaluate(
     code: &[u16],
     at: usize,

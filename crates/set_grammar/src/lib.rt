@@ -10,7 +10,7 @@ ghost use Rattle.items.specs.Looks.{item_at};
 ghost use Rattle.items.specs.Reads.{is_some, Reads};
 ghost use Rattle.set_grammar.specs.Starts.{operands_of, start_of};
 
-use items::{Item, Parsed, Wanted};
+use items::{Item, Wanted};
 use lexer::Token;
 use words::{NameKind, Word};
 
@@ -25,75 +25,56 @@ struct SetStart {
 fn operands_of(number: usize) -> Wanted
     ensures { result ≡ operands_of (set_word (word_of number)) }
 {
-    if number == Word::OTHER {
-        return Wanted::OneOrMore;
+    match number {
+        Word::ALL => Wanted::Exactly(0),
+        Word::NOT => Wanted::Exactly(1),
+        Word::AND | Word::OR | Word::XOR => Wanted::Exactly(2),
+        _ => Wanted::OneOrMore,
     }
-    if number == Word::ALL {
-        return Wanted::Exactly(0);
-    }
-    if number == Word::NOT {
-        return Wanted::Exactly(1);
-    }
-    if number <= Word::XOR {
-        return Wanted::Exactly(2);
-    }
-    Wanted::OneOrMore
 }
 
 // How a set expression begins.
 fn set_start(text: &[u8], at: usize) -> SetStart
     ensures { result ≡ start_of at (item_at text.now at) }
 {
-    let item = items::next_item(text, at);
-    match item {
-        Item::Word { number, next, .. } => {
-            let wanted = operands_of(number);
-            match wanted {
-                Wanted::Exactly(_) => SetStart { wanted, next },
-                Wanted::OneOrMore => SetStart { wanted, next: at },
-            }
+    if let Item::Word { number, next, .. } = items::next_item(text, at) {
+        let wanted = operands_of(number);
+        if let Wanted::Exactly(_) = wanted {
+            return SetStart { wanted, next };
         }
-        Item::Open { .. } | Item::Close { .. } | Item::End => SetStart {
-            wanted: Wanted::OneOrMore,
-            next: at,
-        },
+    }
+    SetStart {
+        wanted: Wanted::OneOrMore,
+        next: at,
     }
 }
 
 // What the parentheses of a set expression hold. It calls itself on each operand in parentheses; the number that
 // falls is the levels left.
-pub fn set_form(text: &[u8], at: usize, levels: usize) -> Parsed
+pub fn set_form(text: &[u8], at: usize, levels: usize) -> Option<usize>
     ensures { Reads text.now at (is_some (set_in (trim (frames_at text.now at).here levels))) result }
 {
     let begun = set_start(text, at);
-    let wanted = begun.wanted;
     let mut i = begun.next;
     let mut count: usize = 0;
     loop {
-        let token = lexer::next(text, i);
-        match token {
+        match lexer::next(text, i) {
             Token::Word { start, len } => {
                 if !words::is_name(NameKind::Name, text, start, len) {
-                    return Parsed::Bad;
+                    return None;
                 }
                 i = start + len;
                 count += 1;
             }
             Token::Open(place) => {
                 if levels == 0 {
-                    return Parsed::Bad;
+                    return None;
                 }
-                let operand = set_form(text, place + 1, levels - 1);
-                match operand {
-                    Parsed::Next(past) => {
-                        i = past;
-                        count += 1;
-                    }
-                    Parsed::Bad => return Parsed::Bad,
-                }
+                i = set_form(text, place + 1, levels - 1)?;
+                count += 1;
             }
-            Token::Close(place) => return items::ended(wanted, count, place + 1),
-            Token::End => return Parsed::Bad,
+            Token::Close(place) => return items::ended(begun.wanted, count, place + 1),
+            Token::End => return None,
         }
     }
 }

@@ -1,7 +1,7 @@
 // Two sets combined or compared, byte by byte. A second set that is shorter than the first has no further members.
 #![tactic(auto)]
 
-ghost use Rattle.std.specs.Prelude.{◌≡◌, ◌+◌, ◌≤◌, ◌<◌, max, length};
+ghost use Rattle.std.specs.Prelude.{◌≡◌, ◌+◌, ◌≤◌, ◌<◌, length};
 ghost use Rattle.bitset.specs.Sets as sets;
 ghost use Rattle.bitset.specs.Sets.{union_of, intersection_of, symmetric_difference_of, difference_of, copy_of};
 ghost use Rattle.set_operators.specs.Operators.{combined, combined_byte};
@@ -31,12 +31,6 @@ fn apply(op: SetOp, a: u8, b: u8) -> u8
     }
 }
 
-fn greatest(a: usize, b: usize) -> usize
-    ensures { result ≡ max a b }
-{
-    if a < b { b } else { a }
-}
-
 // ---- two sets
 
 // dst becomes what op makes of it and src, which is as long or longer.
@@ -44,10 +38,8 @@ fn combine_whole(op: SetOp, dst: &mut [u8], src: &[u8])
     requires { length dst.old ≤ length src.now }
     ensures { dst.new ≡ combined op dst.old src.now }
 {
-    let mut at = 0;
-    while at < dst.len() {
-        dst[at] = apply(op, dst[at], src[at]);
-        at += 1;
+    for (at, b) in dst.iter_mut().enumerate() {
+        *b = apply(op, *b, src[at]);
     }
 }
 
@@ -60,10 +52,8 @@ pub fn combine(op: SetOp, dst: &mut [u8], src: &[u8])
         combine_whole(op, dst, src);
         return;
     }
-    let mut i = 0;
-    while i < dst.len() {
-        dst[i] = apply(op, dst[i], byte_slices::byte(src, i));
-        i += 1;
+    for (i, b) in dst.iter_mut().enumerate() {
+        *b = apply(op, *b, byte_slices::byte(src, i));
     }
 }
 
@@ -106,25 +96,24 @@ pub fn copy(dst: &mut [u8], src: &[u8])
 pub fn meets(a: &[u8], b: &[u8]) -> bool
     ensures { result ≡ sets.meets a.now b.now }
 {
-    let mut common: u8 = 0;
-    let mut i = 0;
-    while i < a.len() {
-        common = common | (a[i] & byte_slices::byte(b, i));
-        i += 1;
-    }
-    common != 0
+    a.iter().zip(b).any(|(x, y)| *x & *y != 0)
 }
 
-// Whether the same numbers are in both: the bits that one has alone are gathered.
+// Whether the same numbers are in both, whatever their widths.
+fn equal_members(a: &[u8], b: &[u8]) -> bool
+    ensures { result ≡ sets.equal a.now b.now }
+{
+    let longer = a.len().max(b.len());
+    (0..longer).all(|i| byte_slices::byte(a, i) == byte_slices::byte(b, i))
+}
+
+// Whether the same numbers are in both. Sets of one width, as nearly all are, are compared as slices.
 pub fn equal(a: &[u8], b: &[u8]) -> bool
     ensures { result ≡ sets.equal a.now b.now }
 {
-    let longer = greatest(a.len(), b.len());
-    let mut differing: u8 = 0;
-    let mut i = 0;
-    while i < longer {
-        differing = differing | (byte_slices::byte(a, i) ^ byte_slices::byte(b, i));
-        i += 1;
+    if a.len() == b.len() {
+        a == b
+    } else {
+        equal_members(a, b)
     }
-    differing == 0
 }

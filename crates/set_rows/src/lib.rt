@@ -64,27 +64,24 @@ pub fn read_at(dst: &mut [u8], table: &[u8], o: usize, w: usize)
 pub fn insert_at(table: &mut [u8], o: usize, w: usize, n: usize)
     ensures { table.new ≡ put table.old o (inserted (parts.part table.old o w) n) }
 {
-    let start = byte_slices::least(o, table.len());
-    let end = byte_slices::end_of(o, w, table.len());
-    bitset::insert(&mut table[start..end], n);
+    let place = byte_slices::range_of(o, w, table.len());
+    bitset::insert(&mut table[place], n);
 }
 
 // Takes n out of the set at o.
 pub fn remove_at(table: &mut [u8], o: usize, w: usize, n: usize)
     ensures { table.new ≡ put table.old o (removed (parts.part table.old o w) n) }
 {
-    let start = byte_slices::least(o, table.len());
-    let end = byte_slices::end_of(o, w, table.len());
-    bitset::remove(&mut table[start..end], n);
+    let place = byte_slices::range_of(o, w, table.len());
+    bitset::remove(&mut table[place], n);
 }
 
 // The set at o becomes what op makes of it and src.
 fn combine_at(op: SetOp, table: &mut [u8], o: usize, w: usize, src: &[u8])
     ensures { table.new ≡ put table.old o (combined op (parts.part table.old o w) src.now) }
 {
-    let start = byte_slices::least(o, table.len());
-    let end = byte_slices::end_of(o, w, table.len());
-    set_operators::combine(op, &mut table[start..end], src);
+    let place = byte_slices::range_of(o, w, table.len());
+    set_operators::combine(op, &mut table[place], src);
 }
 
 // The set at o gains what src has.
@@ -123,7 +120,7 @@ fn row_count(size: usize, w: usize) -> usize
 }
 
 // In a body of rows of w bytes each row whose number is in us gains what rs has, as far as a row reaches.
-// Rows that gain nothing are passed over up to eight at a time.
+// Rows that gain nothing are passed over up to eight at a time, so no `for` counts them.
 pub fn grant(body: &mut [u8], us: &[u8], rs: &[u8], w: usize)
     ensures { body.new ≡ granted w body.old us.now rs.now }
 {
@@ -135,12 +132,11 @@ pub fn grant(body: &mut [u8], us: &[u8], rs: &[u8], w: usize)
     while u < rows {
         let gap = gap_from(us, u);
         if 0 < gap {
-            u += byte_slices::least(gap, rows - u);
+            u += gap.min(rows - u);
             continue;
         }
         let start = w * u;
-        let reach = byte_slices::least(w, body.len() - start);
-        union_at(body, start, reach, rs);
+        union_at(body, start, w, rs);
         u += 1;
     }
 }
@@ -149,7 +145,6 @@ pub fn grant(body: &mut [u8], us: &[u8], rs: &[u8], w: usize)
 pub fn grant_at(table: &mut [u8], o: usize, size: usize, us: &[u8], rs: &[u8], w: usize)
     ensures { table.new ≡ put table.old o (granted w (parts.part table.old o size) us.now rs.now) }
 {
-    let start = byte_slices::least(o, table.len());
-    let end = byte_slices::end_of(o, size, table.len());
-    grant(&mut table[start..end], us, rs, w);
+    let place = byte_slices::range_of(o, size, table.len());
+    grant(&mut table[place], us, rs, w);
 }

@@ -8,6 +8,9 @@ use std::io::Write;
 // Offsets in a table of 24 bytes, widths there, and widths of its rows.
 const PLACES: [usize; 6] = [0, 1, 3, 20, 24, 18446744073709551615];
 
+// What the rows of the table gain.
+const GAINED: [u8; 2] = [66, 2];
+
 fn ask_part<W: Write>(out: &mut W, table: &[u8], o: usize, w: usize) -> io::Result<()> {
     set_show::line(out, b"part", o, w, byte_slices::part(table, o, w))?;
     set_show::yes_or_no(
@@ -36,63 +39,22 @@ fn compare_part<W: Write>(
     set_show::yes_or_no(out, b"equal_at", o, w, set_rows::equal_at(table, o, w, b))
 }
 
-fn change_part<W: Write>(
+// What a change, which may read a set of its own, makes of the table.
+fn change<W: Write, F: FnOnce(&mut [u8], &[u8])>(
     out: &mut W,
-    way: usize,
-    table: &mut [u8],
+    name: &[u8],
     o: usize,
     w: usize,
-    b: &mut [u8],
-) -> io::Result<()> {
-    match way {
-        0 => {
-            set_rows::insert_at(table, o, w, 9);
-            set_show::line(out, b"insert_at", o, w, table)
-        }
-        1 => {
-            set_rows::remove_at(table, o, w, 7);
-            set_show::line(out, b"remove_at", o, w, table)
-        }
-        2 => {
-            bitset::clear_at(table, o, w);
-            set_show::line(out, b"clear_at", o, w, table)
-        }
-        3 => {
-            set_rows::union_at(table, o, w, b);
-            set_show::line(out, b"union_at", o, w, table)
-        }
-        4 => {
-            set_rows::copy_at(table, o, w, b);
-            set_show::line(out, b"copy_at", o, w, table)
-        }
-        _ => change_more(out, way, table, o, w, b),
-    }
-}
-
-// What a set of its own, and then the table by rows, become.
-fn change_more<W: Write>(
-    out: &mut W,
-    way: usize,
     table: &mut [u8],
-    o: usize,
-    w: usize,
     b: &mut [u8],
-) -> io::Result<()> {
-    let gained = [66u8, 2];
-    match way {
-        5 => {
-            set_rows::read_at(b, table, o, w);
-            set_show::line(out, b"read_at", o, w, b)
-        }
-        6 => {
-            set_rows::grant(table, b, &gained, w);
-            set_show::line(out, b"grant", 0, w, table)
-        }
-        _ => {
-            set_rows::grant_at(table, o, 13, b, &gained, w);
-            set_show::line(out, b"grant_at", o, w, table)
-        }
-    }
+    change: F,
+) -> io::Result<()>
+    requires { F.IsAlwaysCallable change }
+{
+    set_show::first(table);
+    set_show::second(b);
+    change(table, b);
+    set_show::line(out, name, o, w, table)
 }
 
 fn place<W: Write>(
@@ -102,12 +64,42 @@ fn place<W: Write>(
     w: usize,
     b: &mut [u8],
 ) -> io::Result<()> {
-    for way in 0..8 {
-        set_show::first(table);
-        set_show::second(b);
-        change_part(out, way, table, o, w, b)?;
-    }
-    Ok(())
+    change(out, b"insert_at", o, w, table, b, |t, _| {
+        set_rows::insert_at(t, o, w, 9);
+    })?;
+    change(out, b"remove_at", o, w, table, b, |t, _| {
+        set_rows::remove_at(t, o, w, 7);
+    })?;
+    change(out, b"clear_at", o, w, table, b, |t, _| {
+        bitset::clear_at(t, o, w);
+    })?;
+    change(out, b"union_at", o, w, table, b, |t, s| {
+        set_rows::union_at(t, o, w, s);
+    })?;
+    change(out, b"copy_at", o, w, table, b, |t, s| {
+        set_rows::copy_at(t, o, w, s);
+    })?;
+    read(out, table, o, w, b)?;
+    change(out, b"grant", 0, w, table, b, |t, s| {
+        set_rows::grant(t, s, &GAINED, w);
+    })?;
+    change(out, b"grant_at", o, w, table, b, |t, s| {
+        set_rows::grant_at(t, o, 13, s, &GAINED, w);
+    })
+}
+
+// What the set of its own becomes.
+fn read<W: Write>(
+    out: &mut W,
+    table: &mut [u8],
+    o: usize,
+    w: usize,
+    b: &mut [u8],
+) -> io::Result<()> {
+    set_show::first(table);
+    set_show::second(b);
+    set_rows::read_at(b, table, o, w);
+    set_show::line(out, b"read_at", o, w, b)
 }
 
 fn places<W: Write>(out: &mut W, table: &mut [u8], b: &mut [u8], o: usize) -> io::Result<()> {

@@ -10,41 +10,17 @@ const FIRST: [usize; 8] = [0, 7, 8, 63, 64, 100, 127, 511];
 
 const SECOND: [usize; 8] = [0, 1, 7, 9, 64, 101, 127, 300];
 
-fn say<W: Write>(out: &mut W, text: &[u8]) -> io::Result<()> {
-    out.write_all(text)
-}
-
-fn number<W: Write>(out: &mut W, n: usize) -> io::Result<()> {
-    write!(out, " {n}")
-}
-
-// The start of a line: the function and two of the numbers that it was given.
-fn given<W: Write>(out: &mut W, name: &[u8], a: usize, b: usize) -> io::Result<()> {
-    say(out, name)?;
-    number(out, a)?;
-    number(out, b)?;
-    say(out, b":")
-}
-
-fn hex<W: Write>(out: &mut W, b: u8) -> io::Result<()> {
-    write!(out, "{b:02x}")
-}
-
-fn show<W: Write>(out: &mut W, set: &[u8]) -> io::Result<()> {
-    if set.is_empty() {
-        return say(out, b" no bytes\n");
-    }
-    say(out, b" ")?;
-    for b in set {
-        hex(out, *b)?;
-    }
-    say(out, b"\n")
-}
-
 // A line whose answer is a set.
 pub fn line<W: Write>(out: &mut W, name: &[u8], a: usize, b: usize, set: &[u8]) -> io::Result<()> {
-    given(out, name, a, b)?;
-    show(out, set)
+    out.write_all(name)?;
+    write!(out, " {a} {b}: ")?;
+    if set.is_empty() {
+        return writeln!(out, "no bytes");
+    }
+    for byte in set {
+        write!(out, "{byte:02x}")?;
+    }
+    writeln!(out)
 }
 
 // A line whose answer is yes or no.
@@ -55,12 +31,9 @@ pub fn yes_or_no<W: Write>(
     b: usize,
     answer: bool,
 ) -> io::Result<()> {
-    given(out, name, a, b)?;
-    if answer {
-        say(out, b" yes\n")
-    } else {
-        say(out, b" no\n")
-    }
+    let word = if answer { "yes" } else { "no" };
+    out.write_all(name)?;
+    writeln!(out, " {a} {b}: {word}")
 }
 
 // A line whose answer is a number.
@@ -71,9 +44,8 @@ pub fn how_many<W: Write>(
     b: usize,
     n: usize,
 ) -> io::Result<()> {
-    given(out, name, a, b)?;
-    number(out, n)?;
-    say(out, b"\n")
+    out.write_all(name)?;
+    writeln!(out, " {a} {b}: {n}")
 }
 
 // The set becomes the numbers of a list, as far as it reaches.

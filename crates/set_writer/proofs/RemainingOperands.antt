@@ -6,6 +6,7 @@ use mathlib.Core.List.{List, [], ◌∷◌, ◌++◌, append_assoc}
 use mathlib.Core.Option.{Option, none, some, some-injective, none-ne-some}
 use Prim.Native.Nat.{ℕ}
 use lib.ListN.{length}
+use Rattle.std.specs.Prelude.{None, Some}
 use Rattle.lexer.specs.Forms.{Forms, closed, ended, word, part}
 use Rattle.policy.specs.Basics.{Name, ◌>>=◌, given, more}
 use Rattle.policy.specs.Words.{is_reserved, as_name}
@@ -16,7 +17,7 @@ use Rattle.policy.specs.Names.{Environment}
 use Rattle.statement_code.specs.Code.{set_code, end_unit}
 use Rattle.statement_code.specs.UnitWrites.{Wrote}
 use Rattle.set_writer.specs.Sets.{set_units, row_units, behind, Operands, Answers}
-use Rattle.set_writer.specs.declared.SetWritten.{SetWritten}
+use Rattle.set_writer.specs.declared.Written.{Written}
 use Rattle.statement_code.proofs.UnitLaws.{wrote_then}
 
 -- ---- a row by its first operand
@@ -105,18 +106,18 @@ module _ (env : Environment) (f : Family) where
         ∙ ap (behind l.units) (row-none x p.others h))
 
   -- the end mark is written
-  pub done : {w : SetExpr Name} {before code after : List ℕ} {to u v : ℕ} (q : ℕ) → Left w before to closed code u → length code ≡ length before
-      → Wrote code u (end_unit ∷ []) after v → Answers before to (refer_s env f w) after (SetWritten.Next q v)
+  pub done : {w : SetExpr Name} {before code after : List ℕ} {to u : ℕ} (p : Written) → Left w before to closed code u → length code ≡ length before
+      → Wrote code u (end_unit ∷ []) after p.to → Answers before to (refer_s env f w) after (Some p)
   unfolding operands row_units
-  done {w} {before} {code} {after} {to} {u} {v} q l n k =
+  done {w} {before} {code} {after} {to} {u} p l n k =
       go (refer_s env f w)
       (l.whole ∙ ap (λ (xs : List (SetExpr Name)). behind l.units (row_units env f xs)) (sym (some-injective [] l.each l.row)))
       (wrote_then n l.wrote k)
     where
-      go : (o : Option (SetExpr Reference)) → (o >>= λ s. some (set_code s)) ≡ some (l.units ++ (end_unit ∷ [])) → Wrote before to (l.units ++ (end_unit ∷ [])) after v
-          → Answers before to o after (SetWritten.Next q v)
+      go : (o : Option (SetExpr Reference)) → (o >>= λ s. some (set_code s)) ≡ some (l.units ++ (end_unit ∷ [])) → Wrote before to (l.units ++ (end_unit ∷ [])) after p.to
+          → Answers before to o after (Some p)
       go none e h = absurd (none-ne-some (l.units ++ (end_unit ∷ [])) e)
-      go (some s) e h = subst (λ (us : List ℕ). Wrote before to us after v) (sym (some-injective (set_code s) (l.units ++ (end_unit ∷ [])) e)) h
+      go (some s) e h = subst (λ (us : List ℕ). Wrote before to us after p.to) (sym (some-injective (set_code s) (l.units ++ (end_unit ∷ [])) e)) h
 
   -- a row that the end of the text cuts is none
   pub cut : {w : SetExpr Name} {before code : List ℕ} {to u : ℕ} → Left w before to ended code u → ⊥
@@ -124,6 +125,6 @@ module _ (env : Environment) (f : Family) where
   cut l = none-ne-some l.each l.row
 
 -- an undeclared name is answered so
-pub undeclared : (before after : List ℕ) (to : ℕ) (o : Option (SetExpr Reference)) → o ≡ none → Answers before to o after SetWritten.Undeclared
-undeclared before after to none e = tt
+pub undeclared : (before after : List ℕ) (to : ℕ) (o : Option (SetExpr Reference)) → o ≡ none → Answers before to o after None
+undeclared before after to none e = refl
 undeclared before after to (some s) e = none-ne-some s (sym e)

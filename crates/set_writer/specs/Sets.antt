@@ -1,5 +1,6 @@
 -- The units of a set expression whose names are resolved. Assumes nothing.
-use Rattle.std.specs.Prelude.{◌≡◌, List, [], ◌∷◌, ◌++◌, ℕ, ◌<◌, ◌≤◌, length}
+use Rattle.std.specs.Prelude as prelude
+use Rattle.std.specs.Prelude.{◌≡◌, List, [], ◌∷◌, ◌++◌, ℕ, ◌<◌, ◌≤◌, length, IsNone, IsSomeAnd, IfSome}
 use Rattle.std.proofs.Math.Option.{Option, none, some}
 use Rattle.lexer.specs.Forms.{Forms, out, frames_at, trim}
 use Rattle.policy.specs.Basics.{Name, ◌>>=◌}
@@ -13,7 +14,7 @@ use Rattle.statement_code.specs.Code.{set_code, all_unit, not_unit, and_unit, or
 use Rattle.statement_code.specs.UnitWrites.{Wrote, Keeps}
 use Rattle.scopes.specs.Symbols.{Symbols}
 use Rattle.set_writer.specs.declared.SetStart.{SetStart}
-use Rattle.set_writer.specs.declared.SetWritten.{SetWritten}
+use Rattle.set_writer.specs.declared.Written.{Written}
 
 -- the operator of an S by its first word: "one or more operands (their union), `(all)`, `(not x)`, `(and x y)`, `(or x y)`, `(xor x y)`"
 abbrev pub operator_unit : Option Connective → ℕ
@@ -49,27 +50,21 @@ pub record Begins (t : List ℕ) (at : ℕ) (r : SetStart) : Type 0 where
   pub around : (frames_at t r.next).around ≡ (frames_at t at).around
   pub ahead : at ≤ r.next
 
--- q is past the close of the row at the place at, and u is not before the place to
-pub record Past (t : List ℕ) (at to q u : ℕ) : Type 0 where
-  pub rest : out (frames_at t at) ≡ frames_at t q
-  pub less : at < q
-  pub fits : q ≤ length t
-  pub ahead : to ≤ u
+-- what was read ends past the close of the row at the place at, and what was written not before the place to
+pub record Past (t : List ℕ) (at to : ℕ) (p : Written) : Type 0 where
+  pub rest : out (frames_at t at) ≡ frames_at t p.at
+  pub less : at < p.at
+  pub fits : p.at ≤ length t
+  pub ahead : to ≤ p.to
 
-abbrev pub Moves : List ℕ → ℕ → ℕ → SetWritten → Type 0
-Moves t at to (SetWritten.Next q u) = Past t at to q u
-Moves t at to SetWritten.Undeclared = Unit {0}
-
--- "name not declared before, or of the wrong sort": the answer is Undeclared exactly if a name of S is; else the code of S is written
-abbrev pub Answers : List ℕ → ℕ → Option (SetExpr Reference) → List ℕ → SetWritten → Type 0
-Answers before to none after SetWritten.Undeclared = Unit {0}
-Answers before to none after (SetWritten.Next q u) = ⊥
-Answers before to (some s) after SetWritten.Undeclared = ⊥
-Answers before to (some s) after (SetWritten.Next q u) = Wrote before to (set_code s) after u
+-- "name not declared before, or of the wrong sort": there is no answer exactly if a name of S is not; else the code of S is written
+abbrev pub Answers : List ℕ → ℕ → Option (SetExpr Reference) → List ℕ → prelude.Option Written → Type 0
+Answers before to none after r = IsNone r
+Answers before to (some s) after r = IsSomeAnd r (λ p. Wrote before to (set_code s) after p.to)
 
 -- what writing the S at a place of the text answers and leaves. Nothing is said of a row that is no S, but that the code before the place to is kept
-pub record WritesSet (t : List ℕ) (at levels : ℕ) (table : List ℕ) (family : ℕ) (before : List ℕ) (to : ℕ) (after : List ℕ) (r : SetWritten) : Type 0 where
+pub record WritesSet (t : List ℕ) (at levels : ℕ) (table : List ℕ) (family : ℕ) (before : List ℕ) (to : ℕ) (after : List ℕ) (r : prelude.Option Written) : Type 0 where
   pub keeps : Keeps before to after
-  pub moves : Moves t at to r
+  pub moves : IfSome r (Past t at to)
   pub says : (env : Environment) (f : Family) (w : SetExpr Name) → Symbols table env → family_code f ≡ family
       → set_in (trim (frames_at t at).here levels) ≡ some w → Answers before to (refer_s env f w) after r

@@ -12,15 +12,8 @@ ghost use Rattle.set_writer.specs.Sets.{operator_unit, Begins, WritesSet};
 use items::Item;
 use policy::Sort;
 use statement_code::Unit;
-use symbols::Found;
+use symbols::Symbol;
 use words::Word;
-
-// The unit of a reference to what a name of a family stands for, or that none is declared.
-#[derive(Clone, Copy)]
-pub enum NameUnit {
-    Unit(u16),
-    Missing,
-}
 
 // The operator of a set expression, and where its operands begin.
 #[derive(Clone, Copy)]
@@ -29,34 +22,34 @@ struct SetStart {
     next: usize,
 }
 
-// The place past the close of the set expression and the place past its units, or that one of its names is not
-// declared.
+// The place past what was read of the text, and the place past the units that were written for it.
 #[derive(Clone, Copy)]
-pub enum SetWritten {
-    Next { at: usize, to: usize },
-    Undeclared,
+pub struct Written {
+    pub at: usize,
+    pub to: usize,
 }
 
-// The unit of what a name names in a family.
-pub fn reference(symbols: &[u8], family: usize, name: &[u8]) -> NameUnit
+// The unit of what a name names in a family, if it is declared.
+pub fn reference(symbols: &[u8], family: usize, name: &[u8]) -> Option<u16>
     ensures { Refers symbols.now family name.now result }
 {
     let found = scopes::lookup(symbols, family, name);
     match found {
-        Found::At { sort, number } => {
+        Some(Symbol { sort, number }) => {
             if Unit::ATTRIBUTE as usize <= number {
-                return NameUnit::Missing;
+                return None;
             }
             if sort < Sort::FIRST_ATTRIBUTE {
-                return NameUnit::Unit(number as u16);
+                return Some(number as u16);
             }
-            NameUnit::Unit(Unit::ATTRIBUTE + number as u16)
+            Some(Unit::ATTRIBUTE + number as u16)
         }
-        Found::Missing => NameUnit::Missing,
+        None => None,
     }
 }
 
 // The operator of a set expression that starts with the word of the number.
+#[tactic(auto, unfolding(policy::specs::Basics::same, policy::specs::Basics::lookup, policy::specs::Words::reserved, words::specs::Numbers::keywords, words::specs::Numbers::words, words::specs::Numbers::word_of, policy::specs::Words::set_word))]
 fn operator_of(number: usize) -> u16
     ensures { result ≡ operator_unit (set_word (word_of number)) }
 {
@@ -90,8 +83,8 @@ fn set_start(text: &[u8], at: usize) -> SetStart
     }
 }
 
-// Writes the units of what the parentheses of a set expression hold: the operator, the operands, the end mark. It
-// calls itself on each operand in parentheses; the number that falls is the levels left.
+// Writes the units of what the parentheses of a set expression hold, if its names are declared: the operator, the
+// operands, the end mark. It calls itself on each operand in parentheses; the number that falls is the levels left.
 pub fn write_set(
     text: &[u8],
     at: usize,
@@ -100,7 +93,7 @@ pub fn write_set(
     family: usize,
     code: &mut [u16],
     to: usize,
-) -> SetWritten
+) -> Option<Written>
     ensures { WritesSet text.now at levels symbols.now family code.old to code.new result }
 {
     let begun = set_start(text, at);
@@ -117,29 +110,23 @@ pub fn write_set(
             } => {
                 let end = start + len;
                 let name = &text[start..end];
-                let referred = reference(symbols, family, name);
-                let NameUnit::Unit(unit) = referred else {
-                    return SetWritten::Undeclared;
-                };
+                let unit = reference(symbols, family, name)?;
                 u = statement_code::put_unit(code, u, unit);
                 i = next;
             }
             Item::Open { next, .. } => {
                 if levels == 0 {
-                    return SetWritten::Undeclared;
+                    return None;
                 }
-                let operand = write_set(text, next, levels - 1, symbols, family, code, u);
-                let SetWritten::Next { at: past, to: v } = operand else {
-                    return SetWritten::Undeclared;
-                };
-                i = past;
-                u = v;
+                let operand = write_set(text, next, levels - 1, symbols, family, code, u)?;
+                i = operand.at;
+                u = operand.to;
             }
             Item::Close { next } => {
-                let v = statement_code::put_unit(code, u, Unit::END);
-                return SetWritten::Next { at: next, to: v };
+                let to = statement_code::put_unit(code, u, Unit::END);
+                return Some(Written { at: next, to });
             }
-            Item::End => return SetWritten::Undeclared,
+            Item::End => return None,
         }
     }
 }

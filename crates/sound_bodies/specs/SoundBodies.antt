@@ -2,7 +2,7 @@
 -- something undeclared, masks are not 0, constraints take up the rows in order with none left, and each constraint's rows, at least one,
 -- leave between 1 and 5 on the stack after every row and 1 after the last": what this says of the bodies after the first in the bytes
 -- of any table, where the names of body 1 are known by their numbers alone. Bytes past the end read 0. Assumes nothing.
-use Rattle.std.specs.Prelude.{ℕ, zero, suc, ◌+◌, ◌*◌, ◌/◌, Bool, ◌&&◌, ◌||◌, List, eqb, leb, ltb, take, drop}
+use Rattle.std.specs.Prelude.{ℕ, zero, suc, ◌+◌, ◌*◌, ◌/◌, Bool, ◌&&◌, ◌||◌, cond, List, eqb, leb, ltb, take, drop, Option, Some, None}
 use Rattle.bitset.specs.Sets.{within}
 use Rattle.policy.specs.Basics.{each, every, unle}
 use Rattle.policy.specs.Statements.{Family, users, roles, types}
@@ -12,6 +12,7 @@ use Rattle.policy.specs.Encode.{sections_of}
 use Rattle.policy.specs.Sound.{edition_in, pieces, transition_at, constraint_at, relabel_at}
 use Rattle.table_reader.specs.Records.{start_in, length_in}
 use Rattle.sound_constraints.specs.Totals.{Totals}
+use Rattle.sound_bodies.specs.declared.Run.{Run}
 use Rattle.sound_constraints.specs.SoundRows.{constraints_fit, relabels_fit}
 
 -- THE LAYOUT
@@ -48,6 +49,10 @@ relations_sound things t =
 -- body k is records of w bytes, at most so many
 abbrev pub has_records : ℕ → ℕ → ℕ → List ℕ → Bool
 has_records k w most t = eqb (length_in t k) (length_in t k / w * w) && leb (length_in t k / w) most
+
+-- where they start, and how many there are
+abbrev pub run_of : ℕ → ℕ → ℕ → List ℕ → Option Run
+run_of k w most t = cond (has_records k w most t) (Some record { start = start_in t k; count = length_in t k / w }) None
 
 -- TRANSITIONS: body 5
 

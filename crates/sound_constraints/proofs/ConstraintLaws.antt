@@ -1,28 +1,27 @@
 -- Constraints take up the rows as `assign_rows` deals them out, validatetrans statements as `assign_relabels` does, and each of them is good where the
--- test says so: said once for both, by induction on the statements, whose rows are split off. Then the statements that are left pass where all do,
--- and one law for each way through a turn. Assumes nothing.
-use Prim.Native.Nat.{ℕ, suc, ◌+◌, ◌-◌, ◌*◌, ◌<◌, ◌≤◌}
+-- test says so: said once for both, by induction on the statements, whose rows are split off.
+-- Assumes nothing.
+use Prim.Native.Nat.{ℕ, suc, ◌+◌, ◌<◌, ◌≤◌}
 use native.Mathlib.Omega.{arith}
 use mathlib.Core.Path.{◌≡◌, refl, sym, ap, ◌∙◌}
 use mathlib.Core.Bool.{Bool, true, false, ◌&&◌, cond, and-false, and_assoc}
 use mathlib.Core.List.{List, [], ◌∷◌, ◌++◌}
 use mathlib.Core.Option.{Option, none, some, some-injective}
-use lib.Dec.{eqb, leb, ltb}
+use lib.Dec.{eqb, leb}
 use lib.ListN.{length, get_or, take, drop, take-append-drop, length-append}
-use lib.Seq.{take_at, drop_at, drop-drop, length-take-le}
-use borrow.Author.Tests.{eq-eqb, ne_eqb, eqb-true, eqb-false, le-leb, lt-leb, leb-true, leb-false}
-use Rattle.policy.specs.Basics.{◌>>=◌, given, more, each, each_of, every}
+use lib.Seq.{take_at, drop_at, length-take-le}
+use borrow.Author.Tests.{ne_eqb, le-leb, lt-leb, leb-true, leb-false}
+use Rattle.policy.specs.Basics.{◌>>=◌, given, more, each_of, every}
 use Rattle.policy.specs.Statements.{Declaration}
 use Rattle.policy.specs.Maxima.{max_stack}
 use Rattle.policy.specs.Rows.{Row, after, balanced}
 use Rattle.policy.specs.Image.{ConstraintEntry, RelabelEntry}
 use Rattle.policy.specs.Encode.{ConstraintRecord, RelabelRecord}
-use Rattle.policy.specs.Sound.{good_constraint, good_relabel, row_at, pieces, assign_rows, assign_relabels}
+use Rattle.policy.specs.Sound.{good_constraint, good_relabel, row_at, assign_rows, assign_relabels}
 use Rattle.table_laws.proofs.ListLaws.{more-some}
 use Rattle.table_reader.specs.Records as records
 use Rattle.sound_constraints.specs.Totals.{Totals, totals_of}
-use Rattle.sound_constraints.specs.SoundRows.{passes, fits_row, fits_mask, rows_fit, AskedOf, take_up, fits_constraint, constraints_fit, fits_relabel, relabels_fit}
-use Rattle.sound_constraints.proofs.PieceLaws.{pieces_step, pieces_none, pieces-length, pieces-take, pieces-drop}
+use Rattle.sound_constraints.specs.SoundRows.{passes, fits_row, rows_fit, AskedOf, take_up, asks_constraint, asks_relabel, fits_constraint, constraints_fit, fits_relabel, relabels_fit}
 
 -- ONE STATEMENT'S ROWS
 
@@ -156,17 +155,6 @@ module _ {A B : Type 0} (asks : AskedOf A) (good : Row → Bool) (entry : A → 
 -- CONSTRAINTS, AND VALIDATETRANS STATEMENTS
 
 module _ (n : Totals) where
-  -- a constraint says which row is its first
-  abbrev pub asks_constraint : AskedOf ConstraintRecord
-  asks_constraint = record {
-    rows = λ h. h.rows;
-    starts = λ h r. eqb h.first r;
-    fits = λ h. fits_mask n.classes n.permissions h.class h.mask;
-  }
-
-  abbrev pub asks_relabel : AskedOf RelabelRecord
-  asks_relabel = record { rows = λ h. h.rows; starts = λ h r. true; fits = λ h. ltb h.class n.classes }
-
   -- a row is good, of so many components
   abbrev pub good : ℕ → Row → Bool
   good k r = fits_row k n.things n.attributes r
@@ -177,27 +165,27 @@ module _ (n : Totals) where
   abbrev relabel_with : RelabelRecord → List Row → RelabelEntry
   relabel_with h us = record { class = h.class; rows = us }
 
-  assign-rows : (r : ℕ) (hs : List ConstraintRecord) (rs : List Row) → deal_out asks_constraint constraint_with r hs rs ≡ assign_rows r hs rs
+  assign-rows : (r : ℕ) (hs : List ConstraintRecord) (rs : List Row) → deal_out (asks_constraint n) constraint_with r hs rs ≡ assign_rows r hs rs
   unfolding deal_out assign_rows
   assign-rows r [] [] = refl
   assign-rows r [] (x ∷ xs) = refl
   assign-rows r (h ∷ hs) rs = rw (assign-rows (r + h.rows) hs (drop h.rows rs))
 
-  assign-relabels : (r : ℕ) (hs : List RelabelRecord) (rs : List Row) → deal_out asks_relabel relabel_with r hs rs ≡ assign_relabels hs rs
+  assign-relabels : (r : ℕ) (hs : List RelabelRecord) (rs : List Row) → deal_out (asks_relabel n) relabel_with r hs rs ≡ assign_relabels hs rs
   unfolding deal_out assign_relabels
   assign-relabels r [] [] = refl
   assign-relabels r [] (x ∷ xs) = refl
   assign-relabels r (h ∷ hs) rs = rw (assign-relabels (r + h.rows) hs (drop h.rows rs))
 
   -- the test that goes statement by statement is that of the definition
-  pub take-up-law : (hs : List ConstraintRecord) (ts : List (List ℕ)) → take_up asks_constraint (good 6) 0 hs ts ≡ constraints_fit n hs ts
+  pub take-up-law : (hs : List ConstraintRecord) (ts : List (List ℕ)) → take_up (asks_constraint n) (good 6) 0 hs ts ≡ constraints_fit n hs ts
   take-up-law hs ts =
-      take-up asks_constraint (good 6) constraint_with (fits_constraint n) (λ h us. refl) 0 hs ts
+      take-up (asks_constraint n) (good 6) constraint_with (fits_constraint n) (λ h us. refl) 0 hs ts
       ∙ (λ i. passes (each_of row_at ts >>= λ rs. assign-rows 0 hs rs i) (every (fits_constraint n)))
 
-  pub take-up-relabels : (hs : List RelabelRecord) (ts : List (List ℕ)) → take_up asks_relabel (good 9) 0 hs ts ≡ relabels_fit n hs ts
+  pub take-up-relabels : (hs : List RelabelRecord) (ts : List (List ℕ)) → take_up (asks_relabel n) (good 9) 0 hs ts ≡ relabels_fit n hs ts
   take-up-relabels hs ts =
-      take-up asks_relabel (good 9) relabel_with (fits_relabel n) (λ h us. refl) 0 hs ts
+      take-up (asks_relabel n) (good 9) relabel_with (fits_relabel n) (λ h us. refl) 0 hs ts
       ∙ (λ i. passes (each_of row_at ts >>= λ rs. assign-relabels 0 hs rs i) (every (fits_relabel n)))
 
 -- by the totals of the declarations, it is what is asked of a sound table
@@ -208,73 +196,3 @@ constraints-good ds hs ts = refl
 pub relabels-good : (ds : List Declaration) (hs : List RelabelRecord) (ts : List (List ℕ))
     → relabels_fit (totals_of ds) hs ts ≡ passes (each_of row_at ts >>= λ rs. assign_relabels hs rs) (every (good_relabel ds))
 relabels-good ds hs ts = refl
-
--- STATEMENT BY STATEMENT
-
--- a statement and those after it take up m rows at a place, from row r on, where the whole passes
-pub record RecordTurn {A : Type 0} (asks : AskedOf A) (good : Row → Bool) (t : List ℕ) (whole : Bool) (r at m : ℕ) (later : List A) (h : A) : Type 0 where
-  pub tests : take_up asks good r (h ∷ later) (pieces m 6 (drop at t)) ≡ whole
-
--- records of w bytes, each of which is read from its own bytes alone
-module _ {A : Type 0} (w : ℕ) (read : List ℕ → A) (front : (t : List ℕ) → read (take w t) ≡ read t)
-    (asks : AskedOf A) (good : Row → Bool) (t : List ℕ) {whole : Bool} (r from k at m : ℕ)
-    (left : take_up asks good r (each read (pieces k w (drop from t))) (pieces m 6 (drop at t)) ≡ whole) where
-  pub record-turn : (next j : ℕ) → k ≡ j + 1 → next ≡ from + w → (h : A) → h ≡ read (drop from t)
-      → RecordTurn asks good t whole r at m (each read (pieces j w (drop next t))) h
-  unfolding each
-  record-turn next j p q h is = record {
-    tests =
-        ap (λ (h : A). take_up asks good r (h ∷ each read (pieces j w (drop next t))) (pieces m 6 (drop at t))) (is ∙ sym (front (drop from t)))
-        ∙ (rw (pieces_step w t from next k j p q) at left);
-  }
-
-  pub take-end : (rows : ℕ) → r ≤ rows → m ≡ rows - r → k ≡ 0 → eqb r rows ≡ whole
-  unfolding take_up each
-  take-end rows l e z = by (eqb r rows) refl ∙ (rw (pieces_none w t from k z, pieces-length m 6 (drop at t)) at left)
-    where
-      by : (b : Bool) → eqb r rows ≡ b → b ≡ eqb m 0
-      by true q = sym (eq-eqb m 0 (omega (arith, eqb-true r rows q)))
-      by false q = sym (ne_eqb m 0 (λ z. eqb-false r rows q (omega arith)))
-
-module _ {A : Type 0} {asks : AskedOf A} {good : Row → Bool} {t : List ℕ} {whole : Bool} {r at m : ℕ} {later : List A} {h : A}
-    (turn : RecordTurn asks good t whole r at m later h) where
-  pub take-first : asks.starts h r ≡ false → false ≡ whole
-  unfolding take_up
-  take-first n = rw n at turn.tests
-
-  module _ (first : asks.starts h r ≡ true) where
-    pub take-many : m < asks.rows h → false ≡ whole
-    unfolding take_up
-    take-many l = rw (first, pieces-length m 6 (drop at t), lt-leb (asks.rows h) m l) at turn.tests
-
-    module _ (enough : asks.rows h ≤ m) where
-      pub take-bad : asks.fits h ≡ false → false ≡ whole
-      unfolding take_up
-      take-bad e = rw (first, pieces-length m 6 (drop at t), le-leb (asks.rows h) m enough, e) at turn.tests
-
-      pub take-rows : asks.fits h ≡ true → rows_fit good (pieces (asks.rows h) 6 (drop at t)) 0 ≡ false → false ≡ whole
-      unfolding take_up
-      take-rows e f = rw (
-        first,
-        pieces-length m 6 (drop at t),
-        le-leb (asks.rows h) m enough,
-        e,
-        pieces-take (asks.rows h) m 6 (drop at t) enough,
-        f,
-      ) at turn.tests
-
-      pub take_next : asks.fits h ≡ true → rows_fit good (pieces (asks.rows h) 6 (drop at t)) 0 ≡ true → (place n : ℕ) → place ≡ at + 6 * asks.rows h → n ≡ m - asks.rows h
-          → take_up asks good (r + asks.rows h) later (pieces n 6 (drop place t)) ≡ whole
-      unfolding take_up
-      take_next e f place n g l =
-          let sum : at + asks.rows h * 6 ≡ place = omega arith in
-          let further : drop (asks.rows h * 6) (drop at t) ≡ drop place t = drop-drop (asks.rows h * 6) at t ∙ ap (λ (k : ℕ). drop k t) sum in
-          rw (l, ← further, ← pieces-drop (asks.rows h) m 6 (drop at t) enough)
-          (rw (
-            first,
-            pieces-length m 6 (drop at t),
-            le-leb (asks.rows h) m enough,
-            e,
-            pieces-take (asks.rows h) m 6 (drop at t) enough,
-            f,
-          ) at turn.tests)

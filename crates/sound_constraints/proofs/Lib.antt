@@ -2,3 +2,4 @@
 pub mod PieceLaws
 pub mod RowLaws
 pub mod ConstraintLaws
+pub mod StatementLaws

@@ -4,11 +4,12 @@ use Prim.Native.Nat.{ℕ, zero, suc, pred, ◌+◌, ◌-◌, ◌/◌, ◌^◌, �
 use native.Mathlib.Nat.{div-eq_of_lt, lt_of_lt_of_le, pow-le-pow_right, one-le-pow, le-div_iff_mul-le}
 use native.Mathlib.Omega.{arith}
 use mathlib.Core.Path.{◌≡◌, refl, sym, ap, ap₂, ◌∙◌}
-use mathlib.Core.Bool.{Bool, true, false, ◌&&◌, cond, and-false}
+use mathlib.Core.Bool.{Bool, true, false, ◌&&◌, cond}
 use mathlib.Core.List.{List}
 use lib.Dec.{eqb, leb, ltb}
 use lib.ListN.{get_or, drop}
-use borrow.Author.Tests.{eq-eqb, ne_eqb, le-leb, lt-leb, lt-ltb, ltb-true, ltb-false}
+use Rattle.std.specs.Prelude.{Some, None}
+use borrow.Author.Tests.{eq-eqb, ne_eqb, lt-ltb, ltb-true, ltb-false}
 use Rattle.policy.specs.Maxima.{max_stack}
 use Rattle.policy.specs.Rows.{Row, after}
 use Rattle.policy.specs.Sound.{pieces}
@@ -37,13 +38,6 @@ mask-shifted m k = by (ltb m (2 ^ k)) refl
 
 -- THE DEPTH
 
-pub kept_same : (d : ℕ) → d ≤ 5 → d ≡ kept d
-kept_same zero h = refl
-kept_same (suc d) h = rw (le-leb 1 (suc d) (omega arith), le-leb (suc d) 5 h)
-
-pub kept-past : (d : ℕ) → 5 < d → 0 ≡ kept d
-kept-past d h = rw (lt-leb d 5 h, and-false (leb 1 d))
-
 -- a comparison leaves one more, `and` and `or` one less
 pub after-comparison : (r : Row) → 2 < r.kind → (d : ℕ) → after r d ≡ d + 1
 after-comparison r h d =
@@ -62,20 +56,19 @@ after_two r n h d = by r.kind n h
     by (suc (suc (suc k))) n h = absurd (omega arith)
 
 -- the test of a depth, by what is kept of it
-pub kept-none : (d : ℕ) → kept d ≡ 0 → (leb 1 d && leb d max_stack) ≡ false
-kept-none zero e = refl
-kept-none (suc d) e = by (leb 1 (suc d) && leb (suc d) max_stack) refl
+pub kept-none : (d : ℕ) → None ≡ kept d → (leb 1 d && leb d max_stack) ≡ false
+kept-none d e = by (leb 1 d && leb d max_stack) e
   where
-    by : (b : Bool) → (leb 1 (suc d) && leb (suc d) max_stack) ≡ b → b ≡ false
+    by : (b : Bool) → None ≡ cond b (Some d) None → b ≡ false
     by false q = refl
-    by true q = let z : cond true (suc d) 0 ≡ 0 = ap (λ (b : Bool). cond b (suc d) 0) (sym q) ∙ e in absurd (omega arith)
+    by true q = absurd (cc)
 
-pub kept-some : (d : ℕ) → (kept d ≡ 0 → ⊥) → ((leb 1 d && leb d max_stack) ≡ true) × (kept d ≡ d)
-kept-some d n = by (leb 1 d && leb d max_stack) refl
+pub kept-some : (d k : ℕ) → Some k ≡ kept d → ((leb 1 d && leb d max_stack) ≡ true) × (k ≡ d)
+kept-some d k e = by (leb 1 d && leb d max_stack) e
   where
-    by : (b : Bool) → (leb 1 d && leb d max_stack) ≡ b → (b ≡ true) × (cond b d 0 ≡ d)
-    by false q = absurd (n (ap (λ (b : Bool). cond b d 0) q))
-    by true q = (refl, refl)
+    by : (b : Bool) → Some k ≡ cond b (Some d) None → (b ≡ true) × (k ≡ d)
+    by false q = absurd (cc)
+    by true q = (refl, cc)
 
 -- ROW BY ROW
 
@@ -105,10 +98,10 @@ module _ {good : Row → Bool} {t : List ℕ} {whole : Bool} {at d : ℕ} {later
     pub rows-bad : good r ≡ false → false ≡ whole
     rows-bad g = rw (eq-eqb (get_or t (at + 3) 0) 0 zero, g) at turn.tests
 
-    pub rows-deep : good r ≡ true → kept (after r d) ≡ 0 → false ≡ whole
+    pub rows-deep : good r ≡ true → None ≡ kept (after r d) → false ≡ whole
     rows-deep g k = rw (eq-eqb (get_or t (at + 3) 0) 0 zero, g, kept-none (after r d) k) at turn.tests
 
-    pub rows_next : good r ≡ true → (k : ℕ) → k ≡ kept (after r d) → (k ≡ 0 → ⊥) → rows_fit good later k ≡ whole
-    rows_next g k e z =
-        let same = kept-some (after r d) (λ y. z (e ∙ y)) in
-        rw (e, same.1) (rw (eq-eqb (get_or t (at + 3) 0) 0 zero, g, same.0) at turn.tests)
+    pub rows_next : good r ≡ true → (k : ℕ) → Some k ≡ kept (after r d) → rows_fit good later k ≡ whole
+    rows_next g k e =
+        let same = kept-some (after r d) k e in
+        rw same.1 (rw (eq-eqb (get_or t (at + 3) 0) 0 zero, g, same.0) at turn.tests)

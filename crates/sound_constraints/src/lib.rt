@@ -3,13 +3,14 @@
 // table, whatever its bytes are.
 #![tactic(auto)]
 
-ghost use Rattle.std.specs.Prelude.{◌≡◌, [], ◌+◌, ◌*◌, get_or, drop};
+ghost use Rattle.std.specs.Prelude.{◌≡◌, ℕ, cond, [], ◌+◌, ◌*◌, ltb, get_or, drop, Option, Some, None};
 ghost use Rattle.policy.specs.Basics.{each};
 ghost use Rattle.policy.specs.Rows.{after};
 ghost use Rattle.policy.specs.Sound.{of_comp, pieces, constraint_at, relabel_at};
 ghost use Rattle.table_reader.specs.Records.{row_of};
 ghost use Rattle.sound_constraints.specs.Totals.{things_of, attributes_of, totals_in};
-ghost use Rattle.sound_constraints.specs.SoundRows.{is_bare, compares_sides, names_one, fits_row, fits_mask, kept, rows_fit, constraints_fit, relabels_fit};
+ghost use Rattle.sound_constraints.specs.SoundRows.{is_bare, compares_sides, names_one, fits_row, fits_mask, kept, rows_fit, AnswersAs, taken_up, rows_asked};
+ghost use Rattle.sound_constraints.specs.SoundRows.{asks_constraint, constraints_fit, relabels_fit};
 
 use policy::{Component, Constraint, Family, NameCounts, Operator, Permission, Row};
 use table_reader::{ConstraintRecord, RowRecord};
@@ -20,8 +21,7 @@ use table_reader::{ConstraintRecord, RowRecord};
 fn things_of(counts: NameCounts, component: u8) -> usize
     ensures { result ≡ things_of counts (of_comp component) }
 {
-    let family = table_reader::family_of(component);
-    match family {
+    match table_reader::family_of(component) {
         Family::Users => counts.users,
         Family::Roles => counts.roles,
         Family::Types => counts.types,
@@ -32,8 +32,7 @@ fn things_of(counts: NameCounts, component: u8) -> usize
 fn attributes_of(counts: NameCounts, component: u8) -> usize
     ensures { result ≡ attributes_of counts (of_comp component) }
 {
-    let family = table_reader::family_of(component);
-    match family {
+    match table_reader::family_of(component) {
         Family::Users => counts.user_attributes,
         Family::Roles => counts.role_attributes,
         Family::Types => counts.type_attributes,
@@ -44,32 +43,19 @@ fn attributes_of(counts: NameCounts, component: u8) -> usize
 fn is_bare(row: RowRecord) -> bool
     ensures { result ≡ is_bare (row_of row) }
 {
-    if row.component != 0 {
-        return false;
-    }
-    if row.operator != 0 {
-        return false;
-    }
-    row.number == 0
+    row.component == 0 && row.operator == 0 && row.number == 0
 }
 
 // Whether a row of kind 3 is good: u1 and t1 with two operators, r1 with five.
 fn compares_sides(row: RowRecord) -> bool
     ensures { result ≡ compares_sides (row_of row) }
 {
-    if row.number != 0 {
-        return false;
-    }
-    if row.component == Component::U1 {
-        return row.operator < Operator::COUNT;
-    }
-    if row.component == Component::R1 {
-        return row.operator < Operator::COUNT_OF_ROLES;
-    }
-    if row.component == Component::T1 {
-        return row.operator < Operator::COUNT;
-    }
-    false
+    let operators = match row.component {
+        Component::U1 | Component::T1 => Operator::COUNT,
+        Component::R1 => Operator::COUNT_OF_ROLES,
+        _ => 0,
+    };
+    row.operator < operators && row.number == 0
 }
 
 // Whether a row of kind 4 or 5 is good, where there are so many components, and so many things or attributes are
@@ -77,63 +63,35 @@ fn compares_sides(row: RowRecord) -> bool
 fn names_one(row: RowRecord, components: u8, declared: usize) -> bool
     ensures { result ≡ names_one components (row_of row) declared }
 {
-    if components <= row.component {
-        return false;
-    }
-    if Operator::COUNT <= row.operator {
-        return false;
-    }
-    (row.number as usize) < declared
+    row.component < components && row.operator < Operator::COUNT && (row.number as usize) < declared
 }
 
 // Whether a row is one that the forms of constraints allow, and names nothing undeclared.
 fn fits_row(row: RowRecord, components: u8, counts: NameCounts) -> bool
     ensures { result ≡ fits_row components (things_of counts) (attributes_of counts) (row_of row) }
 {
-    let kind = row.kind;
-    if kind < Row::TWO_SIDES {
-        return is_bare(row);
+    match row.kind {
+        Row::NOT | Row::AND | Row::OR => is_bare(row),
+        Row::TWO_SIDES => compares_sides(row),
+        Row::SIDE_AND_THING => names_one(row, components, things_of(counts, row.component)),
+        Row::SIDE_AND_ATTRIBUTE => names_one(row, components, attributes_of(counts, row.component)),
+        _ => false,
     }
-    if kind == Row::TWO_SIDES {
-        return compares_sides(row);
-    }
-    if kind == Row::SIDE_AND_THING {
-        return names_one(row, components, things_of(counts, row.component));
-    }
-    if kind == Row::SIDE_AND_ATTRIBUTE {
-        return names_one(row, components, attributes_of(counts, row.component));
-    }
-    false
 }
 
-// The depth where it is one that the stack may have after a row, else 0.
-fn kept_depth(depth: u8) -> u8
-    ensures { result ≡ kept depth }
-{
-    if Constraint::MAX_STACK < depth as usize {
-        return 0;
-    }
-    depth
-}
-
-// The depth of the stack after a row; 0 where it is not between 1 and 5.
-fn depth_after(row: RowRecord, depth: u8) -> u8
+// The depth of the stack after a row, where it is between 1 and 5.
+fn depth_after(row: RowRecord, depth: u8) -> Option<u8>
     ensures { result ≡ kept (after (row_of row) depth) }
 {
-    let kind = row.kind;
-    if kind == Row::NOT {
-        return kept_depth(depth);
+    let after = match row.kind {
+        Row::NOT => depth,
+        Row::AND | Row::OR => depth.checked_sub(1)?,
+        _ => depth.checked_add(1)?,
+    };
+    if after == 0 || Constraint::MAX_STACK < after as usize {
+        return None;
     }
-    if Row::OR < kind {
-        if Constraint::MAX_STACK <= depth as usize {
-            return 0;
-        }
-        return depth + 1;
-    }
-    if depth == 0 {
-        return 0;
-    }
-    kept_depth(depth - 1)
+    Some(after)
 }
 
 // Whether `count` rows from row `first` on are good and run the stack as they may; the rows of 6 bytes start at
@@ -149,9 +107,8 @@ fn rows_fit(
     ensures { result ≡ rows_fit (fits_row components (things_of counts) (attributes_of counts)) (pieces count 6 (drop (start + 6 * first) table.now)) 0 }
 {
     let mut depth = 0;
-    let mut number = first as u32;
-    let mut left = count;
-    while 0 < left {
+    let past = u32::from(first) + u32::from(count);
+    for number in u32::from(first)..past {
         let row = table_reader::row_at(table, start, number);
         let place = start as usize + Row::BYTES * (number as usize);
         if byte_slices::byte(table, place + Row::UNUSED_AT) != 0 {
@@ -160,14 +117,46 @@ fn rows_fit(
         if !fits_row(row, components, counts) {
             return false;
         }
-        depth = depth_after(row, depth);
-        if depth == 0 {
+        let Some(next) = depth_after(row, depth) else {
             return false;
-        }
-        number += 1;
-        left -= 1;
+        };
+        depth = next;
     }
     depth == 1
+}
+
+// ---- statements
+
+// Whether so many statements take up so many rows in order, with none left, and these are good. `asked` answers how many
+// rows the statement of a number takes up, if it is good by itself and may have this row for its first. The rows of 6
+// bytes start at `start`.
+fn statements_fit<F: Fn(u32, u16) -> Option<u16>>(
+    table: &[u8],
+    count: u32,
+    start: u32,
+    rows: u16,
+    components: u8,
+    counts: NameCounts,
+    asked: F,
+) -> bool
+    requires { F.IsAlwaysCallable asked }
+    ensures { (f : ℕ → ℕ → Option ℕ) → AnswersAs (F.post asked) count rows f
+        → result ≡ taken_up f (fits_row components (things_of counts) (attributes_of counts)) 0 count 0 (pieces rows 6 (drop start table.now)) }
+{
+    let mut taken = 0;
+    for number in 0..count {
+        let Some(more) = asked(number, taken) else {
+            return false;
+        };
+        if rows - taken < more {
+            return false;
+        }
+        if !rows_fit(table, start, taken, more, components, counts) {
+            return false;
+        }
+        taken += more;
+    }
+    taken == rows
 }
 
 // ---- constraints
@@ -176,10 +165,7 @@ fn rows_fit(
 pub fn permissions_of(permissions: &[usize], class: usize) -> usize
     ensures { result ≡ get_or permissions.now class 0 }
 {
-    if class < permissions.len() {
-        return permissions[class];
-    }
-    0
+    permissions.get(class).copied().unwrap_or(0)
 }
 
 // The bits of a permission mask: one for each permission that a class may have.
@@ -189,17 +175,30 @@ const MASK_BITS: usize = Permission::MAX;
 fn fits_mask(constraint: ConstraintRecord, counts: NameCounts, permissions: &[usize]) -> bool
     ensures { result ≡ fits_mask counts.classes (λ k. get_or permissions.now k 0) constraint.class constraint.mask }
 {
-    if counts.classes <= constraint.class as usize {
-        return false;
-    }
-    if constraint.mask == 0 {
-        return false;
-    }
     let declared = permissions_of(permissions, constraint.class as usize);
-    if MASK_BITS <= declared {
-        return true;
+    (constraint.class as usize) < counts.classes
+        && constraint.mask != 0
+        && (MASK_BITS <= declared || constraint.mask >> declared == 0)
+}
+
+// How many rows the constraint of this number takes up, if it is good by itself and says that this is its first row. The
+// constraints of 10 bytes start at `constraints`.
+fn constraint_rows(
+    table: &[u8],
+    constraints: u32,
+    number: u32,
+    first: u16,
+    counts: NameCounts,
+    permissions: &[usize],
+) -> Option<u16>
+    ensures { result ≡ rows_asked (asks_constraint (totals_in counts permissions.now)) (constraint_at (drop (constraints + 10 * number) table.now)) first }
+{
+    let record = table_reader::constraint_at(table, constraints, number);
+    if record.first == first && fits_mask(record, counts, permissions) {
+        Some(record.rows)
+    } else {
+        None
     }
-    constraint.mask >> declared == 0
 }
 
 // Whether so many constraints take up so many rows in order, with none left, and are good. The constraints of 10
@@ -217,32 +216,34 @@ pub fn constraints_fit(
     ensures { result ≡ constraints_fit (totals_in counts permissions.now)
         (each constraint_at (pieces count 10 (drop constraints table.now))) (pieces rows 6 (drop start table.now)) }
 {
-    let mut next = 0;
-    let mut taken = 0;
-    while next < count {
-        let record = table_reader::constraint_at(table, constraints, next);
-        if record.first != taken {
-            return false;
-        }
-        if rows - taken < record.rows {
-            return false;
-        }
-        if !fits_mask(record, counts, permissions) {
-            return false;
-        }
-        if !rows_fit(table, start, taken, record.rows, Component::COUNT, counts) {
-            return false;
-        }
-        taken += record.rows;
-        next += 1;
-    }
-    taken == rows
+    statements_fit(
+        table,
+        count,
+        start,
+        rows,
+        Component::COUNT,
+        counts,
+        |number, first| constraint_rows(table, constraints, number, first, counts, permissions),
+    )
 }
 
 // ---- validatetrans statements
 
+// How many rows the validatetrans statement of this number takes up, if it is good by itself. The statements of 4 bytes
+// start at `relabels`. They name no permission.
+fn relabel_rows(table: &[u8], relabels: u32, number: u32, counts: NameCounts) -> Option<u16>
+    ensures { let r = relabel_at (drop (relabels + 4 * number) table.now) in result ≡ cond (ltb r.class counts.classes) (Some r.rows) None }
+{
+    let record = table_reader::relabel_at(table, relabels, number);
+    if (record.class as usize) < counts.classes {
+        Some(record.rows)
+    } else {
+        None
+    }
+}
+
 // Whether so many validatetrans statements take up so many rows in order, with none left, and are good. The
-// statements of 4 bytes start at `relabels`, the rows of 6 bytes at `start`. They name no permission.
+// statements of 4 bytes start at `relabels`, the rows of 6 bytes at `start`.
 pub fn relabels_fit(
     table: &[u8],
     relabels: u32,
@@ -254,28 +255,13 @@ pub fn relabels_fit(
     ensures { result ≡ relabels_fit (totals_in counts []) (each relabel_at (pieces count 4 (drop relabels table.now)))
         (pieces rows 6 (drop start table.now)) }
 {
-    let mut next = 0;
-    let mut taken = 0;
-    while next < count {
-        let record = table_reader::relabel_at(table, relabels, next);
-        if rows - taken < record.rows {
-            return false;
-        }
-        if counts.classes <= record.class as usize {
-            return false;
-        }
-        if !rows_fit(
-            table,
-            start,
-            taken,
-            record.rows,
-            Component::COUNT_OF_THREE,
-            counts,
-        ) {
-            return false;
-        }
-        taken += record.rows;
-        next += 1;
-    }
-    taken == rows
+    statements_fit(
+        table,
+        count,
+        start,
+        rows,
+        Component::COUNT_OF_THREE,
+        counts,
+        |number, _first| relabel_rows(table, relabels, number, counts),
+    )
 }

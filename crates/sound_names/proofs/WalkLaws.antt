@@ -1,26 +1,27 @@
 -- A turn of the walk over body 1: the entries passed may follow one another, the counts are those of what they declare, and what the walk
 -- says at its end is what `sound_names` says of the whole body. Assumes nothing.
+use Rattle.std.specs.Prelude.{is_some}
 use mathlib.Core.Path.{◌≡◌, refl, sym, ap, ap₂, subst, ◌∙◌}
 use mathlib.Core.Logic.{◌⊎◌, inl, inr, ⊎_elim}
-use mathlib.Core.Bool.{Bool, true, false, not, ◌&&◌, cond, false≢true, and-false}
+use mathlib.Core.Bool.{Bool, true, false, not, ◌&&◌, false≢true, and-false}
 use mathlib.Core.List.{List, [], ◌∷◌, ◌++◌}
 use mathlib.Core.Option.{Option, none, some}
-use Prim.Native.Nat.{ℕ, ◌+◌, ◌-◌, ◌*◌, ◌/◌, ◌%◌, ◌≤◌, ◌<◌}
+use Prim.Native.Nat.{ℕ, ◌+◌, ◌-◌, ◌*◌, ◌/◌, ◌≤◌, ◌<◌}
 use native.Mathlib.Omega.{arith}
 use borrow.Author.Tests.{eqb-true, ne_eqb, ltb-true, leb-true, leb-false}
 use lib.Dec.{eqb, ltb, leb}
-use lib.ListN.{length, get_or, drop, set, replicate, length-set, length-replicate}
+use lib.ListN.{length, get_or, drop, replicate, length-replicate}
+use Rattle.std.specs.Prelude.{Some, None}
 use Rattle.byte_slices.specs.Parts.{part}
 use Rattle.policy.specs.Basics.{Name, is_in, ◌>>=◌, given, All}
 use Rattle.policy.specs.Statements.{Declaration, class, family_of, class_names}
-use Rattle.policy.specs.Maxima.{max_parts}
 use Rattle.policy.specs.Encode.{NameEntry, name_entry, entries}
 use Rattle.policy.proofs.Lists.{both_true, all_append}
 use Rattle.policy.proofs.Sorts.{code_below}
 use Rattle.policy.proofs.Counts.{few-in-all}
 use Rattle.symbols.specs.Section.{entry, section_at, section_in, entries_read, is_exact, exact_entries, entries_at, exact_entries_at, between, EntryIs}
 use Rattle.symbols.specs.Lookup.{family_number, first_named}
-use Rattle.symbols.specs.SearchAnswers.{is_found, FewPermissions}
+use Rattle.symbols.specs.SearchAnswers.{FewPermissions}
 use Rattle.symbols.specs.declared.Entry.{Entry}
 use Rattle.symbols.proofs.ReadBack.{over, exact-over, entries_over, exact-some}
 use Rattle.symbols.proofs.WalkLaws.{read-from, walk_end, walk-broken, walk-on, walk_start}
@@ -30,7 +31,6 @@ use Rattle.symbols.proofs.DeclaredEntries.{permissions-last}
 use Rattle.table_laws.specs.SoundTable.{Bytes}
 use Rattle.table_laws.proofs.ListLaws.{all_take, all_drop}
 use Rattle.policy.specs.declared.NameCounts.{NameCounts}
-use Rattle.sound_names.specs.declared.Counted.{Counted}
 use Rattle.sound_names.specs.SoundNames.{sound_names, counts_of, counted_of, permission_counts, permissions_after}
 use Rattle.sound_names.specs.EntryOrder.{Kind, of_thing, of_class, of_permission, of_nothing, kind_of, is_placed, is_good_for, is_unused, may_follow}
 use Rattle.sound_names.specs.EntryOrder.{Declaring, complete, opened, declared, closes, extended, declaring, finished, declares}
@@ -58,7 +58,7 @@ permission-place n k l h =
     (omega arith, omega arith)
 
 unused_found : (k : Kind) (sort n : ℕ) (w : Name) (d : Declaring) → KindIs sort k → GoodSoFar d → is_placed k d n ≡ true
-    → not (is_found (first_named (family_number sort n) w (entries (declared d)))) ≡ is_unused k d w
+    → not (is_some (first_named (family_number sort n) w (entries (declared d)))) ≡ is_unused k d w
 unused_found (of_thing s) sort n w d e g h = rw (e, code_of s n) (ap not (reference-found (declared d) (family_of s) w))
 unused_found of_class sort n w d e g h = rw e (ap not (class-found (declared d) w))
 unused_found of_permission sort n w (complete ds) e g h = absurd (false≢true h)
@@ -86,39 +86,14 @@ follows-free c p es d t f sort n w = by (is_placed (kind_of sort) d n) refl
     by false h = rw (allows-placed c p d t sort n, h)
     by true h = rw (allows-placed c p d t sort n, h, spelt-for sort w, f.are, unused_found (kind_of sort) sort n w d (kind-is sort) f.good h)
 
--- every name may have a part
-pub some-parts : (sort : ℕ) → 0 < most_parts sort
-some-parts sort = by (eqb sort 7)
-  where
-    by : (q : Bool) → 0 < cond q 1 max_parts
-    by true = omega arith
-    by false = omega arith
-
 -- an entry whose name is not good may not follow
 pub not_free : (c : List ℕ) (es : List NameEntry) (sort n : ℕ) (w : Name) → is_spelt (most_parts sort) w ≡ false → is_free c es sort n w ≡ false
-not_free c es sort n w h = ap (λ (q : Bool). allows c sort n && (q && not (is_found (first_named (family_number sort n) w es)))) h ∙ and-false (allows c sort n)
+not_free c es sort n w h = ap (λ (q : Bool). allows c sort n && (q && not (is_some (first_named (family_number sort n) w es)))) h ∙ and-false (allows c sort n)
 
 -- whether it may, by the three tests
 pub free-by : (c : List ℕ) (es : List NameEntry) (sort n : ℕ) (w : Name) {a b d : Bool} → allows c sort n ≡ a → is_spelt (most_parts sort) w ≡ b
-    → not (is_found (first_named (family_number sort n) w es)) ≡ d → is_free c es sort n w ≡ (a && (b && d))
+    → not (is_some (first_named (family_number sort n) w es)) ≡ d → is_free c es sort n w ≡ (a && (b && d))
 free-by c es sort n w e f g = rw (e, f, g)
-
--- the counts stay as many
-pub counted-long : (c : List ℕ) (sort n : ℕ) → length (counted c sort n) ≡ length c
-unfolding counted
-counted-long c sort n = by (eqb sort 7)
-  where
-    by : (q : Bool) → length (cond q (set c 7 (n % 32 + 2)) (set (set c sort (n + 1)) 7 (cond (eqb sort 6) 1 0))) ≡ length c
-    by true = length-set c 7 (n % 32 + 2)
-    by false = length-set (set c sort (n + 1)) 7 (cond (eqb sort 6) 1 0) ∙ length-set c sort (n + 1)
-
-pub permitted-long : (p : List ℕ) (sort n : ℕ) → length (permitted p sort n) ≡ length p
-unfolding permitted
-permitted-long p sort n = by (eqb sort 7)
-  where
-    by : (q : Bool) → length (cond q (set p (n / 32) (n % 32 + 1)) p) ≡ length p
-    by true = length-set p (n / 32) (n % 32 + 1)
-    by false = refl
 
 -- ---- room for an entry that may follow
 
@@ -280,14 +255,14 @@ module _ (t : List ℕ) (start end : ℕ) where
 -- ---- what the walk says, as the answer of the check
 
 module _ (r : Bool) (c p : List ℕ) (o : Option (List Declaration)) (h : judged_of r c p ≡ judged o) (before : List ℕ) where
-  pub answer-unsound : r ≡ false → (Counted.Unsound ≡ counted_of o) × (before ≡ permissions_after o before)
+  pub answer-unsound : r ≡ false → (None ≡ counted_of o) × (before ≡ permissions_after o before)
   answer-unsound f = by o (sym (ap (λ (q : Bool). judged_of q c p) f) ∙ h)
     where
-      by : (o : Option (List Declaration)) → unsound ≡ judged o → (Counted.Unsound ≡ counted_of o) × (before ≡ permissions_after o before)
+      by : (o : Option (List Declaration)) → unsound ≡ judged o → (None ≡ counted_of o) × (before ≡ permissions_after o before)
       by none e = (refl, refl)
       by (some ds) e = let z : ◌≡◌ {A = ℕ} 0 1 = cc in absurd (omega arith)
 
-  pub answer-sound : r ≡ true → (Counted.Sound (counts_in c) ≡ counted_of o) × (p ≡ permissions_after o before)
+  pub answer-sound : r ≡ true → (Some (counts_in c) ≡ counted_of o) × (p ≡ permissions_after o before)
   answer-sound f = by o (sym (ap (λ (q : Bool). judged_of q c p) f) ∙ h)
     where
       first : (a b : NameCounts) (p q : List ℕ) → sound a p ≡ sound b q → a ≡ b
@@ -296,6 +271,6 @@ module _ (r : Bool) (c p : List ℕ) (o : Option (List Declaration)) (h : judged
       second : (a b : NameCounts) (p q : List ℕ) → sound a p ≡ sound b q → p ≡ q
       second a b p q e = cc
 
-      by : (o : Option (List Declaration)) → sound (counts_in c) p ≡ judged o → (Counted.Sound (counts_in c) ≡ counted_of o) × (p ≡ permissions_after o before)
+      by : (o : Option (List Declaration)) → sound (counts_in c) p ≡ judged o → (Some (counts_in c) ≡ counted_of o) × (p ≡ permissions_after o before)
       by none e = let z : ◌≡◌ {A = ℕ} 0 1 = cc in absurd (omega arith)
-      by (some ds) e = (ap Counted.Sound (first (counts_in c) (counts_of ds) p (permission_counts ds) e), second (counts_in c) (counts_of ds) p (permission_counts ds) e)
+      by (some ds) e = (ap Some (first (counts_in c) (counts_of ds) p (permission_counts ds) e), second (counts_in c) (counts_of ds) p (permission_counts ds) e)

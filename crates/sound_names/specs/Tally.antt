@@ -1,4 +1,5 @@
 -- The numbers that the check of section 1 keeps while it walks, and what they stand for. Assumes nothing.
+use Rattle.std.specs.Prelude.{is_some}
 use Rattle.std.specs.Prelude.{◌≡◌, Bool, true, false, not, ◌&&◌, cond, List, ℕ, ◌+◌, ◌/◌, ◌%◌, ◌<◌, eqb, ltb, length, get_or, set, replicate}
 use Rattle.std.proofs.Math.Option.{Option, none, some}
 use Rattle.policy.specs.Basics.{Name}
@@ -6,7 +7,6 @@ use Rattle.policy.specs.Statements.{Sort, Declaration, count, class_names, permi
 use Rattle.policy.specs.Maxima.{max_parts}
 use Rattle.policy.specs.Encode.{NameEntry, sort_code}
 use Rattle.symbols.specs.Lookup.{family_number, most_of, first_named}
-use Rattle.symbols.specs.SearchAnswers.{is_found}
 use Rattle.name_spelling.specs.Spelling.{is_spelt}
 use Rattle.policy.specs.declared.NameCounts.{NameCounts}
 use Rattle.sound_names.specs.SoundNames.{counts_of, permission_counts}
@@ -25,7 +25,7 @@ allows c sort number =
 
 -- an entry may follow others with these counts: it is allowed, its name is good, and none of them has its family and its name
 abbrev pub is_free : List ℕ → List NameEntry → ℕ → ℕ → Name → Bool
-is_free c es sort number w = allows c sort number && (is_spelt (most_parts sort) w && not (is_found (first_named (family_number sort number) w es)))
+is_free c es sort number w = allows c sort number && (is_spelt (most_parts sort) w && not (is_some (first_named (family_number sort number) w es)))
 
 -- the counts after an entry
 unfoldable pub counted : List ℕ → ℕ → ℕ → List ℕ

@@ -1,12 +1,12 @@
 -- The definitions on bodies written out by hand: what is named, and each way not to be sound. Assumes nothing.
-use Rattle.std.specs.Prelude.{◌≡◌, refl, List, [], ◌∷◌, ◌++◌, ℕ, ◌+◌, ◌/◌, ◌%◌, length, replicate}
+use Rattle.std.specs.Prelude.{◌≡◌, refl, List, [], ◌∷◌, ◌++◌, ℕ, ◌+◌, ◌/◌, ◌%◌, length, replicate, Option, Some}
 use Rattle.std.proofs.Math.Option.{none}
 use Prim.Native.String.{String}
 use Rattle.bitset.specs.Relations.{joined}
 use Rattle.bitset.specs.Sets.{tabulate}
 use Rattle.lexer.specs.Spell.{bytes}
 use Rattle.policy.specs.Computing.{computing}
-use Rattle.sound_names.specs.declared.Counted.{Counted}
+use Rattle.policy.specs.declared.NameCounts.{NameCounts}
 use Rattle.sound_names.specs.SoundNames.{sound_names, counted_of, permissions_after}
 
 -- an entry's bytes
@@ -33,8 +33,8 @@ abbrev classes : List ℕ
 classes = named 6 0 "a" ++ (named 7 0 "a" ++ (named 7 1 "b" ++ (named 0 0 "a" ++ (named 6 1 "b" ++ (named 7 32 "a" ++ named 3 0 "c")))))
 
 -- users, roles, types, their attributes, and classes
-abbrev sound : ℕ → ℕ → ℕ → ℕ → ℕ → ℕ → ℕ → Counted
-sound us rs ts ua ra ta cs = Counted.Sound
+abbrev sound : ℕ → ℕ → ℕ → ℕ → ℕ → ℕ → ℕ → Option NameCounts
+sound us rs ts ua ra ta cs = Some
     record { users = us; roles = rs; types = ts; user_attributes = ua; role_attributes = ra; type_attributes = ta; classes = cs }
 
 pub record Worked : Type 0 where

@@ -10,7 +10,7 @@ ghost use Rattle.decisions.specs.Asked.{context, question, relabelling};
 ghost use Rattle.table_summary.specs.Summary.{Summarized, counts_from, special_from};
 
 use decisions::{Context, KnownNames};
-use policy::{Change, NewRole, Validity};
+use policy::{Change, Fault};
 
 // What a summary says of the names.
 fn names_of(summary: &[u32; table_summary::NUMBERS]) -> KnownNames
@@ -30,7 +30,7 @@ pub fn valid(
     user: usize,
     role: usize,
     kind: usize,
-) -> Validity
+) -> Result<bool, Fault>
     ensures { Summarized table.now summary.now → validity_of result ≡ valid_on table.now (context user role kind) }
 {
     decisions::valid(table, names_of(summary), user, role, kind)
@@ -44,7 +44,7 @@ pub fn change(
     target: Context,
     class: usize,
     permission: usize,
-) -> Change
+) -> Result<Change, Fault>
     ensures { Summarized table.now summary.now
         → change_of result ≡ change_on table.now (question source target class permission) }
 {
@@ -68,7 +68,7 @@ pub fn relabel(
     old: Context,
     new: Context,
     process: Context,
-) -> Change
+) -> Result<Change, Fault>
     ensures { Summarized table.now summary.now
         → change_of result ≡ relabel_on table.now (relabelling class old new process) }
 {
@@ -82,7 +82,7 @@ pub fn new_role(
     role: usize,
     kind: usize,
     class: usize,
-) -> NewRole
+) -> Result<usize, Fault>
     ensures { Summarized table.now summary.now → new_role_of result ≡ new_role_on table.now role kind class }
 {
     decisions::new_role(table, table_summary::counts_of(summary), role, kind, class)

@@ -4,8 +4,10 @@ use native.Mathlib.Omega.{arith}
 use mathlib.Core.Path.{◌≡◌, refl, sym, ap, ap₂, subst, ◌∙◌}
 use mathlib.Core.Bool.{Bool, true, false, false≢true}
 use mathlib.Core.List.{List, []}
-use mathlib.Core.Option.{Option}
+use mathlib.Core.Option as maybe
 use lib.ListN.{length}
+use Rattle.std.specs.Option as option
+use Rattle.std.specs.Prelude.{Option, Some, None}
 use Rattle.byte_slices.specs.Parts.{part}
 use Rattle.bitset.proofs.SetLaws.{length-tabulate, get_d_tabulate}
 use Rattle.policy.specs.Statements.{users, roles, types, thing_of, attribute_of, Declaration, permissions}
@@ -13,7 +15,6 @@ use Rattle.policy.specs.Sound.{good_from, bodies_in}
 use Rattle.policy.specs.declared.NameCounts.{NameCounts}
 use Rattle.policy.proofs.Counts.{few-of, few-classes}
 use Rattle.symbols.specs.Section.{between}
-use Rattle.sound_names.specs.declared.Counted as counted
 use Rattle.sound_names.specs.SoundNames.{sound_names, counts_of, counted_of, permission_counts, permissions_after}
 use Rattle.sound_names.proofs.Answers.{sound-good, answered-unsound, Named, answered-sound}
 use Rattle.table_reader.specs.Records.{start_in, length_in}
@@ -27,22 +28,21 @@ use Rattle.soundness.specs.IsSound.{is_sound}
 use Rattle.soundness.specs.TableCounts.{Tells}
 
 -- what the count then tells
-pub tells-not : (t ps : List ℕ) → false ≡ is_sound t → Tells t counted.Counted.Unsound ps
+pub tells-not : (t ps : List ℕ) → false ≡ is_sound t → Tells t None ps
 tells-not t ps h = record { refuses = λ f. refl; counts = λ f. absurd (false≢true (h ∙ f)) }
 
 -- and what is sound where it tells something or nothing
-module _ (t ps : List ℕ) {r : counted.Counted} (h : Tells t r ps) where
-  pub sound-by : {n : NameCounts} → r ≡ counted.Counted.Sound n → true ≡ is_sound t
+module _ (t ps : List ℕ) {r : Option NameCounts} (h : Tells t r ps) where
+  pub sound-by : {n : NameCounts} → r ≡ Some n → true ≡ is_sound t
   sound-by {n} is = by (is_sound t) refl
     where
       by : (q : Bool) → is_sound t ≡ q → true ≡ q
       by true e = refl
       by false e =
-          let other : counted.Counted.Sound n ≡ counted.Counted.Unsound = sym is ∙ h.refuses e in
-          let z : ◌≡◌ {A = ℕ} 0 1 = cc in
-          absurd (omega arith)
+          let other : Some n ≡ None = sym is ∙ h.refuses e in
+          absurd (cc)
 
-  pub unsound-by : r ≡ counted.Counted.Unsound → false ≡ is_sound t
+  pub unsound-by : r ≡ None → false ≡ is_sound t
   unfolding is_sound
   unsound-by is = by (is_sound t) refl
     where
@@ -50,26 +50,33 @@ module _ (t ps : List ℕ) {r : counted.Counted} (h : Tells t r ps) where
       by false e = refl
       by true e = sym (names-not-sound t (answered-unsound (sound_names (part t (start_in t 0) (length_in t 0))) (sym is ∙ (h.counts e).0))) ∙ e
 
+  pub tells-sound : option.is_some r ≡ is_sound t
+  tells-sound = by r refl
+    where
+      by : (o : Option NameCounts) → r ≡ o → option.is_some o ≡ is_sound t
+      by None e = unsound-by e
+      by (Some n) e = sound-by e
+
 -- the layout refuses
 pub unlaid : (t : List ℕ) → is_some (bodies_in t) ≡ false → false ≡ is_sound t
 unfolding is_sound
 unlaid t h = sym (not-laid-out t h)
 
-module _ (t : List ℕ) {start end : ℕ} (starts : start ≡ names_start t) (ends : end ≡ names_end t) {r : counted.Counted} (answer : r ≡ counted_of (sound_names (between t start end))) where
+module _ (t : List ℕ) {start end : ℕ} (starts : start ≡ names_start t) (ends : end ≡ names_end t) where
   body : between t start end ≡ part t (start_in t 0) (length_in t 0)
   body = ap₂ (part t) starts (omega (arith, starts, ends))
 
-  answer-here : r ≡ counted_of (sound_names (part t (start_in t 0) (length_in t 0)))
-  answer-here = answer ∙ ap (λ (b : List ℕ). counted_of (sound_names b)) body
+  answer-here : {r : Option NameCounts} → r ≡ counted_of (sound_names (between t start end)) → r ≡ counted_of (sound_names (part t (start_in t 0) (length_in t 0)))
+  answer-here answer = answer ∙ ap (λ (b : List ℕ). counted_of (sound_names b)) body
 
   -- the names refuse
-  pub unnamed : r ≡ counted.Counted.Unsound → false ≡ is_sound t
+  pub unnamed : None ≡ counted_of (sound_names (between t start end)) → false ≡ is_sound t
   unfolding is_sound
-  unnamed is = sym (names-not-sound t (answered-unsound (sound_names (part t (start_in t 0) (length_in t 0))) (sym is ∙ answer-here)))
+  unnamed answer = sym (names-not-sound t (answered-unsound (sound_names (part t (start_in t 0) (length_in t 0))) (answer-here answer)))
 
-  module _ {n : NameCounts} (is : r ≡ counted.Counted.Sound n) where
+  module _ {n : NameCounts} (answer : Some n ≡ counted_of (sound_names (between t start end))) where
     named : Named n (sound_names (part t (start_in t 0) (length_in t 0)))
-    named = answered-sound n (sound_names (part t (start_in t 0) (length_in t 0))) (sym is ∙ answer-here)
+    named = answered-sound n (sound_names (part t (start_in t 0) (length_in t 0))) (answer-here answer)
 
     good : good_from [] named.names ≡ true
     good = (sound-good (part t (start_in t 0) (length_in t 0)) named.names named.are).1
@@ -89,7 +96,7 @@ module _ (t : List ℕ) {start end : ℕ} (starts : start ≡ names_start t) (en
 
     module _ (before : List ℕ) {ps : List ℕ} (after : ps ≡ permissions_after (sound_names (between t start end)) before) where
       permissions-counted : ps ≡ permission_counts named.names
-      permissions-counted = after ∙ ap (λ (o : Option (List Declaration)). permissions_after o before) (ap sound_names body ∙ named.are)
+      permissions-counted = after ∙ ap (λ (o : maybe.Option (List Declaration)). permissions_after o before) (ap sound_names body ∙ named.are)
 
       pub permissions-length : length ps ≡ 32
       permissions-length = ap (λ (l : List ℕ). length l) permissions-counted ∙ length-tabulate 32 (λ c. length (permissions named.names c))
@@ -104,8 +111,8 @@ module _ (t : List ℕ) {start end : ℕ} (starts : start ≡ names_start t) (en
       decided laid e = e ∙ ap (λ (n : NameCounts). bodies_sound (totals_in n ps) t) named.counts ∙ sym (bodies-decide t laid named.names named.are ps of-class)
 
       -- then the count tells what body 1 declares
-      pub tells-so : true ≡ is_sound t → Tells t r ps
+      pub tells-so : true ≡ is_sound t → Tells t (Some n) ps
       tells-so h = record {
         refuses = λ f. absurd (false≢true (sym f ∙ sym h));
-        counts = λ f. (answer-here, permissions-counted ∙ sym (ap (λ (o : Option (List Declaration)). permissions_after o []) named.are));
+        counts = λ f. (answer-here answer, permissions-counted ∙ sym (ap (λ (o : maybe.Option (List Declaration)). permissions_after o []) named.are));
       }

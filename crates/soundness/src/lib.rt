@@ -5,27 +5,25 @@ ghost use Rattle.std.specs.Prelude.{◌≡◌};
 ghost use Rattle.soundness.specs.IsSound.{is_sound};
 ghost use Rattle.soundness.specs.TableCounts.{Tells};
 
-use sound_names::Counted;
+use policy::NameCounts;
 
-// How many things of each sort a sound table names; the lent numbers are then how many permissions each class has.
-pub fn count(table: &[u8], permissions: &mut [usize; policy::Class::MAX]) -> Counted
+// How many things of each sort a table names, if it is sound; the lent numbers are then how many permissions each class
+// has.
+pub fn count(table: &[u8], permissions: &mut [usize; policy::Class::MAX]) -> Option<NameCounts>
     ensures { Tells table.now result permissions.new }
 {
     if !sound_bodies::is_laid_out(table) {
-        return Counted::Unsound;
+        return None;
     }
     let mut found = [0usize; policy::Class::MAX];
     let start = table_names::names_start(table);
     let end = table_names::names_end(table);
-    let counted = sound_names::check_names(table, start, end, &mut found);
-    let Counted::Sound(counts) = counted else {
-        return Counted::Unsound;
-    };
+    let counts = sound_names::check_names(table, start, end, &mut found)?;
     if !sound_bodies::bodies_sound(table, counts, &found) {
-        return Counted::Unsound;
+        return None;
     }
     *permissions = found;
-    counted
+    Some(counts)
 }
 
 // Whether the bytes are a sound table: fault 11 where they are not.
@@ -33,9 +31,5 @@ pub fn sound(table: &[u8]) -> bool
     ensures { result ≡ is_sound table.now }
 {
     let mut permissions = [0usize; policy::Class::MAX];
-    let counted = count(table, &mut permissions);
-    match counted {
-        Counted::Sound(_counts) => true,
-        Counted::Unsound => false,
-    }
+    count(table, &mut permissions).is_some()
 }

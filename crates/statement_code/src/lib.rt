@@ -9,7 +9,7 @@ ghost use Rattle.statement_code.specs.UnitWrites.{Stored};
 
 use policy::{Family, Relation};
 
-// A unit of the code.
+// A unit of the code. (A number: the code is lent memory, in which a unit takes two bytes.)
 #[derive(Clone, Copy)]
 pub struct Unit(pub u16);
 
@@ -42,7 +42,8 @@ impl Unit {
     pub const TRANSITION: u16 = 4_105;
 }
 
-// The number of a family, in the symbol table and in tags.
+// The number of a family, in the symbol table and in tags. It is a function and no `From`: both types of such an impl
+// are of crates below this one.
 pub fn family_number(family: Family) -> u16
     ensures { (result ≡ family_number (family_of family)) × (result ≤ 2) }
 {

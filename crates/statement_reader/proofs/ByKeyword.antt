@@ -1,5 +1,7 @@
 -- A statement is what its keyword says: the step after the keyword is the step of the statement. A row that starts with no keyword is of no form.
 -- Assumes nothing.
+use Rattle.std.specs.Prelude.{Result}
+use Rattle.policy.specs.declared.Fault.{Fault}
 use Prim.Native.Nat.{ℕ, ◌-◌}
 use mathlib.Core.Path.{◌≡◌, refl, sym, ap, subst, ◌∙◌}
 use mathlib.Core.Bool.{true}
@@ -25,7 +27,6 @@ use Rattle.items.proofs.Items.{Looked, alike-here}
 use Rattle.statement_reader.specs.Memory.{Memory}
 use Rattle.statement_reader.specs.Steps.{RowIs, Steps, StepsAt}
 use Rattle.statement_reader.specs.declared.Progress.{Progress}
-use Rattle.statement_reader.specs.declared.Step.{Step}
 
 -- what holds of a row that starts with a word holds of the rest
 rest-good : (p : ℕ) (w : List ℕ) (f : Forms) → names_good (word p w f) ≡ true → names_good f ≡ true
@@ -44,7 +45,7 @@ module _ {t : List ℕ} {at start len number next : ℕ} (l : Looked t at (Item.
       ∙ ap (λ (x : Option Keyword). x >>= λ k. formed k (frames_at t next).here)
       (keyword-number (take len (drop start t)) ∙ ap (λ (n : ℕ). keyword_of (word_of n)) l.ahead.2 ∙ e)
 
-module _ {t : List ℕ} {at place : ℕ} {before after : Memory} {s : Progress} {r : Step} where
+module _ {t : List ℕ} {at place : ℕ} {before after : Memory} {s : Progress} {r : Result Progress Fault} where
   -- nothing is said of a row of no form
   formless : written (frames_at t at).here ≡ none → StepsAt t at place before after s r
   formless e = record { says = λ lent p path w h row room. absurd (none-ne-some w (sym e ∙ row.form)) }

@@ -1,17 +1,19 @@
 -- One statement more in the memory: what is written for a declaration, a statement with code and one with rows is what the statements with it leave
 -- there, and a fault that is answered is the statement's. Assumes nothing.
+use Rattle.std.specs.Prelude.{Result, Ok, Err}
+use Rattle.policy.specs.declared.Fault.{Fault}
 use Prim.Native.Nat.{ℕ, ◌+◌, ◌-◌, ◌*◌, ◌≤◌}
 use native.Mathlib.Omega.{arith}
 use borrow.Author.Tests.{ltb-true, leb-true}
 use mathlib.Core.Path.{◌≡◌, refl, sym, ap, ap₂, subst, ◌∙◌}
-use mathlib.Core.Bool.{Bool, true, false, not, ◌&&◌, cond}
+use mathlib.Core.Bool.{Bool, true, false, not, ◌&&◌, cond, true≢false}
 use mathlib.Core.List.{List, [], ◌∷◌, ◌++◌, append-nil}
 use mathlib.Core.Option.{Option, none, some}
 use lib.Dec.{ltb, leb}
+use Rattle.std.specs.Prelude as prelude
+use Rattle.std.specs.Prelude.{None, Some, Result, Ok, Err}
 use lib.ListN.{length, take, drop, length-append, length-drop}
 use lib.Seq.{take-take, length-take-le}
-use types.Run.{OneOf, miss}
-use denote.Enum.Declared.{tag_of}
 use Rattle.byte_slices.specs.Parts.{put}
 use Rattle.bitset.specs.Relations.{joined}
 use Rattle.lexer.specs.Forms.{frames_at, trim}
@@ -20,7 +22,7 @@ use Rattle.policy.specs.Basics.{Name, each}
 use Rattle.policy.specs.Words.{Keyword, constrain_k, relabel_k}
 use Rattle.policy.specs.Maxima.{max_transitions, max_constraints, max_rows, max_relabels, max_relabel_rows, max_stack}
 use Rattle.policy.specs.Statements.{Declaration, thing_of, attribute_of, plain, class, Reference, Constraint, Written, Statement, declare, attributeset, gives, roletransition}
-use Rattle.policy.specs.Statements.{constrain, Policy, declared, declarations, transition, Transition, transitions, Constrain, constrained, constrains, constrain_body, size}
+use Rattle.policy.specs.Statements.{constrain, Policy, declared, declarations, transition, transitions, Constrain, constrained, constrains, constrain_body, size}
 use Rattle.policy.specs.Statements.{need, validatetrans, Relabel, relabelled, relabels, relabel_body}
 use Rattle.policy.specs.Grammar.{formed}
 use Rattle.policy.specs.Reading.{full_declaration, is_new, has_room, is_short, resolved, row_count, Judged, reads, fault, judge_maxima, judge_resolved, judge_statement}
@@ -35,26 +37,21 @@ use Rattle.code_laws.proofs.CodeFits.{code-last}
 use Rattle.statement_code.specs.UnitWrites.{Wrote}
 use Rattle.declarations.specs.Declares as declaring
 use Rattle.declarations.specs.Declares.{DeclaresAt, Declares}
-use Rattle.declarations.specs.declared.Declared.{Declared}
 use Rattle.declarations.proofs.SymbolMemory.{holds-symbols}
 use Rattle.statement_writer.specs.ResolvedUnits as coding
 use Rattle.policy.specs.Answers.{family_of, relation_of}
 use Rattle.policy.specs.Names.{environment_of}
 use Rattle.policy.proofs.RowCounts.{rows-count, rows_last}
 use Rattle.statement_writer.specs.ResolvedUnits.{WritesStatement}
-use Rattle.statement_writer.specs.declared.CodeWritten.{CodeWritten}
 use Rattle.constrain_statement.specs.ConstrainWrites as constraining
 use Rattle.constrain_statement.specs.ConstrainWrites.{record_of, WritesConstrain}
 use Rattle.constrain_statement.specs.Limits.{fits_within, IsUndeclared, OrFault, Adds}
 use Rattle.relabel_statement.specs.RelabelWrites as relabelling
 use Rattle.relabel_statement.specs.RelabelWrites.{WritesRelabel}
-use Rattle.constrain_statement.specs.declared.Constrained.{Constrained}
-use Rattle.constrain_statement.specs.contracts.Constrained.{the_type}
 use Rattle.statement_reader.specs.Memory.{Memory, memory, symbols_of, constraint_room, row_room, Starts, Filled, Holds}
 use Rattle.statement_reader.specs.Steps.{coded_keyword, Stepped, RowIs, Room, Steps, with_symbols, declared_step, with_code, coded_step}
-use Rattle.statement_reader.specs.Steps.{rows_fault, rows_step, with_rows, constrained_step, with_relabel, relabelled_step}
+use Rattle.statement_reader.specs.Steps.{rows_step, with_rows, constrained_step, with_relabel, relabelled_step}
 use Rattle.statement_reader.specs.declared.Progress.{Progress}
-use Rattle.statement_reader.specs.declared.Step.{Step}
 use Rattle.statement_reader.specs.declared.CodedStatement.{CodedStatement}
 use Rattle.statement_reader.proofs.MemoryLaws.{now-long, front, put-behind, wrote-behind, FrontLent, RestLent}
 use Rattle.statement_reader.proofs.Sections.{declared-more, declared_same, symbols-more, symbols-same, transitions-more, transitions-same}
@@ -217,10 +214,10 @@ module _ {p : Policy} {path : List Name} {lent : Memory} {sy co cs rs : List ℕ
           }
 
 -- the same step of the same judgement
-stepped-as : (p : Policy) (path : List Name) (place : ℕ) (lent now : Memory) {j i : Judged} {r q : Step} → j ≡ i → r ≡ q
+stepped-as : (p : Policy) (path : List Name) (place : ℕ) (lent now : Memory) {j i : Judged} {r q : Result Progress Fault} → j ≡ i → r ≡ q
     → Stepped i p path place lent now q → Stepped j p path place lent now r
 stepped-as p path place lent now {j} {i} {r} {q} e f x =
-    subst (λ (a : Judged). Stepped a p path place lent now r) (sym e) (subst (λ (b : Step). Stepped i p path place lent now b) (sym f) x)
+    subst (λ (a : Judged). Stepped a p path place lent now r) (sym e) (subst (λ (b : Result Progress Fault). Stepped i p path place lent now b) (sym f) x)
 
 -- DECLARATIONS: fault 4, then 6
 module _ (p : Policy) (path : List Name) (d : Declaration) where
@@ -246,11 +243,11 @@ pub record Declaring (k : Keyword) (place : ℕ) (co co' : List ℕ) (from to : 
   pub of : (w : Written) → IsOf k w → (d : Declaration) × (w ≡ declare d) × Wrote co from (declaration_code place d) co' to
 
 module _ {t : List ℕ} {at place : ℕ} {k : Keyword} {sy sy' co co' cs rs : List ℕ} {s : Progress} {to : ℕ} where
-  pub declared-steps : (r : Declared) → DeclaresAt t at k sy sy' s.symbols r → Declaring k place co co' s.code to
+  pub declared-steps : (r : Result ℕ Fault) → DeclaresAt t at k sy sy' s.symbols r → Declaring k place co co' s.code to
       → Steps t at place k (memory sy co cs rs) (memory sy' co' cs rs) s (declared_step r (with_code s to s.transitions))
   declared-steps r a x = record { says = says r a }
     where
-      says : (r : Declared) → DeclaresAt t at k sy sy' s.symbols r → (lent : Memory) (p : Policy) (path : List Name) (w : Written) → Holds p path lent (memory sy co cs rs) s
+      says : (r : Result ℕ Fault) → DeclaresAt t at k sy sy' s.symbols r → (lent : Memory) (p : Policy) (path : List Name) (w : Written) → Holds p path lent (memory sy co cs rs) s
           → RowIs (frames_at t at).here (formed k (frames_at t at).here) w → Room lent p path place w
           → Stepped (judge_statement path p (some w)) p path place lent (memory sy' co' cs rs) (declared_step r (with_code s to s.transitions))
       says r a lent p path w h row room =
@@ -265,15 +262,25 @@ module _ {t : List ℕ} {at place : ℕ} {k : Keyword} {sy sy' co co' cs rs : Li
           as-declared : (j : Judged) → judge_statement path p (some (declare d)) ≡ j → judge_statement path p (some w) ≡ j
           as-declared j e = ap (λ (v : Written). judge_statement path p (some v)) o.1 ∙ e
 
-          go : (r : Declared) → Declares sy sy' s.symbols (declarations p) (named p path d) r
+          go : (r : Result ℕ Fault) → Declares sy sy' s.symbols (declarations p) (named p path d) r
               → Stepped (judge_statement path p (some w)) p path place lent (memory sy' co' cs rs) (declared_step r (with_code s to s.transitions))
-          go (Declared.Next past) y =
+          go (Ok past) y =
               let e = as-declared _ (judged-declared p path d true true y.new y.room) in
               let wrote = subst (λ (us : List ℕ). Wrote co s.code us co' to) (same_code path place d) o.2 in
               stepped-as p path place lent (memory sy' co' cs rs) e refl (filled-declared h place (named p path d) y wrote (room.code (declare (named p path d)) e))
-          go Declared.DeclaredAgain y =
+          go (Err Fault.DeclaredAgain) y =
               stepped-as p path place lent (memory sy' co' cs rs) (as-declared _ (judged-declared p path d false _ y.0 refl)) refl refl
-          go Declared.MaximumPassed y = stepped-as p path place lent (memory sy' co' cs rs) (as-declared _ (judged-declared p path d true false y.0 y.1)) refl refl
+          go (Err Fault.MaximumPassed) y = stepped-as p path place lent (memory sy' co' cs rs) (as-declared _ (judged-declared p path d true false y.0 y.1)) refl refl
+          go (Err Fault.TextTooLong) y = absurd y
+          go (Err Fault.WrongByte) y = absurd y
+          go (Err Fault.NoForm) y = absurd y
+          go (Err Fault.NameUndeclared) y = absurd y
+          go (Err Fault.StackTooSmall) y = absurd y
+          go (Err Fault.Cycle) y = absurd y
+          go (Err Fault.Clash) y = absurd y
+          go (Err Fault.MemoryTooShort) y = absurd y
+          go (Err Fault.NotSound) y = absurd y
+          go (Err Fault.NumberUndeclared) y = absurd y
 
 -- a statement that is no declaration is judged by its names
 naming : (path : List Name) (p : Policy) {w : Written} (v : Written) → w ≡ v
@@ -296,7 +303,7 @@ module _ {p : Policy} {path : List Name} {lent : Memory} {sy co co' cs rs : List
   -- a statement that is no transition
   plain_step : (v : Statement) → st ≡ v → judge_maxima p v ≡ reads v → declared (line place v) ≡ none → constrained (line place v) ≡ none → relabelled (line place v) ≡ none
       → transition (line place v) ≡ none
-      → Stepped (judge_maxima p st) p path place lent (memory sy co' cs rs) (Step.Read (with_code s to s.transitions))
+      → Stepped (judge_maxima p st) p path place lent (memory sy co' cs rs) (Ok (with_code s to s.transitions))
   plain_step v i e d k o m =
       let f : judge_maxima p st ≡ reads st = ap (judge_maxima p) i ∙ e ∙ ap (λ (x : Statement). reads x) (sym i) in
       stepped-as p path place lent (memory sy co' cs rs) f refl
@@ -305,7 +312,7 @@ module _ {p : Policy} {path : List Name} {lent : Memory} {sy co co' cs rs : List
       (h.filled.transition-count ∙ ap length (sym (transitions-same p (line place st) (ap (λ (x : Statement). transition (line place x)) i ∙ m)))) w
       (room f))
 
-  coded-sized : (kind : CodedStatement) → IsOf (coded_keyword kind) st → Stepped (judge_maxima p st) p path place lent (memory sy co' cs rs) (coded_step kind (CodeWritten.Next to) s)
+  coded-sized : (kind : CodedStatement) → IsOf (coded_keyword kind) st → Stepped (judge_maxima p st) p path place lent (memory sy co' cs rs) (coded_step kind (Some to) s)
   coded-sized (CodedStatement.Set f) i = plain_step (attributeset (family_of f) i.0 i.1) i.2 refl refl refl refl refl
   coded-sized (CodedStatement.Relation r) i = plain_step (gives (relation_of r) i.0 i.1) i.2 refl refl refl refl refl
   coded-sized CodedStatement.Transition i = go (ltb (length (transitions p)) max_transitions) refl
@@ -320,9 +327,9 @@ module _ {p : Policy} {path : List Name} {lent : Memory} {sy co co' cs rs : List
       count = transitions-more p (line place st) _ m
 
       step : (b : Bool) → ltb (length (transitions p)) max_transitions ≡ b
-          → coded_step CodedStatement.Transition (CodeWritten.Next to) s ≡ cond b (Step.Read (with_code s to (s.transitions + 1))) (Step.Fault 6)
+          → coded_step CodedStatement.Transition (Some to) s ≡ cond b (Ok (with_code s to (s.transitions + 1))) (Err Fault.MaximumPassed)
       step b e =
-          ap (λ (x : Bool). cond x (Step.Read (with_code s to (s.transitions + 1))) (Step.Fault 6))
+          ap (λ (x : Bool). cond x (Ok (with_code s to (s.transitions + 1))) (Err Fault.MaximumPassed))
           (ap (λ (n : ℕ). ltb n max_transitions) h.filled.transition-count ∙ e)
 
       judged : (b : Bool) → ltb (length (transitions p)) max_transitions ≡ b → judge_maxima p st ≡ cond b (reads st) (fault 6)
@@ -330,7 +337,7 @@ module _ {p : Policy} {path : List Name} {lent : Memory} {sy co co' cs rs : List
           ap (judge_maxima p) i.4 ∙ ap (λ (x : Bool). cond x (reads v) (fault 6)) e ∙ ap (λ (x : Statement). cond b (reads x) (fault 6)) (sym i.4)
 
       go : (b : Bool) → ltb (length (transitions p)) max_transitions ≡ b
-          → Stepped (judge_maxima p st) p path place lent (memory sy co' cs rs) (coded_step CodedStatement.Transition (CodeWritten.Next to) s)
+          → Stepped (judge_maxima p st) p path place lent (memory sy co' cs rs) (coded_step CodedStatement.Transition (Some to) s)
       go true e =
           stepped-as p path place lent (memory sy co' cs rs) (judged true e) (step true e)
           (filled-coded h place st (ap (λ (x : Statement). declared (line place x)) i.4) (ap (λ (x : Statement). constrained (line place x)) i.4)
@@ -339,7 +346,7 @@ module _ {p : Policy} {path : List Name} {lent : Memory} {sy co co' cs rs : List
       go false e = stepped-as p path place lent (memory sy co' cs rs) (judged false e) (step false e) refl
 
 module _ {t : List ℕ} {at place : ℕ} {sy co co' cs rs : List ℕ} {s : Progress} (kind : CodedStatement) where
-  pub coded-steps : (r : CodeWritten) → WritesStatement t at (coded_keyword kind) place sy co s.code co' r
+  pub coded-steps : (r : prelude.Option ℕ) → WritesStatement t at (coded_keyword kind) place sy co s.code co' r
       → Steps t at place (coded_keyword kind) (memory sy co cs rs) (memory sy co' cs rs) s (coded_step kind r s)
   coded-steps r a = record { says = says }
     where
@@ -358,30 +365,20 @@ module _ {t : List ℕ} {at place : ℕ} {sy co co' cs rs : List ℕ} {s : Progr
           named : judge_statement path p (some w) ≡ judge_resolved p (resolved (environment_of (declarations p) path) w)
           named = coded-naming kind path p w i
 
-          go : (o : Option Statement) → resolved (environment_of (declarations p) path) w ≡ o → (r : CodeWritten) → coding.Answers co s.code place o co' r
+          go : (o : Option Statement) → resolved (environment_of (declarations p) path) w ≡ o → (r : prelude.Option ℕ) → coding.Answers co s.code place o co' r
               → Stepped (judge_resolved p o) p path place lent (memory sy co' cs rs) (coded_step kind r s)
-          go none e CodeWritten.Undeclared y = refl
-          go none e (CodeWritten.Next u) y = absurd y
-          go (some st) e CodeWritten.Undeclared y = absurd y
-          go (some st) e (CodeWritten.Next u) y =
+          go none e None y = refl
+          go none e (Some u) y = absurd (true≢false y)
+          go (some st) e None y = absurd y
+          go (some st) e (Some u) y =
               coded-sized h place st (λ f. room.code st (named ∙ ap (judge_resolved p) e ∙ f)) y kind
               ((resolved-of (environment_of (declarations p) path) (coded_keyword kind) w i).has st e)
 
 -- STATEMENTS WITH ROWS: fault 5, then 6, then 7
 
--- one whose rows are not written is refused, however many there may be
-pub not_written : (room : Bool) (past : ℕ → Progress) (r : Constrained) → OneOf (1 ∷ 2 ∷ 3 ∷ []) (tag_of the_type r) → rows_fault r ≡ rows_step room past r
-not_written room past (Constrained.Next n) o = absurd (miss (1 ∷ 2 ∷ 3 ∷ []) 0 tt o)
-not_written room past Constrained.Undeclared o = refl
-not_written room past Constrained.MaximumPassed o = refl
-not_written room past Constrained.StackTooSmall o = refl
-
 module _ (p : Policy) (path : List Name) (place : ℕ) (lent now : Memory) (room : Bool) (past : ℕ → Progress) where
-  rows-undeclared : (r : Constrained) → IsUndeclared r → Stepped (fault 5) p path place lent now (rows_step room past r)
-  rows-undeclared (Constrained.Next n) y = absurd y
-  rows-undeclared Constrained.Undeclared y = refl
-  rows-undeclared Constrained.MaximumPassed y = absurd y
-  rows-undeclared Constrained.StackTooSmall y = absurd y
+  rows-undeclared : (r : Result ℕ Fault) → IsUndeclared r → Stepped (fault 5) p path place lent now (rows_step room past r)
+  rows-undeclared r y = subst (λ (x : Result ℕ Fault). Stepped (fault 5) p path place lent now (rows_step room past x)) (sym y) refl
 
   module _ (st : Statement) (fits shallow : Bool) (judged : judge_maxima p st ≡ cond fits (cond shallow (reads st) (fault 7)) (fault 6)) where
     judged-by : {f g : Bool} → fits ≡ f → shallow ≡ g → judge_maxima p st ≡ cond f (cond g (reads st) (fault 7)) (fault 6)
@@ -390,16 +387,16 @@ module _ (p : Policy) (path : List Name) (place : ℕ) (lent now : Memory) (room
     -- by what the maxima and the stack need allow
     rows-sized : {Done : ℕ → Type 0}
         → ((n : ℕ) → Done n → (fits ≡ true) × (shallow ≡ true) × (room ≡ true) × Filled (p ++ (line place st ∷ [])) path lent now (past n))
-        → (r : Constrained) → OrFault fits shallow Done r → Stepped (judge_maxima p st) p path place lent now (rows_step room past r)
-    rows-sized done (Constrained.Next n) a =
+        → (r : Result ℕ Fault) → OrFault fits shallow Done r → Stepped (judge_maxima p st) p path place lent now (rows_step room past r)
+    rows-sized done (Ok n) a =
         let d = done n a in
-        stepped-as p path place lent now (judged-by d.0 d.1) (ap (λ (b : Bool). cond b (Step.Read (past n)) (Step.Fault 6)) d.2) d.3
-    rows-sized done Constrained.Undeclared a = absurd a
-    rows-sized done Constrained.MaximumPassed a = stepped-as p path place lent now (judged-by a refl) refl refl
-    rows-sized done Constrained.StackTooSmall a = stepped-as p path place lent now (judged-by a.0 a.1) refl refl
+        stepped-as p path place lent now (judged-by d.0 d.1) (ap (λ (b : Bool). cond b (Ok (past n)) (Err Fault.MaximumPassed)) d.2) d.3
+    rows-sized done (Err Fault.MaximumPassed) a = stepped-as p path place lent now (judged-by a refl) refl refl
+    rows-sized done (Err Fault.StackTooSmall) a = stepped-as p path place lent now (judged-by a.0 a.1) refl refl
+    rows-sized done (Err f) a = absurd a
 
 -- the step of a statement of the kind k, by what is promised of it
-module _ {t : List ℕ} {at place : ℕ} {sy co cs cs' rs rs' : List ℕ} {s : Progress} (k : Keyword) (room : Bool) (past : ℕ → Progress) (r : Constrained)
+module _ {t : List ℕ} {at place : ℕ} {sy co cs cs' rs rs' : List ℕ} {s : Progress} (k : Keyword) (room : Bool) (past : ℕ → Progress) (r : Result ℕ Fault)
     (Answers : Option Statement → Type 0)
     (named : (path : List Name) (p : Policy) (w : Written) → IsOf k w
     → judge_statement path p (some w) ≡ judge_resolved p (resolved (environment_of (declarations p) path) w))
@@ -429,13 +426,13 @@ module _ {t : List ℕ} {at place : ℕ} {sy co cs cs' rs rs' : List ℕ} {s : P
           go (some st) e y =
               some_is lent p path h space.constraints space.rows st ((resolved-of (environment_of (declarations p) path) k w i).has st e) y
 
-abbrev ConstrainAnswers : List ℕ → List ℕ → List ℕ → List ℕ → Progress → Constrained → Option Statement → Type 0
+abbrev ConstrainAnswers : List ℕ → List ℕ → List ℕ → List ℕ → Progress → Result ℕ Fault → Option Statement → Type 0
 ConstrainAnswers cs x rs y s r o = constraining.Answers o (take constraint_room cs) x s.constraints (take row_room rs) y s.rows r
 
-abbrev RelabelAnswers : List ℕ → List ℕ → List ℕ → List ℕ → Progress → Constrained → Option Statement → Type 0
+abbrev RelabelAnswers : List ℕ → List ℕ → List ℕ → List ℕ → Progress → Result ℕ Fault → Option Statement → Type 0
 RelabelAnswers cs x rs y s r o = relabelling.Answers o (drop constraint_room cs) x s.relabels (drop row_room rs) y s.relabel_rows r
 
-module _ (lent : Memory) (p : Policy) (path : List Name) (place : ℕ) {sy co cs cs' rs rs' z w x y : List ℕ} {s : Progress} (r : Constrained)
+module _ (lent : Memory) (p : Policy) (path : List Name) (place : ℕ) {sy co cs cs' rs rs' z w x y : List ℕ} {s : Progress} (r : Result ℕ Fault)
     (h : Holds p path lent (memory sy co cs rs) s) (wide : 1536 ≤ length lent.constraints) (long : 18432 ≤ length lent.rows) (st : Statement) where
   constrain-sized : FrontLent constraint_room cs cs' z x → FrontLent row_room rs rs' w y
       → IsOf constrain_k st → ConstrainAnswers cs x rs y s r (some st)
@@ -490,7 +487,7 @@ module _ (lent : Memory) (p : Policy) (path : List Name) (place : ℕ) {sy co cs
           ap₂ (λ (n m : ℕ). cond (fits_within max_relabels max_relabel_rows n (m + size e)) (cond (leb (need e) max_stack) (reads (validatetrans c e)) (fault 7)) (fault 6))
           (sym h.filled.relabel-count) (sym h.filled.relabel-row-count)
 
-module _ {t : List ℕ} {at place : ℕ} {sy co cs cs' rs rs' z w x y : List ℕ} {s : Progress} (r : Constrained) where
+module _ {t : List ℕ} {at place : ℕ} {sy co cs cs' rs rs' z w x y : List ℕ} {s : Progress} (r : Result ℕ Fault) where
   -- `(constrain (C (P ...)) E)`: its record and its rows are in the first parts of their memories
   pub constrained-steps : FrontLent constraint_room cs cs' z x → FrontLent row_room rs rs' w y
       → WritesConstrain t at sy z x s.constraints w y s.rows r

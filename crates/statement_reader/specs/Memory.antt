@@ -1,7 +1,7 @@
 -- What the memory that is lent to the parser holds of the statements as read: the symbols, the statement code, the constraints, the validatetrans
 -- statements and the rows of both.
 -- Assumes nothing.
-use Rattle.std.specs.Prelude.{ℕ, ◌+◌, ◌*◌, ◌≤◌, ◌≡◌, List, ◌++◌, length, take, drop}
+use Rattle.std.specs.Prelude.{ℕ, ◌*◌, ◌≤◌, ◌≡◌, List, ◌++◌, length, take, drop}
 use Rattle.bitset.specs.Relations.{joined}
 use Rattle.policy.specs.Basics.{Name, each}
 use Rattle.policy.specs.Statements.{Policy, declarations, transitions, constrains, constrain_body, relabels, relabel_body}

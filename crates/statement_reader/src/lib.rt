@@ -10,16 +10,14 @@ ghost use Rattle.policy.specs.Answers.{family_of};
 ghost use Rattle.items.specs.Looks.{item_at};
 ghost use Rattle.statement_writer.specs.ResolvedUnits.{WritesStatement};
 ghost use Rattle.statement_reader.specs.Memory.{memory, constraint_room, row_room};
-ghost use Rattle.statement_reader.specs.Steps.{coded_keyword, Steps, StepsAt, declared_step, with_code, coded_step};
-ghost use Rattle.statement_reader.specs.Steps.{rows_fault, constrained_step, relabelled_step};
+ghost use Rattle.statement_reader.specs.Steps.{coded_keyword, Steps, StepsAt, declared_step, coded_step};
+ghost use Rattle.statement_reader.specs.Steps.{constrained_step, relabelled_step};
 
-use constrain_statement::Constrained;
-use declarations::{Declared, SYMBOL_BYTES};
+use declarations::SYMBOL_BYTES;
 use grammar::Keyword;
 use items::Item;
 use lexer::Text;
-use policy::{Constraint, Family, Refusal, Relabel, Relation, Row, Sort, Transition};
-use statement_writer::CodeWritten;
+use policy::{Constraint, Family, Fault, Relabel, Relation, Row, Sort, Transition};
 
 // Room for the code: no statement has more units than bytes of the text.
 pub const CODE_UNITS: usize = Text::MAX + 1;
@@ -39,13 +37,6 @@ pub struct Progress {
     pub rows: usize,
     pub relabels: usize,
     pub relabel_rows: usize,
-}
-
-// One statement is read, or the number of its fault.
-#[derive(Clone, Copy)]
-pub enum Step {
-    Read(Progress),
-    Fault(usize),
 }
 
 // The statements that have their names in the statement code.
@@ -78,23 +69,14 @@ fn attribute_sort(family: Family) -> usize
     }
 }
 
-// A declaration whose names are in the symbols, or are not.
-fn declared_step(declared: Declared, progress: Progress) -> Step
+// The progress past a declaration, where it is no fault.
+fn declared_step(declared: Result<usize, Fault>, progress: Progress) -> Result<Progress, Fault>
     ensures { result ≡ declared_step declared progress }
 {
-    match declared {
-        Declared::Next(past) => Step::Read(Progress {
-            symbols: past,
-            code: progress.code,
-            transitions: progress.transitions,
-            constraints: progress.constraints,
-            rows: progress.rows,
-            relabels: progress.relabels,
-            relabel_rows: progress.relabel_rows,
-        }),
-        Declared::DeclaredAgain => Step::Fault(Refusal::DECLARED_AGAIN),
-        Declared::MaximumPassed => Step::Fault(Refusal::MAXIMUM_PASSED),
-    }
+    Ok(Progress {
+        symbols: declared?,
+        ..progress
+    })
 }
 
 // `(user U)` and the like.
@@ -104,7 +86,7 @@ fn declare_thing(
     family: Family,
     symbols: &mut [u8; SYMBOL_BYTES],
     progress: Progress,
-) -> Step
+) -> Result<Progress, Fault>
     ensures { (place : ℕ) (co cs rs : List ℕ) → Steps text.now at place (declare_k (thing_of (family_of family)))
         (memory symbols.old co cs rs) (memory symbols.new co cs rs) progress result }
 {
@@ -118,7 +100,7 @@ fn declare_class(
     at: usize,
     symbols: &mut [u8; SYMBOL_BYTES],
     progress: Progress,
-) -> Step
+) -> Result<Progress, Fault>
     ensures { (place : ℕ) (co cs rs : List ℕ) → Steps text.now at place class_k
         (memory symbols.old co cs rs) (memory symbols.new co cs rs) progress result }
 {
@@ -135,7 +117,7 @@ fn declare_attribute(
     symbols: &mut [u8; SYMBOL_BYTES],
     code: &mut [u16; CODE_UNITS],
     progress: Progress,
-) -> Step
+) -> Result<Progress, Fault>
     ensures { (cs rs : List ℕ) → Steps text.now at place (declare_k (attribute_of (family_of family)))
         (memory symbols.old code.old cs rs) (memory symbols.new code.new cs rs) progress result }
 {
@@ -147,7 +129,13 @@ fn declare_attribute(
         progress.symbols,
     );
     let to = statement_writer::write_attribute(family, place, code, progress.code);
-    declared_step(declared, past_code(progress, to, progress.transitions))
+    declared_step(
+        declared,
+        Progress {
+            code: to,
+            ..progress
+        },
+    )
 }
 
 // The units of a statement with code.
@@ -159,7 +147,7 @@ fn write_coded(
     symbols: &[u8; SYMBOL_BYTES],
     code: &mut [u16; CODE_UNITS],
     to: usize,
-) -> CodeWritten
+) -> Option<usize>
     ensures { WritesStatement text.now at (coded_keyword kind) place symbols.now code.old to code.new result }
 {
     match kind {
@@ -175,37 +163,30 @@ fn write_coded(
     }
 }
 
-// The progress past the units of a statement.
-fn past_code(progress: Progress, to: usize, transitions: usize) -> Progress
-    ensures { result ≡ with_code progress to transitions }
-{
-    Progress {
-        symbols: progress.symbols,
-        code: to,
-        transitions,
-        constraints: progress.constraints,
-        rows: progress.rows,
-        relabels: progress.relabels,
-        relabel_rows: progress.relabel_rows,
-    }
-}
-
 // A statement with code whose names are declared, or are not. A transition is one of as many as there may be.
-fn coded_step(kind: CodedStatement, written: CodeWritten, progress: Progress) -> Step
+fn coded_step(
+    kind: CodedStatement,
+    written: Option<usize>,
+    progress: Progress,
+) -> Result<Progress, Fault>
     ensures { result ≡ coded_step kind written progress }
 {
-    let CodeWritten::Next(to) = written else {
-        return Step::Fault(Refusal::NAME_UNDECLARED);
-    };
+    let to = written.ok_or(Fault::NameUndeclared)?;
     let count = progress.transitions;
     match kind {
-        CodedStatement::Set(_) => Step::Read(past_code(progress, to, count)),
-        CodedStatement::Relation(_) => Step::Read(past_code(progress, to, count)),
+        CodedStatement::Set(_) | CodedStatement::Relation(_) => Ok(Progress {
+            code: to,
+            ..progress
+        }),
         CodedStatement::Transition => {
             if Transition::MAX <= count {
-                return Step::Fault(Refusal::MAXIMUM_PASSED);
+                return Err(Fault::MaximumPassed);
             }
-            Step::Read(past_code(progress, to, count + 1))
+            Ok(Progress {
+                code: to,
+                transitions: count + 1,
+                ..progress
+            })
         }
     }
 }
@@ -219,7 +200,7 @@ fn coded(
     symbols: &[u8; SYMBOL_BYTES],
     code: &mut [u16; CODE_UNITS],
     progress: Progress,
-) -> Step
+) -> Result<Progress, Fault>
     ensures { (cs rs : List ℕ) → Steps text.now at place (coded_keyword kind)
         (memory symbols.now code.old cs rs) (memory symbols.now code.new cs rs) progress result }
 {
@@ -227,38 +208,20 @@ fn coded(
     coded_step(kind, written, progress)
 }
 
-// The fault of a statement with rows that is not read. One whose rows are written is one too many.
-fn rows_fault(written: Constrained) -> Step
-    ensures { result ≡ rows_fault written }
-{
-    match written {
-        Constrained::Next(_) => Step::Fault(Refusal::MAXIMUM_PASSED),
-        Constrained::Undeclared => Step::Fault(Refusal::NAME_UNDECLARED),
-        Constrained::MaximumPassed => Step::Fault(Refusal::MAXIMUM_PASSED),
-        Constrained::StackTooSmall => Step::Fault(Refusal::STACK_TOO_SMALL),
-    }
-}
-
 // A constraint whose record and rows are written, or its fault. Where they are written there was room for one more,
 // which the test repeats so that the count cannot overflow.
-fn constrained_step(written: Constrained, progress: Progress) -> Step
+fn constrained_step(written: Result<usize, Fault>, progress: Progress) -> Result<Progress, Fault>
     ensures { result ≡ constrained_step written progress }
 {
     let count = progress.constraints;
-    let Constrained::Next(row) = written else {
-        return rows_fault(written);
-    };
+    let row = written?;
     if Constraint::MAX <= count {
-        return rows_fault(written);
+        return Err(Fault::MaximumPassed);
     }
-    Step::Read(Progress {
-        symbols: progress.symbols,
-        code: progress.code,
-        transitions: progress.transitions,
+    Ok(Progress {
         constraints: count + 1,
         rows: row,
-        relabels: progress.relabels,
-        relabel_rows: progress.relabel_rows,
+        ..progress
     })
 }
 
@@ -271,7 +234,7 @@ fn constrain(
     constraints: &mut [u8],
     rows: &mut [u8],
     progress: Progress,
-) -> Step
+) -> Result<Progress, Fault>
     requires { (constraint_room ≤ length constraints.old) × (row_room ≤ length rows.old) }
     ensures { (place : ℕ) (co : List ℕ) → Steps text.now at place constrain_k
         (memory symbols.now co constraints.old rows.old)
@@ -292,24 +255,18 @@ fn constrain(
 }
 
 // A validatetrans statement whose record and rows are written, or its fault.
-fn relabelled_step(written: Constrained, progress: Progress) -> Step
+fn relabelled_step(written: Result<usize, Fault>, progress: Progress) -> Result<Progress, Fault>
     ensures { result ≡ relabelled_step written progress }
 {
     let count = progress.relabels;
-    let Constrained::Next(row) = written else {
-        return rows_fault(written);
-    };
+    let row = written?;
     if Relabel::MAX <= count {
-        return rows_fault(written);
+        return Err(Fault::MaximumPassed);
     }
-    Step::Read(Progress {
-        symbols: progress.symbols,
-        code: progress.code,
-        transitions: progress.transitions,
-        constraints: progress.constraints,
-        rows: progress.rows,
+    Ok(Progress {
         relabels: count + 1,
         relabel_rows: row,
+        ..progress
     })
 }
 
@@ -321,7 +278,7 @@ fn validatetrans(
     constraints: &mut [u8],
     rows: &mut [u8],
     progress: Progress,
-) -> Step
+) -> Result<Progress, Fault>
     requires { (constraint_room ≤ length constraints.old) × (row_room ≤ length rows.old) }
     ensures { (place : ℕ) (co : List ℕ) → Steps text.now at place relabel_k
         (memory symbols.now co constraints.old rows.old)
@@ -352,15 +309,17 @@ pub fn statement(
     constraints: &mut [u8; RECORD_BYTES],
     rows: &mut [u8; ROW_BYTES],
     progress: Progress,
-) -> Step
+) -> Result<Progress, Fault>
     ensures { (at : ℕ) → first ≡ item_at text.now at → StepsAt text.now at place
         (memory symbols.old code.old constraints.old rows.old)
         (memory symbols.new code.new constraints.new rows.new) progress result }
 {
     let Item::Word { number, next, .. } = first else {
-        return Step::Fault(Refusal::NO_FORM);
+        return Err(Fault::NoForm);
     };
-    let keyword = grammar::keyword_of(number);
+    let Some(keyword) = grammar::keyword_of(number) else {
+        return Err(Fault::NoForm);
+    };
     match keyword {
         Keyword::Thing(family) => declare_thing(text, next, family, symbols, progress),
         Keyword::Attribute(family) => {
@@ -388,6 +347,5 @@ pub fn statement(
         }
         Keyword::Constrain => constrain(text, next, symbols, constraints, rows, progress),
         Keyword::Relabel => validatetrans(text, next, symbols, constraints, rows, progress),
-        Keyword::Unknown => Step::Fault(Refusal::NO_FORM),
     }
 }

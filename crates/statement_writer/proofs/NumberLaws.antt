@@ -8,6 +8,8 @@ use native.Mathlib.Nat.{zero-add}
 use native.Mathlib.Omega.{arith}
 use borrow.Author.Tests.{eq-eqb, ne_eqb, lt-leb, le-leb}
 use lib.Dec.{eqb, leb}
+use Rattle.std.specs.Prelude as prelude
+use Rattle.std.specs.Prelude.{None, Some}
 use Rattle.policy.specs.Basics.{Name, ◌>>=◌, given}
 use Rattle.policy.specs.Answers as answers
 use Rattle.policy.specs.declared.Family as theFamily
@@ -17,31 +19,31 @@ use Rattle.policy.specs.Names.{refer, Named, number_in}
 use Rattle.policy.proofs.IfAny.{IfAny}
 use Rattle.statement_code.specs.Code as code
 use Rattle.statement_code.specs.Code.{reference_unit}
-use Rattle.symbols.specs.Lookup.{family_number}
+use Rattle.symbols.specs.Lookup.{family_number, found_at}
 use Rattle.symbols.specs.SearchAnswers.{family_code, found_class, found_named}
 use Rattle.scopes.specs.Symbols.{Looks}
-use Rattle.symbols.specs.declared.Found.{Found}
+use Rattle.std.specs.Prelude.{Some, None}
+use Rattle.symbols.specs.declared.Symbol.{Symbol}
 use Rattle.scopes.proofs.Bounds.{bounded}
 use Rattle.symbols.proofs.CountLaws.{same_code}
 use Rattle.symbols.proofs.ReferencesFound.{code_of}
 use Rattle.set_writer.specs.NameLookup.{referred, Refers}
-use Rattle.set_writer.specs.declared.NameUnit.{NameUnit}
 use Rattle.statement_writer.specs.NameKinds.{unit_in, referred_by, Numbers, Names}
 use Rattle.statement_writer.specs.declared.Kind.{Kind}
 
 -- ---- one sort
 
 -- a number that no name has is taken for none
-abbrev small : Option ℕ → NameUnit
-small none = NameUnit.Missing
-small (some n) = cond (leb 1024 n) NameUnit.Missing (NameUnit.Unit n)
+abbrev small : Option ℕ → prelude.Option ℕ
+small none = None
+small (some n) = cond (leb 1024 n) None (Some n)
 
 -- what is found, as the number of a name of the sort
-abbrev pub number_by : ℕ → Found → NameUnit
-number_by sort (Found.At s n) = cond (eqb s sort) (small (some n)) NameUnit.Missing
-number_by sort Found.Missing = NameUnit.Missing
+abbrev pub number_by : ℕ → prelude.Option Symbol → prelude.Option ℕ
+number_by sort (Some x) = cond (eqb x.sort sort) (small (some x.number)) None
+number_by sort None = None
 
-small_is : (n : ℕ) → n < 1024 → small (some n) ≡ NameUnit.Unit n
+small_is : (n : ℕ) → n < 1024 → small (some n) ≡ Some n
 small_is n h = rw (lt-leb 1024 n h)
 
 by-sort : (s : Sort) (o : Option Named) → IfAny (λ d. d.number < 512) o
@@ -49,7 +51,7 @@ by-sort : (s : Sort) (o : Option Named) → IfAny (λ d. d.number < 512) o
 by-sort s none h = refl
 by-sort s (some d) h = rw (same_code s d.sort) (go (same_sort s d.sort))
   where
-    go : (b : Bool) → cond b (small (some d.number)) NameUnit.Missing ≡ referred_by (cond b (some d.number) none)
+    go : (b : Bool) → cond b (small (some d.number)) None ≡ referred_by (cond b (some d.number) none)
     go true = small_is d.number (omega (arith, h.has d refl))
     go false = refl
 
@@ -57,7 +59,7 @@ by-class : (o : Option ℕ) → IfAny (λ c. c < 32) o → number_by 6 (found_cl
 by-class none h = refl
 by-class (some n) h = ap (λ (k : ℕ). small (some k)) (zero-add n) ∙ small_is n (omega (arith, h.has n refl))
 
-pub numbers : {table : List ℕ} {sort family : ℕ} {w : Name} {r : NameUnit} {found : Found} → family ≡ family_number sort 0
+pub numbers : {table : List ℕ} {sort family : ℕ} {w : Name} {r : prelude.Option ℕ} {found : prelude.Option Symbol} → family ≡ family_number sort 0
     → Looks table family w found → r ≡ number_by sort found → Numbers table sort w r
 unfolding number_in
 numbers {sort = sort} {family} {w} {found = found} f e h = record {
@@ -73,13 +75,13 @@ numbers {sort = sort} {family} {w} {found = found} f e h = record {
 
 -- the ways of the search
 module _ (s sort n : ℕ) where
-  pub other-sort : (s ≡ sort → ⊥) → NameUnit.Missing ≡ number_by sort (Found.At s n)
+  pub other-sort : (s ≡ sort → ⊥) → None ≡ number_by sort (found_at s n)
   other-sort d = rw (ne_eqb s sort d)
 
-  pub too_large : s ≡ sort → 1024 ≤ n → NameUnit.Missing ≡ number_by sort (Found.At s n)
+  pub too_large : s ≡ sort → 1024 ≤ n → None ≡ number_by sort (found_at s n)
   too_large e h = rw (eq-eqb s sort e, le-leb 1024 n h)
 
-  pub of-the-sort : s ≡ sort → n < 1024 → NameUnit.Unit n ≡ number_by sort (Found.At s n)
+  pub of-the-sort : s ≡ sort → n < 1024 → Some n ≡ number_by sort (found_at s n)
   of-the-sort e h = rw (eq-eqb s sort e, lt-leb 1024 n h)
 
 -- ---- a kind
@@ -98,7 +100,7 @@ reference-unit : (o : Option Reference) → referred o ≡ referred_by (o >>= λ
 reference-unit none = refl
 reference-unit (some r) = refl
 
-module _ {table : List ℕ} {k : Kind} {w : Name} {r : NameUnit} where
+module _ {table : List ℕ} {k : Kind} {w : Name} {r : prelude.Option ℕ} where
   pub as-reference : (f : theFamily.Family) (n : ℕ) → k ≡ Kind.Reference f → n ≡ code.family_number (answers.family_of f) → Refers table n w r → Names table k w r
   as-reference f n q e m = record {
     resolves = λ env y.

@@ -1,5 +1,6 @@
 -- What the names of a statement may stand for, and the units of what they do stand for. Assumes nothing.
-use Rattle.std.specs.Prelude.{◌≡◌, List, [], ◌∷◌, ℕ, ◌≤◌}
+use Rattle.std.specs.Prelude as prelude
+use Rattle.std.specs.Prelude.{◌≡◌, List, [], ◌∷◌, ℕ, ◌≤◌, None, Some, IsNone, IsSomeAnd, IfSome}
 use Rattle.std.proofs.Math.Option.{Option, none, some}
 use Rattle.lexer.specs.Forms.{Forms, closed, ended, word, part, frames_at, trim}
 use Rattle.policy.specs.Answers.{family_of}
@@ -10,9 +11,8 @@ use Rattle.policy.specs.Names.{refer, Environment, number_in}
 use Rattle.statement_code.specs.Code.{reference_unit}
 use Rattle.scopes.specs.Symbols.{Symbols}
 use Rattle.statement_code.specs.UnitWrites.{Wrote, Keeps}
-use Rattle.set_writer.specs.declared.NameUnit.{NameUnit}
+use Rattle.set_writer.specs.declared.Written.{Written}
 use Rattle.statement_writer.specs.declared.Kind.{Kind}
-use Rattle.statement_writer.specs.declared.NamesWritten.{NamesWritten}
 
 -- "each place takes a thing or an attribute of the family"; the A of `(userattributeset A S)` is an attribute, the C of `(roletransition R T C R)`
 -- a class, and "the first two may be attributes, the new role may not"
@@ -23,17 +23,17 @@ unit_in env Kind.Class w = env.class w
 unit_in env Kind.Role w = number_in env (thing_of roles) w
 
 -- a unit, where there is one
-abbrev pub referred_by : Option ℕ → NameUnit
-referred_by none = NameUnit.Missing
-referred_by (some n) = NameUnit.Unit n
+abbrev pub referred_by : Option ℕ → prelude.Option ℕ
+referred_by none = None
+referred_by (some n) = Some n
 
 -- "of the wrong sort": the name w is resolved as a name of one sort alone, which is given by its number in the symbol table; class is 6
-pub record Numbers (table : List ℕ) (sort : ℕ) (w : Name) (r : NameUnit) : Type 0 where
+pub record Numbers (table : List ℕ) (sort : ℕ) (w : Name) (r : prelude.Option ℕ) : Type 0 where
   pub of-sort : (env : Environment) (s : Sort) → Symbols table env → sort_code s ≡ sort → r ≡ referred_by (number_in env s w)
   pub of-class : (env : Environment) → Symbols table env → 6 ≡ sort → r ≡ referred_by (env.class w)
 
 -- the name w is resolved as a name of the kind
-pub record Names (table : List ℕ) (k : Kind) (w : Name) (r : NameUnit) : Type 0 where
+pub record Names (table : List ℕ) (k : Kind) (w : Name) (r : prelude.Option ℕ) : Type 0 where
   pub resolves : (env : Environment) → Symbols table env → r ≡ referred_by (unit_in env k w)
 
 -- ---- names in a row
@@ -60,24 +60,18 @@ abbrev pub behind_names : List Kind → Forms → Forms
 behind_names [] g = g
 behind_names (k ∷ ks) g = behind_names ks (behind_first g)
 
--- q is after the names at the place at, and u is not before the place to
-pub record Past (t : List ℕ) (at : ℕ) (ks : List Kind) (to q u : ℕ) : Type 0 where
-  pub row : (levels : ℕ) → trim (frames_at t q).here levels ≡ behind_names ks (trim (frames_at t at).here levels)
-  pub ahead : to ≤ u
+-- what was read ends after the names at the place at, and what was written not before the place to
+pub record Past (t : List ℕ) (at : ℕ) (ks : List Kind) (to : ℕ) (p : Written) : Type 0 where
+  pub row : (levels : ℕ) → trim (frames_at t p.at).here levels ≡ behind_names ks (trim (frames_at t at).here levels)
+  pub ahead : to ≤ p.to
 
-abbrev pub Moves : List ℕ → ℕ → List Kind → ℕ → NamesWritten → Type 0
-Moves t at ks to (NamesWritten.Next q u) = Past t at ks to q u
-Moves t at ks to NamesWritten.Undeclared = Unit {0}
-
--- "name not declared before, or of the wrong sort": the answer is Undeclared exactly if one of the names is; else the units are written
-abbrev pub AnswersNames : List ℕ → ℕ → Option (List ℕ) → List ℕ → NamesWritten → Type 0
-AnswersNames before to none after NamesWritten.Undeclared = Unit {0}
-AnswersNames before to none after (NamesWritten.Next q u) = ⊥
-AnswersNames before to (some us) after NamesWritten.Undeclared = ⊥
-AnswersNames before to (some us) after (NamesWritten.Next q u) = Wrote before to us after u
+-- "name not declared before, or of the wrong sort": there is no answer exactly if one of the names is not; else the units are written
+abbrev pub AnswersNames : List ℕ → ℕ → Option (List ℕ) → List ℕ → prelude.Option Written → Type 0
+AnswersNames before to none after r = IsNone r
+AnswersNames before to (some us) after r = IsSomeAnd r (λ p. Wrote before to us after p.to)
 
 -- what writing the names at a place of the text, one for each kind, answers and leaves. What is after them is not looked at
-pub record WritesNames (t : List ℕ) (at : ℕ) (ks : List Kind) (table : List ℕ) (before : List ℕ) (to : ℕ) (after : List ℕ) (r : NamesWritten) : Type 0 where
+pub record WritesNames (t : List ℕ) (at : ℕ) (ks : List Kind) (table : List ℕ) (before : List ℕ) (to : ℕ) (after : List ℕ) (r : prelude.Option Written) : Type 0 where
   pub keeps : Keeps before to after
-  pub moves : Moves t at ks to r
+  pub moves : IfSome r (Past t at ks to)
   pub says : (env : Environment) (levels : ℕ) → Symbols table env → AnswersNames before to (names_units env ks (trim (frames_at t at).here levels)) after r

@@ -1,6 +1,7 @@
 // Attribute sets, relations and role transitions with their names resolved, written as statement code: fault 5. The
 // form of a statement is known to be good where these functions are called; what is found out here is whether its
-// names are declared, and its units are written on the way.
+// names are declared, and its units are written on the way. There is no answer where a name is not declared before, or
+// is of the wrong sort.
 #![tactic(auto)]
 
 ghost use Rattle.std.specs.Prelude.{◌≡◌, [], ◌∷◌};
@@ -14,16 +15,9 @@ ghost use Rattle.statement_writer.specs.ResolvedUnits.{Stores, WritesStatement};
 use items::Item;
 use lexer::Level;
 use policy::{Family, Relation, Sort};
-use set_writer::{NameUnit, SetWritten};
+use set_writer::Written;
 use statement_code::Unit;
-use symbols::Found;
-
-// The place after the units written, or fault 5: a name is not declared before, or is of the wrong sort.
-#[derive(Clone, Copy)]
-pub enum CodeWritten {
-    Next(usize),
-    Undeclared,
-}
+use symbols::Symbol;
 
 // What a name of a statement may stand for: a thing or an attribute of a family; an attribute of it and no thing; a
 // class; a role and no attribute.
@@ -35,37 +29,30 @@ enum Kind {
     Role,
 }
 
-// The place after the names that were read and the place after their units, or that one of them is not declared.
-#[derive(Clone, Copy)]
-enum NamesWritten {
-    Next { at: usize, to: usize },
-    Undeclared,
-}
-
 // ---- names
 
 // The number of what a name names in a sort of the symbol table. What has the name and another sort is missing.
-fn number_of(symbols: &[u8], sort: usize, name: &[u8]) -> NameUnit
+fn number_of(symbols: &[u8], sort: usize, name: &[u8]) -> Option<u16>
     ensures { Numbers symbols.now sort name.now result }
 {
     let family = symbols::family_of(sort, 0);
     let found = scopes::lookup(symbols, family, name);
     match found {
-        Found::At { sort: s, number } => {
+        Some(Symbol { sort: s, number }) => {
             if s != sort {
-                return NameUnit::Missing;
+                return None;
             }
             if Unit::ATTRIBUTE as usize <= number {
-                return NameUnit::Missing;
+                return None;
             }
-            NameUnit::Unit(number as u16)
+            Some(number as u16)
         }
-        Found::Missing => NameUnit::Missing,
+        None => None,
     }
 }
 
 // The unit of what a name names, as a name of a kind.
-fn name_unit(kind: Kind, symbols: &[u8], name: &[u8]) -> NameUnit
+fn name_unit(kind: Kind, symbols: &[u8], name: &[u8]) -> Option<u16>
     ensures { Names symbols.now kind name.now result }
 {
     match kind {
@@ -90,7 +77,7 @@ fn write_name(
     symbols: &[u8],
     code: &mut [u16],
     to: usize,
-) -> NamesWritten
+) -> Option<Written>
     ensures { WritesNames text.now at (kind ∷ []) symbols.now code.old to code.new result }
 {
     let item = items::next_item(text, at);
@@ -101,16 +88,13 @@ fn write_name(
         ..
     } = item
     else {
-        return NamesWritten::Undeclared;
+        return None;
     };
     let end = start + len;
     let name = &text[start..end];
-    let referred = name_unit(kind, symbols, name);
-    let NameUnit::Unit(unit) = referred else {
-        return NamesWritten::Undeclared;
-    };
-    let u = statement_code::put_unit(code, to, unit);
-    NamesWritten::Next { at: next, to: u }
+    let unit = name_unit(kind, symbols, name)?;
+    let past = statement_code::put_unit(code, to, unit);
+    Some(Written { at: next, to: past })
 }
 
 // Writes the units of the two names from a place on.
@@ -122,14 +106,11 @@ fn write_pair(
     symbols: &[u8],
     code: &mut [u16],
     to: usize,
-) -> NamesWritten
+) -> Option<Written>
     ensures { WritesNames text.now at (first ∷ second ∷ []) symbols.now code.old to code.new result }
 {
-    let name = write_name(text, at, first, symbols, code, to);
-    let NamesWritten::Next { at: next, to: u } = name else {
-        return NamesWritten::Undeclared;
-    };
-    write_name(text, next, second, symbols, code, u)
+    let name = write_name(text, at, first, symbols, code, to)?;
+    write_name(text, name.at, second, symbols, code, name.to)
 }
 
 // ---- statements
@@ -156,7 +137,8 @@ fn first_family(relation: Relation) -> Family
 {
     match relation {
         Relation::UserRole => Family::Users,
-        Relation::RoleType | Relation::RoleAllow => Family::Roles,
+        Relation::RoleType => Family::Roles,
+        Relation::RoleAllow => Family::Roles,
     }
 }
 
@@ -180,18 +162,15 @@ pub fn write_relation(
     symbols: &[u8],
     code: &mut [u16],
     to: usize,
-) -> CodeWritten
+) -> Option<usize>
     ensures { WritesStatement text.now at (relation_k (relation_of relation)) place symbols.now code.old to code.new result }
 {
     let tag = Unit::RELATION + statement_code::relation_number(relation);
     let u = write_head(tag, place, code, to);
     let first = Kind::Reference(first_family(relation));
     let second = Kind::Reference(second_family(relation));
-    let names = write_pair(text, at, first, second, symbols, code, u);
-    match names {
-        NamesWritten::Next { to: v, .. } => CodeWritten::Next(v),
-        NamesWritten::Undeclared => CodeWritten::Undeclared,
-    }
+    let names = write_pair(text, at, first, second, symbols, code, u)?;
+    Some(names.to)
 }
 
 // Writes `(roletransition R T C R)`, whose names are from a place on.
@@ -202,21 +181,23 @@ pub fn write_transition(
     symbols: &[u8],
     code: &mut [u16],
     to: usize,
-) -> CodeWritten
+) -> Option<usize>
     ensures { WritesStatement text.now at transition_k place symbols.now code.old to code.new result }
 {
     let u = write_head(Unit::TRANSITION, place, code, to);
     let first = Kind::Reference(Family::Roles);
     let second = Kind::Reference(Family::Types);
-    let names = write_pair(text, at, first, second, symbols, code, u);
-    let NamesWritten::Next { at: next, to: v } = names else {
-        return CodeWritten::Undeclared;
-    };
-    let others = write_pair(text, next, Kind::Class, Kind::Role, symbols, code, v);
-    match others {
-        NamesWritten::Next { to: w, .. } => CodeWritten::Next(w),
-        NamesWritten::Undeclared => CodeWritten::Undeclared,
-    }
+    let names = write_pair(text, at, first, second, symbols, code, u)?;
+    let others = write_pair(
+        text,
+        names.at,
+        Kind::Class,
+        Kind::Role,
+        symbols,
+        code,
+        names.to,
+    )?;
+    Some(others.to)
 }
 
 // Writes `(userattributeset A S)` and the same for roles and types, whose A is the name at a place. The parentheses
@@ -229,30 +210,17 @@ pub fn write_attribute_set(
     symbols: &[u8],
     code: &mut [u16],
     to: usize,
-) -> CodeWritten
+) -> Option<usize>
     ensures { WritesStatement text.now at (set_k (family_of family)) place symbols.now code.old to code.new result }
 {
     let number = statement_code::family_number(family);
     let u = write_head(Unit::ATTRIBUTE_SET + number, place, code, to);
-    let name = write_name(text, at, Kind::Attribute(family), symbols, code, u);
-    let NamesWritten::Next { at: next, to: v } = name else {
-        return CodeWritten::Undeclared;
-    };
-    let item = items::next_item(text, next);
+    let name = write_name(text, at, Kind::Attribute(family), symbols, code, u)?;
+    let item = items::next_item(text, name.at);
     let Item::Open { next: inner, .. } = item else {
-        return CodeWritten::Undeclared;
+        return None;
     };
-    let set = set_writer::write_set(
-        text,
-        inner,
-        Level::MAX - 2,
-        symbols,
-        number as usize,
-        code,
-        v,
-    );
-    match set {
-        SetWritten::Next { to: w, .. } => CodeWritten::Next(w),
-        SetWritten::Undeclared => CodeWritten::Undeclared,
-    }
+    let levels = Level::MAX - 2;
+    let set = set_writer::write_set(text, inner, levels, symbols, number as usize, code, name.to)?;
+    Some(set.to)
 }

@@ -10,9 +10,11 @@ use Rattle.policy.specs.Statements.{Sort, Declaration, plain, class, of_class, c
 use Rattle.policy.specs.Encode.{name_entry, permission_entries, entries_from, entries}
 use Rattle.policy.proofs.Lists.{gather-over, gather-last}
 use Rattle.symbols.specs.Lookup.{first_named}
-use Rattle.symbols.specs.SearchAnswers.{found_number, found_class, found_permission, is_found, FewPermissions}
-use Rattle.symbols.specs.declared.Found.{Found}
-use Rattle.symbols.proofs.SearchLaws.{or_found, first-append, own-entry, found-index, found_in, permissions-other, permissions-own, skip-plain, after-class, skip-permissions}
+use Rattle.std.specs.Prelude.{Option, Some, None, is_some}
+use Rattle.std.specs.Option.{option_or}
+use Rattle.symbols.specs.SearchAnswers.{found_number, found_class, found_permission, FewPermissions}
+use Rattle.symbols.specs.declared.Symbol.{Symbol}
+use Rattle.symbols.proofs.SearchLaws.{first-append, own-entry, found-index, found_in, permissions-other, permissions-own, skip-plain, after-class, skip-permissions}
 
 -- ---- how many classes are declared before
 
@@ -36,7 +38,7 @@ class-from w e (class v ps ∷ ds) =
     own-entry 3 w (name_entry 6 (length (class_names e)) v) (permission_entries (length (class_names e) * 32) ps ++ entries_from (e ++ (class v ps ∷ [])) ds) refl
     ∙ found-index w 6 (length (class_names e)) v (class_names ds) (first_named 3 w (permission_entries (length (class_names e) * 32) ps ++ entries_from (e ++ (class v ps ∷ [])) ds))
     (first-append 3 w (permission_entries (length (class_names e) * 32) ps) (entries_from (e ++ (class v ps ∷ [])) ds)
-    ∙ ap (λ (r : Found). or_found r (first_named 3 w (entries_from (e ++ (class v ps ∷ [])) ds))) (permissions-other 3 w (length (class_names e) * 32) ps (λ k l g q. omega arith))
+    ∙ ap (λ (r : Option Symbol). option_or r (first_named 3 w (entries_from (e ++ (class v ps ∷ [])) ds))) (permissions-other 3 w (length (class_names e) * 32) ps (λ k l g q. omega arith))
     ∙ class-from w (e ++ (class v ps ∷ [])) ds ∙ ap (λ (n : ℕ). found_number 6 n (index_of w (class_names ds))) (classes-more e v ps))
 
 -- family 3 answers as classes are looked up
@@ -44,14 +46,14 @@ pub find-class : (ds : List Declaration) (w : Name) → first_named 3 w (entries
 unfolding entries class_names gather
 find-class ds w = class-from w [] ds
 
-pub class-found : (ds : List Declaration) (w : Name) → is_found (first_named 3 w (entries ds)) ≡ is_in w (class_names ds)
-class-found ds w = ap is_found (find-class ds w) ∙ found_in w 6 0 (class_names ds)
+pub class-found : (ds : List Declaration) (w : Name) → is_some (first_named 3 w (entries ds)) ≡ is_in w (class_names ds)
+class-found ds w = ap is_some (find-class ds w) ∙ found_in w 6 0 (class_names ds)
 
 -- ---- permissions: class k is the next one
 
-or-missing : (f : Found) → or_found f Found.Missing ≡ f
-or-missing (Found.At s n) = refl
-or-missing Found.Missing = refl
+pub or-none : (r : Option Symbol) → option_or r None ≡ r
+or-none (Some x) = refl
+or-none None = refl
 
 -- no permission of another class has the class's family
 other-class : (c k n : ℕ) → n ≤ 32 → (k ≡ c → ⊥) → (m : ℕ) → k * 32 ≤ m → m < k * 32 + n → 4 + m / 32 ≡ 4 + c → ⊥
@@ -65,7 +67,7 @@ module _ (c : ℕ) (w : Name) where
       (permissions-other (4 + c) w (length (class_names e) * 32) ps (other-class c (length (class_names e)) (length ps) h d)) (λ q. omega arith)
 
   -- a class that is declared before has no permission left
-  permission-gone : (e ds : List Declaration) → All FewPermissions ds → c < length (class_names e) → first_named (4 + c) w (entries_from e ds) ≡ Found.Missing
+  permission-gone : (e ds : List Declaration) → All FewPermissions ds → c < length (class_names e) → first_named (4 + c) w (entries_from e ds) ≡ None
   unfolding entries_from first_named
   permission-gone e [] few h = refl
   permission-gone e (plain s v ∷ ds) few h =
@@ -85,9 +87,9 @@ module _ (c : ℕ) (w : Name) where
   permission-from e (class v ps ∷ ds) few zero h =
       let k : length (class_names e) ≡ c = omega arith in
       after-class (4 + c) w e v ps ds (λ q. omega arith)
-      ∙ ap (or_found (first_named (4 + c) w (permission_entries (length (class_names e) * 32) ps)))
+      ∙ ap (option_or (first_named (4 + c) w (permission_entries (length (class_names e) * 32) ps)))
       (permission-gone (e ++ (class v ps ∷ [])) ds few.1 (omega (arith, classes-more e v ps)))
-      ∙ or-missing (first_named (4 + c) w (permission_entries (length (class_names e) * 32) ps))
+      ∙ or-none (first_named (4 + c) w (permission_entries (length (class_names e) * 32) ps))
       ∙ rw k (permissions-own c w (c * 32) ps (omega arith) (omega (arith, few.0)))
 
 -- family 4 + c answers as the permissions of class c are looked up
@@ -97,5 +99,5 @@ unfolding entries class_names gather
 find-permission ds c w few = permission-from c w [] ds few c (omega arith)
 
 pub permission-found : (ds : List Declaration) (c : ℕ) (w : Name) → All FewPermissions ds
-    → is_found (first_named (4 + c) w (entries ds)) ≡ is_in w (permissions ds c)
-permission-found ds c w few = ap is_found (find-permission ds c w few) ∙ found_in w 7 (c * 32) (permissions ds c)
+    → is_some (first_named (4 + c) w (entries ds)) ≡ is_in w (permissions ds c)
+permission-found ds c w few = ap is_some (find-permission ds c w few) ∙ found_in w 7 (c * 32) (permissions ds c)

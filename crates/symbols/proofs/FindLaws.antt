@@ -15,7 +15,7 @@ use Rattle.byte_slices.proofs.PartLaws.{length-part-min}
 use Rattle.symbols.specs.Section.{entries_read, entries_at, between, EntryIs}
 use Rattle.symbols.specs.Lookup.{reply_of}
 use Rattle.symbols.specs.declared.Entry.{Entry}
-use Rattle.symbols.specs.declared.NamePlace.{NamePlace}
+use Rattle.std.specs.Prelude.{Some}
 use Rattle.symbols.proofs.EntryLaws.{none-past, begins}
 
 -- where no entry stands, none is left
@@ -26,6 +26,11 @@ none_done h = ap entries_read h.reads
 pub none-broken : {t : List ℕ} {at end : ℕ} → EntryIs t at end Entry.Broken → entries_at t at end ≡ []
 unfolding entries_read
 none-broken h = ap entries_read h.reads
+
+pub no-entry : {t : List ℕ} {at end : ℕ} (r : Entry) → EntryIs t at end r → ((s n past : ℕ) → r ≡ Entry.Named s n past → ⊥) → entries_at t at end ≡ []
+no-entry (Entry.Named s n past) h d = absurd (d s n past refl)
+no-entry Entry.Done h d = none_done h
+no-entry Entry.Broken h d = none-broken h
 
 pub none-numbered : (s n o : ℕ) (es : List NameEntry) → es ≡ [] → refused 12 0 ≡ name_from s n o es
 unfolding name_from
@@ -53,7 +58,7 @@ module _ {t : List ℕ} {at end s n past : ℕ} (h : EntryIs t at end (Entry.Nam
   unfolding entries_read
   ahead = ap entries_read h.reads
 
-  long : length (between t (at + 4) past) ≡ past - at - 4
+  long : length (between t (at + 4) past) ≡ past - (at + 4)
   long = length-part-min t (at + 4) (past - (at + 4)) ∙ omega (arith, h.within)
 
   module _ (s' n' : ℕ) where
@@ -69,6 +74,6 @@ module _ {t : List ℕ} {at end s n past : ℕ} (h : EntryIs t at end (Entry.Nam
     pub other-number : s ≡ s' → (n ≡ n' → ⊥) → name_from s' n' past (entries_at t past end) ≡ name_from s' n' at (entries_at t at end)
     other-number e d = passes (rw (eq-eqb s s' e, ne_eqb n n' d))
 
-    pub this-numbered : s ≡ s' → n ≡ n' → reply_of (NamePlace.At (at + 4) (past - at - 4)) ≡ name_from s' n' at (entries_at t at end)
+    pub this-numbered : s ≡ s' → n ≡ n' → reply_of (Some (record { start = at + 4; length = past - (at + 4) })) ≡ name_from s' n' at (entries_at t at end)
     unfolding name_from
     this-numbered e d = sym (ap (name_from s' n' at) ahead ∙ rw (eq-eqb s s' e, eq-eqb n n' d, long))

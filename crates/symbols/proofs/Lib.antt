@@ -1,3 +1,4 @@
+pub mod SymbolLaws
 pub mod SameLaws
 pub mod SectionLaws
 pub mod EntryLaws

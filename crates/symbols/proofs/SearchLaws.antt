@@ -3,7 +3,8 @@
 use mathlib.Core.Path.{◌≡◌, refl, sym, ap, ◌∙◌}
 use mathlib.Core.Bool.{Bool, true, false, ◌||◌, cond}
 use mathlib.Core.List.{List, [], ◌∷◌, ◌++◌}
-use mathlib.Core.Option.{Option, none, some}
+use mathlib.Core.Option as maybe
+use mathlib.Core.Option.{none, some}
 use Prim.Native.Nat.{ℕ, ◌+◌, ◌*◌, ◌/◌, ◌≤◌, ◌<◌}
 use native.Mathlib.Omega.{arith}
 use borrow.Author.Tests.{eq-eqb, ne_eqb, eqb-true}
@@ -13,30 +14,27 @@ use Rattle.policy.specs.Basics.{Name, same, any, is_in, next, index_of}
 use Rattle.policy.specs.Statements.{users, roles, types, Sort, thing_of, attribute_of, Declaration, plain, class, class_names, count}
 use Rattle.policy.specs.Encode.{NameEntry, name_entry, sort_code, permission_entries, entries_from}
 use Rattle.policy.proofs.Lists.{both_true, same-is}
-use Rattle.symbols.specs.Lookup.{family_number, is_named, first_named}
-use Rattle.symbols.specs.SearchAnswers.{found_number, is_found}
-use Rattle.symbols.specs.declared.Found.{Found}
+use Rattle.std.specs.Prelude.{Option, None, is_some}
+use Rattle.std.specs.Option.{option_or}
+use Rattle.symbols.specs.Lookup.{family_number, is_named, found_at, first_named}
+use Rattle.symbols.specs.SearchAnswers.{found_number}
+use Rattle.symbols.specs.declared.Symbol.{Symbol}
 
 -- ---- by an entry
 
--- the first answer, or the second where that is missing
-abbrev pub or_found : Found → Found → Found
-or_found (Found.At s n) g = Found.At s n
-or_found Found.Missing g = g
-
 pub first-cons : (f : ℕ) (w : Name) (e : NameEntry) (es : List NameEntry) (q : Bool) → is_named f w e ≡ q
-    → first_named f w (e ∷ es) ≡ cond q (Found.At e.sort e.number) (first_named f w es)
+    → first_named f w (e ∷ es) ≡ cond q (found_at e.sort e.number) (first_named f w es)
 unfolding first_named
 first-cons f w e es q h = rw h
 
-pub first-append : (f : ℕ) (w : Name) (xs ys : List NameEntry) → first_named f w (xs ++ ys) ≡ or_found (first_named f w xs) (first_named f w ys)
+pub first-append : (f : ℕ) (w : Name) (xs ys : List NameEntry) → first_named f w (xs ++ ys) ≡ option_or (first_named f w xs) (first_named f w ys)
 unfolding first_named
 first-append f w [] ys = refl
 first-append f w (x ∷ xs) ys = by (first-append f w xs ys) (is_named f w x)
   where
-    by : first_named f w (xs ++ ys) ≡ or_found (first_named f w xs) (first_named f w ys) → (q : Bool)
-        → cond q (Found.At x.sort x.number) (first_named f w (xs ++ ys))
-        ≡ or_found (cond q (Found.At x.sort x.number) (first_named f w xs)) (first_named f w ys)
+    by : first_named f w (xs ++ ys) ≡ option_or (first_named f w xs) (first_named f w ys) → (q : Bool)
+        → cond q (found_at x.sort x.number) (first_named f w (xs ++ ys))
+        ≡ option_or (cond q (found_at x.sort x.number) (first_named f w xs)) (first_named f w ys)
     by ih true = refl
     by ih false = ih
 
@@ -46,38 +44,38 @@ skip-entry f w e es h = first-cons f w e es false (rw (ne_eqb (family_number e.s
 
 -- an entry of the family is the one, or is passed over
 pub own-entry : (f : ℕ) (w : Name) (e : NameEntry) (es : List NameEntry) → family_number e.sort e.number ≡ f
-    → first_named f w (e ∷ es) ≡ cond (same w e.name) (Found.At e.sort e.number) (first_named f w es)
+    → first_named f w (e ∷ es) ≡ cond (same w e.name) (found_at e.sort e.number) (first_named f w es)
 own-entry f w e es h = first-cons f w e es (same w e.name) (rw (eq-eqb (family_number e.sort e.number) f h))
 
 -- ---- numbers that go on
 
-pub found-next : (s n : ℕ) (o : Option ℕ) → found_number s (n + 1) o ≡ found_number s n (next o)
+pub found-next : (s n : ℕ) (o : maybe.Option ℕ) → found_number s (n + 1) o ≡ found_number s n (next o)
 found-next s n none = refl
-found-next s n (some k) = ap (Found.At s) (omega arith)
+found-next s n (some k) = ap (found_at s) (omega arith)
 
-pub found-index : (w : Name) (s n : ℕ) (x : Name) (xs : List Name) (r : Found) → r ≡ found_number s (n + 1) (index_of w xs)
-    → cond (same w x) (Found.At s n) r ≡ found_number s n (index_of w (x ∷ xs))
+pub found-index : (w : Name) (s n : ℕ) (x : Name) (xs : List Name) (r : Option Symbol) → r ≡ found_number s (n + 1) (index_of w xs)
+    → cond (same w x) (found_at s n) r ≡ found_number s n (index_of w (x ∷ xs))
 unfolding index_of
 found-index w s n x xs r h = by (same w x)
   where
-    by : (q : Bool) → cond q (Found.At s n) r ≡ found_number s n (cond q (some 0) (next (index_of w xs)))
-    by true = ap (Found.At s) (omega arith)
+    by : (q : Bool) → cond q (found_at s n) r ≡ found_number s n (cond q (some 0) (next (index_of w xs)))
+    by true = ap (found_at s) (omega arith)
     by false = h ∙ found-next s n (index_of w xs)
 
 -- something is found exactly where the name is one of them
-pub found_in : (w : Name) (s n : ℕ) (xs : List Name) → is_found (found_number s n (index_of w xs)) ≡ is_in w xs
+pub found_in : (w : Name) (s n : ℕ) (xs : List Name) → is_some (found_number s n (index_of w xs)) ≡ is_in w xs
 unfolding index_of is_in any
 found_in w s n [] = refl
 found_in w s n (x ∷ xs) = by (found_in w s (n + 1) xs) (same w x)
   where
-    by : is_found (found_number s (n + 1) (index_of w xs)) ≡ any (same w) xs → (q : Bool) → is_found (found_number s n (cond q (some 0) (next (index_of w xs)))) ≡ (q || any (same w) xs)
+    by : is_some (found_number s (n + 1) (index_of w xs)) ≡ any (same w) xs → (q : Bool) → is_some (found_number s n (cond q (some 0) (next (index_of w xs)))) ≡ (q || any (same w) xs)
     by ih true = refl
-    by ih false = ap is_found (sym (found-next s n (index_of w xs))) ∙ ih
+    by ih false = ap is_some (sym (found-next s n (index_of w xs))) ∙ ih
 
 -- ---- permissions of one class
 
 pub permissions-other : (f : ℕ) (w : Name) (n : ℕ) (ps : List Name) → ((k : ℕ) → n ≤ k → k < n + length ps → 4 + k / 32 ≡ f → ⊥)
-    → first_named f w (permission_entries n ps) ≡ Found.Missing
+    → first_named f w (permission_entries n ps) ≡ None
 unfolding permission_entries first_named
 permissions-other f w n [] h = refl
 permissions-other f w n (p ∷ ps) h =
@@ -111,15 +109,15 @@ skip-plain f w e s v ds h = skip-entry f w (name_entry (sort_code s) (count s e)
 module _ (f : ℕ) (w : Name) (e : List Declaration) (v : Name) (ps : List Name) (ds : List Declaration) where
   pub after-class : (f ≡ 3 → ⊥)
       → first_named f w (entries_from e (class v ps ∷ ds))
-      ≡ or_found (first_named f w (permission_entries (length (class_names e) * 32) ps)) (first_named f w (entries_from (e ++ (class v ps ∷ [])) ds))
+      ≡ option_or (first_named f w (permission_entries (length (class_names e) * 32) ps)) (first_named f w (entries_from (e ++ (class v ps ∷ [])) ds))
   unfolding entries_from
   after-class h =
       skip-entry f w (name_entry 6 (length (class_names e)) v) (permission_entries (length (class_names e) * 32) ps ++ entries_from (e ++ (class v ps ∷ [])) ds) (λ q. h (sym q))
       ∙ first-append f w (permission_entries (length (class_names e) * 32) ps) (entries_from (e ++ (class v ps ∷ [])) ds)
 
-  pub skip-permissions : first_named f w (permission_entries (length (class_names e) * 32) ps) ≡ Found.Missing → (f ≡ 3 → ⊥)
+  pub skip-permissions : first_named f w (permission_entries (length (class_names e) * 32) ps) ≡ None → (f ≡ 3 → ⊥)
       → first_named f w (entries_from e (class v ps ∷ ds)) ≡ first_named f w (entries_from (e ++ (class v ps ∷ [])) ds)
-  skip-permissions q h = after-class h ∙ ap (λ (r : Found). or_found r (first_named f w (entries_from (e ++ (class v ps ∷ [])) ds))) q
+  skip-permissions q h = after-class h ∙ ap (λ (r : Option Symbol). option_or r (first_named f w (entries_from (e ++ (class v ps ∷ [])) ds))) q
 
 -- an entry that a search is for has its family and its name
 pub named-is : (f : ℕ) (w : Name) (e : NameEntry) → is_named f w e ≡ true → (family_number e.sort e.number ≡ f) × (w ≡ e.name)

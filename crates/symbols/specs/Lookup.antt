@@ -1,13 +1,13 @@
 -- Finding an entry by its family and name, and by its sort and number. Assumes nothing.
-use Rattle.std.specs.Prelude.{Bool, ◌&&◌, cond, List, [], ◌∷◌, ℕ, ◌+◌, ◌-◌, ◌/◌, eqb, ltb}
+use Rattle.std.specs.Prelude.{Bool, ◌&&◌, cond, List, [], ◌∷◌, ℕ, ◌+◌, ◌-◌, ◌/◌, eqb, ltb, Option, Some, None}
+use Rattle.byte_slices.specs.declared.Span.{Span}
 use Rattle.policy.specs.Basics.{Name, same}
 use Rattle.policy.specs.Statements.{users, roles, types, thing_of, attribute_of}
 use Rattle.policy.specs.Maxima.{max_of, max_classes}
 use Rattle.policy.specs.Encode.{NameEntry}
 use Rattle.policy.specs.Deciding.{Reply, answered, refused}
 use Rattle.policy.specs.Questions.{Part}
-use Rattle.symbols.specs.declared.Found.{Found}
-use Rattle.symbols.specs.declared.NamePlace.{NamePlace}
+use Rattle.symbols.specs.declared.Symbol.{Symbol}
 
 -- "Four families of names: users with userattributes; roles with roleattributes; types with typeattributes; classes", and the permissions
 -- of each class. Their numbers: users 0, roles 1, types 2, classes 3, permissions of class c 4 + c. The sorts 0 to 2 are things,
@@ -27,15 +27,19 @@ most_of sort =
 abbrev pub is_named : ℕ → Name → NameEntry → Bool
 is_named f w e = eqb (family_number e.sort e.number) f && same w e.name
 
+-- the symbol of a sort and a number, where it is found
+abbrev pub found_at : ℕ → ℕ → Option Symbol
+found_at sort number = Some (record { sort = sort; number = number })
+
 -- the first of them
-unfoldable pub first_named : ℕ → Name → List NameEntry → Found
-first_named f w [] = Found.Missing
-first_named f w (e ∷ es) = cond (is_named f w e) (Found.At e.sort e.number) (first_named f w es)
+unfoldable pub first_named : ℕ → Name → List NameEntry → Option Symbol
+first_named f w [] = None
+first_named f w (e ∷ es) = cond (is_named f w e) (found_at e.sort e.number) (first_named f w es)
 
 -- "**Name of** a sort and number: the part of the lent table that holds the name", as policy's question answers it
-abbrev pub reply_of : NamePlace → Reply Part
-reply_of (NamePlace.At start length) = answered (record { start = start; size = length })
-reply_of NamePlace.Nowhere = refused 12 0
+abbrev pub reply_of : Option Span → Reply Part
+reply_of (Some span) = answered (record { start = span.start; size = span.length })
+reply_of None = refused 12 0
 
 -- "Things are numbered from 0 in text order within their sort": how many entries have a sort
 unfoldable pub count_sort : ℕ → List NameEntry → ℕ

@@ -13,9 +13,11 @@ ghost use Rattle.symbols.specs.Section.{EntryIs, entries_at};
 ghost use Rattle.symbols.specs.Lookup.{family_number, most_of, reply_of};
 ghost use Rattle.symbols.specs.Append.{Room, Appended};
 
+use byte_slices::Span;
 use policy::{NameEntry, Sort};
 
-// What is at a place of a section: an entry, with the place past it; the section's end; or bytes that are no entry.
+// What is at a place of a section: an entry, with the place past it; the section's end; or bytes that are no entry. (An
+// Option would be no plainer: the check of a table tells the end from bytes that are no entry.)
 #[derive(Clone, Copy)]
 pub enum Entry {
     Named {
@@ -27,18 +29,11 @@ pub enum Entry {
     Broken,
 }
 
-// What a name was declared as.
+// What a name was declared as: its sort, and its number.
 #[derive(Clone, Copy)]
-pub enum Found {
-    At { sort: usize, number: usize },
-    Missing,
-}
-
-// Where the bytes of a name stand.
-#[derive(Clone, Copy)]
-pub enum NamePlace {
-    At { start: usize, length: usize },
-    Nowhere,
+pub struct Symbol {
+    pub sort: usize,
+    pub number: usize,
 }
 
 // The entry at a place of the section that ends at end. Neither lies past the end of the table.
@@ -68,35 +63,18 @@ fn entry_at(table: &[u8], at: usize, end: usize) -> Entry
 pub fn next_entry(table: &[u8], at: usize, end: usize) -> Entry
     ensures { EntryIs table.now at end result }
 {
-    let last = byte_slices::least(end, table.len());
+    let last = end.min(table.len());
     if last < at {
         return Entry::Done;
     }
     entry_at(table, at, last)
 }
 
-// Whether two slices hold the same bytes. Lengths are compared first.
-pub fn same_bytes(a: &[u8], b: &[u8]) -> bool
-    ensures { result ≡ basics.same a.now b.now }
-{
-    if a.len() != b.len() {
-        return false;
-    }
-    let mut k: usize = 0;
-    while k < a.len() {
-        if a[k] != b[k] {
-            return false;
-        }
-        k += 1;
-    }
-    true
-}
-
 // Whether the len bytes of a at i and of b at j are the same.
 pub fn same(a: &[u8], i: usize, b: &[u8], j: usize, len: usize) -> bool
     ensures { result ≡ basics.same (part a.now i len) (part b.now j len) }
 {
-    same_bytes(byte_slices::part(a, i, len), byte_slices::part(b, j, len))
+    byte_slices::part(a, i, len) == byte_slices::part(b, j, len)
 }
 
 // The families of names by number: users, roles and types as their sorts, then the classes, and after them the
@@ -172,36 +150,27 @@ pub fn append(
 }
 
 // Where the name of a sort and number is.
-pub fn name_of(table: &[u8], start: usize, end: usize, sort: usize, number: usize) -> NamePlace
+pub fn name_of(table: &[u8], start: usize, end: usize, sort: usize, number: usize) -> Option<Span>
     ensures { reply_of result ≡ name_from sort number start (entries_at table.now start end) }
 {
-    let last = byte_slices::least(end, table.len());
-    let mut at = byte_slices::least(start, last);
-    loop {
-        let k = entry_at(table, at, last);
-        match k {
-            Entry::Named {
-                sort: s,
-                number: n,
-                past,
-            } => {
-                if s != sort {
-                    at = past;
-                    continue;
-                }
-                if n != number {
-                    at = past;
-                    continue;
-                }
-                return NamePlace::At {
-                    start: at + NameEntry::HEAD_BYTES,
-                    length: past - at - NameEntry::HEAD_BYTES,
-                };
-            }
-            Entry::Done => return NamePlace::Nowhere,
-            Entry::Broken => return NamePlace::Nowhere,
+    let last = end.min(table.len());
+    let mut at = start.min(last);
+    while let Entry::Named {
+        sort: s,
+        number: n,
+        past,
+    } = entry_at(table, at, last)
+    {
+        if s == sort && n == number {
+            let name = at + NameEntry::HEAD_BYTES;
+            return Some(Span {
+                start: name,
+                length: past - name,
+            });
         }
+        at = past;
     }
+    None
 }
 
 // All names that the maxima allow, 2,016, and the longest entry of one, 68 bytes.

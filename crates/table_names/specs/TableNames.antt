@@ -1,5 +1,5 @@
 -- What the names of a table say, body 1, whatever the bytes are. On a sound table it is what the image says. Assumes nothing.
-use Rattle.std.specs.Prelude.{ℕ, ◌+◌, ◌*◌, ◌<◌, ◌≡◌, Bool, true, false, ◌&&◌, ◌||◌, cond, List, eqb, ltb, get_or}
+use Rattle.std.specs.Prelude.{ℕ, ◌+◌, ◌*◌, ◌<◌, ◌≡◌, Bool, true, false, ◌&&◌, ◌||◌, cond, List, eqb, ltb, get_or, Option, Some, None}
 use Rattle.byte_slices.specs.Parts.{part}
 use Rattle.policy.specs.Basics.{Name, same, any}
 use Rattle.policy.specs.Words.{process_word, transition_words, object_r}
@@ -11,7 +11,6 @@ use Rattle.symbols.specs.Lookup.{count_sort}
 use Rattle.table_reader.specs.Records.{start_in, length_in}
 use Rattle.policy.specs.declared.NameCounts.{NameCounts}
 use Rattle.table_names.specs.declared.SpecialNumbers.{SpecialNumbers}
-use Rattle.table_names.specs.declared.SpecialNames.{SpecialNames}
 
 -- where body 1 starts and ends, as the header says, and its entries
 abbrev pub names_start : List ℕ → ℕ
@@ -71,13 +70,13 @@ unfoldable pub is_object_in : List ℕ → ℕ → Bool
 is_object_in t r = has_name t (name_at t 1 r) object_r
 
 -- the same where the numbers of these names may be known
-abbrev pub is_object_by : List ℕ → SpecialNames → ℕ → Bool
-is_object_by t SpecialNames.Unknown r = is_object_in t r
-is_object_by t (SpecialNames.Known n) r = eqb r n.object
+abbrev pub is_object_by : List ℕ → Option SpecialNumbers → ℕ → Bool
+is_object_by t None r = is_object_in t r
+is_object_by t (Some n) r = eqb r n.object
 
 abbrev pub asks_role_by_number : SpecialNumbers → ℕ → ℕ → Bool
 asks_role_by_number n c k = eqb c n.process && (eqb k n.transition || eqb k n.dyntransition)
 
-abbrev pub asks_role_by : List ℕ → SpecialNames → ℕ → ℕ → Bool
-asks_role_by t SpecialNames.Unknown c k = asks_role_in t c k
-asks_role_by t (SpecialNames.Known n) c k = asks_role_by_number n c k
+abbrev pub asks_role_by : List ℕ → Option SpecialNumbers → ℕ → ℕ → Bool
+asks_role_by t None c k = asks_role_in t c k
+asks_role_by t (Some n) c k = asks_role_by_number n c k

@@ -8,8 +8,9 @@ ghost use Rattle.symbols.specs.Lookup.{reply_of};
 ghost use Rattle.table_names.specs.TableNames.{names_start, names_end, counts_in, Tallied, name_at, permission_in, has_name, has_one_name, asks_role_in};
 ghost use Rattle.table_names.specs.TableNames.{is_object_by, asks_role_by_number, asks_role_by};
 
+use byte_slices::Span;
 use policy::{Class, NameCounts, Permission, Section, Sort};
-use symbols::{Entry, NamePlace};
+use symbols::Entry;
 
 // Where the names start, as the header says.
 pub fn names_start(table: &[u8]) -> usize
@@ -73,7 +74,7 @@ pub fn count_names(table: &[u8]) -> NameCounts
 // ---- names
 
 // Where the name of a sort and number is.
-pub fn name_place(table: &[u8], sort: usize, number: usize) -> NamePlace
+pub fn name_place(table: &[u8], sort: usize, number: usize) -> Option<Span>
     ensures { reply_of result ≡ name_at table.now sort number }
 {
     symbols::name_of(table, names_start(table), names_end(table), sort, number)
@@ -81,17 +82,17 @@ pub fn name_place(table: &[u8], sort: usize, number: usize) -> NamePlace
 
 // Whether a name is a word. Where a table ends within a part, the part is cut there, so that a longer part is
 // compared too.
-fn is_word(table: &[u8], place: NamePlace, word: &[u8]) -> bool
+fn is_word(table: &[u8], place: Option<Span>, word: &[u8]) -> bool
     ensures { result ≡ has_name table.now (reply_of place) word.now }
 {
     match place {
-        NamePlace::At { start, length } => {
+        Some(Span { start, length }) => {
             if length < word.len() {
                 return false;
             }
             symbols::same(table, start, word, 0, length)
         }
-        NamePlace::Nowhere => false,
+        None => false,
     }
 }
 
@@ -106,14 +107,14 @@ fn is_named(table: &[u8], sort: usize, number: usize, word: &[u8]) -> bool
 // ---- permissions
 
 // Where the name of a permission is, by its place in its class.
-fn permission_name(table: &[u8], class: usize, permission: usize) -> NamePlace
+fn permission_name(table: &[u8], class: usize, permission: usize) -> Option<Span>
     ensures { reply_of result ≡ permission_in table.now class permission }
 {
     if Class::MAX <= class {
-        return NamePlace::Nowhere;
+        return None;
     }
     if Permission::MAX <= permission {
-        return NamePlace::Nowhere;
+        return None;
     }
     let number = class * Permission::MAX + permission;
     name_place(table, Sort::PERMISSION, number)
@@ -135,24 +136,16 @@ pub const DYNTRANSITION: [u8; 13] = *b"dyntransition";
 fn is_transition(table: &[u8], class: usize, permission: usize) -> bool
     ensures { result ≡ has_one_name table.now (permission_in table.now class permission) transition_words }
 {
-    let transition = TRANSITION;
-    let dyntransition = DYNTRANSITION;
     let place = permission_name(table, class, permission);
-    if is_word(table, place, &transition) {
-        return true;
-    }
-    is_word(table, place, &dyntransition)
+    is_word(table, place, &TRANSITION) || is_word(table, place, &DYNTRANSITION)
 }
 
 // Whether the class and the permission have the names at which a change of role must be allowed.
+#[tactic(auto, unfolding(crate::specs::TableNames::asks_role_in))]
 fn asks_role_by_name(table: &[u8], class: usize, permission: usize) -> bool
     ensures { result ≡ asks_role_in table.now class permission }
 {
-    let word = PROCESS;
-    if !is_named(table, Sort::CLASS, class, &word) {
-        return false;
-    }
-    is_transition(table, class, permission)
+    is_named(table, Sort::CLASS, class, &PROCESS) && is_transition(table, class, permission)
 }
 
 // ---- the same by numbers that are known
@@ -167,23 +160,15 @@ pub struct SpecialNumbers {
     pub dyntransition: usize,
 }
 
-// Whether these numbers are known. Where they are not, the names are looked at, each by a walk.
-#[derive(Clone, Copy)]
-pub enum SpecialNames {
-    Unknown,
-    Known(SpecialNumbers),
-}
-
-// Whether a role is the one whose contexts are valid with every user and type.
-pub fn is_object(table: &[u8], special: SpecialNames, role: usize) -> bool
+// Whether a role is the one whose contexts are valid with every user and type. Where the numbers are not known, the names
+// are looked at, each by a walk.
+#[tactic(auto, unfolding(crate::specs::TableNames::is_object_in))]
+pub fn is_object(table: &[u8], special: Option<SpecialNumbers>, role: usize) -> bool
     ensures { result ≡ is_object_by table.now special role }
 {
     match special {
-        SpecialNames::Unknown => {
-            let word = OBJECT;
-            is_named(table, Sort::ROLE, role, &word)
-        }
-        SpecialNames::Known(numbers) => role == numbers.object,
+        Some(numbers) => role == numbers.object,
+        None => is_named(table, Sort::ROLE, role, &OBJECT),
     }
 }
 
@@ -191,21 +176,21 @@ pub fn is_object(table: &[u8], special: SpecialNames, role: usize) -> bool
 fn asks_role_by_number(numbers: SpecialNumbers, class: usize, permission: usize) -> bool
     ensures { result ≡ asks_role_by_number numbers class permission }
 {
-    if class != numbers.process {
-        return false;
-    }
-    if permission == numbers.transition {
-        return true;
-    }
-    permission == numbers.dyntransition
+    class == numbers.process
+        && (permission == numbers.transition || permission == numbers.dyntransition)
 }
 
 // Whether the class and the permission are those at which a change of role must be allowed.
-pub fn asks_role(table: &[u8], special: SpecialNames, class: usize, permission: usize) -> bool
+pub fn asks_role(
+    table: &[u8],
+    special: Option<SpecialNumbers>,
+    class: usize,
+    permission: usize,
+) -> bool
     ensures { result ≡ asks_role_by table.now special class permission }
 {
     match special {
-        SpecialNames::Unknown => asks_role_by_name(table, class, permission),
-        SpecialNames::Known(numbers) => asks_role_by_number(numbers, class, permission),
+        Some(numbers) => asks_role_by_number(numbers, class, permission),
+        None => asks_role_by_name(table, class, permission),
     }
 }

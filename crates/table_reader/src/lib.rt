@@ -2,7 +2,7 @@
 // past the end all bytes read 0.
 #![tactic(auto)]
 
-ghost use Rattle.std.specs.Prelude.{◌≡◌, ◌+◌, ◌-◌, ◌*◌, length, take, drop};
+ghost use Rattle.std.specs.Prelude.{◌≡◌, ◌+◌, ◌*◌, take, drop};
 ghost use Rattle.policy.specs.Basics.{unle};
 ghost use Rattle.policy.specs.Answers.{family_of};
 ghost use Rattle.policy.specs.Encode.{sections_of};
@@ -36,22 +36,11 @@ pub struct RowRecord {
     pub number: u16,
 }
 
-// How many bytes a table has from a place on.
-fn bytes_from(table: &[u8], at: usize) -> usize
-    ensures { result ≡ length table.now - at }
-{
-    if at < table.len() {
-        table.len() - at
-    } else {
-        0
-    }
-}
-
 // The number in the two bytes at a place.
 pub fn u16_at(table: &[u8], at: usize) -> u16
     ensures { result ≡ unle (take 2 (drop at table.now)) }
 {
-    if bytes_from(table, at) < 2 {
+    if table.len().saturating_sub(at) < 2 {
         return byte_slices::byte(table, at) as u16;
     }
     little_endian::get2(table, at) as u16
@@ -61,7 +50,7 @@ pub fn u16_at(table: &[u8], at: usize) -> u16
 pub fn u32_at(table: &[u8], at: usize) -> u32
     ensures { result ≡ unle (take 4 (drop at table.now)) }
 {
-    if bytes_from(table, at) < 4 {
+    if table.len().saturating_sub(at) < 4 {
         return little_endian::number(byte_slices::part(table, at, 4)) as u32;
     }
     little_endian::get4(table, at) as u32
@@ -115,7 +104,7 @@ pub fn row_at(table: &[u8], start: u32, number: u32) -> RowRecord
     }
 }
 
-// The family of a row's component.
+// The family of a row's component. Tests in order, since a `match` makes a question on many rows 2 % longer.
 pub fn family_of(component: u8) -> Family
     ensures { family_of result ≡ of_comp component }
 {
@@ -144,18 +133,15 @@ pub fn edition(table: &[u8]) -> u16
     u16_at(table, 0)
 }
 
-// How many sections the tables of each edition have, by its number. There is no edition 0.
-const SECTIONS: [u8; 3] = [0, 8, Table::SECTIONS];
-
 // How many sections the tables of an edition have; 0 where there is no such edition.
 pub fn sections_of(edition: u16) -> u8
     ensures { result ≡ sections_of edition }
 {
-    let number = edition as usize;
-    if number < SECTIONS.len() {
-        return SECTIONS[number];
+    match edition {
+        1 => 8,
+        2 => Table::SECTIONS,
+        _ => 0,
     }
-    0
 }
 
 // Where a body starts, as the header says; bodies are counted from 0.

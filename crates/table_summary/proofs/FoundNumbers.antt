@@ -14,9 +14,8 @@ use Rattle.policy.specs.Encode.{NameEntry, sort_code, entries}
 use Rattle.policy.specs.Sound.{good_from}
 use Rattle.policy.proofs.Counts.{few-in-all, few-classes, class-lists}
 use Rattle.reading_laws.proofs.NumberIsPlace.{of_the_sort, first-is-place}
-use Rattle.symbols.specs.Lookup.{first_named}
+use Rattle.symbols.specs.Lookup.{first_named, found_at}
 use Rattle.symbols.specs.SearchAnswers.{found_named, found_number}
-use Rattle.symbols.specs.declared.Found.{Found}
 use Rattle.symbols.proofs.ReferencesFound.{find-named}
 use Rattle.symbols.proofs.ClassesFound.{find-class, find-permission}
 use Rattle.table_laws.specs.SoundTable.{Sound}
@@ -33,7 +32,7 @@ of-role : (m : ℕ) (o : Option Named) → number_of 1 m (found_named o) ≡ or_
 of-role m none = refl
 of-role m (some d) = by d.sort
   where
-    by : (s : Sort) → number_of 1 m (Found.At (sort_code s) d.number) ≡ or_number m (given (same_sort (thing_of roles) s) d.number)
+    by : (s : Sort) → number_of 1 m (found_at (sort_code s) d.number) ≡ or_number m (given (same_sort (thing_of roles) s) d.number)
     by (thing_of users) = refl
     by (thing_of roles) = refl
     by (thing_of types) = refl

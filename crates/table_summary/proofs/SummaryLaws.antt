@@ -4,9 +4,10 @@ use native.Mathlib.Omega.{arith}
 use mathlib.Core.Path.{◌≡◌, refl, sym, ap, subst, ◌∙◌}
 use mathlib.Core.Bool.{true, false, false≢true}
 use mathlib.Core.List.{List, [], ◌++◌}
-use mathlib.Core.Option.{Option, none, some}
+use mathlib.Core.Option as maybe
 use lib.ListN.{length, get_or, drop, set, replicate, length-replicate, get_or-append}
 use lib.Seq.{get_or-append-add}
+use Rattle.std.specs.Prelude.{Option, Some}
 use Rattle.bitset.proofs.SetLaws.{length-tabulate, get_d_tabulate}
 use Rattle.bitset.proofs.LoopSteps.{Turned, turned_none, turned_more, turned-all}
 use Rattle.lexer.specs.Spell.{bytes}
@@ -19,7 +20,6 @@ use Rattle.policy.specs.declared.NameCounts.{NameCounts}
 use Rattle.policy.proofs.Sorts.{max-small}
 use Rattle.policy.proofs.Counts.{few-of, few-classes, few-permissions-of}
 use Rattle.policy.proofs.Gathered.{all_get_d}
-use Rattle.sound_names.specs.declared.Counted as counted
 use Rattle.sound_names.specs.SoundNames.{permission_counts}
 use Rattle.sound_constraints.specs.SoundRows.{is_some}
 use Rattle.table_laws.specs.SoundTable.{Bytes, Sound}
@@ -111,12 +111,12 @@ pub left_alone : (t before : List ℕ) → false ≡ is_sound t → before ≡ s
 unfolding is_sound
 left_alone t before h = by (image_in t) h
   where
-    by : (o : Option Image) → false ≡ is_some o → before ≡ summary_after o before
-    by none h = refl
-    by (some i) h = absurd (false≢true h)
+    by : (o : maybe.Option Image) → false ≡ is_some o → before ≡ summary_after o before
+    by maybe.none h = refl
+    by (maybe.some i) h = absurd (false≢true h)
 
 -- those of a sound table are its summary
-module _ (t : List ℕ) (all : Bytes t) {ps : List ℕ} {r : counted.Counted} (h : Tells t r ps) {n : NameCounts} (is : r ≡ counted.Counted.Sound n) where
+module _ (t : List ℕ) (all : Bytes t) {ps : List ℕ} {r : Option NameCounts} (h : Tells t r ps) {n : NameCounts} (is : r ≡ Some n) where
   abbrev held : Sound t
   held = counted-table t all h is
 
@@ -128,4 +128,4 @@ module _ (t : List ℕ) (all : Bytes t) {ps : List ℕ} {r : counted.Counted} (h
       let numbers : numbers_of n x ps ≡ summary_of ds =
       λ i. numbers_of (counted-names t all h is i) (special held i) (counted-permissions t all h is i) in
       put (subst Fit (sym numbers) (summary-fits ds (formed held.image held.formed).names))
-      ∙ numbers ∙ ap (λ (o : Option Image). summary_after o before) (sym (sound-read t held))
+      ∙ numbers ∙ ap (λ (o : maybe.Option Image). summary_after o before) (sym (sound-read t held))

@@ -1,14 +1,14 @@
 -- The numbers of a summary, as they are found among the names of a table and put in their order. Assumes nothing.
-use Rattle.std.specs.Prelude.{ℕ, ◌<◌, ◌≡◌, cond, List, [], ◌∷◌, ◌++◌, eqb, length}
+use Rattle.std.specs.Prelude.{ℕ, ◌<◌, ◌≡◌, cond, List, [], ◌∷◌, ◌++◌, eqb, length, Option, Some, None}
 use Rattle.policy.specs.Basics.{All}
 use Rattle.policy.specs.declared.NameCounts.{NameCounts}
-use Rattle.symbols.specs.declared.Found.{Found}
+use Rattle.symbols.specs.declared.Symbol.{Symbol}
 use Rattle.table_names.specs.declared.SpecialNumbers.{SpecialNumbers}
 
 -- the number of what is found, if it is of the sort s; else m
-abbrev pub number_of : ℕ → ℕ → Found → ℕ
-number_of s m (Found.At x n) = cond (eqb x s) n m
-number_of s m Found.Missing = m
+abbrev pub number_of : ℕ → ℕ → Option Symbol → ℕ
+number_of s m (Some x) = cond (eqb x.sort s) x.number m
+number_of s m None = m
 
 -- the first numbers of a summary; all of them, the last being how many permissions each class has
 abbrev pub first_numbers : NameCounts → SpecialNumbers → List ℕ

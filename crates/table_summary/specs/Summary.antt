@@ -1,6 +1,6 @@
 -- The summary of a sound table, in numbers, by what its names declare. Assumes nothing.
-use Rattle.std.specs.Prelude.{ℕ, ◌≡◌, List, ◌∷◌, length, get_or}
-use Rattle.std.proofs.Math.Option.{Option, none, some}
+use Rattle.std.specs.Prelude.{ℕ, ◌≡◌, List, ◌∷◌, length, get_or, Option, Some}
+use Rattle.std.proofs.Math.Option as maybe
 use Rattle.lexer.specs.Spell.{bytes}
 use Rattle.policy.specs.Basics.{Name, index_of}
 use Rattle.policy.specs.Statements.{users, roles, types, thing_of, attribute_of, Declaration, names_of, count, class_names, permissions}
@@ -11,11 +11,10 @@ use Rattle.policy.specs.Sound.{image_in}
 use Rattle.policy.specs.declared.NameCounts.{NameCounts}
 use Rattle.sound_names.specs.SoundNames.{permission_counts}
 use Rattle.table_names.specs.declared.SpecialNumbers.{SpecialNumbers}
-use Rattle.table_names.specs.declared.SpecialNames.{SpecialNames}
 
 -- the place of a name; m, which nothing has, where it is not there
 abbrev pub place_or : ℕ → Name → List Name → ℕ
-place_or m w ws = elim (index_of w ws) [ some k ↦ k | none ↦ m ]
+place_or m w ws = elim (index_of w ws) [ maybe.some k ↦ k | maybe.none ↦ m ]
 
 -- W-203: "Only the full names `process` and `object_r` are treated apart", and permissions "`transition` or `dyntransition`" of that class
 abbrev pub process_of : List Declaration → ℕ
@@ -38,14 +37,14 @@ summary_of ds =
     ∷ permission_counts ds
 
 -- the lent numbers afterwards, by those before: bytes that are no sound table leave them
-abbrev pub summary_after : Option Image → List ℕ → List ℕ
-summary_after none before = before
-summary_after (some i) before = summary_of i.names
+abbrev pub summary_after : maybe.Option Image → List ℕ → List ℕ
+summary_after maybe.none before = before
+summary_after (maybe.some i) before = summary_of i.names
 
 -- s is the summary of t, which is a sound table
 pub record Summarized (t s : List ℕ) : Type 0 where
   pub image : Image
-  pub read : image_in t ≡ some image
+  pub read : image_in t ≡ maybe.some image
   pub numbers : s ≡ summary_of image.names
 
 -- the numbers by what they say
@@ -60,5 +59,5 @@ counts_from s = record {
   classes = get_or s 6 0;
 }
 
-abbrev pub special_from : List ℕ → SpecialNames
-special_from s = SpecialNames.Known (record { object = get_or s 7 0; process = get_or s 8 0; transition = get_or s 9 0; dyntransition = get_or s 10 0 })
+abbrev pub special_from : List ℕ → Option SpecialNumbers
+special_from s = Some (record { object = get_or s 7 0; process = get_or s 8 0; transition = get_or s 9 0; dyntransition = get_or s 10 0 })

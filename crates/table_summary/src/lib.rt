@@ -13,9 +13,8 @@ ghost use Rattle.table_summary.specs.Summary.{place_or, special_of, summary_afte
 ghost use Rattle.table_summary.specs.Numbers.{number_of, numbers_of, Fit};
 
 use policy::{Class, NameCounts, Permission, Role, Sort};
-use sound_names::Counted;
-use symbols::{Found, NameFamily};
-use table_names::{SpecialNames, SpecialNumbers};
+use symbols::{NameFamily, Symbol};
+use table_names::SpecialNumbers;
 
 // Where the numbers are. At the number of each sort but permissions: how many there are. Then the numbers of the names
 // that are treated apart, and after them, for each class, how many permissions it has.
@@ -43,16 +42,18 @@ fn number_of(table: &[u8], family: usize, sort: usize, word: &[u8], missing: usi
     let tried = name_chains::find_in_section(table, start, end, family, word);
     let found = tried.found;
     match found {
-        Found::At {
-            sort: found_sort,
-            number,
-        } => {
+        Some(
+            Symbol {
+                sort: found_sort,
+                number,
+            },
+        ) => {
             if found_sort == sort {
                 return number;
             }
             missing
         }
-        Found::Missing => missing,
+        None => missing,
     }
 }
 
@@ -110,9 +111,10 @@ fn number_at(first: &[usize; PERMISSIONS_AT], permissions: &[usize; Class::MAX],
     ensures { length first.now ≡ 11 → result ≡ get_or (first.now ++ permissions.now) at 0 }
 {
     if at < PERMISSIONS_AT {
-        return first[at];
+        first[at]
+    } else {
+        permissions[at - PERMISSIONS_AT]
     }
-    permissions[at - PERMISSIONS_AT]
 }
 
 // The numbers in their order. None of a sound table is greater than the types that there may be, so that each fits into
@@ -138,10 +140,8 @@ fn numbers_of(
         special.dyntransition,
     ];
     let mut numbers = [0u32; NUMBERS];
-    let mut at = 0;
-    while at < NUMBERS {
+    for at in 0..NUMBERS {
         numbers[at] = answer_numbers::four_bytes(number_at(&first, permissions, at));
-        at += 1;
     }
     numbers
 }
@@ -152,7 +152,7 @@ pub fn summarize(table: &[u8], summary: &mut [u32; NUMBERS]) -> bool
 {
     let mut permissions = [0usize; Class::MAX];
     let counted = soundness::count(table, &mut permissions);
-    let Counted::Sound(counts) = counted else {
+    let Some(counts) = counted else {
         return false;
     };
     let special = special_numbers(table);
@@ -163,37 +163,30 @@ pub fn summarize(table: &[u8], summary: &mut [u32; NUMBERS]) -> bool
 
 // ---- the numbers read back
 
-// A number of four bytes in eight.
-fn wide(number: u32) -> usize
-    ensures { result ≡ number }
-{
-    number as usize
-}
-
 // How many there are of each sort.
 pub fn counts_of(summary: &[u32; NUMBERS]) -> NameCounts
     ensures { result ≡ counts_from summary.now }
 {
     NameCounts {
-        users: wide(summary[Sort::USER]),
-        roles: wide(summary[Sort::ROLE]),
-        types: wide(summary[Sort::TYPE]),
-        user_attributes: wide(summary[Sort::USER_ATTRIBUTE]),
-        role_attributes: wide(summary[Sort::ROLE_ATTRIBUTE]),
-        type_attributes: wide(summary[Sort::TYPE_ATTRIBUTE]),
-        classes: wide(summary[Sort::CLASS]),
+        users: summary[Sort::USER] as usize,
+        roles: summary[Sort::ROLE] as usize,
+        types: summary[Sort::TYPE] as usize,
+        user_attributes: summary[Sort::USER_ATTRIBUTE] as usize,
+        role_attributes: summary[Sort::ROLE_ATTRIBUTE] as usize,
+        type_attributes: summary[Sort::TYPE_ATTRIBUTE] as usize,
+        classes: summary[Sort::CLASS] as usize,
     }
 }
 
 // The numbers of the names that are treated apart.
-pub fn special_of(summary: &[u32; NUMBERS]) -> SpecialNames
+pub fn special_of(summary: &[u32; NUMBERS]) -> Option<SpecialNumbers>
     ensures { result ≡ special_from summary.now }
 {
-    SpecialNames::Known(SpecialNumbers {
-        object: wide(summary[OBJECT_AT]),
-        process: wide(summary[PROCESS_AT]),
-        transition: wide(summary[TRANSITION_AT]),
-        dyntransition: wide(summary[DYNTRANSITION_AT]),
+    Some(SpecialNumbers {
+        object: summary[OBJECT_AT] as usize,
+        process: summary[PROCESS_AT] as usize,
+        transition: summary[TRANSITION_AT] as usize,
+        dyntransition: summary[DYNTRANSITION_AT] as usize,
     })
 }
 
@@ -201,8 +194,5 @@ pub fn special_of(summary: &[u32; NUMBERS]) -> SpecialNames
 pub fn has_permission(summary: &[u32; NUMBERS], class: usize, permission: usize) -> bool
     ensures { result ≡ (ltb class 32 && ltb permission (get_or summary.now (11 + class) 0)) }
 {
-    if Class::MAX <= class {
-        return false;
-    }
-    permission < wide(summary[PERMISSIONS_AT + class])
+    class < Class::MAX && permission < summary[PERMISSIONS_AT + class] as usize
 }

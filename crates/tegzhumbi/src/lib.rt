@@ -9,11 +9,11 @@
 //
 //     let mut memory = [0u8; 65_536];
 //     let compiled = tegzhumbi::compile(text, &mut memory);
-//     // Compiling::Accepted { length }: memory[..length] is the table;
-//     // or Compiling::Refused(refusal), with its number, place and line
+//     // Ok(length): memory[..length] is the table;
+//     // or Err(refusal), with its fault, place and line
 //     let source = Context { user: User(0), role: Role(0), kind: Type(0) };
 //     let answer = tegzhumbi::change(&memory, source, source, Class(0), Permission(0));
-//     // Change::Granted { consulted }, or a denial with its number, or a refusal, 11 or 12
+//     // Ok(Change::Granted { consulted }), or a denial, or a refusal: Fault::NotSound or Fault::NumberUndeclared
 //
 // Each question tests the table first. A server that tests it once keeps its summary (`table_summary::summarize`) and
 // asks with that (`sound_questions`).
@@ -30,9 +30,8 @@ ghost use Rattle.table_parts.specs.ShownPart.{shown_part};
 ghost use Rattle.tegzhumbi.specs.Asked.{context_of, question, relabelling};
 ghost use Rattle.tegzhumbi.specs.DecisionByText.{Decides};
 
-pub use policy::{
-    Change, Class, Compiling, NewRole, Permission, Place, Refusal, Role, Type, User, Validity,
-};
+pub use byte_slices::Span;
+pub use policy::{Change, Class, Denial, Fault, Permission, Refusal, Role, Type, User};
 
 // A context by its numbers; `kind` is the type's.
 #[derive(Clone, Copy)]
@@ -44,11 +43,11 @@ pub struct Context {
 
 // Compiles a text into a table at the start of the lent memory. It is accepted exactly when document 01 names no
 // fault in the text and the memory is long enough; the table is byte for byte the one that is defined from the
-// statements, and what stood after it is kept. A refusal has the number, 1 to 10, and the place that document 01
+// statements, and what stood after it is kept. A refusal has the fault, 1 to 10, and the place that document 01
 // fixes, and the line of its place (0 for 10, whose place is a length), and leaves the memory as it was. And demand 3
 // (`answers`): asked of the written table, whatever is after it later, every change and every relabelling is answered
 // as the statements answer it.
-pub fn compile(text: &[u8], table: &mut [u8]) -> Compiling
+pub fn compile(text: &[u8], table: &mut [u8]) -> Result<usize, Refusal>
     ensures { Compiles (of_text text.now) table.old table.new result }
 {
     compiler::compile(text, table)
@@ -76,8 +75,8 @@ fn asked(context: Context) -> decisions::Context
 // Valid context: whether the role is among the user's, and the type among the role's, or the role is named `object_r`.
 //
 //     tegzhumbi::valid(&table, Context { user: User(0), role: Role(2), kind: Type(5) })
-//     // Valid, NotValid or Refused { number }
-pub fn valid(table: &[u8], context: Context) -> Validity
+//     // Ok(true), Ok(false) or the refusal
+pub fn valid(table: &[u8], context: Context) -> Result<bool, Fault>
     ensures { validity_of result ≡ valid_on table.now (context_of context) }
 {
     let c = asked(context);
@@ -89,14 +88,14 @@ pub fn valid(table: &[u8], context: Context) -> Validity
 // constraint that fails first. With the answer goes the number of constraints consulted.
 //
 //     tegzhumbi::change(&table, source, target, Class(0), Permission(2))
-//     // Granted { consulted: 3 }, Failed { number: 4, constraint: 7, consulted: 2 }, ..
+//     // Ok(Granted { consulted: 3 }), Ok(Failed { denial: ConstraintFails, constraint: 7, consulted: 2 }), ..
 pub fn change(
     table: &[u8],
     source: Context,
     target: Context,
     class: Class,
     permission: Permission,
-) -> Change
+) -> Result<Change, Fault>
     ensures { change_of result ≡ change_on table.now (question source target class permission) }
 {
     questions::change(
@@ -113,8 +112,15 @@ pub fn change(
 // that fails first, by its number among all of them. With the answer goes the number of statements consulted.
 //
 //     tegzhumbi::relabel(&table, Class(1), old, new, process)
-//     // Granted { consulted: 3 }, Denied { number: 5 }, Failed { number: 6, constraint: 1, consulted: 2 }, ..
-pub fn relabel(table: &[u8], class: Class, old: Context, new: Context, process: Context) -> Change
+//     // Ok(Granted { consulted: 3 }), Ok(Denied(ProcessNotValid)),
+//     // Ok(Failed { denial: RelabelFails, constraint: 1, consulted: 2 }), ..
+pub fn relabel(
+    table: &[u8],
+    class: Class,
+    old: Context,
+    new: Context,
+    process: Context,
+) -> Result<Change, Fault>
     ensures { change_of result ≡ relabel_on table.now (relabelling class old new process) }
 {
     questions::relabel(
@@ -129,8 +135,8 @@ pub fn relabel(table: &[u8], class: Class, old: Context, new: Context, process: 
 // New role: that of the first transition of the role, the type and the class, else the role given. It is a proposal;
 // the change is still asked.
 //
-//     tegzhumbi::new_role(&table, Role(1), Type(4), Class(0))   // Role { number: 3 }
-pub fn new_role(table: &[u8], role: Role, kind: Type, class: Class) -> NewRole
+//     tegzhumbi::new_role(&table, Role(1), Type(4), Class(0))   // Ok(3)
+pub fn new_role(table: &[u8], role: Role, kind: Type, class: Class) -> Result<usize, Fault>
     ensures { new_role_of result ≡ new_role_on table.now role.0 kind.0 class.0 }
 {
     questions::new_role(table, role.0 as usize, kind.0 as usize, class.0 as usize)
@@ -147,10 +153,10 @@ pub fn name_of(table: &[u8], sort: usize, number: usize) -> &[u8]
     table_parts::name(table, sort, number)
 }
 
-// The same by its place and length, or the number of the refusal.
+// The same by its place and length, or the refusal.
 //
-//     tegzhumbi::name_place(&table, 1, 0)   // Part { start: 88, length: 5 }, or Refused { number: 12 }
-pub fn name_place(table: &[u8], sort: usize, number: usize) -> Place
+//     tegzhumbi::name_place(&table, 1, 0)   // Ok(Span { start: 88, length: 5 }), or Err(NumberUndeclared)
+pub fn name_place(table: &[u8], sort: usize, number: usize) -> Result<Span, Fault>
     ensures { place_of result ≡ name_on table.now sort number }
 {
     table_parts::name_place(table, sort, number)
@@ -166,27 +172,28 @@ pub fn entry(table: &[u8], body: usize, place: usize) -> &[u8]
     table_parts::entry(table, body, place)
 }
 
-// The same by its place and length, or the number of the refusal.
+// The same by its place and length, or the refusal.
 //
-//     tegzhumbi::entry_place(&table, 11, 0)   // Refused { number: 12 }: there is no body 11
-pub fn entry_place(table: &[u8], body: usize, place: usize) -> Place
+//     tegzhumbi::entry_place(&table, 11, 0)   // Err(NumberUndeclared): there is no body 11
+pub fn entry_place(table: &[u8], body: usize, place: usize) -> Result<Span, Fault>
     ensures { place_of result ≡ entry_on table.now body place }
 {
     table_parts::entry_place(table, body, place)
 }
 
-// What compiling a text and asking its table comes to: the text's refusal, or the answer to the change.
+// What compiling a text and asking its table comes to: the text's refusal, or the answer to the change. (A Result in a
+// Result would be no plainer: the refusal of the text and that of the question would both be an Err.)
 #[derive(Clone, Copy)]
 pub enum Decision {
     Refused(Refusal),
-    Answered(Change),
+    Answered(Result<Change, Fault>),
 }
 
 // Compiles a text and asks a change of its table, in one step: the answer is what the statements of the text answer,
 // and its promise speaks of the text and the question alone.
 //
 //     tegzhumbi::decide(text, &mut memory, source, target, Class(0), Permission(0))
-//     // Answered(Granted { consulted: 1 })
+//     // Answered(Ok(Granted { consulted: 1 }))
 pub fn decide(
     text: &[u8],
     table: &mut [u8],
@@ -199,9 +206,7 @@ pub fn decide(
 {
     let compiled = compile(text, table);
     match compiled {
-        Compiling::Accepted { .. } => {
-            Decision::Answered(change(table, source, target, class, permission))
-        }
-        Compiling::Refused(refusal) => Decision::Refused(refusal),
+        Ok(_) => Decision::Answered(change(table, source, target, class, permission)),
+        Err(refusal) => Decision::Refused(refusal),
     }
 }

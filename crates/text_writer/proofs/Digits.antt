@@ -6,10 +6,9 @@ use Prim.Native.Nat.{ℕ, zero, suc, ◌+◌, ◌-◌, ◌/◌, ◌%◌, ◌<◌
 use native.Mathlib.Omega.{arith}
 use native.Mathlib.Nat.{add-zero}
 use lib.Dec.{ltb}
-use lib.ListN.{length, length-append, set, take}
-use lib.Seq.{sets, take-length}
+use lib.ListN.{length, length-append, set}
+use lib.Seq.{sets}
 use borrow.Author.Tests.{lt-ltb, le-ltb}
-use Rattle.byte_slices.specs.Parts.{part, put}
 use Rattle.byte_slices.proofs.PartLaws.{sets-put, sets-append}
 use Rattle.policy.specs.Roll.{digits}
 use Rattle.text_writer.specs.WrittenText.{Appends}
@@ -66,8 +65,3 @@ module _ (t : List ℕ) (at : ℕ) where
       (rw (length-append (digits (k - 1) (n / 10)) ((48 + n % 10) ∷ [])) (omega arith))
       (rw (a.ends, as-sets (digits (k - 1) (n / 10)) u past (omega arith) a) (sets-append t at (digits (k - 1) (n / 10)) ((48 + n % 10) ∷ [])))
       (rw (length-append (digits (k - 1) (n / 10)) ((48 + n % 10) ∷ [])) (omega (arith, a.ends))))
-
--- all bytes of a slice
-pub whole-bytes : (t : List ℕ) (at : ℕ) (s u : List ℕ) (n : ℕ) → u ≡ put t at (part s 0 n) → n ≡ length s → Appends t at s u (at + n)
-unfolding part
-whole-bytes t at s u n h e = record { written = h ∙ ap (put t at) (ap (λ (k : ℕ). take k s) e ∙ take-length s); ends = ap (λ (k : ℕ). at + k) e }

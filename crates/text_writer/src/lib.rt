@@ -13,8 +13,9 @@ pub fn put_bytes(out: &mut [u8], at: usize, bytes: &[u8]) -> usize
     requires { at + length bytes.now ≤ length out.old }
     ensures { Appends out.old at bytes.now out.new result }
 {
-    byte_slices::copy(out, at, bytes, 0, bytes.len());
-    at + bytes.len()
+    let past = at + bytes.len();
+    out[at..past].copy_from_slice(bytes);
+    past
 }
 
 // Writes a number in decimal digits, at most so many; it calls itself on all digits but the last.

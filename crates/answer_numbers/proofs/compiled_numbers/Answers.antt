@@ -3,18 +3,19 @@ use Rattle.answer_numbers.proofs.Cases.{compiled-as}
 use mathlib.Core.Path.{refl}
 use Rattle.answer_numbers.proofs.compiled_numbers.Goals as goal
 
-pub returns-in-Accepted : goal.returns-in-Accepted
-returns-in-Accepted c fits =
-    let is = c.in-Accepted.is in
+pub returns-in-Ok : goal.returns-in-Ok
+returns-in-Ok c fits =
+    let is = c.in-Ok.is in
     rw (is, c.four_bytes.ensures (compiled-as is fits).place) refl
 
-pub returns-in-Refused : goal.returns-in-Refused
-returns-in-Refused c fits =
-    let is = c.in-Refused.is in
+pub returns-in-Err : goal.returns-in-Err
+returns-in-Err c fits =
+    let is = c.in-Err.is in
     let small = compiled-as is fits in
     rw (
       is,
-      c.four_bytes-in-Refused.ensures small.number,
-      c.four_bytes-in-Refused-2.ensures small.place,
-      c.four_bytes-in-Refused-3.ensures small.line,
+      c.four_bytes-in-Err.ensures (rw c.number.ensures small.number),
+      c.number.ensures,
+      c.four_bytes-in-Err-2.ensures small.place,
+      c.four_bytes-in-Err-3.ensures small.line,
     ) refl

@@ -7,5 +7,5 @@ use Rattle.bitset.proofs.clear_at.Goals as goal
 pub returns : goal.returns
 returns c =
     let a = c.args in
-    put_back a.table.now a.o a.w _ _ emptied _ c.least-start.ensures c.end_of-end.ensures
+    put_back a.table.now a.o a.w _ _ emptied _ c.range_of-place.ensures.start c.range_of-place.ensures.end
     length-emptied c.clear.ensures

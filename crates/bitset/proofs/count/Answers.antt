@@ -1,22 +1,22 @@
--- `bitset::count` meets its contract. The invariant: sum is how many of the numbers below 8 * i the set has. Assumes nothing.
-use borrow.Author.Rules.{rules}
+-- `bitset::count` meets its contract. The invariant: sum is how many of the numbers in the bytes passed the set has. Assumes nothing.
 use lib.ListN.{length}
-use mathlib.Core.Path.{◌≡◌}
+use mathlib.Core.Path.{◌≡◌, refl}
 use native.Mathlib.Omega.{arith}
 use Rattle.bitset.proofs.CountLaws.{count-byte}
 use Rattle.bitset.specs.Sets.{count_below, count}
 use Rattle.bitset.proofs.count.Goals as goal
 
-pub loop-i-init : goal.loop-i-init
+pub loop-b-init : goal.loop-b-init
 unfolding count_below
-loop-i-init c = search rules
+loop-b-init c = (refl, omega arith)
 
-pub loop-i-preserved : goal.loop-i-preserved
-loop-i-preserved c =
-    (search rules, omega (arith, count-byte c.args.set.now c.loop-i.i (c.shared_slice_known-in-loop-i-1.given _).fits), search rules)
+pub loop-b-preserved : goal.loop-b-preserved
+loop-b-preserved c =
+    let l = c.loop-b in
+    (omega (arith, count-byte c.args.set.now l.b-index (c.type_inv.set l.b-index).fits, l.invariant), omega (arith, l.invariant))
 
 pub returns : goal.returns
 unfolding count
 returns c =
-    let e : c.loop-i.i ≡ length c.args.set.now = omega arith in
-    rw (← e) c.loop-i.invariant.1
+    let e : c.loop-b.b-index ≡ length c.args.set.now = omega arith in
+    rw (← e) c.loop-b.invariant.0

@@ -1,17 +1,17 @@
--- `bitset::flip` meets its contract: after i turns the first i bytes are those of the result. Assumes nothing.
-use borrow.Author.Rules.{rules}
+-- `bitset::flip` meets its contract: after some turns the bytes passed are those of the result. Assumes nothing.
+use native.Mathlib.Omega.{arith}
 use Rattle.bitset.proofs.LoopLaws.{flip-turn}
 use Rattle.bitset.proofs.SetLaws.{length-set_of}
 use Rattle.bitset.proofs.LoopSteps.{turned_none, turned-all}
 use Rattle.bitset.specs.Complements.{flipped}
 use Rattle.bitset.proofs.flip.Goals as goal
 
-pub loop-i-init : goal.loop-i-init
-loop-i-init c = turned_none _ _
+pub loop-b-init : goal.loop-b-init
+loop-b-init c = turned_none _ _
 
-pub loop-i-preserved : goal.loop-i-preserved
-loop-i-preserved c = flip-turn _ c.loop-i.invariant (search rules) (c.slice_known-1.given _).fits
+pub loop-b-preserved : goal.loop-b-preserved
+loop-b-preserved c = flip-turn _ c.loop-b.invariant (omega arith) (omega arith)
 
 pub returns : goal.returns
 unfolding flipped
-returns c = turned-all (length-set_of _ _) c.loop-i-test.false c.loop-i.invariant
+returns c = turned-all (length-set_of _ _) (omega arith) c.loop-b.invariant

@@ -1,12 +1,7 @@
--- `bitset::flip` meets its contract: after i turns the first i bytes are those of the result. Assumes nothing.
-use Prim.Native.Nat.{◌-◌}
-use lib.ListN.{length}
+-- `bitset::flip` meets its contract: after some turns the bytes passed are those of the result. Assumes nothing.
 use Rattle.bitset.proofs.LoopSteps.{Turned}
 use Rattle.bitset.specs.Complements.{flipped}
 use Rattle.bitset.proofs.flip.Given as goal
 
-abbrev pub invariant-loop-i : goal.invariant-loop-i
-invariant-loop-i l = Turned (flipped l.initial.set) l.initial.set l.set l.i
-
-abbrev pub decreases-loop-i : goal.decreases-loop-i
-decreases-loop-i l = length l.initial.set - l.i
+abbrev pub invariant-loop-b : goal.invariant-loop-b
+invariant-loop-b l = Turned (flipped l.initial.set) l.initial.set l.set l.b-index

@@ -1,14 +1,8 @@
--- `bitset::is_within` meets its contract: what is gathered is 0 where no number of the bytes passed reaches the total. Assumes nothing.
-use Prim.Native.Nat.{◌-◌, ◌*◌, ◌≤◌}
-use lib.Dec.{eqb}
-use lib.ListN.{length}
-use mathlib.Core.Path.{◌≡◌}
-use Rattle.bitset.proofs.AllLaws.{within_rule}
-use Rattle.bitset.specs.Sets.{all_below}
+-- `bitset::is_within` meets its contract: what is gathered is 0 where no byte passed has a bit beyond its mask. Assumes nothing.
+use Rattle.std.proofs.Common.{◌≡◌, ℕ, ◌<◌, ◌-◌, ◌↔◌, get_or}
+use lib.Bits.{bit_and}
+use Rattle.bitset.specs.Sets.{mask_of}
 use Rattle.bitset.proofs.is_within.Given as goal
 
 abbrev pub invariant-loop-i : goal.invariant-loop-i
-invariant-loop-i l = (l.i ≤ length l.set) × (eqb l.beyond 0 ≡ all_below (8 * l.i) (within_rule l.total l.set))
-
-abbrev pub decreases-loop-i : goal.decreases-loop-i
-decreases-loop-i l = length l.set - l.i
+invariant-loop-i l = (l.beyond ≡ 0) ↔ ((k : ℕ) → k < l.i → bit_and (get_or l.set k 0) (255 - mask_of l.total k) ≡ 0)

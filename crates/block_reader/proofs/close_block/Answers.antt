@@ -4,4 +4,4 @@ use Rattle.block_reader.proofs.close_block.Goals as goal
 
 pub returns : goal.returns
 returns c =
-    closed {o = c.args.state} c.leave_block.ensures c.around.ensures c.one_less.ensures
+    closed {o = c.args.state} c.leave_block.ensures c.around.ensures c.saturating_sub.ensures

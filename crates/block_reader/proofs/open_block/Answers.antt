@@ -19,16 +19,6 @@ returns-then-not-enter_block c =
     too_long c.args.text.now c.args.start c.args.len c.args.state (omega (arith, c.add-arg-1.given))
     c.add.ensures (not-false _ c.if-not-add.false-raw) c.enter_block.ensures (not-true _ c.if-not-enter_block.true-raw)
 
-pub overflow_add-result : goal.overflow_add-result
-overflow_add-result c =
-    let room = c.add.ensures.room (not-false _ c.if-not-add.false-raw) in
-    omega (arith, c.add-arg-1.given)
-
-pub overflow_add-result-2 : goal.overflow_add-result-2
-overflow_add-result-2 c =
-    let room = c.add.ensures.room (not-false _ c.if-not-add.false-raw) in
-    omega (arith, c.add-arg-1.given)
-
 pub returns : goal.returns
 returns c =
     opened-now c.args.text.now c.args.start c.args.len c.args.state (omega (arith, c.add-arg-1.given))

@@ -1,11 +1,7 @@
 -- `blocks::add` meets its contract. Assumes nothing.
 use native.Mathlib.Omega.{arith}
-use Rattle.blocks.proofs.BlockLists.{no_room, again, added}
+use Rattle.blocks.proofs.BlockLists.{again, added}
 use Rattle.blocks.proofs.add.Goals as goal
-
-pub returns-then-keys-count : goal.returns-then-keys-count
-returns-then-keys-count c =
-    no_room c.args.text.now c.args.keys.now c.args.count c.args.parent c.args.at c.args.len (omega (arith, c.if-keys-count.true))
 
 pub returns-then-was_opened : goal.returns-then-was_opened
 returns-then-was_opened c =

@@ -34,7 +34,7 @@ returns-then-to-lt-ATTRIBUTE c =
     let a = c.args in
     let t = a.table.now in
     let start = a.width * a.thing in
-    let v = c.least-reach.result in
+    let v = c.min-reach.result in
     let row = part t (a.at + start) v in
     let long = ap length c.part-body.ensures in
     c.insert_at.ensures
@@ -42,7 +42,7 @@ returns-then-to-lt-ATTRIBUTE c =
     (sym (union-one row 64 a.to (omega (arith, length-part-le t (a.at + start) v))) ∙ ap (union_of row) (thing-alone a.sets.now a.to (omega arith)))
     ∙ row-at a.width 64 t _ a.at a.size (λ i. (c.slice_known-1.given i).fits)
     a.thing (omega arith) v
-    (omega arith) (c.least-reach.ensures ∙ ap (λ (n : ℕ). min a.width (n - start)) long)
+    (omega arith) (c.min-reach.ensures ∙ ap (λ (n : ℕ). min a.width (n - start)) long)
 
 pub slice_bounds-union_at-end : goal.slice_bounds-union_at-end
 slice_bounds-union_at-end c = sym (ap length c.reference.ensures ∙ length-set_of 64 _)
@@ -52,10 +52,10 @@ returns c =
     let a = c.args in
     let t = a.table.now in
     let start = a.width * a.thing in
-    let v = c.least-reach.result in
+    let v = c.min-reach.result in
     let row = part t (a.at + start) v in
     let long = ap length c.part-body.ensures in
     c.union_at.ensures
     ∙ ap (λ (s : List ℕ). put t (a.at + start) (union_of row s)) c.reference.ensures
     ∙ row-at a.width 64 t _ a.at a.size (λ i. (c.slice_known-1.given i).fits) a.thing (omega arith) v
-    (omega arith) (c.least-reach.ensures ∙ ap (λ (n : ℕ). min a.width (n - start)) long)
+    (omega arith) (c.min-reach.ensures ∙ ap (λ (n : ℕ). min a.width (n - start)) long)

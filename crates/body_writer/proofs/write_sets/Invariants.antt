@@ -1,7 +1,6 @@
 -- `body_writer::write_sets` meets its contract: the sets of the attributes passed are written. Assumes nothing.
 use mathlib.Core.Path.{◌≡◌}
 use lib.ListN.{length}
-use Prim.Native.Nat.{◌-◌, ◌≤◌}
 use Rattle.code_reader.specs.AttributeSets.{final_sets}
 use Rattle.bitset.specs.Relations.{relation}
 use Rattle.policy.specs.Meaning.{final}
@@ -12,8 +11,5 @@ use Rattle.body_writer.proofs.write_sets.Given as goal
 
 abbrev pub invariant-loop-a : goal.invariant-loop-a
 invariant-loop-a l =
-    (l.a ≤ l.many) × (length l.table ≡ length l.initial.table) ×
+    (length l.table ≡ length l.initial.table) ×
     ((p : Policy) (f : Family) → l.sets ≡ final_sets p f → l.width ≡ image.width f → Appended (relation l.a l.width (final p f)) l.initial.table l.at l.table l.to)
-
-abbrev pub decreases-loop-a : goal.decreases-loop-a
-decreases-loop-a l = 64 - l.a

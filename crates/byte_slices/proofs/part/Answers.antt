@@ -3,4 +3,4 @@ use Rattle.byte_slices.proofs.PartLaws.{part-lent}
 use Rattle.byte_slices.proofs.part.Goals as goal
 
 pub returns : goal.returns
-returns c = part-lent _ _ _ _ _ c.least-start.ensures c.end_of-end.ensures
+returns c = part-lent _ _ _ _ _ c.range_of.ensures.start c.range_of.ensures.end

@@ -1,30 +1,16 @@
--- `code_reader::statement_end` meets its contract: the operands passed and those ahead are the statement's. Assumes nothing.
-use native.Mathlib.Omega.{arith}
-use mathlib.Core.Path.{refl, ap}
-use lib.ListN.{length}
-use Rattle.code_reader.proofs.OperandLaws.{operands_next, operands-tag, operands-past}
+-- `code_reader::statement_end` meets its contract: the first tag ahead ends the operands. Assumes nothing.
+use lib.Dec.{leb}
+use mathlib.Core.Path.{◌≡◌}
+use Rattle.std.proofs.Common.{rules, tests}
+use Rattle.std.specs.List.{position}
+use Rattle.std.proofs.lemmas.Iterator.{YieldsList-from_slice}
+use Rattle.std.proofs.lemmas.Iterator.Search.{position_from_yields_List}
+use Rattle.code_reader.proofs.OperandLaws.{operands-end}
 use Rattle.code_reader.proofs.statement_end.Goals as goal
 
-pub loop-at-init : goal.loop-at-init
-loop-at-init c = refl
-
-pub returns-then-code-at-ge-DECLARE_ATTRIBUTE : goal.returns-then-code-at-ge-DECLARE_ATTRIBUTE
-returns-then-code-at-ge-DECLARE_ATTRIBUTE c =
-    omega (
-      arith,
-      c.loop-at.invariant,
-      ap length
-          (operands-tag c.args.code.now c.loop-at.at c.loop-at-test.true c.if-code-at-ge-DECLARE_ATTRIBUTE.true),
-    )
-
-pub loop-at-preserved : goal.loop-at-preserved
-loop-at-preserved c =
-    omega (
-      arith,
-      c.loop-at.invariant,
-      ap length
-          (operands_next c.args.code.now c.loop-at.at c.loop-at-test.true c.if-code-at-ge-DECLARE_ATTRIBUTE.false),
-    )
-
 pub returns : goal.returns
-returns c = omega (arith, c.loop-at.invariant, ap length (operands-past c.args.code.now c.loop-at.at c.loop-at-test.false))
+returns c =
+    let found : c.position.result ≡ position (leb 4096) c.rest-ahead.result.now =
+    position_from_yields_List (leb 4096) _ _ c.position.result c.position.ensures.ran (YieldsList-from_slice _ c.iter.ensures.rest)
+    (λ x b q k. search (rules, tests)) in
+    rw (c.unwrap_or-operands.ensures, found, operands-end c.rest-ahead.result.now, c.rest-ahead.ensures)

@@ -2,18 +2,8 @@
 use mathlib.Core.Path.{refl, sym}
 use Rattle.comparison.proofs.tegzhumbi_scan.Goals as goal
 
--- src/lib.rt:21:9
--- src/lib.rt:23:27
--- src/lib.rt:26:20
--- src/lib.rt:28:24
--- src/lib.rt:16:1
-pub returns-in-Clean : goal.returns-in-Clean
-returns-in-Clean c = rw (sym c.scan-found.ensures, c.in-Clean.is) (refl, refl)
+pub returns-in-Ok : goal.returns-in-Ok
+returns-in-Ok c = rw (sym c.scan.ensures, c.in-Ok.is) (refl, refl)
 
--- src/lib.rt:16:1
-pub returns-in-TooLong : goal.returns-in-TooLong
-returns-in-TooLong c = rw (sym c.scan-found.ensures, c.in-TooLong.is) (refl, refl)
-
--- src/lib.rt:16:1
-pub returns-in-Wrong : goal.returns-in-Wrong
-returns-in-Wrong c = rw (sym c.scan-found.ensures, c.in-Wrong.is) (refl, refl)
+pub returns-in-Err : goal.returns-in-Err
+returns-in-Err c = rw (sym c.scan.ensures, c.in-Err.is) c.numbers_of.ensures

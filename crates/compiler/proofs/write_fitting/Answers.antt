@@ -7,7 +7,7 @@ use Rattle.compiler.proofs.write_fitting.Goals as goal
 pub returns-then-table-length : goal.returns-then-table-length
 returns-then-table-length c = record {
   says = λ p from sizes copied.
-      too_short (image_of p) _ _ (c.needed-length.ensures.says p from.accepted sizes) (omega arith) c.stop.ensures;
+      too_short (image_of p) _ _ (c.needed-length.ensures.says p from.accepted sizes) (omega arith);
 }
 
 pub returns : goal.returns

@@ -20,10 +20,10 @@ returns-in_default-found c =
 
 pub returns-then-number-ge-MAX : goal.returns-then-number-ge-MAX
 returns-then-number-ge-MAX c =
-    class-too-far (sees c.next_item-first.ensures c.in-Word.is) c.lookup_class-found.ensures c.in-At.is
+    class-too-far (sees c.next_item-first.ensures c.in-Word.is) c.lookup_class-found.ensures c.in-Some.is
     c.if-number-ge-MAX.true
 
 pub returns : goal.returns
 returns c =
-    class-found (sees c.next_item-first.ensures c.in-Word.is) c.lookup_class-found.ensures c.in-At.is
+    class-found (sees c.next_item-first.ensures c.in-Word.is) c.lookup_class-found.ensures c.in-Some.is
     c.if-number-ge-MAX.false

@@ -1,12 +1,8 @@
 -- `constrain_statement::permission_mask` meets its contract: what is left of the row adds to the mask so far. Assumes nothing.
-use Prim.Native.Nat.{◌-◌}
 use Rattle.items.proofs.Items.{sees}
-use Rattle.constrain_statement.proofs.Masks.{begun, one_more, not-of-class, finished, no_names}
+use Rattle.constrain_statement.proofs.Masks.{one_more, not-of-class, finished, no_names}
 use native.Mathlib.Omega.{arith}
 use Rattle.constrain_statement.proofs.permission_mask.Goals as goal
-
-pub loop-start-init : goal.loop-start-init
-loop-start-init c = begun
 
 pub overflow_add-end : goal.overflow_add-end
 overflow_add-end c = omega (arith, (sees c.next_item-item.ensures c.in-Word.is).ahead.3)
@@ -27,7 +23,7 @@ loop-start-smaller c =
 pub loop-start-preserved : goal.loop-start-preserved
 loop-start-preserved c =
     let l = sees c.next_item-item.ensures c.in-Word.is in
-    one_more c.loop-start.invariant l c.lookup_permission-found.ensures c.in-At.is c.with_permission-mask.ensures
+    one_more c.loop-start.invariant l c.lookup_permission-found.ensures c.in-Some.is c.with_permission-mask.ensures
 
 pub returns-in-Close : goal.returns-in-Close
 returns-in-Close c = finished c.loop-start.invariant (sees c.next_item-item.ensures c.in-Close.is)

@@ -1,9 +1,6 @@
 -- `constrain_statement::put_record` meets its contract: its four fields are one `put` of a record (RecordBytes). Assumes nothing.
-use Rattle.constrain_statement.proofs.RecordBytes.{stored, no_room}
+use Rattle.constrain_statement.proofs.RecordBytes.{stored}
 use Rattle.constrain_statement.proofs.put_record.Goals as goal
-
-pub returns-then-constraints-count : goal.returns-then-constraints-count
-returns-then-constraints-count c = no_room _ _ _ c.if-constraints-count.true
 
 pub returns : goal.returns
 returns c =

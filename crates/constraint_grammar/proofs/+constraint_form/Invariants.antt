@@ -24,7 +24,7 @@ abbrev pub invariant-loop-next : goal.invariant-loop-next
 invariant-loop-next l =
     (l.at + l.count ≤ l.i)
     × (row_end l.text l.i ≡ row_end l.text l.at)
-    × (left (sides_of l.sides) l.head.wanted l.count (trim (frames_at l.text l.i).here l.levels) ≡ is_some (expression_in (sides_of l.sides) (trim (frames_at l.text l.at).here l.levels)))
+    × (left (sides_of l.sides) l.wanted l.count (trim (frames_at l.text l.i).here l.levels) ≡ is_some (expression_in (sides_of l.sides) (trim (frames_at l.text l.at).here l.levels)))
 
 abbrev pub decreases-loop-next : goal.decreases-loop-next
 decreases-loop-next l = length l.text - l.i

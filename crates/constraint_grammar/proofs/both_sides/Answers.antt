@@ -3,15 +3,15 @@ use mathlib.Core.Path.{refl, ap, ◌∙◌}
 use mathlib.Core.Bool.{false}
 use mathlib.Core.List.{[], ◌∷◌}
 use Rattle.constraint_grammar.specs.Comparisons.{both_sides}
-use Rattle.items.proofs.Items.{sees, alike-here}
+use Rattle.items.proofs.Items.{sees, no_word, alike-here}
 use Rattle.items.proofs.Rows.{refuse, after-word}
-use borrow.Enum.Refused.{opened}
 use Rattle.constraint_grammar.proofs.both_sides.Goals as goal
 
-pub returns-in-Word : goal.returns-in-Word
-returns-in-Word c =
-    let l = sees c.next_item-item.ensures c.in-Word.is in
-    after-word l (ap (both_sides _ _) l.here ∙ rw l.ahead.2) c.second_side.ensures
+pub returns-in_default : goal.returns-in_default
+returns-in_default c =
+    refuse (alike-here (both_sides _ _) (λ f. false) _ _ _ (1 ∷ 2 ∷ 3 ∷ []) (tt, λ x f g. refl, refl, refl) c.next_item.ensures (no_word _ c.in_default.not-Word))
 
-pub returns-in-Open : goal.returns-in-Open
-returns-in-Open c = refuse (alike-here (both_sides _ _) (λ f. false) _ _ _ (1 ∷ 2 ∷ 3 ∷ []) (tt, λ x f g. refl, refl, refl) c.next_item-item.ensures (opened c.in-Open.in-Open-own.keys2))
+pub returns : goal.returns
+returns c =
+    let l = sees c.next_item.ensures c.in-Word.is in
+    after-word l (ap (both_sides _ _) l.here ∙ rw l.ahead.2) c.second_side.ensures

@@ -26,80 +26,66 @@ comparison-requires t c =
     let l = sees c.next_item-first.ensures c.in-Word.is in
     omega (arith, l.ahead.0, c.requires)
 
-pub returns-then-kind-eq-TWO_SIDES : goal.returns-then-kind-eq-TWO_SIDES
-returns-then-kind-eq-TWO_SIDES t c n =
+pub returns-in_default-kind_of : goal.returns-in_default-kind_of
+returns-in_default-kind_of t c n =
     let l = sees c.next_item-first.ensures c.in-Word.is in
-    of-any _ n (moved (sym (around-of l)) l.ahead.0 (compares l c.kind_of-kind.ensures _ c.if-kind-eq-TWO_SIDES.true) c.comparison.ensures)
+    of-any _ n (moved (sym (around-of l)) l.ahead.0 (compares l c.kind_of.ensures _ c.in_default-kind_of.is) c.comparison.ensures)
 
 pub loop-inside-init : goal.loop-inside-init
 loop-inside-init t c =
     let l = sees c.next_item-first.ensures c.in-Word.is in
-    begun l c.kind_of-kind.ensures _ c.if-kind-eq-TWO_SIDES.false
-
-pub shape_of-rows-then-levels-eq0 : goal.shape_of-rows-then-levels-eq0
-shape_of-rows-then-levels-eq0 t c = c.loop-inside.invariant.kept.long
+    begun l c.kind_of.ensures _ c.in-Some.is
 
 pub returns-then-levels-eq0 : goal.returns-then-levels-eq0
 returns-then-levels-eq0 t c n =
     let l = sees c.next_item-item.ensures c.in-Open.is in
     of-any _ n (no_operand c.loop-inside.invariant (too-deep (expressions three_sides) _ l c.if-levels-eq0.true ∙ end_none))
 
-pub write_constraint-operand-requires : goal.write_constraint-operand-requires
-write_constraint-operand-requires t c =
+pub write_constraint-requires : goal.write_constraint-requires
+write_constraint-requires t c =
     let l = sees c.next_item-item.ensures c.in-Open.is in
     (omega arith, omega (arith, c.loop-inside.invariant.few, c.loop-inside.invariant.ahead, l.ahead.0, l.ahead.1, c.requires))
 
-pub shape_of-rows-in_default-operand : goal.shape_of-rows-in_default-operand
-shape_of-rows-in_default-operand t c =
-    (c.write_constraint-operand.ensures three_sides).kept.long
-    ∙ c.loop-inside.invariant.kept.long
-
-pub returns-in_default-operand : goal.returns-in_default-operand
-returns-in_default-operand t c n =
+pub returns-in_err-operand-in-Open : goal.returns-in_err-operand-in-Open
+returns-in_err-operand-in-Open t c n =
     let l = sees c.next_item-item.ensures c.in-Open.is in
-    of-any _ n (operand-undeclared c.loop-inside.invariant l c.if-levels-eq0.false
-    (told (c.write_constraint-operand.ensures three_sides) c.in_default-operand.is))
+    rw c.from_residual.ensures
+    (of-any _ n (operand-undeclared c.loop-inside.invariant l c.if-levels-eq0.false
+    (told (c.write_constraint.ensures three_sides) c.in_err-operand-in-Open.was)))
 
 pub overflow_add-count : goal.overflow_add-count
 overflow_add-count t c =
     let l = sees c.next_item-item.ensures c.in-Open.is in
-    let w = told (c.write_constraint-operand.ensures three_sides) c.in-Next.is in
+    let w = told (c.write_constraint.ensures three_sides) c.in_ok-operand-in-Open.was in
     omega (arith, c.loop-inside.invariant.few-operands, l.ahead.0, w.reads.few-values, w.reads.fits)
 
 pub overflow_add-count-in-Open : goal.overflow_add-count-in-Open
 overflow_add-count-in-Open t c =
     let l = sees c.next_item-item.ensures c.in-Open.is in
-    let w = told (c.write_constraint-operand.ensures three_sides) c.in-Next.is in
+    let w = told (c.write_constraint.ensures three_sides) c.in_ok-operand-in-Open.was in
     omega (arith, c.loop-inside.invariant.few-operands, l.ahead.0, w.reads.less, w.reads.fits)
 
 pub loop-inside-smaller : goal.loop-inside-smaller
 loop-inside-smaller t c =
     let l = sees c.next_item-item.ensures c.in-Open.is in
-    let w = told (c.write_constraint-operand.ensures three_sides) c.in-Next.is in
+    let w = told (c.write_constraint.ensures three_sides) c.in_ok-operand-in-Open.was in
     omega (arith, l.ahead.0, w.reads.less, w.reads.fits)
 
 pub loop-inside-preserved : goal.loop-inside-preserved
 loop-inside-preserved t c =
     let l = sees c.next_item-item.ensures c.in-Open.is in
-    let w = told (c.write_constraint-operand.ensures three_sides) c.in-Next.is in
-    operand-done c.loop-inside.invariant l c.if-levels-eq0.false w
-    c.larger-need.ensures
+    let w = told (c.write_constraint.ensures three_sides) c.in_ok-operand-in-Open.was in
+    operand-done c.loop-inside.invariant l c.if-levels-eq0.false w c.max-need.ensures
 
 pub overflow_add-row : goal.overflow_add-row
 overflow_add-row t c =
     let l = sees c.next_item-item.ensures c.in-Close.is in
     omega (arith, c.loop-inside.invariant.few, c.loop-inside.invariant.ahead, l.ahead.0, l.ahead.1, c.requires)
 
-pub shape_of-rows-in-Close : goal.shape_of-rows-in-Close
-shape_of-rows-in-Close t c = c.put_row.ensures.kept.long ∙ c.loop-inside.invariant.kept.long
-
 pub returns-in-Close : goal.returns-in-Close
 returns-in-Close t c n =
     let l = sees c.next_item-item.ensures c.in-Close.is in
     of-any _ n (finished c.loop-inside.invariant l c.put_row.ensures)
-
-pub shape_of-rows-in-Word-item : goal.shape_of-rows-in-Word-item
-shape_of-rows-in-Word-item t c = c.loop-inside.invariant.kept.long
 
 pub returns-in-Word-item : goal.returns-in-Word-item
 returns-in-Word-item t c n =

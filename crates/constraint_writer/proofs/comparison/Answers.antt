@@ -1,10 +1,11 @@
 -- `constraint_writer::comparison` meets its contract: two words and a close, and one row by the three words. Assumes nothing.
 use native.Mathlib.Omega.{arith}
+use mathlib.Core.Path.{sym, ◌∙◌}
 use Rattle.items.proofs.Frames.{sees}
 use Rattle.constraint_writer.proofs.RowBytes.{all-kept}
 use Rattle.constraint_writer.proofs.Operands.{compares-told}
 use Rattle.constraint_writer.proofs.WrittenRows.{no-form}
-use Rattle.constraint_writer.proofs.Comparisons.{first-missing, second-missing, close-missing, not-declared, compared-row}
+use Rattle.constraint_writer.proofs.Comparisons.{first-missing, second-missing, close-missing, operator-missing, component-missing, not-declared, compared-row}
 use borrow.Enum.Refused.{opened}
 use Rattle.constraint_writer.proofs.comparison.Goals as goal
 
@@ -30,16 +31,31 @@ pub slice_bounds-name-end : goal.slice_bounds-name-end
 slice_bounds-name-end c =
     omega (arith, (sees c.next_item-second.ensures c.in-Word-second.is).ahead.3)
 
-pub returns-in_default-operand : goal.returns-in_default-operand
-returns-in_default-operand c =
+pub returns-in_err-operator : goal.returns-in_err-operator
+returns-in_err-operator c =
     let l = sees c.next_item-first.ensures c.in-Word.is in
     let l2 = sees c.next_item-second.ensures c.in-Word-second.is in
     let l3 = sees c.next_item-last.ensures c.in-Close.is in
-    not-declared l l2 l3 _ c.component_of-side.ensures
-    (compares-told l2 c.operand_of-operand.ensures c.in_default-operand.is)
+    rw c.from_residual.ensures (no-form (all-kept _ _) (operator-missing l l2 l3 _ (sym c.in_err-operator.was ∙ c.operator_of.ensures)))
 
-pub overflow_add-row : goal.overflow_add-row
-overflow_add-row c =
+pub returns-in_err-side : goal.returns-in_err-side
+returns-in_err-side c =
+    let l = sees c.next_item-first.ensures c.in-Word.is in
+    let l2 = sees c.next_item-second.ensures c.in-Word-second.is in
+    let l3 = sees c.next_item-last.ensures c.in-Close.is in
+    rw c.from_residual-in_err-side.ensures (no-form (all-kept _ _) (component-missing l l2 l3 _ (sym c.in_err-side.was ∙ c.component_of.ensures)))
+
+pub returns-in_err-operand : goal.returns-in_err-operand
+returns-in_err-operand c =
+    let l = sees c.next_item-first.ensures c.in-Word.is in
+    let l2 = sees c.next_item-second.ensures c.in-Word-second.is in
+    let l3 = sees c.next_item-last.ensures c.in-Close.is in
+    rw c.from_residual-in_err-operand.ensures
+    (not-declared l l2 l3 _ (sym c.in_ok-operator.was ∙ c.operator_of.ensures) (sym c.in_ok-side.was ∙ c.component_of.ensures)
+    (compares-told l2 c.operand_of.ensures c.in_err-operand.was))
+
+pub overflow_add-result : goal.overflow_add-result
+overflow_add-result c =
     let l = sees c.next_item-first.ensures c.in-Word.is in
     let l2 = sees c.next_item-second.ensures c.in-Word-second.is in
     let l3 = sees c.next_item-last.ensures c.in-Close.is in
@@ -50,6 +66,5 @@ returns c =
     let l = sees c.next_item-first.ensures c.in-Word.is in
     let l2 = sees c.next_item-second.ensures c.in-Word-second.is in
     let l3 = sees c.next_item-last.ensures c.in-Close.is in
-    compared-row l l2 l3 _ c.component_of-side.ensures
-    (compares-told l2 c.operand_of-operand.ensures c.in-Is.is)
-    c.operator_of.ensures c.put_row.ensures
+    compared-row l l2 l3 _ (sym c.in_ok-operator.was ∙ c.operator_of.ensures) (sym c.in_ok-side.was ∙ c.component_of.ensures)
+    (compares-told l2 c.operand_of.ensures c.in_ok-operand.was) c.put_row.ensures

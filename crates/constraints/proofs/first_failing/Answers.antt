@@ -2,7 +2,6 @@
 -- first of them is of the class. Each way through a turn is one law of ScanLaws. The measure is the number of constraints left. Assumes nothing.
 use Rattle.std.proofs.Common.{◌≡◌, ◌+◌, ◌-◌, ◌*◌, ◌∷◌, sym, ap, ◌∙◌, add-zero, arith, eq-eqb}
 use native.Mathlib.Nat.{sub-zero}
-use borrow.Author.Tests.{not-true, not-false}
 use Rattle.policy.specs.Encode.{ConstraintRecord}
 use Rattle.policy.specs.Sound.{constraint_at}
 use Rattle.policy.specs.Deciding.{first_failing}
@@ -44,34 +43,19 @@ loop-next-init c =
       left-moved _ _ _ (rw (sub-zero, add-zero) (left-all _ _ _ _)) (found.passed.decides _ _),
     )
 
-pub overflow_add-number : goal.overflow_add-number
-overflow_add-number c = omega arith
-
-pub loop-next-smaller-then-not-has_permission : goal.loop-next-smaller-then-not-has_permission
-loop-next-smaller-then-not-has_permission c = omega (arith, c.next_of_class-next-in-loop-next.ensures.passed.ahead)
-
 pub loop-next-preserved-then-not-has_permission : goal.loop-next-preserved-then-not-has_permission
 loop-next-preserved-then-not-has_permission c =
     let found = c.next_of_class-next-in-loop-next.ensures in (
       found.passed.within (omega arith),
       omega (arith, found.passed.ahead),
       found.of-class,
-      left-moved _ _ _ (left-skip _ _ _ (ahead (goal.at.loop-next-preserved-then-not-has_permission c).After-constraint_at-constraint) (named (goal.at.loop-next-preserved-then-not-has_permission c).After-has_permission ∙ not-true _ c.if-not-has_permission.true-raw)) (found.passed.decides _ _),
+      left-moved _ _ _ (left-skip _ _ _ (ahead (goal.at.loop-next-preserved-then-not-has_permission c).After-constraint_at-constraint) (named (goal.at.loop-next-preserved-then-not-has_permission c).After-has_permission ∙ c.if-not-has_permission.true)) (found.passed.decides _ _),
     )
-
-pub overflow_add-consulted : goal.overflow_add-consulted
-overflow_add-consulted c = omega arith
-
-pub overflow_cast-result : goal.overflow_cast-result
-overflow_cast-result c = omega arith
 
 pub returns-then-not-evaluate : goal.returns-then-not-evaluate
 returns-then-not-evaluate c =
-    left-fail _ _ _ (ahead (goal.at.returns-then-not-evaluate c).After-constraint_at-constraint) (named (goal.at.returns-then-not-evaluate c).After-has_permission ∙ not-false _ c.if-not-has_permission.false-raw)
-    (sym c.evaluate.ensures ∙ not-true _ c.if-not-evaluate.true-raw)
-
-pub loop-next-smaller : goal.loop-next-smaller
-loop-next-smaller c = omega (arith, c.next_of_class-next-in-loop-next.ensures.passed.ahead)
+    left-fail _ _ _ (ahead (goal.at.returns-then-not-evaluate c).After-constraint_at-constraint) (named (goal.at.returns-then-not-evaluate c).After-has_permission ∙ c.if-not-has_permission.false)
+    (sym c.if-not-evaluate.ensures)
 
 pub loop-next-preserved : goal.loop-next-preserved
 loop-next-preserved c =
@@ -80,8 +64,8 @@ loop-next-preserved c =
       omega (arith, found.passed.ahead),
       found.of-class,
       left-moved _ _ _
-          (left-pass _ _ _ (ahead (goal.at.loop-next-preserved c).After-constraint_at-constraint) (named (goal.at.loop-next-preserved c).After-has_permission ∙ not-false _ c.if-not-has_permission.false-raw)
-          (sym c.evaluate.ensures ∙ not-false _ c.if-not-evaluate.false-raw))
+          (left-pass _ _ _ (ahead (goal.at.loop-next-preserved c).After-constraint_at-constraint) (named (goal.at.loop-next-preserved c).After-has_permission ∙ c.if-not-has_permission.false)
+          (sym c.if-not-evaluate.ensures))
           (found.passed.decides _ _),
     )
 

@@ -12,10 +12,6 @@ returns-then-end-gt-NAME_BYTES c = past_end _ _ _ _ _ c.if-end-gt-NAME_BYTES.tru
 pub returns-then-end-len : goal.returns-then-end-len
 returns-then-end-len c = no_room _ _ _ _ _ c.if-end-gt-NAME_BYTES.false c.if-end-len.true
 
-pub enter-requires : goal.enter-requires
-enter-requires c =
-    record { index = c.requires.1; room = omega arith; sort-known = c.requires.0; length-known = omega arith }
-
 pub returns : goal.returns
 returns c =
     appended _ _ _ _ _ _ _ c.requires.1 c.requires.0 (omega (arith, c.if-len-gt-MAX.false)) c.enter.ensures

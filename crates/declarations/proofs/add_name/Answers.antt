@@ -1,21 +1,15 @@
 -- `declarations::add_name` meets its contract: each answer by what the symbols said of the name. Assumes nothing.
-use native.Mathlib.Omega.{arith}
-use Rattle.declarations.proofs.StatusLaws.{stands-told}
+use Rattle.std.proofs.lemmas.Result.{err_from_is_err_and}
 use Rattle.declarations.proofs.NameAnswers.{name-taken, name-full, name-added}
 use Rattle.declarations.proofs.add_name.Goals as goal
 
-pub returns-in_default : goal.returns-in_default
-returns-in_default c = name-taken _ _ _ _ (stands-told c.status_of-known.ensures c.in_default.is)
+pub returns-in_err-number : goal.returns-in_err-number
+returns-in_err-number c =
+    let p = err_from_is_err_and c.from_residual.result c.from_residual.ensures.1 in
+    rw (p.1, p.2) (name-taken _ _ _ _ _ c.in_err-number.ensures)
 
 pub returns-then-most-number : goal.returns-then-most-number
-returns-then-most-number c =
-    name-full _ _ _ _ (stands-told c.status_of-known.ensures c.in-Undeclared.is) c.most.ensures c.if-most-number.true
-
-pub add-requires : goal.add-requires
-add-requires c =
-    (omega (arith, c.requires.0), c.requires.1)
+returns-then-most-number c = name-full _ _ _ _ c.in_ok-number.ensures c.most.ensures c.if-most-number.true
 
 pub returns : goal.returns
-returns c =
-    name-added _ _ _ _ (stands-told c.status_of-known.ensures c.in-Undeclared.is) c.most.ensures _ c.if-most-number.false _ _
-    c.add.ensures c.answer.ensures
+returns c = name-added _ _ _ _ c.in_ok-number.ensures c.most.ensures _ c.if-most-number.false _ _ c.add.ensures c.ok_or.ensures.value

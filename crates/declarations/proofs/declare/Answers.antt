@@ -1,6 +1,4 @@
 -- `declarations::declare` meets its contract: the full name of the next word is declared, which outside of blocks is the word itself. Assumes nothing.
-use native.Mathlib.Omega.{arith}
-use Rattle.name_rows.proofs.Rows.{told}
 use Rattle.declarations.proofs.FullNames.{whole_is, full_is, full-too-long}
 use Rattle.declarations.proofs.NameAnswers.{no-sort, no_name, name-too-long, name-named}
 use Rattle.declarations.proofs.declare.Goals as goal
@@ -9,27 +7,19 @@ pub returns-then-sort-ge-CLASS : goal.returns-then-sort-ge-CLASS
 returns-then-sort-ge-CLASS c = no-sort _ _ _ _ _ _ _ c.if-sort-ge-CLASS.true
 
 pub returns-in_default : goal.returns-in_default
-returns-in_default c = no_name _ _ _ _ _ _ _ (told c.word_at-name.ensures c.in_default.is)
-
-pub add_name-requires : goal.add_name-requires
-add_name-requires c =
-    (omega (arith, c.if-sort-ge-CLASS.false), omega (arith, c.add_name-arg-1.given.0.1))
+returns-in_default c = no_name _ _ _ _ _ _ _ c.in_default.ensures
 
 pub returns-then-not-in_block : goal.returns-then-not-in_block
 returns-then-not-in_block c =
-    name-named _ _ _ _ _ _ _ (told c.word_at-name.ensures c.in-At.is).is
+    name-named _ _ _ _ _ _ _ c.in-Some.ensures
     (whole_is c.in_block.ensures c.if-not-in_block.true-raw c.part.ensures) c.add_name.ensures
 
 pub returns-in_default-named : goal.returns-in_default-named
 returns-in_default-named c =
-    name-too-long _ _ _ _ _ _ _ (told c.word_at-name.ensures c.in-At.is).is
+    name-too-long _ _ _ _ _ _ _ c.in-Some.ensures
     (full-too-long c.full_name-named.ensures c.in_default-named.is)
-
-pub add_name-requires-2 : goal.add_name-requires-2
-add_name-requires-2 c =
-    (omega (arith, c.if-sort-ge-CLASS.false), omega (arith, c.add_name-arg-2-1.given.0.1))
 
 pub returns : goal.returns
 returns c =
-    name-named _ _ _ _ _ _ _ (told c.word_at-name.ensures c.in-At.is).is
-    (full_is c.full_name-named.ensures c.in-Length.is c.part-2.ensures) c.add_name-2.ensures
+    name-named _ _ _ _ _ _ _ c.in-Some.ensures
+    (full_is c.full_name-named.ensures c.in-Some-named.is c.part-2.ensures) c.add_name-2.ensures

@@ -1,42 +1,30 @@
 -- `declarations::declare_class` meets its contract: its permissions first, then the full name of the class, which outside of blocks is its own. Assumes nothing.
-use native.Mathlib.Omega.{arith}
 use mathlib.Core.Path.{sym, ◌∙◌}
-use Rattle.name_rows.proofs.Rows.{told}
 use Rattle.declarations.proofs.FullNames.{whole_is, full_is, full-too-long}
 use Rattle.declarations.proofs.ClassAnswers.{no-class, class-repeats, class-too-long, class-named}
 use Rattle.declarations.proofs.declare_class.Goals as goal
 
 pub returns-in_default : goal.returns-in_default
-returns-in_default c = no-class _ _ _ _ _ _ (told c.word_at-name.ensures c.in_default.is)
-
-pub overflow_add-start : goal.overflow_add-start
-overflow_add-start c =
-    omega (arith, (told c.word_at-name.ensures c.in-At.is).is.within)
+returns-in_default c = no-class _ _ _ _ _ _ c.in_default.ensures
 
 pub returns-then-repeats : goal.returns-then-repeats
 returns-then-repeats c =
-    class-repeats _ _ _ _ _ _ _ (told c.word_at-name.ensures c.in-At.is).is c.inside-row.ensures
+    class-repeats _ _ _ _ _ _ _ c.in-Some.ensures c.inside-row.ensures
     (sym c.repeats.ensures ∙ c.if-repeats.true)
-
-pub add_class-requires : goal.add_class-requires
-add_class-requires c = omega (arith, c.add_class-arg-1.given.0.1)
 
 pub returns-then-not-in_block : goal.returns-then-not-in_block
 returns-then-not-in_block c =
-    class-named _ _ _ _ _ _ _ (told c.word_at-name.ensures c.in-At.is).is c.inside-row.ensures
+    class-named _ _ _ _ _ _ _ c.in-Some.ensures c.inside-row.ensures
     (sym c.repeats.ensures ∙ c.if-repeats.false)
     (whole_is c.in_block.ensures c.if-not-in_block.true-raw c.part.ensures) c.add_class.ensures
 
 pub returns-in_default-named : goal.returns-in_default-named
 returns-in_default-named c =
-    class-too-long _ _ _ _ _ _ _ (told c.word_at-name.ensures c.in-At.is).is c.inside-row.ensures
+    class-too-long _ _ _ _ _ _ _ c.in-Some.ensures c.inside-row.ensures
     (sym c.repeats.ensures ∙ c.if-repeats.false) (full-too-long c.full_name-named.ensures c.in_default-named.is)
-
-pub add_class-requires-2 : goal.add_class-requires-2
-add_class-requires-2 c = omega (arith, c.add_class-arg-2-1.given.0.1)
 
 pub returns : goal.returns
 returns c =
-    class-named _ _ _ _ _ _ _ (told c.word_at-name.ensures c.in-At.is).is c.inside-row.ensures
-    (sym c.repeats.ensures ∙ c.if-repeats.false) (full_is c.full_name-named.ensures c.in-Length.is c.part-2.ensures)
+    class-named _ _ _ _ _ _ _ c.in-Some.ensures c.inside-row.ensures
+    (sym c.repeats.ensures ∙ c.if-repeats.false) (full_is c.full_name-named.ensures c.in-Some-named.is c.part-2.ensures)
     c.add_class-2.ensures

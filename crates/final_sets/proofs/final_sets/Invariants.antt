@@ -1,6 +1,5 @@
 -- `final_sets::final_sets` meets its contract: after so many rounds the sets are nested so deep; a round that changes nothing is the last that
 -- counts. Assumes nothing.
-use Prim.Native.Nat.{◌-◌, ◌≤◌}
 use mathlib.Core.Path.{◌≡◌}
 use Rattle.policy.specs.Answers.{family_of}
 use Rattle.policy.specs.Accepted.{Accepted}
@@ -10,9 +9,6 @@ use Rattle.statement_code.specs.Code.{code_of}
 use Rattle.final_sets.proofs.FinalLaws.{after}
 use Rattle.final_sets.proofs.final_sets.Given as goal
 
-abbrev pub invariant-loop-rounds : goal.invariant-loop-rounds
-invariant-loop-rounds l =
-    (l.rounds ≤ 64) × ((p : Policy) (ok : Accepted p) → l.code ≡ code_of p → l.total ≡ count_in p (family_of l.family) → l.sets ≡ after p ok (family_of l.family) l.rounds)
-
-abbrev pub decreases-loop-rounds : goal.decreases-loop-rounds
-decreases-loop-rounds l = 64 - l.rounds
+abbrev pub invariant-loop-round : goal.invariant-loop-round
+invariant-loop-round l =
+    (p : Policy) (ok : Accepted p) → l.code ≡ code_of p → l.total ≡ count_in p (family_of l.family) → l.sets ≡ after p ok (family_of l.family) l._round

@@ -1,5 +1,5 @@
 -- `final_sets::round` meets its contract: the rows are those of the items passed. Assumes nothing.
-use Prim.Native.Nat.{◌-◌, ℕ, ◌+◌}
+use Prim.Native.Nat.{ℕ, ◌+◌}
 use mathlib.Core.Path.{sym, ◌∙◌, ap}
 use Rattle.policy.specs.Meaning.{of_s}
 use Rattle.policy.specs.Answers.{family_of}

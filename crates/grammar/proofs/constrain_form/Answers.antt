@@ -3,25 +3,23 @@ use mathlib.Core.Path.{refl, ◌∙◌}
 use mathlib.Core.Bool.{false}
 use mathlib.Core.List.{[], ◌∷◌}
 use Rattle.grammar.specs.Shapes.{class_and_constraint}
-use Rattle.items.proofs.Items.{sees, by_part, too-deep, alike}
-use Rattle.items.proofs.Rows.{told, refuse, after-part}
-use borrow.Enum.Refused.{opened}
+use Rattle.items.proofs.Items.{sees, no_part, by_part, too-deep, alike}
+use Rattle.items.proofs.Rows.{passes, refuses, refuse, after-part}
 use Rattle.grammar.proofs.constrain_form.Goals as goal
 
+pub returns-in_default : goal.returns-in_default
+returns-in_default c = refuse (alike class_and_constraint (λ f. false) _ _ _ (0 ∷ 2 ∷ 3 ∷ []) _ (λ s b f. refl, tt, refl, refl) c.next_item.ensures (no_part _ c.in_default.not-Open))
+
 pub returns-then-levels-eq0 : goal.returns-then-levels-eq0
-returns-then-levels-eq0 c = refuse (too-deep class_and_constraint _ (sees c.next_item-item.ensures c.in-Open.is) c.if-levels-eq0.true)
+returns-then-levels-eq0 c = refuse (too-deep class_and_constraint _ (sees c.next_item.ensures c.in-Open.is) c.if-levels-eq0.true)
 
-pub returns-in-Next : goal.returns-in-Next
-returns-in-Next c =
-    let l = sees c.next_item-item.ensures
-    c.in-Open.is in
-    let g = told c.name_and_part-class.ensures c.in-Next.is in
+pub returns-in_err-past : goal.returns-in_err-past
+returns-in_err-past c =
+    let l = sees c.next_item.ensures c.in-Open.is in
+    rw c.from_residual.ensures (refuse (by_part class_and_constraint _ _ l refl c.if-levels-eq0.false ∙ rw (refuses c.in_err-past.ensures)))
+
+pub returns : goal.returns
+returns c =
+    let l = sees c.next_item.ensures c.in-Open.is in
+    let g = passes c.in_ok-past.ensures in
     after-part l g (by_part class_and_constraint _ _ l g.end c.if-levels-eq0.false ∙ rw g.good) c.only_part.ensures
-
-pub returns-in-Bad : goal.returns-in-Bad
-returns-in-Bad c =
-    let l = sees c.next_item-item.ensures c.in-Open.is in
-    refuse (by_part class_and_constraint _ _ l refl c.if-levels-eq0.false ∙ rw (told c.name_and_part-class.ensures c.in-Bad.is))
-
-pub returns-in-Word : goal.returns-in-Word
-returns-in-Word c = refuse (alike class_and_constraint (λ f. false) _ _ _ (0 ∷ 2 ∷ 3 ∷ []) _ (λ s b f. refl, tt, refl, refl) c.next_item-item.ensures (opened c.in-Word.in-Word-own.keys2))

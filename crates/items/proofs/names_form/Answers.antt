@@ -4,7 +4,6 @@ use mathlib.Core.Bool.{true, false}
 use mathlib.Core.List.{List, [], ◌∷◌}
 use Prim.Native.Nat.{ℕ}
 use native.Mathlib.Omega.{arith}
-use borrow.Author.Tests.{not-true, not-false}
 use types.Run.{OneOf, miss}
 use denote.Enum.Declared.{tag_of}
 use Rattle.lexer.specs.Forms.{frames_at}
@@ -31,35 +30,35 @@ pub loop-start-init : goal.loop-start-init
 loop-start-init c = (omega arith, refl, refl)
 
 pub is_name-requires : goal.is_name-requires
-is_name-requires c = (reads c.next-token.ensures c.in-Word.is).ahead.3
+is_name-requires c = (reads c.next.ensures c.in-Word.is).ahead.3
 
 pub returns-then-not-is_name : goal.returns-then-not-is_name
 returns-then-not-is_name c =
     let kind = c.args.kind in
-    let l = reads c.next-token.ensures c.in-Word.is in
+    let l = reads c.next.ensures c.in-Word.is in
     refuse
-    (sym c.loop-start.invariant.2 ∙ ap (left kind _ _) l.here ∙ word-name kind _ _ _ _ _ false (sym (not-true _ c.if-not-is_name.true-raw) ∙ c.is_name.ensures))
+    (sym c.loop-start.invariant.2 ∙ ap (left kind _ _) l.here ∙ word-name kind _ _ _ _ _ false (sym c.if-not-is_name.true ∙ c.is_name.ensures))
 
 pub overflow_add-i : goal.overflow_add-i
 overflow_add-i c =
-    let l = reads c.next-token.ensures c.in-Word.is in
+    let l = reads c.next.ensures c.in-Word.is in
     omega (arith, l.ahead.1)
 
 pub overflow_add-count : goal.overflow_add-count
 overflow_add-count c =
-    let l = reads c.next-token.ensures c.in-Word.is in
+    let l = reads c.next.ensures c.in-Word.is in
     omega (arith, c.loop-start.invariant.0, l.ahead.0, l.ahead.1)
 
 pub loop-start-smaller : goal.loop-start-smaller
 loop-start-smaller c =
-    let l = reads c.next-token.ensures c.in-Word.is in
+    let l = reads c.next.ensures c.in-Word.is in
     omega (arith, l.ahead.0, l.ahead.1)
 
 pub loop-start-preserved : goal.loop-start-preserved
 loop-start-preserved c =
     let kind = c.args.kind in
-    let l = reads c.next-token.ensures c.in-Word.is in
-    let named = sym (not-false _ c.if-not-is_name.false-raw) ∙ c.is_name.ensures in (
+    let l = reads c.next.ensures c.in-Word.is in
+    let named = sym c.if-not-is_name.false ∙ c.is_name.ensures in (
       omega (arith, c.loop-start.invariant.0, l.ahead.0),
       sym l.end ∙ c.loop-start.invariant.1,
       sym (ap (left kind _ _) l.here ∙ word-name kind _ _ _ _ _ true named) ∙ c.loop-start.invariant.2,
@@ -67,13 +66,13 @@ loop-start-preserved c =
 
 pub overflow_add-place : goal.overflow_add-place
 overflow_add-place c =
-    let l = reads c.next-token.ensures c.in-Close.is in
+    let l = reads c.next.ensures c.in-Close.is in
     omega (arith, l.ahead.1)
 
 pub returns-in-Close : goal.returns-in-Close
 returns-in-Close c =
     let kind = c.args.kind in
-    let l = reads c.next-token.ensures c.in-Close.is in
+    let l = reads c.next.ensures c.in-Close.is in
     at-close _ _ c.ended.ensures
     (sym c.loop-start.invariant.2 ∙ ap (left kind _ _) l.here ∙ close-name kind _ _)
     (sym c.loop-start.invariant.1 ∙ l.end)
@@ -83,4 +82,4 @@ returns-in-Close c =
 pub returns-in-Open : goal.returns-in-Open
 returns-in-Open c =
     let kind = c.args.kind in
-    refuse (sym c.loop-start.invariant.2 ∙ no_name kind _ _ c.next-token.result (reads c.next-token.ensures refl) c.in-Open.in-Open-own.keys3)
+    refuse (sym c.loop-start.invariant.2 ∙ no_name kind _ _ c.next.result (reads c.next.ensures refl) c.in-Open.in-Open-own.keys3)

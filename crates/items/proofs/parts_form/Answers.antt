@@ -19,7 +19,7 @@ pub loop-next-smaller : goal.loop-next-smaller
 loop-next-smaller c =
     let text = c.args.text.now in
     let next = c.in-Open.next in
-    let l = sees c.next_item-item.ensures c.in-Open.is in
+    let l = sees c.next_item.ensures c.in-Open.is in
     omega (arith, c.row_end-i.ensures, l.ahead.0, ends-ahead text next l.ahead.1)
 
 pub loop-next-preserved : goal.loop-next-preserved
@@ -27,7 +27,7 @@ unfolding parts_alone
 loop-next-preserved c =
     let text = c.args.text.now in
     let next = c.in-Open.next in
-    let l = sees c.next_item-item.ensures c.in-Open.is in (
+    let l = sees c.next_item.ensures c.in-Open.is in (
       omega (arith, c.row_end-i.ensures, c.loop-next.invariant.0, l.ahead.0, ends-ahead text next l.ahead.1),
       ap (row_end text) c.row_end-i.ensures ∙ sym l.end ∙ c.loop-next.invariant.1,
       ap (λ (n : ℕ). parts_alone (frames_at text n).here) c.row_end-i.ensures ∙ sym (ap parts_alone l.here) ∙ c.loop-next.invariant.2,
@@ -36,7 +36,7 @@ loop-next-preserved c =
 pub returns-in-Close : goal.returns-in-Close
 unfolding parts_alone
 returns-in-Close c =
-    let l = sees c.next_item-item.ensures c.in-Close.is in
+    let l = sees c.next_item.ensures c.in-Close.is in
     give
     (sym c.loop-next.invariant.2 ∙ ap parts_alone l.here)
     (sym c.loop-next.invariant.1 ∙ l.end)
@@ -48,4 +48,4 @@ unfolding parts_alone
 returns-in-Word c =
     refuse
     (sym c.loop-next.invariant.2
-    ∙ alike-here parts_alone (λ f. false) _ _ _ (0 ∷ 3 ∷ []) (λ s b f. refl, tt, tt, refl) c.next_item-item.ensures c.in-Word.in-Word-own.keys3)
+    ∙ alike-here parts_alone (λ f. false) _ _ _ (0 ∷ 3 ∷ []) (λ s b f. refl, tt, tt, refl) c.next_item.ensures c.in-Word.in-Word-own.keys3)

@@ -4,4 +4,4 @@ use Rattle.lexer.proofs.Marks.{dot-mark}
 use Rattle.lexer.proofs.is_dot.Goals as goal
 
 pub returns : goal.returns
-returns c = dot-mark (class_of c.args.b) _ c.mark_in.ensures
+returns c = dot-mark (class_of c.args.b) _ c.mark.ensures

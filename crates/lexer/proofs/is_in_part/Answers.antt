@@ -4,4 +4,4 @@ use Rattle.lexer.proofs.Marks.{part-mark}
 use Rattle.lexer.proofs.is_in_part.Goals as goal
 
 pub returns : goal.returns
-returns c = part-mark (class_of c.args.b) _ c.mark_in.ensures
+returns c = part-mark (class_of c.args.b) _ c.mark.ensures

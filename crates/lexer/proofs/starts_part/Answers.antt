@@ -4,4 +4,4 @@ use Rattle.lexer.proofs.Marks.{letter}
 use Rattle.lexer.proofs.starts_part.Goals as goal
 
 pub returns : goal.returns
-returns c = letter (class_of c.args.b) _ c.mark_in.ensures
+returns c = letter (class_of c.args.b) _ c.mark.ensures

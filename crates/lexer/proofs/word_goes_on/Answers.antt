@@ -12,4 +12,4 @@ returns-then-text-at c = sym (at-end _ _ c.if-text-at.true)
 pub returns : goal.returns
 returns c =
     let a = c.args in
-    capital (class_of (get_or a.text.now a.at 0)) _ c.mark_in.ensures ∙ sym (at_byte _ _ c.if-text-at.false)
+    capital (class_of (get_or a.text.now a.at 0)) _ c.mark.ensures ∙ sym (at_byte _ _ c.if-text-at.false)

@@ -1,43 +1,27 @@
--- `lines::line_of` meets its contract: the line counts the LFs of the first i bytes, and 1. Assumes nothing.
-use Prim.Native.Nat.{ℕ, ◌+◌, ◌-◌, ◌≤◌, min}
-use native.Mathlib.Numerals.{add-one}
-use native.Mathlib.Omega.{arith}
-use mathlib.Core.Path.{◌≡◌, refl, ap, ◌∙◌}
-use mathlib.Core.Bool.{true}
-use mathlib.Core.List.{List}
-use lib.Dec.{leb}
-use lib.ListN.{length, take}
+-- `lines::line_of` meets its contract: the chain counts the LFs in front of the place. Assumes nothing.
+use Rattle.std.proofs.Common.{◌≡◌, ℕ, ◌+◌, List, [], ◌∷◌, count_by, nat_eq, true, false, cond, Bool, refl, ◌∙◌, zero-add, rules, arith}
+use Rattle.std.specs.List.{fold}
 use borrow.Author.Tests.{le-leb, lt-leb}
-use borrow.Author.Rules.{rules}
 use Rattle.policy.specs.Outcome.{line_feeds}
-use Rattle.policy.proofs.LineFeeds.{feed-here, no-feed-here}
-use Rattle.byte_slices.proofs.PartLaws.{take-cut}
+use Rattle.byte_slices.specs.Parts.{part}
 use Rattle.lines.proofs.line_of.Goals as goal
-use Rattle.lines.proofs.line_of.Goals.{then-text-i-eq-LINE_FEED, else-text-i-eq-LINE_FEED}
+
+-- a count that has begun goes on by the line feeds that are left
+feeds-counted : (n : ℕ) (t : List ℕ) → fold (λ a x. a + cond (nat_eq x 10) 1 0) n t ≡ n + line_feeds t
+unfolding line_feeds
+feeds-counted n [] = omega arith
+feeds-counted n (b ∷ t) = feeds-counted (n + cond (nat_eq b 10) 1 0) t ∙ by (nat_eq b 10)
+  where
+    by : (e : Bool) → n + cond e 1 0 + line_feeds t ≡ n + cond e (1 + line_feeds t) (line_feeds t)
+    by true = omega arith
+    by false = omega arith
 
 pub returns-then-place-gt-MAX : goal.returns-then-place-gt-MAX
 returns-then-place-gt-MAX c = rw (lt-leb c.args.place 65535 c.if-place-gt-MAX.true) refl
 
-pub loop-i-init : goal.loop-i-init
-unfolding line_feeds
-loop-i-init c = search rules
-
-pub loop-i-preserved : goal.loop-i-preserved
-loop-i-preserved c =
-    let text = c.args.text.now in
-    let i = c.loop-i.i in
-    let was = c.loop-i.invariant in
-    let more : (c.if-text-i-eq-LINE_FEED.line ≡ 1 + line_feeds (take (i + 1) text)) × (c.if-text-i-eq-LINE_FEED.line ≤ 1 + (i + 1)) =
-    elim c.if-text-i-eq-LINE_FEED.branch [
-      | then-text-i-eq-LINE_FEED w ↦ (rw add-one (omega (arith, was.3, feed-here text i (omega arith) w.if-text-i-eq-LINE_FEED.true)), omega (arith, was.4))
-      | else-text-i-eq-LINE_FEED w ↦ (rw add-one (omega (arith, was.3, no-feed-here text i (omega arith) w.if-text-i-eq-LINE_FEED.false)), omega (arith, was.4))
-    ] in
-    (search rules, search rules, search rules, more.0, more.1)
-
 pub returns : goal.returns
+unfolding part
 returns c =
-    let args = c.args in
-    let within : leb args.place 65535 ≡ true = le-leb args.place 65535 (omega arith) in
-    let all : c.loop-i.i ≡ min args.place (length args.text.now) = omega (arith, c.least-end.ensures) in
-    rw within
-    (c.loop-i.invariant.3 ∙ ap (λ (n : ℕ). 1 + line_feeds (take n args.text.now)) all ∙ ap (λ (s : List ℕ). 1 + line_feeds s) (take-cut args.place args.text.now))
+    let h : c.count.result ≡ count_by (λ b. nat_eq b 10) c.part-before.result.now = search rules in
+    let n = h ∙ feeds-counted 0 c.part-before.result.now ∙ zero-add _ in
+    rw (le-leb c.args.place 65535 (omega arith), n, c.part-before.ensures) refl

@@ -1,43 +1,21 @@
--- `little_endian::number` meets its contract. The loop's invariant: the number so far is that of the bytes from `left` on (NumberLaws).
--- The measure is how many are left. Assumes nothing.
-use Prim.Native.Nat.{ℕ, ◌+◌, ◌*◌, ◌^◌, ◌<◌}
-use mathlib.Core.Path.{sym, ap, subst, ◌∙◌}
+-- `little_endian::number` meets its contract: each turn reads the last of the bytes that are left. Assumes nothing.
+use borrow.Author.Rules.{rules}
 use native.Mathlib.Omega.{arith}
-use lib.ListN.{length}
-use Rattle.little_endian.proofs.NumberLaws.{number-starts, number-turn, number_fits, number-ends, unle-fits}
+use Rattle.little_endian.proofs.NumberLaws.{read_none, read_more, read_all, read-fits}
 use Rattle.little_endian.proofs.number.Goals as goal
 
-pub loop-left-init : goal.loop-left-init
-loop-left-init c = (omega arith, number-starts c.args.bytes.now)
+pub loop-byte-init : goal.loop-byte-init
+loop-byte-init c = read_none (search rules)
 
 pub overflow_mul-n : goal.overflow_mul-n
-overflow_mul-n c =
-    let l = c.loop-left in
-    omega (
-      arith,
-      number_fits c.args.bytes.now l.left l.n (λ i. (c.shared_slice_known-1.given i).fits) c.requires (omega (arith, c.loop-left-test)) l.invariant.0
-          l.invariant.1,
-    )
+overflow_mul-n c = omega (arith, read-fits _ _ (λ i. (c.type_inv.bytes i).fits) c.requires c.loop-byte.invariant c.in-Some.ensures.steps)
 
 pub overflow_add-n : goal.overflow_add-n
 overflow_add-n c =
-    let l = c.loop-left in
-    omega (
-      arith,
-      number_fits c.args.bytes.now l.left l.n (λ i. (c.shared_slice_known-1.given i).fits) c.requires (omega (arith, c.loop-left-test))
-          l.invariant.0 l.invariant.1,
-      c.wide.ensures.0,
-    )
+    omega (arith, read-fits _ _ (λ i. (c.type_inv.bytes i).fits) c.requires c.loop-byte.invariant c.in-Some.ensures.steps, c.from.ensures)
 
-pub loop-left-preserved : goal.loop-left-preserved
-loop-left-preserved c =
-    let l = c.loop-left in
-    let turn = number-turn c.args.bytes.now l.left l.n (omega (arith, c.loop-left-test)) l.invariant.0 l.invariant.1 in
-    (omega (arith, l.invariant.0), ap (λ (b : ℕ). 256 * l.n + b) c.wide.ensures.0 ∙ turn)
+pub loop-byte-preserved : goal.loop-byte-preserved
+loop-byte-preserved c = read_more c.loop-byte.invariant c.in-Some.ensures.steps c.from.ensures
 
 pub returns : goal.returns
-returns c =
-    let l = c.loop-left in
-    let t = c.args.bytes.now in
-    let all = number-ends t l.left l.n (omega (arith, c.loop-left-test)) l.invariant.1 in
-    (all, subst (λ (n : ℕ). n < 256 ^ length t) (sym all) (unle-fits (length t) t (λ i. (c.shared_slice_known-1.given i).fits) (omega arith)))
+returns c = read_all _ _ (λ i. (c.type_inv.bytes i).fits) c.loop-byte.invariant c.in-None.ensures.steps.0

@@ -1,11 +1,7 @@
 -- `mentions::close` meets its contract: every number below k is gone through. Assumes nothing.
-use Prim.Native.Nat.{◌-◌, ◌≤◌}
 use mathlib.Core.Path.{◌≡◌}
 use Rattle.mentions.specs.Closure.{closed_of}
 use Rattle.mentions.proofs.close.Given as goal
 
 abbrev pub invariant-loop-k : goal.invariant-loop-k
-invariant-loop-k l = (l.k ≤ 64) × (l.rows ≡ closed_of l.k l.initial.rows)
-
-abbrev pub decreases-loop-k : goal.decreases-loop-k
-decreases-loop-k l = 64 - l.k
+invariant-loop-k l = l.rows ≡ closed_of l.k l.initial.rows

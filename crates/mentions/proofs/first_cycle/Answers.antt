@@ -1,5 +1,5 @@
 -- `mentions::first_cycle` meets its contract: the answer is still to be found among the declarations ahead, of attributes from a on. Assumes nothing.
-use Prim.Native.Nat.{ℕ, ◌-◌, ◌+◌}
+use Prim.Native.Nat.{ℕ, ◌+◌}
 use native.Mathlib.Omega.{arith}
 use mathlib.Core.Path.{sym, ◌∙◌, ap}
 use Rattle.policy.specs.Answers.{family_of}

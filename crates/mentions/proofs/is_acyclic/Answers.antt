@@ -1,8 +1,7 @@
 -- `mentions::is_acyclic` meets its contract: none of the attributes passed is in its own row. Assumes nothing.
-use Prim.Native.Nat.{ℕ, ◌-◌}
 use native.Mathlib.Omega.{arith}
 use mathlib.Core.Bool.{Bool, true, not, ◌&&◌}
-use mathlib.Core.Path.{◌≡◌, refl, sym, ap, ◌∙◌}
+use mathlib.Core.Path.{refl, sym, ap, ◌∙◌}
 use borrow.Author.Tests.{lt-ltb}
 use Rattle.bitset.specs.Sets.{all_below}
 use Rattle.set_code.specs.Evaluation.{sets_in}
@@ -11,7 +10,7 @@ use Rattle.mentions.proofs.is_acyclic.Goals as goal
 
 pub loop-a-init : goal.loop-a-init
 unfolding all_below
-loop-a-init c = (omega arith, refl)
+loop-a-init c = refl
 
 pub returns-then-mentions_itself : goal.returns-then-mentions_itself
 returns-then-mentions_itself c =
@@ -24,14 +23,6 @@ pub loop-a-preserved : goal.loop-a-preserved
 loop-a-preserved c =
     let a = c.loop-a.a in
     let rows = c.args.rows.now in
-    let own = ap (λ (t : Bool). t && sets_in rows a a) (sym (lt-ltb a 64 (omega arith))) in (
-      omega arith,
-      c.loop-a.invariant.1 ∙ below_more (λ x. not (sets_in rows x x)) a true
-          (ap not (own ∙ sym c.mentions_itself.ensures ∙ c.if-mentions_itself.false)),
-    )
-
-pub returns : goal.returns
-returns c =
-    let rows = c.args.rows.now in
-    let all : c.loop-a.a ≡ 64 = omega arith in
-    c.loop-a.invariant.1 ∙ ap (λ (n : ℕ). all_below n (λ x. not (sets_in rows x x))) all
+    let own = ap (λ (t : Bool). t && sets_in rows a a) (sym (lt-ltb a 64 (omega arith))) in
+    c.loop-a.invariant ∙ below_more (λ x. not (sets_in rows x x)) a true
+    (ap not (own ∙ sym c.mentions_itself.ensures ∙ c.if-mentions_itself.false))

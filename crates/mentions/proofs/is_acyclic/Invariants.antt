@@ -1,5 +1,4 @@
 -- `mentions::is_acyclic` meets its contract: none of the attributes passed is in its own row. Assumes nothing.
-use Prim.Native.Nat.{◌-◌, ◌≤◌}
 use mathlib.Core.Bool.{true, not}
 use mathlib.Core.Path.{◌≡◌}
 use Rattle.bitset.specs.Sets.{all_below}
@@ -7,7 +6,4 @@ use Rattle.set_code.specs.Evaluation.{sets_in}
 use Rattle.mentions.proofs.is_acyclic.Given as goal
 
 abbrev pub invariant-loop-a : goal.invariant-loop-a
-invariant-loop-a l = (l.a ≤ 64) × (true ≡ all_below l.a (λ x. not (sets_in l.rows x x)))
-
-abbrev pub decreases-loop-a : goal.decreases-loop-a
-decreases-loop-a l = 64 - l.a
+invariant-loop-a l = true ≡ all_below l.a (λ x. not (sets_in l.rows x x))

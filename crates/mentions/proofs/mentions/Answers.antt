@@ -1,5 +1,5 @@
 -- `mentions::mentions` meets its contract: the rows are those of the items passed. Assumes nothing.
-use Prim.Native.Nat.{◌+◌, ◌-◌, ℕ}
+use Prim.Native.Nat.{◌+◌, ℕ}
 use mathlib.Core.Path.{sym, ap, ◌∙◌}
 use Rattle.set_rows.proofs.RelationLaws.{relation-ext}
 use Rattle.policy.specs.Answers.{family_of}

@@ -1,5 +1,5 @@
--- `name_chains::find_in_section` meets its contract. The loop's invariant: the try among the entries from `at` on, after the others, answers as the try
--- among all. The measure is what is left of the section. Assumes nothing.
+-- `name_chains::find_in_section` meets its contract. The loop's invariant: the try among the entries from `at` on, after those that were compared, answers
+-- as the try among all. The measure is what is left of the section. Assumes nothing.
 use Prim.Native.Nat.{◌+◌, ◌-◌, ◌≤◌}
 use mathlib.Core.Path.{◌≡◌}
 use Rattle.symbols.specs.Section.{entries_at}
@@ -9,8 +9,8 @@ use Rattle.name_chains.proofs.find_in_section.Given as goal
 
 abbrev pub invariant-loop-sort : goal.invariant-loop-sort
 invariant-loop-sort l =
-    (l.others ≤ l.at) × (first_named l.family l.name (entries_at l.table l.at l.end) ≡ first_named l.family l.name (entries_at l.table l.start l.end))
-    × (l.others + compared_in l.family l.name (entries_at l.table l.at l.end) ≡ compared_in l.family l.name (entries_at l.table l.start l.end))
+    (l.compared ≤ l.at) × (first_named l.family l.name (entries_at l.table l.at l.end) ≡ first_named l.family l.name (entries_at l.table l.start l.end))
+    × (l.compared + compared_in l.family l.name (entries_at l.table l.at l.end) ≡ compared_in l.family l.name (entries_at l.table l.start l.end))
 
 abbrev pub decreases-loop-sort : goal.decreases-loop-sort
 decreases-loop-sort l = l.end - l.at

@@ -4,8 +4,8 @@ use lib.ListN.{length}
 use Rattle.name_rows.proofs.Rows.{Counted}
 use Rattle.name_rows.proofs.count_names.Given as goal
 
-abbrev pub invariant-loop-start : goal.invariant-loop-start
-invariant-loop-start l = Counted l.text l.at l.i l.count
+abbrev pub invariant-loop-word : goal.invariant-loop-word
+invariant-loop-word l = Counted l.text l.at l.i l.count
 
-abbrev pub decreases-loop-start : goal.decreases-loop-start
-decreases-loop-start l = length l.text - l.i
+abbrev pub decreases-loop-word : goal.decreases-loop-word
+decreases-loop-word l = length l.text - l.i

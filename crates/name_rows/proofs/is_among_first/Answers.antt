@@ -1,39 +1,30 @@
 -- `name_rows::is_among_first` meets its contract. The loop's invariant: the name is among the names asked for exactly where it is among those
 -- that are left of them. Assumes nothing.
 use native.Mathlib.Omega.{arith}
-use mathlib.Core.Path.{refl, sym, ◌∙◌}
-use Rattle.name_rows.proofs.Rows.{told, is-this, is_later, not-among-none, not-among-first-none}
+use mathlib.Core.Path.{sym, ap, ◌∙◌}
+use Prim.Native.Nat.{ℕ, ◌+◌, ◌-◌}
+use Rattle.policy.specs.Basics.{same}
+use Rattle.name_rows.specs.WordRows.{is_among_first}
+use Rattle.symbols.proofs.SameLaws.{pointwise-same}
+use Rattle.name_rows.proofs.Rows.{is-this, is_later, not-among-none, not-among-first-none}
 use Rattle.name_rows.proofs.is_among_first.Goals as goal
 
-pub loop-left-init : goal.loop-left-init
-loop-left-init c = refl
+pub loop-init : goal.loop-init
+loop-init c = ap (λ (k : ℕ). is_among_first c.args.text.now c.args.at k c.args.name.now) (omega arith)
 
 pub returns-in_default : goal.returns-in_default
-returns-in_default c =
-    not-among-none _ _ c.loop-left.left _ (told c.word_at-other.ensures c.in_default.is).is ∙
-    c.loop-left.invariant
+returns-in_default c = not-among-none _ _ (c.args.count - c.loop.counter) _ c.in_default.ensures ∙ c.loop.invariant
 
-pub same_name-requires : goal.same_name-requires
-same_name-requires c =
-    let w = told c.word_at-other.ensures c.in-At.is in
-    (c.requires, w.is.within)
+pub returns-then-eq : goal.returns-then-eq
+returns-then-eq c =
+    let is = sym (c.if-eq.ensures ∙ pointwise-same _ _ ∙ ap (same c.args.name.now) c.part.ensures) in
+    is-this c.in-Some.ensures _ (c.args.count - c.loop.counter) (omega (arith, c.loop-test.true)) is ∙ c.loop.invariant
 
-pub returns-then-same_name : goal.returns-then-same_name
-returns-then-same_name c =
-    let w = told c.word_at-other.ensures c.in-At.is in
-    let l = c.loop-left in
-    is-this w.is _ l.left (omega arith) (sym c.same_name.ensures ∙ c.if-same_name.true) ∙ l.invariant
-
-pub overflow_add-i : goal.overflow_add-i
-overflow_add-i c =
-    let w = told c.word_at-other.ensures c.in-At.is in
-    omega (arith, w.is.within)
-
-pub loop-left-preserved : goal.loop-left-preserved
-loop-left-preserved c =
-    let w = told c.word_at-other.ensures c.in-At.is in
-    let l = c.loop-left in
-    is_later w.is _ l.left (omega arith) (sym c.same_name.ensures ∙ c.if-same_name.false) ∙ l.invariant
+pub loop-preserved : goal.loop-preserved
+loop-preserved c =
+    let other = sym (c.if-eq.ensures ∙ pointwise-same _ _ ∙ ap (same c.args.name.now) c.part.ensures) in
+    ap (λ (k : ℕ). is_among_first c.args.text.now (c.in-Some.word.start + c.in-Some.word.length) k c.args.name.now) (omega arith)
+    ∙ is_later c.in-Some.ensures _ (c.args.count - c.loop.counter) (omega (arith, c.loop-test.true)) other ∙ c.loop.invariant
 
 pub returns : goal.returns
-returns c = not-among-first-none _ _ c.loop-left.left _ (omega arith) ∙ c.loop-left.invariant
+returns c = not-among-first-none _ _ (c.args.count - c.loop.counter) _ (omega (arith, c.loop-test.false)) ∙ c.loop.invariant

@@ -5,8 +5,8 @@ use lib.ListN.{length}
 use Rattle.name_rows.proofs.RepeatLaws.{Passed}
 use Rattle.name_rows.proofs.repeats.Given as goal
 
-abbrev pub invariant-loop-start : goal.invariant-loop-start
-invariant-loop-start l = Passed l.text l.at l.fronts l.count l.i
+abbrev pub invariant-loop-word : goal.invariant-loop-word
+invariant-loop-word l = Passed l.text l.at l.fronts l.count l.i
 
-abbrev pub decreases-loop-start : goal.decreases-loop-start
-decreases-loop-start l = length l.text - l.i
+abbrev pub decreases-loop-word : goal.decreases-loop-word
+decreases-loop-word l = length l.text - l.i

@@ -3,9 +3,6 @@ use native.Mathlib.Omega.{arith}
 use Rattle.parser.proofs.LoopInvariant.{parses}
 use Rattle.parser.proofs.parse.Goals as goal
 
-pub start-requires : goal.start-requires
-start-requires c = omega (arith, c.start-arg-1.given.0)
-
 pub returns : goal.returns
 returns c =
     parses c.clear.ensures c.start.ensures

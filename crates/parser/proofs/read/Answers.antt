@@ -1,9 +1,10 @@
 -- `parser::read` meets its contract: the form is judged first, and a statement of good form is read by one step. Assumes nothing.
-use mathlib.Core.Path.{sym, ap, ◌∙◌}
+use mathlib.Core.Path.{refl, sym, ap, ◌∙◌}
 use mathlib.Core.Bool.{not, false≢true}
 use native.Mathlib.Omega.{arith}
+use Rattle.std.proofs.lemmas.Result.{err_from_is_err_and}
 use Rattle.parser.proofs.LoopInvariant.{roomy}
-use Rattle.parser.proofs.OneStatement.{formless, answer_of, stated}
+use Rattle.parser.proofs.OneStatement.{formless, stated}
 use Rattle.parser.proofs.read.Goals as goal
 
 -- the lent memory is as long as its types say
@@ -15,20 +16,19 @@ returns-then-not-has_room c =
     absurd (false≢true (sym (ap not room) ∙ c.if-not-has_room.true-raw))
 
 pub returns-in_default : goal.returns-in_default
-returns-in_default c = λ at e. formless (c.statement_form-form.ensures at e) c.in_default.is
+returns-in_default c = λ at e. formless (c.statement_form.ensures at e) c.in_default.is
 
-pub returns-in-Read : goal.returns-in-Read
-returns-in-Read c =
+pub returns-in_err-progress : goal.returns-in_err-progress
+returns-in_err-progress c =
+    let p = err_from_is_err_and c.from_residual.result c.from_residual.ensures.1 in
     λ at e.
-    stated (c.statement_form-form.ensures at e) c.in-Next.is c.place_unit-unit.ensures
-    (c.statement-step.ensures at e)
-    (omega (arith, c.has_room-arg-2-1.given)) (omega (arith, c.has_room-arg-4-1.given)) (omega (arith, c.has_room-arg-6-1.given))
-    _ (ap (answer_of _) (sym c.in-Read.is))
+    rw (p.1, p.2) (
+    stated (c.statement_form.ensures at e) c.in-Some.is c.place_unit-unit.ensures (c.in_err-progress.ensures at e)
+    (omega (arith, c.has_room-arg-2-1.given)) (omega (arith, c.has_room-arg-4-1.given)) (omega (arith, c.has_room-arg-6-1.given)) _ refl
+    )
 
-pub returns-in-Fault : goal.returns-in-Fault
-returns-in-Fault c =
+pub returns : goal.returns
+returns c =
     λ at e.
-    stated (c.statement_form-form.ensures at e) c.in-Next.is c.place_unit-unit.ensures
-    (c.statement-step.ensures at e)
-    (omega (arith, c.has_room-arg-2-1.given)) (omega (arith, c.has_room-arg-4-1.given)) (omega (arith, c.has_room-arg-6-1.given))
-    _ (ap (answer_of _) (sym c.in-Fault.is))
+    stated (c.statement_form.ensures at e) c.in-Some.is c.place_unit-unit.ensures (c.in_ok-progress.ensures at e)
+    (omega (arith, c.has_room-arg-2-1.given)) (omega (arith, c.has_room-arg-4-1.given)) (omega (arith, c.has_room-arg-6-1.given)) _ refl

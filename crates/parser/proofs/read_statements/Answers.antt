@@ -1,15 +1,11 @@
 -- `parser::read_statements` meets its contract: whatever blocks are open, each statement leaves the reading where the next item begins. The measure is what is
 -- left of the text. Assumes nothing.
-use Prim.Native.Nat.{◌-◌}
 use mathlib.Core.Path.{sym, ◌∙◌}
 use native.Mathlib.Omega.{arith}
 use Rattle.items.proofs.Frames.{sees}
 use Rattle.parser.proofs.LoopInvariant.{finishes, opens_at, no-block-word, statement-on, statement-stops, past-statement}
 use Rattle.parser.proofs.StatementRuns.{block-ahead}
 use Rattle.parser.proofs.read_statements.Goals as goal
-
-pub loop-place-init : goal.loop-place-init
-loop-place-init c = (omega arith, λ lent keys filter o clean rest. rest)
 
 pub returns-then-starts_block : goal.returns-then-starts_block
 returns-then-starts_block c =
@@ -34,28 +30,28 @@ returns-then-starts_block c =
 pub loop-place-smaller : goal.loop-place-smaller
 loop-place-smaller c =
     past-statement c.loop-place.at c.next_item-item.ensures c.in-Open.is
-    (c.read-stated.ensures _ c.next_item-first.ensures) c.in-Next.is
+    (c.read-read_here.ensures _ c.next_item-first.ensures) c.in-Ok.is
 
 pub loop-place-preserved : goal.loop-place-preserved
 loop-place-preserved c =
     let looked = c.next_item-item.ensures in
     let plain = no-block-word _ _ c.next_item-first.ensures
     (sym c.starts_block.ensures ∙ c.if-starts_block.false) in
-    let stated = c.read-stated.ensures _ c.next_item-first.ensures in (
-      omega (arith, c.loop-place.invariant.0, past-statement c.loop-place.at looked c.in-Open.is stated c.in-Next.is),
+    let stated = c.read-read_here.ensures _ c.next_item-first.ensures in (
+      omega (arith, c.loop-place.invariant.0, past-statement c.loop-place.at looked c.in-Open.is stated c.in-Ok.is),
       λ lent keys filter o clean rest.
-          statement-on (c.loop-place.invariant.1 lent keys filter o clean rest) (opens_at clean looked c.in-Open.is) plain stated c.in-Next.is,
+          statement-on (c.loop-place.invariant.1 lent keys filter o clean rest) (opens_at clean looked c.in-Open.is) plain stated c.in-Ok.is,
     )
 
-pub returns-in-Fault : goal.returns-in-Fault
-returns-in-Fault c =
+pub returns-in-Err : goal.returns-in-Err
+returns-in-Err c =
     let looked = c.next_item-item.ensures in
     let plain = no-block-word _ _ c.next_item-first.ensures
     (sym c.starts_block.ensures ∙ c.if-starts_block.false) in
     record {
       says = λ lent keys filter o clean rest.
           statement-stops (c.loop-place.invariant.1 lent keys filter o clean rest) (opens_at clean looked c.in-Open.is) plain
-          (c.read-stated.ensures _ c.next_item-first.ensures) c.in-Fault.is;
+          (c.read-read_here.ensures _ c.next_item-first.ensures) c.in-Err.is;
       ahead = tt;
     }
 

@@ -15,7 +15,7 @@ pub slice_bounds-permissions_of-end : goal.slice_bounds-permissions_of-end
 slice_bounds-permissions_of-end c =
     let t = c.args.table.now in
     let bytes = all-places (λ k. k < 256) t 0 (λ i l. (c.shared_slice_known-1.given i).fits) in
-    sym (permissions-length t bytes c.count-counted.ensures c.in-Sound.is)
+    sym (permissions-length t bytes c.count-counted.ensures c.in-Some.is)
 
 pub returns : goal.returns
 returns c =
@@ -24,6 +24,6 @@ returns c =
     let t = a.table.now in
     let bytes = all-places (λ k. k < 256) t 0 (λ i l. (c.shared_slice_known-1.given i).fits) in
     let told = c.count-counted.ensures in
-    let is = c.in-Sound.is in
+    let is = c.in-Some.is in
     c.change.ensures (rw (given.0, given.1) (names-known t bytes told is))
     (rw given.0 (λ l. ap (ltb a.permission) c.permissions_of.ensures ∙ has-permission t bytes told is a.class a.permission l))

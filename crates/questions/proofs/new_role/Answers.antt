@@ -14,4 +14,4 @@ pub returns : goal.returns
 returns c =
     let t = c.args.table.now in
     let bytes = all-places (λ k. k < 256) t 0 (λ i l. (c.shared_slice_known-1.given i).fits) in
-    c.new_role.ensures (counts-known t bytes c.count-counted.ensures c.in-Sound.is)
+    c.new_role.ensures (counts-known t bytes c.count-counted.ensures c.in-Some.is)

@@ -15,4 +15,4 @@ returns c =
     let given = c.counted_names.ensures in
     let t = c.args.table.now in
     let bytes = all-places (λ k. k < 256) t 0 (λ i l. (c.shared_slice_known-1.given i).fits) in
-    c.valid.ensures (rw (given.0, given.1) (names-known t bytes c.count-counted.ensures c.in-Sound.is))
+    c.valid.ensures (rw (given.0, given.1) (names-known t bytes c.count-counted.ensures c.in-Some.is))

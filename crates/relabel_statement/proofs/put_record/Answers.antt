@@ -1,9 +1,6 @@
 -- `relabel_statement::put_record` meets its contract: its two fields are one `put` of a record. Assumes nothing.
-use Rattle.relabel_statement.proofs.RelabelAnswers.{recorded, no_room}
+use Rattle.relabel_statement.proofs.RelabelAnswers.{recorded}
 use Rattle.relabel_statement.proofs.put_record.Goals as goal
-
-pub returns-then-relabels-count : goal.returns-then-relabels-count
-returns-then-relabels-count c = no_room _ _ _ c.if-relabels-count.true
 
 pub returns : goal.returns
 returns c =

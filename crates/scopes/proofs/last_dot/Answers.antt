@@ -1,22 +1,18 @@
--- `scopes::last_dot` meets its contract. The loop's invariant: from i on the name has no dot. Assumes nothing.
+-- `scopes::last_dot` meets its contract: the last byte of the scope that is a dot. Assumes nothing.
+use mathlib.Core.Path.{◌≡◌, ap, ◌∙◌}
+use lib.ListN.{length}
 use native.Mathlib.Omega.{arith}
-use Rattle.scopes.proofs.Memory.{cut-starts, cut-here, cut_on, cut-none}
+use Rattle.std.proofs.Common.{rules}
+use Rattle.scopes.specs.Scope.{scope_in, last_dot}
+use Rattle.scopes.proofs.Memory.{scope-long}
+use Rattle.scopes.proofs.PathLaws.{LastDot, last-dot-is}
 use Rattle.scopes.proofs.last_dot.Goals as goal
 
-pub loop-i-init : goal.loop-i-init
-loop-i-init c = (omega arith, cut-starts c.args.symbols.now c.args.n c.requires.0 c.requires.1)
-
-pub returns-then-symbols-i-eq-DOT : goal.returns-then-symbols-i-eq-DOT
-returns-then-symbols-i-eq-DOT c =
-    let l = c.loop-i in
-    (cut-here c.args.symbols.now c.args.n c.requires.0 c.requires.1 l.i (omega arith) l.invariant.0 l.invariant.1 c.if-symbols-i-eq-DOT.true, λ h. omega arith, omega arith)
-
-pub loop-i-preserved : goal.loop-i-preserved
-loop-i-preserved c =
-    let l = c.loop-i in
-    (omega arith, cut_on c.args.symbols.now c.args.n c.requires.0 c.requires.1 l.i (omega arith) l.invariant.0 l.invariant.1 c.if-symbols-i-eq-DOT.false)
-
 pub returns : goal.returns
+unfolding scope_in
 returns c =
-    let l = c.loop-i in
-    (cut-none c.args.symbols.now c.args.n c.requires.0 c.requires.1 l.i (omega arith) l.invariant.1, λ h. omega arith, omega arith)
+    let scope = c.part-scope.result.now in
+    let found : LastDot scope c.rposition.result = search rules in
+    let is = last-dot-is scope c.rposition.result found in
+    let long : length scope ≡ c.args.n = ap length c.part-scope.ensures ∙ scope-long c.args.symbols.now c.args.n c.requires.0 c.requires.1 in
+    (c.unwrap_or.ensures ∙ is.0 ∙ ap last_dot c.part-scope.ensures, λ h. omega (arith, c.unwrap_or.ensures, is.1 (omega arith)), omega (arith, c.unwrap_or.ensures, is.2))

@@ -4,7 +4,4 @@ use Rattle.scopes.proofs.TryLaws.{once-resolves}
 use Rattle.scopes.proofs.lookup.Goals as goal
 
 pub returns-then-is_plain : goal.returns-then-is_plain
-returns-then-is_plain c = looks (once-resolves c.is_plain.ensures c.if-is_plain.true c.find-once.ensures)
-
-pub returns : goal.returns
-returns c = c.resolve.ensures
+returns-then-is_plain c = looks (once-resolves c.is_plain.ensures c.if-is_plain.true c.find.ensures)

@@ -3,4 +3,4 @@ use Rattle.scopes.proofs.Bounds.{looks-permission}
 use Rattle.scopes.proofs.lookup_permission.Goals as goal
 
 pub returns : goal.returns
-returns c = looks-permission c.find-tried.ensures
+returns c = looks-permission c.find.ensures

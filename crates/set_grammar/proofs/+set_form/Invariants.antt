@@ -22,7 +22,7 @@ abbrev pub invariant-loop-start : goal.invariant-loop-start
 invariant-loop-start l =
     (l.at + l.count ≤ l.i)
     × (row_end l.text l.i ≡ row_end l.text l.at)
-    × (left l.wanted l.count (trim (frames_at l.text l.i).here l.levels) ≡ is_some (set_in (trim (frames_at l.text l.at).here l.levels)))
+    × (left l.begun.wanted l.count (trim (frames_at l.text l.i).here l.levels) ≡ is_some (set_in (trim (frames_at l.text l.at).here l.levels)))
 
 abbrev pub decreases-loop-start : goal.decreases-loop-start
 decreases-loop-start l = length l.text - l.i

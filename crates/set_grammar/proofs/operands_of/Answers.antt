@@ -18,20 +18,22 @@ others : (n : ℕ) → 6 ≤ n → operands_of (set_word (word_of n)) ≡ Wanted
 unfolding same lookup reserved keywords words set_word
 others n h = from_on (λ w. operands_of (set_word w)) 6 refl n h
 
-pub returns-then-number-eq-OTHER : goal.returns-then-number-eq-OTHER
+pub returns-in-1 : goal.returns-in-1
 unfolding same lookup reserved keywords words word_of set_word
-returns-then-number-eq-OTHER c = rw c.if-number-eq-OTHER.true
+returns-in-1 c = rw c.in-1.is
 
-pub returns-then-number-eq-ALL : goal.returns-then-number-eq-ALL
+pub returns-in-5 : goal.returns-in-5
 unfolding same lookup reserved keywords words word_of set_word
-returns-then-number-eq-ALL c = rw c.if-number-eq-ALL.true
+returns-in-5 c = rw c.in-5.is
 
-pub returns-then-number-eq-NOT : goal.returns-then-number-eq-NOT
+pub returns-in-2 : goal.returns-in-2
+returns-in-2 c = sym (two c.args.number (omega arith) (omega arith))
+
+pub returns-in_default : goal.returns-in_default
 unfolding same lookup reserved keywords words word_of set_word
-returns-then-number-eq-NOT c = rw c.if-number-eq-NOT.true
+returns-in_default c =
+    let none : c.args.number ≡ 0 = omega arith in
+    rw none
 
-pub returns-then-number-le-XOR : goal.returns-then-number-le-XOR
-returns-then-number-le-XOR c = sym (two c.args.number (omega arith) (omega arith))
-
-pub returns : goal.returns
-returns c = sym (others c.args.number (omega arith))
+pub returns-in_default-2 : goal.returns-in_default-2
+returns-in_default-2 c = sym (others c.args.number (omega arith))

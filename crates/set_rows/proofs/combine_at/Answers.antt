@@ -7,5 +7,5 @@ use Rattle.set_rows.proofs.combine_at.Goals as goal
 pub returns : goal.returns
 returns c =
     let a = c.args in
-    put_back a.table.now a.o a.w _ _ (λ p. combined a.op p a.src.now) _ c.least-start.ensures c.end_of-end.ensures
+    put_back a.table.now a.o a.w _ _ (λ p. combined a.op p a.src.now) _ c.range_of-place.ensures.start c.range_of-place.ensures.end
     (λ p. length-combined a.op p a.src.now) c.combine.ensures

@@ -5,6 +5,3 @@ use Rattle.set_rows.proofs.count_at.Goals as goal
 
 pub count-requires : goal.count-requires
 count-requires c = rw c.part.ensures (omega (arith, length-part-le c.args.table.now c.args.o c.args.w))
-
-pub returns : goal.returns
-returns c = rw (← c.part.ensures) c.count.ensures

@@ -7,5 +7,5 @@ use Rattle.set_rows.proofs.grant_at.Goals as goal
 pub returns : goal.returns
 returns c =
     let a = c.args in
-    put_back a.table.now a.o a.size _ _ (λ p. granted a.w p a.us.now a.rs.now) _ c.least-start.ensures c.end_of-end.ensures
+    put_back a.table.now a.o a.size _ _ (λ p. granted a.w p a.us.now a.rs.now) _ c.range_of-place.ensures.start c.range_of-place.ensures.end
     (λ p. length-granted a.w p a.us.now a.rs.now) c.grant.ensures

@@ -7,6 +7,5 @@ use Rattle.set_rows.proofs.remove_at.Goals as goal
 pub returns : goal.returns
 returns c =
     let a = c.args in
-    put_back a.table.now a.o a.w _ _ (λ p. removed p a.n) _ c.least-start.ensures
-    c.end_of-end.ensures
+    put_back a.table.now a.o a.w _ _ (λ p. removed p a.n) _ c.range_of-place.ensures.start c.range_of-place.ensures.end
     (λ p. length_removed p a.n) c.remove.ensures

@@ -22,26 +22,6 @@ other : (n : ℕ) → n ≡ 0 → operator_unit (set_word (word_of n)) ≡ 2053
 unfolding same lookup reserved keywords words word_of set_word
 other n h = rw h
 
-pub returns-in-1 : goal.returns-in-1
-unfolding same lookup reserved keywords words word_of set_word
-returns-in-1 c = rw c.in-1.is
-
-pub returns-in-2 : goal.returns-in-2
-unfolding same lookup reserved keywords words word_of set_word
-returns-in-2 c = rw c.in-2.is
-
-pub returns-in-3 : goal.returns-in-3
-unfolding same lookup reserved keywords words word_of set_word
-returns-in-3 c = rw c.in-3.is
-
-pub returns-in-4 : goal.returns-in-4
-unfolding same lookup reserved keywords words word_of set_word
-returns-in-4 c = rw c.in-4.is
-
-pub returns-in-5 : goal.returns-in-5
-unfolding same lookup reserved keywords words word_of set_word
-returns-in-5 c = rw c.in-5.is
-
 pub returns-in_default : goal.returns-in_default
 returns-in_default c = go (ltb 5 n) refl
   where
@@ -52,4 +32,4 @@ returns-in_default c = go (ltb 5 n) refl
     go true e = sym (others n (ltb-true 5 n e))
     go false e =
         let h = ltb-false 5 n e in
-        sym (other n (omega (arith, c.in_default.in_default-own.rest.1, c.in_default.in_default-own.rest.0.1, c.in_default.in_default-own.rest.0.0.1, c.in_default.in_default-own.rest.0.0.0.1, c.in_default.in_default-own.rest.0.0.0.0.1)))
+        sym (other n (omega arith))

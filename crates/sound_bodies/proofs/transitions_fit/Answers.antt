@@ -1,5 +1,4 @@
--- `sound_bodies::transitions_fit` meets its contract. The loop's invariant: the transitions that are left pass where all do. The measure is how many
--- are left. Assumes nothing.
+-- `sound_bodies::transitions_fit` meets its contract. The loop's invariant: the transitions that are left pass where all do. Assumes nothing.
 use Prim.Native.Nat.{◌+◌, ◌-◌, ◌*◌}
 use native.Mathlib.Nat.{add-zero, sub-zero}
 use mathlib.Core.Path.{sym, ◌∙◌}
@@ -12,40 +11,26 @@ use native.Mathlib.Omega.{arith}
 use Rattle.sound_bodies.proofs.transitions_fit.Goals as goal
 
 pub loop-number-init : goal.loop-number-init
-loop-number-init c = (
-  omega arith,
-  rw (
-    sub-zero,
-    add-zero,
-  ) (sym (every-each (fits_transition (things_of c.args.counts) c.args.counts.classes) transition_at _)),
-)
+loop-number-init c = rw (sub-zero, add-zero) (sym (every-each (fits_transition (things_of c.args.counts) c.args.counts.classes) transition_at _))
 
 pub returns-then-not-fits_transition : goal.returns-then-not-fits_transition
 returns-then-not-fits_transition c =
     let l = c.loop-number in
     let a = c.args in
-    every-fails 82 (λ x. fits_transition (things_of a.counts) a.counts.classes (transition_at x)) a.table.now (a.start + 82 * l.number) (a.count - l.number) l.invariant.1
+    every-fails 82 (λ x. fits_transition (things_of a.counts) a.counts.classes (transition_at x)) a.table.now (a.start + 82 * l.number) (a.count - l.number) l.invariant
     (omega arith) (sym c.fits_transition.ensures ∙ not-true _ c.if-not-fits_transition.true-raw)
-
-pub overflow_add-number : goal.overflow_add-number
-overflow_add-number c = omega arith
-
-pub loop-number-smaller : goal.loop-number-smaller
-loop-number-smaller c = omega arith
 
 pub loop-number-preserved : goal.loop-number-preserved
 loop-number-preserved c =
     let l = c.loop-number in
-    let a = c.args in (
-      omega arith,
-      every-goes-on 82 (λ x. fits_transition (things_of a.counts) a.counts.classes (transition_at x)) a.table.now (a.start + 82 * l.number)
-          (a.count - l.number) l.invariant.1
-          (a.start + 82 * (l.number + 1)) (a.count - (l.number + 1)) (omega arith) (omega arith) (sym c.fits_transition.ensures ∙ not-false _ c.if-not-fits_transition.false-raw),
-    )
+    let a = c.args in
+    every-goes-on 82 (λ x. fits_transition (things_of a.counts) a.counts.classes (transition_at x)) a.table.now (a.start + 82 * l.number)
+    (a.count - l.number) l.invariant
+    (a.start + 82 * (l.number + 1)) (a.count - (l.number + 1)) (omega arith) (omega arith) (sym c.fits_transition.ensures ∙ not-false _ c.if-not-fits_transition.false-raw)
 
 pub returns : goal.returns
 returns c =
     let l = c.loop-number in
     let a = c.args in
-    every-ends 82 (λ x. fits_transition (things_of a.counts) a.counts.classes (transition_at x)) a.table.now (a.start + 82 * l.number) (a.count - l.number) l.invariant.1
+    every-ends 82 (λ x. fits_transition (things_of a.counts) a.counts.classes (transition_at x)) a.table.now (a.start + 82 * l.number) (a.count - l.number) l.invariant
     (omega arith)

@@ -1,6 +1,6 @@
 -- `sound_constraints::rows_fit` meets its contract. The loop's invariant: the rows that are left pass from `depth` on where all do from 0 on. Each
--- way through a turn is one law of RowLaws. The measure is the number of rows left. Assumes nothing.
-use Prim.Native.Nat.{◌+◌, ◌*◌, ◌≤◌}
+-- way through a turn is one law of RowLaws. Assumes nothing.
+use Prim.Native.Nat.{◌+◌, ◌-◌, ◌*◌}
 use mathlib.Core.Path.{◌≡◌}
 use lib.ListN.{drop}
 use Rattle.policy.specs.Sound.{pieces}
@@ -8,14 +8,7 @@ use Rattle.sound_constraints.specs.Totals.{things_of, attributes_of}
 use Rattle.sound_constraints.specs.SoundRows.{fits_row, rows_fit}
 use Rattle.sound_constraints.proofs.rows_fit.Given as goal
 
-abbrev pub invariant-loop-left : goal.invariant-loop-left
-invariant-loop-left l =
-    (l.number + l.left ≡ l.first + l.count)
-    × (l.left ≤ l.count)
-    × (
-    rows_fit (fits_row l.components (things_of l.counts) (attributes_of l.counts)) (pieces l.left 6 (drop (l.start + 6 * l.number) l.table)) l.depth
+abbrev pub invariant-loop-number : goal.invariant-loop-number
+invariant-loop-number l =
+    rows_fit (fits_row l.components (things_of l.counts) (attributes_of l.counts)) (pieces (l.first + l.count - l.number) 6 (drop (l.start + 6 * l.number) l.table)) l.depth
     ≡ rows_fit (fits_row l.components (things_of l.counts) (attributes_of l.counts)) (pieces l.count 6 (drop (l.start + 6 * l.first) l.table)) 0
-    )
-
-abbrev pub decreases-loop-left : goal.decreases-loop-left
-decreases-loop-left l = l.left

@@ -1,5 +1,5 @@
--- `sound_names::walk` meets its contract: at each turn the invariant is that of proofs/WalkLaws, and the filter knows the entries passed. In the needs below
--- `e` is the place where an entry was seen, `l` the loop's, `s` the function's start, `a` its arguments. Assumes nothing.
+-- `sound_names::walk` meets its contract: at each turn the invariant is that of proofs/WalkLaws, and the filter knows the entries passed.
+-- Assumes nothing.
 use Prim.Native.Nat.{◌-◌}
 use Rattle.symbols.specs.Section.{entries_at}
 use Rattle.sound_names.specs.Filter.{Knows}

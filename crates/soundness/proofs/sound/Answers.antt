@@ -1,9 +1,7 @@
 -- `soundness::sound` meets its contract: a table whose names are counted is sound. Assumes nothing.
-use Rattle.soundness.proofs.AnswerLaws.{sound-by, unsound-by}
+use mathlib.Core.Path.{◌∙◌}
+use Rattle.soundness.proofs.AnswerLaws.{tells-sound}
 use Rattle.soundness.proofs.sound.Goals as goal
 
-pub returns-in-Sound : goal.returns-in-Sound
-returns-in-Sound c = sound-by _ _ c.count-counted.ensures c.in-Sound.is
-
-pub returns-in-Unsound : goal.returns-in-Unsound
-returns-in-Unsound c = unsound-by _ _ c.count-counted.ensures c.in-Unsound.is
+pub returns : goal.returns
+returns c = c.is_some.ensures ∙ tells-sound _ _ c.count.ensures

@@ -20,11 +20,10 @@ overflow_add-end c = omega (arith, (sees c.next_item-item.ensures c.in-Word.is).
 pub slice_bounds-name-end : goal.slice_bounds-name-end
 slice_bounds-name-end c = omega (arith, (sees c.next_item-item.ensures c.in-Word.is).ahead.3)
 
-pub returns-in_default-referred : goal.returns-in_default-referred
-returns-in_default-referred c =
-    no_name (sees c.next_item-item.ensures c.in-Word.is) c.name_unit-referred.ensures c.in_default-referred.is
+pub returns-in_err-unit : goal.returns-in_err-unit
+returns-in_err-unit c =
+    rw c.from_residual.ensures (no_name (sees c.next_item-item.ensures c.in-Word.is) c.name_unit.ensures c.in_err-unit.was)
 
 pub returns : goal.returns
 returns c =
-    one_name (sees c.next_item-item.ensures c.in-Word.is) c.name_unit-referred.ensures
-    c.in-Unit.is c.put_unit-u.ensures
+    one_name (sees c.next_item-item.ensures c.in-Word.is) c.name_unit.ensures c.in_ok-unit.was c.put_unit-past.ensures

@@ -12,13 +12,14 @@ pub returns-then-is_word : goal.returns-then-is_word
 unfolding any
 returns-then-is_word c =
     let t = c.args.table.now in
-    sym (ap (λ (p : Reply Part). has_one_name t p transition_words) (sym c.permission_name-place.ensures)
+    c.if-is_word.true
+    ∙ sym (ap (λ (p : Reply Part). has_one_name t p transition_words) (sym c.permission_name-place.ensures)
     ∙ rw (sym c.is_word.ensures ∙ c.if-is_word.true))
 
-pub returns : goal.returns
+pub returns-else-is_word : goal.returns-else-is_word
 unfolding any
-returns c =
+returns-else-is_word c =
     let t = c.args.table.now in
     sym (ap (λ (p : Reply Part). has_one_name t p transition_words) (sym c.permission_name-place.ensures)
     ∙ or-second _ _ (sym c.is_word.ensures ∙ c.if-is_word.false)
-    ∙ sym c.is_word-2.ensures)
+    ∙ sym c.is_word-else-is_word.ensures)

@@ -4,10 +4,10 @@ use Rattle.table_names.proofs.WordLaws.{shorter, whole_word}
 use Rattle.table_names.proofs.is_word.Goals as goal
 
 pub returns-then-length-word : goal.returns-then-length-word
-returns-then-length-word c = rw c.in-At.is (sym (shorter _ _ _ _ c.if-length-word.true))
+returns-then-length-word c = rw c.in-Some.is (sym (shorter _ _ _ _ c.if-length-word.true))
 
 pub returns-else-length-word : goal.returns-else-length-word
-returns-else-length-word c = rw c.in-At.is (c.same.ensures ∙ rw (whole_word _ _ c.if-length-word.false))
+returns-else-length-word c = rw c.in-Some.is (c.same.ensures ∙ rw (whole_word _ _ c.if-length-word.false))
 
-pub returns-in-Nowhere : goal.returns-in-Nowhere
-returns-in-Nowhere c = rw c.in-Nowhere.is
+pub returns-in-None : goal.returns-in-None
+returns-in-None c = rw c.in-None.is

@@ -10,9 +10,9 @@ use Rattle.table_parts.proofs.attribute_place.Goals as goal
 pub set_place-requires : goal.set_place-requires
 set_place-requires c = (
   omega (arith, c.body_start-start.type_inv),
-  omega (arith, c.least.ensures),
-  omega (arith, c.least-2.ensures),
-  omega (arith, c.least-3.ensures),
+  omega (arith, c.min.ensures),
+  omega (arith, c.min-2.ensures),
+  omega (arith, c.min-3.ensures),
 )
 
 pub returns : goal.returns
@@ -22,9 +22,9 @@ returns c sound =
     let s = sound-table t (all-places (λ k. k < 256) t 0 (λ i l. (c.shared_slice_known-1.given i).fits)) sound in
     c.set_place.ensures
     ∙ rw (
-      c.least.ensures,
-      c.least-2.ensures,
-      c.least-3.ensures,
+      c.min.ensures,
+      c.min-2.ensures,
+      c.min-3.ensures,
       c.body_start-start.ensures,
       c.count_names-counts.ensures,
     )

@@ -1,11 +1,10 @@
 -- `table_parts::name_place` meets its contract: 11, then 12. Assumes nothing.
-use mathlib.Core.Path.{sym, ◌∙◌}
-use borrow.Author.Tests.{not-true, not-false}
+use Rattle.std.proofs.lemmas.Result.{err_from_is_err_and}
 use Rattle.table_parts.proofs.AskedTable.{name-unsound}
 use Rattle.table_parts.proofs.name_place.Goals as goal
 
-pub returns-then-not-sound : goal.returns-then-not-sound
-returns-then-not-sound c = name-unsound _ (sym c.sound.ensures ∙ not-true _ c.if-not-sound.true-raw) _ _
-
-pub returns : goal.returns
-returns c = c.name_place_in_sound.ensures (sym c.sound.ensures ∙ not-false _ c.if-not-sound.false-raw)
+pub returns-in_err-require_sound : goal.returns-in_err-require_sound
+returns-in_err-require_sound c =
+    let unsound = c.in_err-require_sound.ensures in
+    let p = err_from_is_err_and c.from_residual.result c.from_residual.ensures.1 in
+    rw (p.1, p.2, unsound.unsound) (name-unsound _ unsound.err _ _)

@@ -5,22 +5,22 @@ use Rattle.soundness.proofs.SoundTable.{sound-table}
 use Rattle.table_parts.proofs.AskedTable.{name-sound}
 use Rattle.table_parts.proofs.name_place_in_sound.Goals as goal
 
-pub returns-in-At : goal.returns-in-At
-returns-in-At c sound =
+pub returns-in-Some : goal.returns-in-Some
+returns-in-Some c sound =
     let a = c.args in
     let bytes = all-places (λ k. k < 256) a.table.now 0 (λ i l. (c.shared_slice_known-1.given i).fits) in
     rw (
       ← name-sound a.table.now (sound-table a.table.now bytes sound) a.sort a.number,
       ← c.name_place-found.ensures,
-      c.in-At.is,
+      c.in-Some.is,
     )
 
-pub returns-in-Nowhere : goal.returns-in-Nowhere
-returns-in-Nowhere c sound =
+pub returns-in-None : goal.returns-in-None
+returns-in-None c sound =
     let a = c.args in
     let bytes = all-places (λ k. k < 256) a.table.now 0 (λ i l. (c.shared_slice_known-1.given i).fits) in
     rw (
       ← name-sound a.table.now (sound-table a.table.now bytes sound) a.sort a.number,
       ← c.name_place-found.ensures,
-      c.in-Nowhere.is,
+      c.in-None.is,
     )

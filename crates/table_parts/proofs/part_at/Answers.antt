@@ -3,8 +3,5 @@ use mathlib.Core.Path.{◌∙◌}
 use Rattle.table_parts.proofs.ShownLaws.{no_bytes}
 use Rattle.table_parts.proofs.part_at.Goals as goal
 
-pub returns-in-Part : goal.returns-in-Part
-returns-in-Part c = rw c.in-Part.is c.part.ensures
-
-pub returns-in-Refused : goal.returns-in-Refused
-returns-in-Refused c = rw c.in-Refused.is (c.part-in-Refused.ensures ∙ no_bytes _ _)
+pub returns-in-Err : goal.returns-in-Err
+returns-in-Err c = rw c.in-Err.is (c.part-in-Err.ensures ∙ no_bytes _ _)

@@ -4,8 +4,8 @@ use native.Mathlib.Omega.{arith}
 use Rattle.little_endian.proofs.WidthLaws.{unle-split, unle-byte, unle-past}
 use Rattle.table_reader.proofs.u16_at.Goals as goal
 
-pub returns-then-bytes_from-lt2 : goal.returns-then-bytes_from-lt2
-returns-then-bytes_from-lt2 c =
+pub returns-then-saturating_sub-lt2 : goal.returns-then-saturating_sub-lt2
+returns-then-saturating_sub-lt2 c =
     let t = c.args.table.now in
     let at = c.args.at in
-    omega (arith, unle-split 1 1 at t, unle-byte at t, unle-past 1 (at + 1) t (omega (arith, c.bytes_from.ensures)))
+    omega (arith, unle-split 1 1 at t, unle-byte at t, unle-past 1 (at + 1) t (omega (arith, c.saturating_sub.ensures)))

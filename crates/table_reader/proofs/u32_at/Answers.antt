@@ -22,6 +22,6 @@ number-requires c = omega (arith, short (goal.at.number-requires c).After-part)
 pub overflow_cast-result : goal.overflow_cast-result
 overflow_cast-result c = omega (arith, fits_more (length c.part.result.now) 4 c.number.result c.number.ensures.1 (short (goal.at.overflow_cast-result c).After-part))
 
-pub returns-then-bytes_from-lt4 : goal.returns-then-bytes_from-lt4
+pub returns-then-saturating_sub-lt4 : goal.returns-then-saturating_sub-lt4
 unfolding part
-returns-then-bytes_from-lt4 c = c.number.ensures.0 ∙ ap unle c.part.ensures
+returns-then-saturating_sub-lt4 c = c.number.ensures.0 ∙ ap unle c.part.ensures

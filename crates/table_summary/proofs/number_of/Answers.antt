@@ -8,7 +8,7 @@ returns-then-found_sort-sort c =
       ← c.names_end-end.ensures,
       ← c.names_start-start.ensures,
       ← c.find_in_section-tried.ensures.finds,
-      c.in-At.is,
+      c.in-Some.is,
       eq-eqb _ _ c.if-found_sort-sort.true,
     )
 
@@ -18,10 +18,10 @@ returns-else-found_sort-sort c =
       ← c.names_end-end.ensures,
       ← c.names_start-start.ensures,
       ← c.find_in_section-tried.ensures.finds,
-      c.in-At.is,
+      c.in-Some.is,
       ne_eqb _ _ c.if-found_sort-sort.false,
     )
 
-pub returns-in-Missing : goal.returns-in-Missing
-returns-in-Missing c =
-    rw (← c.names_end-end.ensures, ← c.names_start-start.ensures, ← c.find_in_section-tried.ensures.finds, c.in-Missing.is)
+pub returns-in-None : goal.returns-in-None
+returns-in-None c =
+    rw (← c.names_end-end.ensures, ← c.names_start-start.ensures, ← c.find_in_section-tried.ensures.finds, c.in-None.is)

@@ -1,5 +1,4 @@
 -- `table_summary::numbers_of` meets its contract: a turn puts one number, and no more than they are. Assumes nothing.
-use Prim.Native.Nat.{◌-◌}
 use mathlib.Core.Path.{refl}
 use Rattle.table_summary.proofs.SummaryLaws.{put-none, put_next, put_all}
 use Rattle.table_summary.proofs.numbers_of.Goals as goal

@@ -1,11 +1,7 @@
 -- `table_summary::numbers_of` meets its contract: a turn puts one number, and no more than they are. Assumes nothing.
-use Prim.Native.Nat.{◌-◌}
 use mathlib.Core.List.{◌++◌}
 use Rattle.table_summary.proofs.SummaryLaws.{Put}
 use Rattle.table_summary.proofs.numbers_of.Given as goal
 
 abbrev pub invariant-loop-at : goal.invariant-loop-at
 invariant-loop-at l = Put (l.first ++ l.permissions) l.numbers l.at
-
-abbrev pub decreases-loop-at : goal.decreases-loop-at
-decreases-loop-at l = 43 - l.at

@@ -14,7 +14,7 @@ pub returns : goal.returns
 returns c =
     let t = c.args.table.now in
     let bytes = all-places (λ k. k < 256) t 0 (λ i l. (c.shared_slice_known-1.given i).fits) in
-    let is = c.in-Sound.is in (
+    let is = c.in-Some.is in (
       sound-by _ _ c.count-counted.ensures is,
       summarized t bytes c.count-counted.ensures is c.special_numbers-special.ensures c.numbers_of-numbers.ensures _,
     )

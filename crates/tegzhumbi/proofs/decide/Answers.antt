@@ -4,8 +4,8 @@ use Rattle.compiler.specs.Promise.{Compiles}
 use Rattle.tegzhumbi.proofs.OneStep.{refuses, answers}
 use Rattle.tegzhumbi.proofs.decide.Goals as goal
 
-pub returns-in-Accepted : goal.returns-in-Accepted
-returns-in-Accepted c = answers (subst (Compiles _ _ _) c.in-Accepted.is c.compile-compiled.ensures) c.change.ensures
+pub returns-in-Ok : goal.returns-in-Ok
+returns-in-Ok c = answers (subst (Compiles _ _ _) c.in-Ok.is c.compile-compiled.ensures) c.change.ensures
 
-pub returns-in-Refused : goal.returns-in-Refused
-returns-in-Refused c = refuses (subst (Compiles _ _ _) c.in-Refused.is c.compile-compiled.ensures)
+pub returns-in-Err : goal.returns-in-Err
+returns-in-Err c = refuses (subst (Compiles _ _ _) c.in-Err.is c.compile-compiled.ensures)

@@ -1,5 +1,4 @@
 -- `text_writer::put_digits` meets its contract. It calls itself with one digit less. Assumes nothing.
-use Prim.Native.Nat.{◌-◌}
 use Rattle.text_writer.proofs.+put_digits.Given as goal
 
 abbrev pub decreases-put_digits : goal.decreases-put_digits

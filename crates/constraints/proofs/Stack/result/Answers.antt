@@ -1,9 +1,7 @@
 -- `constraints::Stack::result` meets its contract: the lowest bit. Assumes nothing.
-use Rattle.constraints.proofs.StackLaws.{top-law}
+use borrow.Author.Tests.{lt-leb}
+use Rattle.constraints.proofs.StackLaws.{top-none}
 use Rattle.constraints.proofs.Stack.result.Goals as goal
 
-pub returns-then-bits-lt2 : goal.returns-then-bits-lt2
-returns-then-bits-lt2 c = λ s e. (top-law s _ e).0 c.if-bits-lt2.true
-
-pub returns : goal.returns
-returns c = λ s e. (top-law s _ e).1 c.if-bits-lt2.false
+pub returns-else-self-ge2 : goal.returns-else-self-ge2
+returns-else-self-ge2 c = λ s e. rw (lt-leb _ _ c.if-self-ge2.false) (top-none s _ e c.if-self-ge2.false)

@@ -1,5 +1,0 @@
--- `constraints::locate_relabels` meets its contract: each number is read where the header has it. Assumes nothing.
-use Rattle.constraints.proofs.locate_relabels.Goals as goal
-
-pub returns : goal.returns
-returns c = rw (c.body_start-3.ensures, c.body_start-2.ensures, c.relabel_count.ensures, c.body_start.ensures)
