@@ -77,7 +77,7 @@ enum Step {
 
 // The class of each byte, 32 bytes to a line: b blank, n line feed, s start of a comment, o open, c close, w wrong,
 // and as capitals those that names are made of: L letter, D digit, P dot.
-static CLASSES: [u8; 256] = *b"\
+const CLASSES: [u8; 256] = *b"\
     wwwwwwwwwbnwwbwwwwwwwwwwwwwwwwww\
     bwwwwwwwocwwwDPwDDDDDDDDDDwswwww\
     wLLLLLLLLLLLLLLLLLLLLLLLLLLwwwwL\
@@ -87,11 +87,14 @@ static CLASSES: [u8; 256] = *b"\
     wwwwwwwwwwwwwwwwwwwwwwwwwwwwwwww\
     wwwwwwwwwwwwwwwwwwwwwwwwwwwwwwww";
 
+// The constant in memory, where it stands once for all that read it.
+static TABLE: [u8; 256] = CLASSES;
+
 // The mark of a byte's class.
 fn mark(b: u8) -> u8
     ensures { result ≡ mark_of (class_of b) }
 {
-    CLASSES[b as usize]
+    TABLE[b as usize]
 }
 
 // What a byte is.

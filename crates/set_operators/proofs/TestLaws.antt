@@ -13,7 +13,7 @@ use Rattle.std.specs.List.{range_with_len, AllWithin, HoldsAt}
 use lib.Bits.{bit_and, and_le_l}
 use lib.ListN.{length, get_or}
 use Rattle.bitset.specs.Sets.{bit, member, from_bits, set_of, all_below, meets, equal}
-use Rattle.bitset.proofs.AllLaws.{either, all_below-of, all_below-at, meet-apart}
+use Rattle.bitset.proofs.AllLaws.{either, all_below-of, all_below-at, meet-apart, not-true}
 use Rattle.bitset.proofs.BitLaws.{bit-and, bit-zero, bits-eq}
 use Rattle.bitset.proofs.SetLaws.{member-at, member-past, set_of-ext, set_of-member}
 
@@ -92,10 +92,6 @@ equal-is a b false n p q e h =
 meets-apart : (a b : List ℕ) → meets a b ≡ not (all_below (8 * length a) (apart_rule a b))
 unfolding meets
 meets-apart a b = meet-apart (8 * length a) (member a) (member b)
-
-not-true : (x : Bool) → not x ≡ true → x ≡ false
-not-true true e = sym e
-not-true false e = refl
 
 -- they do not meet where no two bytes have a bit in common, and nowhere else
 none-meets : (a b : List ℕ) → ((i : ℕ) → i < min (length a) (length b) → bit_and (get_or a i 0) (get_or b i 0) ≡ 0) → meets a b ≡ false
