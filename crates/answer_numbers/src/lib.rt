@@ -5,8 +5,8 @@
 #![tactic(auto)]
 
 ghost use Rattle.std.specs.Prelude.{◌≡◌, ◌<◌};
-ghost use Rattle.policy.specs.Answers.{fault_number, compiling_of, validity_of, new_role_of, change_of, place_of};
-ghost use Rattle.answer_numbers.specs.Numbers.{answer_of, compiled_numbers, valid_numbers, change_numbers, new_role_numbers, part_numbers, CompiledFits, Fits, PartFits};
+ghost use Rattle.policy.specs.Answers.{compiling_of, validity_of, new_role_of, change_of, place_of};
+ghost use Rattle.answer_numbers.specs.Numbers.{compiled_of, answer_of, part_of, compiled_numbers, valid_numbers, change_numbers, new_role_numbers, part_numbers, CompiledFits, Fits, PartFits};
 
 use byte_slices::Span;
 use policy::{Change, Fault, Refusal};
@@ -62,6 +62,17 @@ const DENIED: u32 = 1;
 
 const REFUSED: u32 = 2;
 
+// A refusal of a text by its number, its place and its line.
+pub fn refused_text_numbers(refusal: usize, place: usize, line: usize) -> Compiled
+    ensures { CompiledFits (compiled_of refusal place line) → result ≡ compiled_of refusal place line }
+{
+    Compiled {
+        number: four_bytes(refusal),
+        place: four_bytes(place),
+        line: four_bytes(line),
+    }
+}
+
 pub fn compiled_numbers(answer: Result<usize, Refusal>) -> Compiled
     ensures { CompiledFits (compiled_numbers (compiling_of answer)) → result ≡ compiled_numbers (compiling_of answer) }
 {
@@ -71,23 +82,33 @@ pub fn compiled_numbers(answer: Result<usize, Refusal>) -> Compiled
             place: four_bytes(length),
             line: 0,
         },
-        Err(refusal) => Compiled {
-            number: four_bytes(refusal.fault.number()),
-            place: four_bytes(refusal.place),
-            line: four_bytes(refusal.line),
-        },
+        Err(refusal) => {
+            refused_text_numbers(refusal.fault.number(), refusal.place, refusal.line)
+        }
     }
 }
 
-// Every refusal of a question is made here.
-fn refusal(fault: Fault) -> Answer
-    ensures { fault_number fault < 4294967296 → result ≡ answer_of 2 (fault_number fault) 0 0 }
+// A refusal of a question by its number.
+pub fn refusal_numbers(number: usize) -> Answer
+    ensures { number < 4294967296 → result ≡ answer_of 2 number 0 0 }
 {
     Answer {
         outcome: REFUSED,
-        number: four_bytes(fault.number()),
+        number: four_bytes(number),
         constraint: 0,
         consulted: 0,
+    }
+}
+
+// A denial by its number, with that of the statement that fails and how many were asked.
+pub fn denial_numbers(number: usize, constraint: usize, consulted: usize) -> Answer
+    ensures { Fits (answer_of 1 number constraint consulted) → result ≡ answer_of 1 number constraint consulted }
+{
+    Answer {
+        outcome: DENIED,
+        number: four_bytes(number),
+        constraint: four_bytes(constraint),
+        consulted: four_bytes(consulted),
     }
 }
 
@@ -107,7 +128,7 @@ pub fn valid_numbers(answer: Result<bool, Fault>) -> Answer
             constraint: 0,
             consulted: 0,
         },
-        Err(fault) => refusal(fault),
+        Err(fault) => refusal_numbers(fault.number()),
     }
 }
 
@@ -121,25 +142,15 @@ pub fn change_numbers(answer: Result<Change, Fault>) -> Answer
             constraint: 0,
             consulted: four_bytes(consulted),
         },
-        Ok(Change::Denied(denial)) => Answer {
-            outcome: DENIED,
-            number: four_bytes(denial.number()),
-            constraint: 0,
-            consulted: 0,
-        },
+        Ok(Change::Denied(denial)) => denial_numbers(denial.number(), 0, 0),
         Ok(
             Change::Failed {
                 denial,
                 constraint,
                 consulted,
             },
-        ) => Answer {
-            outcome: DENIED,
-            number: four_bytes(denial.number()),
-            constraint: four_bytes(constraint),
-            consulted: four_bytes(consulted),
-        },
-        Err(fault) => refusal(fault),
+        ) => denial_numbers(denial.number(), constraint, consulted),
+        Err(fault) => refusal_numbers(fault.number()),
     }
 }
 
@@ -153,7 +164,18 @@ pub fn new_role_numbers(answer: Result<usize, Fault>) -> Answer
             constraint: 0,
             consulted: 0,
         },
-        Err(fault) => refusal(fault),
+        Err(fault) => refusal_numbers(fault.number()),
+    }
+}
+
+// A refusal of a name or an entry by its number.
+pub fn refused_part_numbers(number: usize) -> Part
+    ensures { number < 4294967296 → result ≡ part_of number 0 0 }
+{
+    Part {
+        number: four_bytes(number),
+        start: 0,
+        length: 0,
     }
 }
 
@@ -166,10 +188,6 @@ pub fn part_numbers(place: Result<Span, Fault>) -> Part
             start: four_bytes(start),
             length: four_bytes(length),
         },
-        Err(fault) => Part {
-            number: four_bytes(fault.number()),
-            start: 0,
-            length: 0,
-        },
+        Err(fault) => refused_part_numbers(fault.number()),
     }
 }

@@ -7,7 +7,7 @@ use std::io;
 use std::io::Write;
 
 // The line of a question that is refused: `refused 12`.
-pub fn show_fault<W: Write>(out: &mut W, fault: Fault) -> io::Result<()> {
+fn show_fault<W: Write>(out: &mut W, fault: Fault) -> io::Result<()> {
     writeln!(out, "refused {}", fault.number())
 }
 

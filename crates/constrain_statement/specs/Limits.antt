@@ -17,6 +17,13 @@ Records width bytes before after count = width * count + width ≤ length before
 abbrev pub fits_within : ℕ → ℕ → ℕ → ℕ → Bool
 fits_within statements rows count next = ltb count statements && leb next rows
 
+-- the faults of such a statement, 5, 6 and 7: no other is answered, whatever the row and the memory hold
+abbrev pub IsRefusal : Fault → Type 0
+IsRefusal Fault.NameUndeclared = Unit {0}
+IsRefusal Fault.MaximumPassed = Unit {0}
+IsRefusal Fault.StackTooSmall = Unit {0}
+IsRefusal f = ⊥
+
 -- a name is not declared: 5
 abbrev pub IsUndeclared : Result ℕ Fault → Type 0
 IsUndeclared r = IsErrOf r Fault.NameUndeclared

@@ -2,7 +2,7 @@
 // in the table; faults 5, 6 and 7. Its form is known to be good where this is called.
 #![tactic(auto)]
 
-ghost use Rattle.std.specs.Prelude.{◌≡◌, ◌||◌, ◌%◌, eqb};
+ghost use Rattle.std.specs.Prelude.{◌≡◌, ◌||◌, ◌%◌, eqb, IfErr};
 ghost use Rattle.bitset.specs.Sets.{bit, from_bits};
 ghost use Rattle.policy.specs.Encode.{constraint_bytes};
 ghost use Rattle.policy.specs.Words.{Sides};
@@ -10,7 +10,7 @@ ghost use Rattle.constraint_writer.specs.ExpressionWrites.{Countable};
 ghost use Rattle.constrain_statement.specs.ClassPermissions.{Masks, Scopes};
 ghost use Rattle.constrain_statement.specs.ClassNames.{Classes};
 ghost use Rattle.constrain_statement.specs.Expressions.{WritesExpression};
-ghost use Rattle.constrain_statement.specs.Limits.{Records, Admits};
+ghost use Rattle.constrain_statement.specs.Limits.{IsRefusal, Records, Admits};
 ghost use Rattle.constrain_statement.specs.ConstrainWrites.{record_with, WritesConstrain};
 
 use constraint_writer::RowsWritten;
@@ -162,7 +162,8 @@ pub fn limit(
     count: usize,
     written: RowsWritten,
 ) -> Result<usize, Fault>
-    ensures { Admits statements rows count written.row written.need result }
+    ensures admits { Admits statements rows count written.row written.need result }
+    ensures refuses { IfErr result IsRefusal }
 {
     if statements <= count || rows < written.row {
         return Err(Fault::MaximumPassed);
@@ -204,11 +205,12 @@ pub fn write_constrain(
     rows: &mut [u8],
     row: usize,
 ) -> Result<usize, Fault>
-    ensures { WritesConstrain text.now at symbols.now constraints.old constraints.new count
+    ensures writes { WritesConstrain text.now at symbols.now constraints.old constraints.new count
         rows.old rows.new row result }
+    ensures refuses { IfErr result IsRefusal }
 {
     if Row::MAX < row {
-        return Err(Fault::MaximumPassed);
+        return Err(Fault::MaximumPassed); // no caller begins past the last row
     }
     let first = items::next_item(text, at);
     let Item::Open { next, .. } = first else {

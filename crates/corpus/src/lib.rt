@@ -46,6 +46,7 @@ pub fn each_case<R: Read, W: Write, F: FnMut(&mut R, &mut W, &[u8]) -> io::Resul
     mut run: F,
 ) -> io::Result<()>
     requires { F.IsAlwaysCallable run }
+    ensures { length memory.new ≡ length memory.old }
 {
     for _ in 0..CASES {
         let Some(len) = length(input)? else {

@@ -6,3 +6,4 @@ pub mod FullNames
 pub mod NewPermissions
 pub mod NameAnswers
 pub mod ClassAnswers
+pub mod Refusals

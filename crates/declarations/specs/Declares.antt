@@ -47,6 +47,12 @@ Declares before after end ds d (Err Fault.DeclaredAgain) = (is_new ds d ≡ fals
 Declares before after end ds d (Err Fault.MaximumPassed) = (is_new ds d ≡ true) × (has_room ds d && is_short d ≡ false) × (after ≡ before)
 Declares before after end ds d (Err f) = ⊥
 
+-- the faults of a declaration, 4 and 6: no other is answered, whatever the row and the memory hold
+abbrev pub IsRefusal : Fault → Type 0
+IsRefusal Fault.DeclaredAgain = Unit {0}
+IsRefusal Fault.MaximumPassed = Unit {0}
+IsRefusal f = ⊥
+
 -- the declaration after the keyword k at a place of the text, under its full name in the blocks of a path
 pub record DeclaresAt (t : List ℕ) (at : ℕ) (k : Keyword) (before after : List ℕ) (end : ℕ) (r : Result ℕ Fault) : Type 0 where
   pub says : (ds : List Declaration) (path : List Name) (d : Declaration) → Holds before end ds → InScope before path → GoodPath path

@@ -2,14 +2,14 @@
 // statement is known to be good where it is declared here, so that a row that should be of names is one.
 #![tactic(auto)]
 
-ghost use Rattle.std.specs.Prelude.{◌≡◌, [], ◌∷◌, ◌≤◌, ◌<◌, length};
+ghost use Rattle.std.specs.Prelude.{◌≡◌, [], ◌∷◌, ◌≤◌, ◌<◌, length, IfErr};
 ghost use Rattle.lexer.specs.Forms.{frames_at};
 ghost use Rattle.policy.specs.Encode.{name_entry, permission_entries};
 ghost use Rattle.policy.specs.Words.{class_k};
 ghost use Rattle.declarations.specs.SortCounts.{Counts, Stands};
 ghost use Rattle.name_rows.specs.WordRows.{words_in};
 ghost use Rattle.declarations.specs.NewEntries.{Enters};
-ghost use Rattle.declarations.specs.Declares.{DeclaresAt, DeclaresName, DeclaresPlain, DeclaresClass};
+ghost use Rattle.declarations.specs.Declares.{IsRefusal, DeclaresAt, DeclaresName, DeclaresPlain, DeclaresClass};
 ghost use Rattle.name_index.specs.Index.{index_bytes};
 ghost use Rattle.symbols.specs.Section.{name_bytes};
 
@@ -35,7 +35,8 @@ pub fn count(symbols: &[u8], sort: usize) -> usize
 
 // The number that a new name of a sort gets, which is how many the sort has; or fault 4, where the family has the name.
 fn number_for(symbols: &[u8], sort: usize, name: &[u8]) -> Result<usize, Fault>
-    ensures { Stands symbols.now sort name.now result }
+    ensures stands { Stands symbols.now sort name.now result }
+    ensures refuses { IfErr result IsRefusal }
 {
     let family = symbols::family_of(sort, 0);
     let tried = name_chains::find(symbols, family, name);
@@ -67,7 +68,8 @@ fn add(symbols: &mut [u8], end: usize, sort: usize, number: usize, name: &[u8]) 
 // A thing or an attribute by its full name.
 fn add_name(symbols: &mut [u8], end: usize, sort: usize, name: &[u8]) -> Result<usize, Fault>
     requires { (sort < 6) × (index_bytes ≤ length symbols.old) }
-    ensures { DeclaresPlain sort name.now symbols.old symbols.new end result }
+    ensures declares { DeclaresPlain sort name.now symbols.old symbols.new end result }
+    ensures refuses { IfErr result IsRefusal }
 {
     let number = number_for(symbols, sort, name)?;
     if symbols::most(sort) <= number {
@@ -84,10 +86,11 @@ pub fn declare(
     symbols: &mut [u8; SYMBOL_BYTES],
     end: usize,
 ) -> Result<usize, Fault>
-    ensures { DeclaresName text.now at sort symbols.old symbols.new end result }
+    ensures declares { DeclaresName text.now at sort symbols.old symbols.new end result }
+    ensures refuses { IfErr result IsRefusal }
 {
     if Sort::CLASS <= sort {
-        return Err(Fault::MaximumPassed);
+        return Err(Fault::MaximumPassed); // no caller declares a class or a permission so
     }
     let Some(word) = name_rows::word_at(text, at) else {
         return Err(Fault::MaximumPassed);
@@ -144,7 +147,8 @@ fn add_class(
     row: usize,
 ) -> Result<usize, Fault>
     requires { index_bytes ≤ length symbols.old }
-    ensures { DeclaresClass name.now (words_in (frames_at text.now row).here) symbols.old symbols.new end result }
+    ensures declares { DeclaresClass name.now (words_in (frames_at text.now row).here) symbols.old symbols.new end result }
+    ensures refuses { IfErr result IsRefusal }
 {
     let number = number_for(symbols, Sort::CLASS, name)?;
     if policy::Class::MAX <= number {
@@ -166,7 +170,8 @@ pub fn declare_class(
     symbols: &mut [u8; SYMBOL_BYTES],
     end: usize,
 ) -> Result<usize, Fault>
-    ensures { DeclaresAt text.now at class_k symbols.old symbols.new end result }
+    ensures declares { DeclaresAt text.now at class_k symbols.old symbols.new end result }
+    ensures refuses { IfErr result IsRefusal }
 {
     let Some(word) = name_rows::word_at(text, at) else {
         return Err(Fault::MaximumPassed);

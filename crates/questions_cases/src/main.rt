@@ -193,7 +193,7 @@ fn ask_all<R: Read, W: Write>(input: &mut R, out: &mut W, table: &[u8]) -> io::R
         if sound {
             ask_tested(out, table, &summary, question)?;
         } else {
-            answer_show::show_fault(out, Fault::NotSound)?;
+            answer_show::show_change(out, Err(Fault::NotSound))?;
         }
     }
     Ok(true)

@@ -2,8 +2,9 @@
 // table; faults 5, 6 and 7. Its form is known to be good where this is called.
 #![tactic(auto)]
 
+ghost use Rattle.std.specs.Prelude.{IfErr};
 ghost use Rattle.policy.specs.Encode.{relabel_bytes};
-ghost use Rattle.constrain_statement.specs.Limits.{Records};
+ghost use Rattle.constrain_statement.specs.Limits.{IsRefusal, Records};
 ghost use Rattle.relabel_statement.specs.RelabelWrites.{record_with, WritesRelabel};
 
 use policy::{Fault, Relabel};
@@ -33,8 +34,9 @@ pub fn write_relabel(
     rows: &mut [u8],
     row: usize,
 ) -> Result<usize, Fault>
-    ensures { WritesRelabel text.now at symbols.now relabels.old relabels.new count
+    ensures writes { WritesRelabel text.now at symbols.now relabels.old relabels.new count
         rows.old rows.new row result }
+    ensures refuses { IfErr result IsRefusal }
 {
     if Relabel::MAX_ROWS < row {
         return Err(Fault::MaximumPassed);

@@ -1,11 +1,18 @@
 -- Document 01: "then 8; 9". Assumes nothing.
 use Rattle.std.specs.Prelude.{ℕ, ◌≡◌, List, Result, Ok, Err}
+use Rattle.policy.specs.declared.Fault.{Fault}
 use Rattle.policy.specs.declared.FaultAt.{FaultAt}
 use Rattle.policy.specs.Answers.{fault_number}
 use Rattle.policy.specs.Statements.{users, roles, types, Policy}
 use Rattle.policy.specs.Reading.{Read, policy, refused}
 use Rattle.policy.specs.Outcome.{accept}
 use Rattle.code_reader.specs.AttributeSets.{final_sets}
+
+-- the faults that are found here, 8 and 9: no other is answered, whatever the code is
+abbrev pub IsRefusal : Fault → Type 0
+IsRefusal Fault.Cycle = Unit {0}
+IsRefusal Fault.Clash = Unit {0}
+IsRefusal f = ⊥
 
 -- the policy, or the number of the fault and its place
 abbrev pub read_of : Policy → Result (Unit {0}) FaultAt → Read

@@ -1,7 +1,7 @@
 // From the code of the statements alone: the final set of every attribute, and faults 8 and 9 in their order.
 #![tactic(auto)]
 
-ghost use Rattle.std.specs.Prelude.{◌≡◌};
+ghost use Rattle.std.specs.Prelude.{◌≡◌, IfErr};
 ghost use Rattle.policy.specs.Answers.{family_of};
 ghost use Rattle.policy.specs.Statements as statements;
 ghost use Rattle.policy.specs.Statements.{Policy};
@@ -11,7 +11,7 @@ ghost use Rattle.policy.specs.Accepted.{Accepted};
 ghost use Rattle.statement_code.specs.Code.{code_of};
 ghost use Rattle.code_reader.specs.Reading.{found_of};
 ghost use Rattle.code_reader.specs.AttributeSets.{final_sets};
-ghost use Rattle.resolver.specs.LaterFaults.{Resolves};
+ghost use Rattle.resolver.specs.LaterFaults.{IsRefusal, Resolves};
 
 use code_reader::FAMILY_BYTES;
 use policy::{Family, Fault, FaultAt};
@@ -49,9 +49,10 @@ pub fn resolve(
     role_sets: &mut [u8; FAMILY_BYTES],
     type_sets: &mut [u8; FAMILY_BYTES],
 ) -> Result<(), FaultAt>
-    ensures { (p : Policy) → Accepted p → code.now ≡ code_of p
+    ensures resolves { (p : Policy) → Accepted p → code.now ≡ code_of p
         → users ≡ count_in p statements.users → roles ≡ count_in p statements.roles → types ≡ count_in p statements.types
         → Resolves p user_sets.new role_sets.new type_sets.new result }
+    ensures refuses { IfErr result (λ found. IsRefusal found.fault) }
 {
     let in_users = resolve_family(code, Family::Users, users, user_sets);
     let in_roles = resolve_family(code, Family::Roles, roles, role_sets);

@@ -5,6 +5,7 @@
 ghost use Rattle.std.specs.Prelude.{◌≡◌, true, ◌+◌, ◌*◌, ◌≤◌, ◌<◌, length};
 ghost use Rattle.policy.specs.Questions.{entry_on};
 ghost use Rattle.policy.specs.Answers.{refusal_in};
+ghost use Rattle.policy.specs.Outcome.{refusal_at};
 ghost use Rattle.policy.specs.Roll.{roll_line, labelled, refusal};
 ghost use Rattle.soundness.specs.IsSound.{is_sound};
 ghost use Rattle.table_parts.specs.ShownPart.{shown_part};
@@ -37,15 +38,23 @@ fn put_labelled(out: &mut [u8], at: usize, label: &[u8], number: usize) -> usize
     text_writer::put_decimal(out, start, number)
 }
 
+// Writes the line of a refusal by its number, its place and its line.
+pub fn put_refusal_numbers(out: &mut [u8], number: usize, place: usize, line: usize) -> usize
+    requires { 79 ≤ length out.old }
+    ensures { Appends out.old 0 (refusal (refusal_at number place line)) out.new result }
+{
+    let past_number = put_labelled(out, 0, b"refused ", number);
+    let past_place = put_labelled(out, past_number, b" at ", place);
+    let past_line = put_labelled(out, past_place, b" line ", line);
+    text_writer::put_bytes(out, past_line, b"\n")
+}
+
 // Writes the line of a refusal.
 pub fn put_refusal(out: &mut [u8], refused: Refusal) -> usize
     requires { 79 ≤ length out.old }
     ensures { Appends out.old 0 (refusal (refusal_in refused)) out.new result }
 {
-    let past_number = put_labelled(out, 0, b"refused ", refused.fault.number());
-    let past_place = put_labelled(out, past_number, b" at ", refused.place);
-    let past_line = put_labelled(out, past_place, b" line ", refused.line);
-    text_writer::put_bytes(out, past_line, b"\n")
+    put_refusal_numbers(out, refused.fault.number(), refused.place, refused.line)
 }
 
 // Writes the first line of the roll of an accepted text.

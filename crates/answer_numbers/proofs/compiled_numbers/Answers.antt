@@ -11,11 +11,4 @@ returns-in-Ok c fits =
 pub returns-in-Err : goal.returns-in-Err
 returns-in-Err c fits =
     let is = c.in-Err.is in
-    let small = compiled-as is fits in
-    rw (
-      is,
-      c.four_bytes-in-Err.ensures (rw c.number.ensures small.number),
-      c.number.ensures,
-      c.four_bytes-in-Err-2.ensures small.place,
-      c.four_bytes-in-Err-3.ensures small.line,
-    ) refl
+    rw (is, c.refused_text_numbers.ensures (rw c.number.ensures (compiled-as is fits)), c.number.ensures) refl

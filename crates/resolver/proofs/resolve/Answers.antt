@@ -18,34 +18,43 @@ cycle-told c p ok q u r t =
     (c.resolve_family-in_roles.ensures p ok q r).1 (c.resolve_family-in_types.ensures p ok q t).1
 
 pub returns-in-Some : goal.returns-in-Some
-returns-in-Some c =
-    λ p ok q u r t. record {
-      user-sets = (c.resolve_family-in_users.ensures p ok q u).0;
-      role-sets = (c.resolve_family-in_roles.ensures p ok q r).0;
-      type-sets = (c.resolve_family-in_types.ensures p ok q t).0;
-      answer = cycle-first p _ (sym (ap found_of c.in-Some.is) ∙ cycle-told (goal.at.returns-in-Some c).After-or-2 p ok q u r t);
-    }
+returns-in-Some c = record {
+  resolves =
+      λ p ok q u r t. record {
+        user-sets = (c.resolve_family-in_users.ensures p ok q u).0;
+        role-sets = (c.resolve_family-in_roles.ensures p ok q r).0;
+        type-sets = (c.resolve_family-in_types.ensures p ok q t).0;
+        answer = cycle-first p _ (sym (ap found_of c.in-Some.is) ∙ cycle-told (goal.at.returns-in-Some c).After-or-2 p ok q u r t);
+      };
+  refuses = tt;
+}
 
 pub returns-in-Some-clash : goal.returns-in-Some-clash
-returns-in-Some-clash c =
-    λ p ok q u r t. record {
-      user-sets = (c.resolve_family-in_users.ensures p ok q u).0;
-      role-sets = (c.resolve_family-in_roles.ensures p ok q r).0;
-      type-sets = (c.resolve_family-in_types.ensures p ok q t).0;
-      answer =
-          clash-next p _ (sym (ap found_of c.in_default.is) ∙ cycle-told (goal.at.returns-in-Some-clash c).After-or-2 p ok q u r t)
-          (sym (ap found_of c.in-Some-clash.is) ∙ c.clash.ensures p ok q
-          (c.resolve_family-in_roles.ensures p ok q r).0 (c.resolve_family-in_types.ensures p ok q t).0);
-    }
+returns-in-Some-clash c = record {
+  resolves =
+      λ p ok q u r t. record {
+        user-sets = (c.resolve_family-in_users.ensures p ok q u).0;
+        role-sets = (c.resolve_family-in_roles.ensures p ok q r).0;
+        type-sets = (c.resolve_family-in_types.ensures p ok q t).0;
+        answer =
+            clash-next p _ (sym (ap found_of c.in_default.is) ∙ cycle-told (goal.at.returns-in-Some-clash c).After-or-2 p ok q u r t)
+            (sym (ap found_of c.in-Some-clash.is) ∙ c.clash.ensures p ok q
+            (c.resolve_family-in_roles.ensures p ok q r).0 (c.resolve_family-in_types.ensures p ok q t).0);
+      };
+  refuses = tt;
+}
 
 pub returns : goal.returns
-returns c =
-    λ p ok q u r t. record {
-      user-sets = (c.resolve_family-in_users.ensures p ok q u).0;
-      role-sets = (c.resolve_family-in_roles.ensures p ok q r).0;
-      type-sets = (c.resolve_family-in_types.ensures p ok q t).0;
-      answer =
-          sound-last p (sym (ap found_of c.in_default.is) ∙ cycle-told (goal.at.returns c).After-or-2 p ok q u r t)
-          (sym (ap found_of c.in_default-clash.is) ∙ c.clash.ensures p ok q
-          (c.resolve_family-in_roles.ensures p ok q r).0 (c.resolve_family-in_types.ensures p ok q t).0);
-    }
+returns c = record {
+  resolves =
+      λ p ok q u r t. record {
+        user-sets = (c.resolve_family-in_users.ensures p ok q u).0;
+        role-sets = (c.resolve_family-in_roles.ensures p ok q r).0;
+        type-sets = (c.resolve_family-in_types.ensures p ok q t).0;
+        answer =
+            sound-last p (sym (ap found_of c.in_default.is) ∙ cycle-told (goal.at.returns c).After-or-2 p ok q u r t)
+            (sym (ap found_of c.in_default-clash.is) ∙ c.clash.ensures p ok q
+            (c.resolve_family-in_roles.ensures p ok q r).0 (c.resolve_family-in_types.ensures p ok q t).0);
+      };
+  refuses = tt;
+}

@@ -18,4 +18,4 @@ returns c =
     (constrained-steps c.write_constrain-written.result
     (front-lent constraint_room c.args.constraints.now _ c.requires.0 c.constraints-1.given.0)
     (front-lent row_room c.args.rows.now _ c.requires.1 c.rows-1.given.0)
-    c.write_constrain-written.ensures)
+    c.write_constrain-written.ensures.writes)

@@ -9,5 +9,5 @@ returns c =
     λ cs rs.
     let s = attribute_of (family_of c.args.family) in
     rw c.declared_step.ensures
-    (declared-steps c.declare-declared.result (c.declare-declared.ensures.of s c.attribute_sort.ensures)
+    (declared-steps c.declare-declared.result (c.declare-declared.ensures.declares.of s c.attribute_sort.ensures)
     (record { of = λ w i. (plain s i.0, i.1, c.write_attribute-to.ensures.wrote) }))

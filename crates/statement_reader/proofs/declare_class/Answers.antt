@@ -6,4 +6,4 @@ use Rattle.statement_reader.proofs.declare_class.Goals as goal
 
 pub returns : goal.returns
 returns c = λ place co cs rs. rw c.declared_step.ensures
-    (declared-steps c.declare_class-declared.result c.declare_class-declared.ensures (record { of = λ w i. (class i.0 i.1, i.2, wrote_none co _) }))
+    (declared-steps c.declare_class-declared.result c.declare_class-declared.ensures.declares (record { of = λ w i. (class i.0 i.1, i.2, wrote_none co _) }))

@@ -9,5 +9,5 @@ pub returns : goal.returns
 returns c = λ place co cs rs.
     let s = thing_of (family_of c.args.family) in
     rw c.declared_step.ensures
-    (declared-steps c.declare-declared.result (c.declare-declared.ensures.of s c.thing_sort.ensures)
+    (declared-steps c.declare-declared.result (c.declare-declared.ensures.declares.of s c.thing_sort.ensures)
     (record { of = λ w i. (plain s i.0, i.1, wrote_none co _) }))

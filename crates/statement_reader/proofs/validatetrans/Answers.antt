@@ -10,4 +10,4 @@ returns c =
     (relabelled-steps c.write_relabel-written.result
     (rest-lent constraint_room _ _ c.requires.0)
     (rest-lent row_room _ _ c.requires.1)
-    c.write_relabel-written.ensures)
+    c.write_relabel-written.ensures.writes)
