@@ -1,2 +1,3 @@
 -- The laws of parts and of what is put in their place. Assumes nothing.
 pub mod PartLaws
+pub mod CopyLaws

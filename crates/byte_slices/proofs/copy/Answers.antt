@@ -1,17 +1,19 @@
--- `byte_slices::copy` meets its contract: as many bytes are lent as are copied, and the part of the text comes back. Assumes nothing.
+-- `byte_slices::copy` meets its contract. The loop's invariant: the first i bytes of the part are stored, one after the other. Assumes nothing.
+use lib.ListN.{length-set}
+use Rattle.byte_slices.proofs.CopyLaws.{copy-turn, copy-none, copied}
 use native.Mathlib.Omega.{arith}
-use mathlib.Core.Path.{ap, ◌∙◌}
-use lib.ListN.{length, length-take, length-drop}
-use Rattle.byte_slices.proofs.PartLaws.{length-part-min, put_over}
+use mathlib.Core.Path.{refl, ◌∙◌}
 use Rattle.byte_slices.proofs.copy.Goals as goal
 
-pub copy_from_slice-requires : goal.copy_from_slice-requires
-copy_from_slice-requires c =
-    let a = c.args in
-    let long = ap length c.part.ensures ∙ length-part-min a.text.now a.from a.len in
-    simp (length-take, length-drop) (omega (arith, long))
+pub loop-i-init : goal.loop-i-init
+loop-i-init c = (refl, copy-none _ _ _ _)
+
+pub loop-i-preserved : goal.loop-i-preserved
+loop-i-preserved c =
+    let l = c.loop-i in
+    (simp length-set l.invariant.0, rw l.invariant.1 (copy-turn c.args.table.now c.args.text.now c.args.at c.args.from l.i (omega arith)))
 
 pub returns : goal.returns
 returns c =
-    let a = c.args in
-    put_over a.table.now a.at a.len (c.copy_from_slice.ensures.after ∙ c.part.ensures) (omega (arith, length-part-min a.text.now a.from a.len))
+    let l = c.loop-i in
+    l.invariant.1 ∙ copied c.args.table.now c.args.text.now c.args.at c.args.from l.i c.args.len c.requires.0 c.requires.1 (omega arith)
