@@ -50,11 +50,11 @@ all_below-ext (suc n) f g h = ap₂ ◌&&◌ (h n (omega arith)) (all_below-ext 
 
 -- ---- the test of a byte
 
-abbrev within_rule : ℕ → List ℕ → ℕ → Bool
+abbrev pub within_rule : ℕ → List ℕ → ℕ → Bool
 within_rule total s n = not (member s n) || ltb n total
 
 -- a byte without the mask has the numbers that reach the total
-within-bits : (total : ℕ) (s : List ℕ) (i k : ℕ) → k < 8
+pub within-bits : (total : ℕ) (s : List ℕ) (i k : ℕ) → k < 8
     → within_rule total s (8 * i + k) ≡ not (bit (bit_and (get_or s i 0) (255 - mask_of total i)) k)
 unfolding mask_of
 within-bits total s i k l =

@@ -91,7 +91,7 @@ const CLASSES: [u8; 256] = *b"\
 static TABLE: [u8; 256] = CLASSES;
 
 // The mark of a byte's class.
-fn mark(b: u8) -> u8
+pub fn mark(b: u8) -> u8
     ensures { result ≡ mark_of (class_of b) }
 {
     TABLE[b as usize]

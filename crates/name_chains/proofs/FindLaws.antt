@@ -139,9 +139,14 @@ module _ {t : List ℕ} {f : ℕ} {w : Name} where
         goes_on x (sym (told end es h) ∙ z) link.next
         (λ m. ap (λ (a : Link). a.next) (read end es h) ∙ h.links x.k x.entry x.nth f (length w) x.like m)
 
-  pub chain-ends : {count at compared : ℕ} → compared ≡ count → Walks t f w count at compared
+  pub chain-ends : {count at compared : ℕ} → count ≤ compared → Walks t f w count at compared
+      → Tries t f w (record { found = None; compared = compared })
+  chain-ends z g = record { tries = λ end es h. let d = (g end es h).done z in record { finds = d.0; counts = d.1 } }
+
+  -- all of the chain has been compared
+  pub chain-passed : {count at compared : ℕ} → compared ≡ count → Walks t f w count at compared
       → Tries t f w (record { found = None; compared = count })
-  chain-ends z g = record { tries = λ end es h. let d = (g end es h).done (omega arith) in record { finds = d.0; counts = sym z ∙ d.1 } }
+  chain-passed z g = record { tries = λ end es h. let d = (g end es h).done (omega arith) in record { finds = d.0; counts = sym z ∙ d.1 } }
 
 -- by another name for the name
 pub tries-as : {t : List ℕ} {f : ℕ} {v w : Name} {r : Tried} → v ≡ w → Tries t f v r → Tries t f w r

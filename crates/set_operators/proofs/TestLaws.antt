@@ -19,14 +19,14 @@ use Rattle.bitset.proofs.SetLaws.{member-at, member-past, set_of-ext, set_of-mem
 
 -- ---- the tests of a byte
 
-abbrev apart_rule : List ℕ → List ℕ → ℕ → Bool
+abbrev pub apart_rule : List ℕ → List ℕ → ℕ → Bool
 apart_rule a b n = not (member a n && member b n)
 
-abbrev same_rule : List ℕ → List ℕ → ℕ → Bool
+abbrev pub same_rule : List ℕ → List ℕ → ℕ → Bool
 same_rule a b n = beq (member a n) (member b n)
 
 -- two bytes have those bits in common whose numbers are in both
-apart-bits : (a b : List ℕ) (i k : ℕ) → k < 8 → apart_rule a b (8 * i + k) ≡ not (bit (bit_and (get_or a i 0) (get_or b i 0)) k)
+pub apart-bits : (a b : List ℕ) (i k : ℕ) → k < 8 → apart_rule a b (8 * i + k) ≡ not (bit (bit_and (get_or a i 0) (get_or b i 0)) k)
 apart-bits a b i k l = ap not (ap₂ ◌&&◌ (member-at a i k l) (member-at b i k l) ∙ sym (bit-and (get_or a i 0) (get_or b i 0) k))
 
 -- ---- what the tests say
@@ -89,7 +89,7 @@ equal-is a b false n p q e h =
     sym (equal_but a b k (p k) (q k) (h.2 0))
 
 -- two sets meet where not every number is apart
-meets-apart : (a b : List ℕ) → meets a b ≡ not (all_below (8 * length a) (apart_rule a b))
+pub meets-apart : (a b : List ℕ) → meets a b ≡ not (all_below (8 * length a) (apart_rule a b))
 unfolding meets
 meets-apart a b = meet-apart (8 * length a) (member a) (member b)
 

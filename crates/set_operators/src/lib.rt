@@ -38,8 +38,8 @@ fn combine_whole(op: SetOp, dst: &mut [u8], src: &[u8])
     requires { length dst.old ≤ length src.now }
     ensures { dst.new ≡ combined op dst.old src.now }
 {
-    for (at, b) in dst.iter_mut().enumerate() {
-        *b = apply(op, *b, src[at]);
+    for at in 0..dst.len() {
+        dst[at] = apply(op, dst[at], src[at]);
     }
 }
 

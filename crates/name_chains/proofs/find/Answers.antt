@@ -1,7 +1,7 @@
 -- `name_chains::find` meets its contract. The loop's invariant: so many others of the chain were compared, the next to compare is the entry whose first
 -- word is `at`, and what the try says is what it says from there on (TryLaws). Assumes nothing.
 use native.Mathlib.Omega.{arith}
-use Rattle.name_chains.proofs.FindLaws.{chain-starts, hit-tries, turn, chain-ends}
+use Rattle.name_chains.proofs.FindLaws.{chain-starts, hit-tries, turn, chain-passed}
 use Rattle.name_chains.proofs.find.Goals as goal
 
 pub loop-others-init : goal.loop-others-init
@@ -17,4 +17,4 @@ loop-others-preserved c =
     (link.1.next, turn link.0 c.is_same.ensures (omega arith) c.loop-others.invariant.1 c.if-is_same.false)
 
 pub returns : goal.returns
-returns c = chain-ends (omega arith) c.loop-others.invariant.1
+returns c = chain-passed (omega arith) c.loop-others.invariant.1
