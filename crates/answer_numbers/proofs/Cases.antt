@@ -3,8 +3,9 @@ use Prim.Native.Nat.{ℕ}
 use mathlib.Core.Path.{◌≡◌, subst}
 use Rattle.policy.specs.Answers.{compiling_of}
 use Rattle.std.specs.Prelude.{Result}
+use Rattle.policy.specs.declared.Fault.{Fault}
 use Rattle.policy.specs.declared.Refusal.{Refusal}
 use Rattle.answer_numbers.specs.Numbers.{CompiledFits, compiled_numbers}
 
-pub compiled-as : {a b : Result ℕ Refusal} → a ≡ b → CompiledFits (compiled_numbers (compiling_of a)) → CompiledFits (compiled_numbers (compiling_of b))
-compiled-as e f = subst (λ (x : Result ℕ Refusal). CompiledFits (compiled_numbers (compiling_of x))) e f
+pub compiled-as : {a b : Result ℕ (Refusal Fault)} → a ≡ b → CompiledFits (compiled_numbers (compiling_of a)) → CompiledFits (compiled_numbers (compiling_of b))
+compiled-as e f = subst (λ (x : Result ℕ (Refusal Fault)). CompiledFits (compiled_numbers (compiling_of x))) e f

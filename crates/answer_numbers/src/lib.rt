@@ -5,11 +5,11 @@
 #![tactic(auto)]
 
 ghost use Rattle.std.specs.Prelude.{◌≡◌, ◌<◌};
-ghost use Rattle.policy.specs.Answers.{compiling_of, validity_of, new_role_of, change_of, place_of};
+ghost use Rattle.policy.specs.Answers.{compiling_by, validity_by, new_role_by, change_by, place_by};
 ghost use Rattle.answer_numbers.specs.Numbers.{compiled_of, answer_of, part_of, compiled_numbers, valid_numbers, change_numbers, new_role_numbers, part_numbers, CompiledFits, Fits, PartFits};
 
 use byte_slices::Span;
-use policy::{Change, Fault, Refusal};
+use policy::{Change, Numbered, Refusal};
 
 // What compiling a text answers: the number 0, the length of its table and the line 0; or a refusal's number, place
 // and line.
@@ -73,8 +73,8 @@ pub fn refused_text_numbers(refusal: usize, place: usize, line: usize) -> Compil
     }
 }
 
-pub fn compiled_numbers(answer: Result<usize, Refusal>) -> Compiled
-    ensures { CompiledFits (compiled_numbers (compiling_of answer)) → result ≡ compiled_numbers (compiling_of answer) }
+pub fn compiled_numbers<F: Numbered>(answer: Result<usize, Refusal<F>>) -> Compiled
+    ensures { CompiledFits (compiled_numbers (compiling_by F.number_of answer)) → result ≡ compiled_numbers (compiling_by F.number_of answer) }
 {
     match answer {
         Ok(length) => Compiled {
@@ -112,8 +112,8 @@ pub fn denial_numbers(number: usize, constraint: usize, consulted: usize) -> Ans
     }
 }
 
-pub fn valid_numbers(answer: Result<bool, Fault>) -> Answer
-    ensures { Fits (valid_numbers (validity_of answer)) → result ≡ valid_numbers (validity_of answer) }
+pub fn valid_numbers<F: Numbered>(answer: Result<bool, F>) -> Answer
+    ensures { Fits (valid_numbers (validity_by F.number_of answer)) → result ≡ valid_numbers (validity_by F.number_of answer) }
 {
     match answer {
         Ok(true) => Answer {
@@ -132,8 +132,8 @@ pub fn valid_numbers(answer: Result<bool, Fault>) -> Answer
     }
 }
 
-pub fn change_numbers(answer: Result<Change, Fault>) -> Answer
-    ensures { Fits (change_numbers (change_of answer)) → result ≡ change_numbers (change_of answer) }
+pub fn change_numbers<D: Numbered, F: Numbered>(answer: Result<Change<D>, F>) -> Answer
+    ensures { Fits (change_numbers (change_by D.number_of F.number_of answer)) → result ≡ change_numbers (change_by D.number_of F.number_of answer) }
 {
     match answer {
         Ok(Change::Granted { consulted }) => Answer {
@@ -154,8 +154,8 @@ pub fn change_numbers(answer: Result<Change, Fault>) -> Answer
     }
 }
 
-pub fn new_role_numbers(answer: Result<usize, Fault>) -> Answer
-    ensures { Fits (new_role_numbers (new_role_of answer)) → result ≡ new_role_numbers (new_role_of answer) }
+pub fn new_role_numbers<F: Numbered>(answer: Result<usize, F>) -> Answer
+    ensures { Fits (new_role_numbers (new_role_by F.number_of answer)) → result ≡ new_role_numbers (new_role_by F.number_of answer) }
 {
     match answer {
         Ok(number) => Answer {
@@ -179,8 +179,8 @@ pub fn refused_part_numbers(number: usize) -> Part
     }
 }
 
-pub fn part_numbers(place: Result<Span, Fault>) -> Part
-    ensures { PartFits (part_numbers (place_of place)) → result ≡ part_numbers (place_of place) }
+pub fn part_numbers<F: Numbered>(place: Result<Span, F>) -> Part
+    ensures { PartFits (part_numbers (place_by F.number_of place)) → result ≡ part_numbers (place_by F.number_of place) }
 {
     match place {
         Ok(Span { start, length }) => Part {

@@ -2,52 +2,61 @@
 #![tactic(auto)]
 
 use byte_slices::Span;
-use policy::{Change, Denial, Fault, Refusal};
+use policy::{Change, Numbered, Refusal};
 use std::io;
 use std::io::Write;
 
 // The line of a question that is refused: `refused 12`.
-fn show_fault<W: Write>(out: &mut W, fault: Fault) -> io::Result<()> {
+fn show_fault<W: Write, F: Numbered>(out: &mut W, fault: F) -> io::Result<()> {
     writeln!(out, "refused {}", fault.number())
 }
 
 // `refused 5 at 8 line 1`, without the line's end.
-fn refusal_words<W: Write>(out: &mut W, refusal: Refusal) -> io::Result<()> {
+fn refusal_words<W: Write, F: Numbered>(out: &mut W, refusal: Refusal<F>) -> io::Result<()> {
     let number = refusal.fault.number();
     let place = refusal.place;
     let line = refusal.line;
     write!(out, "refused {number} at {place} line {line}")
 }
 
-pub fn show_refusal<W: Write>(out: &mut W, refusal: Refusal) -> io::Result<()> {
+pub fn show_refusal<W: Write, F: Numbered>(out: &mut W, refusal: Refusal<F>) -> io::Result<()> {
     refusal_words(out, refusal)?;
     writeln!(out)
 }
 
 // `accepted 280`, or the words of a refusal, without the line's end.
-fn compiled<W: Write>(out: &mut W, answer: Result<usize, Refusal>) -> io::Result<()> {
+fn compiled<W: Write, F: Numbered>(
+    out: &mut W,
+    answer: Result<usize, Refusal<F>>,
+) -> io::Result<()> {
     match answer {
         Ok(length) => write!(out, "accepted {length}"),
         Err(refusal) => refusal_words(out, refusal),
     }
 }
 
-pub fn show_compiling<W: Write>(out: &mut W, answer: Result<usize, Refusal>) -> io::Result<()> {
+pub fn show_compiling<W: Write, F: Numbered>(
+    out: &mut W,
+    answer: Result<usize, Refusal<F>>,
+) -> io::Result<()> {
     compiled(out, answer)?;
     writeln!(out)
 }
 
 // The same, and a checksum after it.
-pub fn show_compiling_and<W: Write>(
+pub fn show_compiling_and<W: Write, F: Numbered>(
     out: &mut W,
-    answer: Result<usize, Refusal>,
+    answer: Result<usize, Refusal<F>>,
     checksum: usize,
 ) -> io::Result<()> {
     compiled(out, answer)?;
     writeln!(out, " {checksum}")
 }
 
-pub fn show_validity<W: Write>(out: &mut W, answer: Result<bool, Fault>) -> io::Result<()> {
+pub fn show_validity<W: Write, F: Numbered>(
+    out: &mut W,
+    answer: Result<bool, F>,
+) -> io::Result<()> {
     match answer {
         Ok(true) => writeln!(out, "valid"),
         Ok(false) => writeln!(out, "not valid"),
@@ -56,9 +65,9 @@ pub fn show_validity<W: Write>(out: &mut W, answer: Result<bool, Fault>) -> io::
 }
 
 // The number of a denial, of the statement that fails, and of those consulted.
-fn denied<W: Write>(
+fn denied<W: Write, D: Numbered>(
     out: &mut W,
-    denial: Denial,
+    denial: D,
     constraint: usize,
     consulted: usize,
 ) -> io::Result<()> {
@@ -69,7 +78,7 @@ fn denied<W: Write>(
     )
 }
 
-fn ruled<W: Write>(out: &mut W, change: Change) -> io::Result<()> {
+fn ruled<W: Write, D: Numbered>(out: &mut W, change: Change<D>) -> io::Result<()> {
     match change {
         Change::Granted { consulted } => writeln!(out, "granted consulted {consulted}"),
         Change::Denied(denial) => denied(out, denial, 0, 0),
@@ -81,21 +90,27 @@ fn ruled<W: Write>(out: &mut W, change: Change) -> io::Result<()> {
     }
 }
 
-pub fn show_change<W: Write>(out: &mut W, answer: Result<Change, Fault>) -> io::Result<()> {
+pub fn show_change<W: Write, D: Numbered, F: Numbered>(
+    out: &mut W,
+    answer: Result<Change<D>, F>,
+) -> io::Result<()> {
     match answer {
         Ok(change) => ruled(out, change),
         Err(fault) => show_fault(out, fault),
     }
 }
 
-pub fn show_new_role<W: Write>(out: &mut W, answer: Result<usize, Fault>) -> io::Result<()> {
+pub fn show_new_role<W: Write, F: Numbered>(
+    out: &mut W,
+    answer: Result<usize, F>,
+) -> io::Result<()> {
     match answer {
         Ok(number) => writeln!(out, "role {number}"),
         Err(fault) => show_fault(out, fault),
     }
 }
 
-pub fn show_place<W: Write>(out: &mut W, answer: Result<Span, Fault>) -> io::Result<()> {
+pub fn show_place<W: Write, F: Numbered>(out: &mut W, answer: Result<Span, F>) -> io::Result<()> {
     match answer {
         Ok(Span { start, length }) => writeln!(out, "part {start} {length}"),
         Err(fault) => show_fault(out, fault),

@@ -150,7 +150,7 @@ module _ (x : Input) (before : List ℕ) {rest : List ℕ} where
       let said = passed-written (compiled x (length before)) n g.answer x in
       record { answer = said; memory = g.memory; answers = λ k e. demand-3 x before k (sym said ∙ ap compiling_of e) }
 
-  pub not_written : {f : FaultAt} (r : theRefusal.Refusal) → Gives (compiled x (length before)) before rest (Err f)
+  pub not_written : {f : FaultAt} (r : theRefusal.Refusal Fault) → Gives (compiled x (length before)) before rest (Err f)
       → (((fault_number f.fault ≡ 10 → ⊥) → f.place ≤ 65535) → refusal_in r ≡ refusal_of x (fault_number f.fault) f.place) → Compiles x before rest (Err r)
   unfolding outcome after
   not_written {f} r g h =

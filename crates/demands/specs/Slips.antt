@@ -4,6 +4,7 @@ use Rattle.std.specs.Prelude.{ℕ, ◌+◌, ◌/◌, ◌%◌, ◌≡◌, List, �
 use Rattle.lexer.specs.Spell.{bytes}
 use Rattle.bitset.specs.Relations.{joined}
 use Rattle.bitset.specs.Sets.{tabulate}
+use Rattle.policy.specs.declared.Fault.{Fault}
 use Rattle.policy.specs.declared.Refusal as theRefusal
 use Rattle.policy.specs.Deciding.{Question, Answer, granted, denied, unconsulted}
 use Rattle.policy.specs.Answers.{compiling_of}
@@ -51,7 +52,7 @@ pub record NoSlip : Type 0 where
   pub role-64 : Answers role64 (asking 0 0 0 0) (unconsulted (denied 1))
   pub role-64-itself : Answers role64 (asking 64 64 0 0) (unconsulted granted)
   -- "Dropping the oldest operand on a full stack instead of refusing 7": it would accept
-  pub six-deep : (before now : List ℕ) (r : Result ℕ theRefusal.Refusal) → Compiles (of_text six_deep) before now r → compiling_of r ≡ rejected (refusal_at 7 13 1)
+  pub six-deep : (before now : List ℕ) (r : Result ℕ (theRefusal.Refusal Fault)) → Compiles (of_text six_deep) before now r → compiling_of r ≡ rejected (refusal_at 7 13 1)
   -- "Asking a role allow where the role stays the same": it would deny, 3
   pub same-role : Answers office (asking 0 0 0 0) (unconsulted granted)
   -- "or on a class other than `process`": it would deny, 3

@@ -53,19 +53,31 @@ abbrev pub placed : ScanFault → theFaultAt.FaultAt
 placed ScanFault.TooLong = record { fault = theFault.Fault.TextTooLong; place = max_text }
 placed (ScanFault.Wrong p) = record { fault = theFault.Fault.WrongByte; place = p }
 
+-- What an answer stands for. What ends in `_by` is told the number that a refusal (a denial) has; `refusal_in`, and what ends in `_of`, is the same with
+-- the documents' numbers of faults and denials.
+
 -- a refusal's number, place and line
-abbrev pub refusal_in : theRefusal.Refusal → Refusal
-refusal_in r = refusal_at (fault_number r.fault) r.place r.line
+abbrev pub refusal_by : {F : Type 0} → (F → ℕ) → theRefusal.Refusal F → Refusal
+refusal_by number r = refusal_at (number r.fault) r.place r.line
+
+abbrev pub refusal_in : theRefusal.Refusal theFault.Fault → Refusal
+refusal_in r = refusal_by fault_number r
 
 -- accepted with the length, or refused
-abbrev pub compiling_of : Result ℕ theRefusal.Refusal → Outcome
-compiling_of (Ok n) = accepted n
-compiling_of (Err r) = rejected (refusal_in r)
+abbrev pub compiling_by : {F : Type 0} → (F → ℕ) → Result ℕ (theRefusal.Refusal F) → Outcome
+compiling_by number (Ok n) = accepted n
+compiling_by number (Err r) = rejected (refusal_by number r)
+
+abbrev pub compiling_of : Result ℕ (theRefusal.Refusal theFault.Fault) → Outcome
+compiling_of a = compiling_by fault_number a
 
 -- whether a context is valid; 11 and 12 have the place 0
+abbrev pub validity_by : {F : Type 0} → (F → ℕ) → Result Bool F → Reply Bool
+validity_by number (Ok b) = answered b
+validity_by number (Err f) = refused (number f) 0
+
 abbrev pub validity_of : Result Bool theFault.Fault → Reply Bool
-validity_of (Ok b) = answered b
-validity_of (Err f) = refused (fault_number f) 0
+validity_of a = validity_by fault_number a
 
 -- "Denials in order: 1 source not valid; 2 target not valid; 3 ..; 4 the first failing constraint, with its number"; W-205: "denials 1 old, 2 new, 5 process
 -- not valid, 6 with the first failing statement's number"
@@ -78,20 +90,32 @@ denial_number theDenial.Denial.ProcessNotValid = 5
 denial_number theDenial.Denial.RelabelFails = 6
 
 -- the number consulted is "0 for denials 1 to 3 and for refusals"
-abbrev pub ruling_of : Change → Answer
-ruling_of (Change.Granted k) = record { verdict = granted; consulted = k }
-ruling_of (Change.Denied d) = unconsulted (denied (denial_number d))
-ruling_of (Change.Failed d i k) = record { verdict = fails (denial_number d) i; consulted = k }
+abbrev pub ruling_by : {D : Type 0} → (D → ℕ) → Change D → Answer
+ruling_by number (Change.Granted k) = record { verdict = granted; consulted = k }
+ruling_by number (Change.Denied d) = unconsulted (denied (number d))
+ruling_by number (Change.Failed d i k) = record { verdict = fails (number d) i; consulted = k }
 
-abbrev pub change_of : Result Change theFault.Fault → Answer
-change_of (Ok c) = ruling_of c
-change_of (Err f) = unconsulted (refuses (fault_number f) 0)
+abbrev pub ruling_of : Change theDenial.Denial → Answer
+ruling_of c = ruling_by denial_number c
+
+abbrev pub change_by : {D F : Type 0} → (D → ℕ) → (F → ℕ) → Result (Change D) F → Answer
+change_by denied_by refused_by (Ok c) = ruling_by denied_by c
+change_by denied_by refused_by (Err f) = unconsulted (refuses (refused_by f) 0)
+
+abbrev pub change_of : Result (Change theDenial.Denial) theFault.Fault → Answer
+change_of a = change_by denial_number fault_number a
+
+abbrev pub new_role_by : {F : Type 0} → (F → ℕ) → Result ℕ F → Reply ℕ
+new_role_by number (Ok r) = answered r
+new_role_by number (Err f) = refused (number f) 0
 
 abbrev pub new_role_of : Result ℕ theFault.Fault → Reply ℕ
-new_role_of (Ok r) = answered r
-new_role_of (Err f) = refused (fault_number f) 0
+new_role_of a = new_role_by fault_number a
 
 -- where a name or an entry is in the lent table
+abbrev pub place_by : {F : Type 0} → (F → ℕ) → Result Span F → Reply Part
+place_by number (Ok s) = answered (record { start = s.start; size = s.length })
+place_by number (Err f) = refused (number f) 0
+
 abbrev pub place_of : Result Span theFault.Fault → Reply Part
-place_of (Ok s) = answered (record { start = s.start; size = s.length })
-place_of (Err f) = refused (fault_number f) 0
+place_of a = place_by fault_number a

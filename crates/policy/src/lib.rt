@@ -2,7 +2,7 @@
 // are in a table, and the answers. What the documents say of them is in specs/.
 #![tactic(auto)]
 
-ghost use Rattle.std.specs.Prelude.{◌≡◌};
+ghost use Rattle.std.specs.Prelude.{◌≡◌, ℕ};
 ghost use Rattle.policy.specs.Answers.{fault_number, denial_number, placed};
 
 use lexer::{ScanFault, Text};
@@ -421,10 +421,11 @@ impl From<ScanFault> for FaultAt {
     }
 }
 
-// A refusal of a text: its fault, one of the first ten, its place, and the line of a place in the text, else 0.
+// A refusal of a text: its fault, its place, and the line of a place in the text, else 0. A text's fault is one of the
+// first ten; `F` is another type where it is known by its number alone.
 #[derive(Clone, Copy)]
-pub struct Refusal {
-    pub fault: Fault,
+pub struct Refusal<F = Fault> {
+    pub fault: F,
     pub place: usize,
     pub line: usize,
 }
@@ -456,17 +457,53 @@ impl Denial {
     }
 }
 
+// What has a number: a fault, a denial, or a number itself. Whoever hands out or prints an answer's numbers asks no more
+// of what the answer is refused or denied by.
+pub trait Numbered: Copy {
+    ghost number_of: { Self → ℕ };
+
+    // The number that it has.
+    fn number(self) -> usize
+        ensures { result ≡ number_of self };
+}
+
+impl Numbered for Fault {
+    ghost number_of = { fault_number };
+
+    fn number(self) -> usize {
+        // the type's own function, not this one again
+        Fault::number(self)
+    }
+}
+
+impl Numbered for Denial {
+    ghost number_of = { denial_number };
+
+    fn number(self) -> usize {
+        // the type's own function, not this one again
+        Denial::number(self)
+    }
+}
+
+impl Numbered for usize {
+    ghost number_of = { λ n. n };
+
+    fn number(self) -> usize {
+        self
+    }
+}
+
 // What a change, or a relabelling, comes to: granted; denied before any statement is asked; or denied by the statement
 // that fails, a constraint or a validatetrans statement, with its number. `consulted` counts the statements that were
-// asked; where it is missing it is 0.
+// asked; where it is missing it is 0. `D` is another type where the denial is known by its number alone.
 #[derive(Clone, Copy)]
-pub enum Change {
+pub enum Change<D = Denial> {
     Granted {
         consulted: usize,
     },
-    Denied(Denial),
+    Denied(D),
     Failed {
-        denial: Denial,
+        denial: D,
         constraint: usize,
         consulted: usize,
     },

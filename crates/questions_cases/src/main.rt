@@ -6,7 +6,7 @@
 #![tactic(auto)]
 
 use decisions::Context;
-use policy::Fault;
+use policy::{Change, Fault};
 use std::io;
 use std::io::{Read, Write};
 
@@ -193,7 +193,8 @@ fn ask_all<R: Read, W: Write>(input: &mut R, out: &mut W, table: &[u8]) -> io::R
         if sound {
             ask_tested(out, table, &summary, question)?;
         } else {
-            answer_show::show_change(out, Err(Fault::NotSound))?;
+            let refused: Result<Change, Fault> = Err(Fault::NotSound);
+            answer_show::show_change(out, refused)?;
         }
     }
     Ok(true)

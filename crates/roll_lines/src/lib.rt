@@ -4,7 +4,7 @@
 
 ghost use Rattle.std.specs.Prelude.{◌≡◌, true, ◌+◌, ◌*◌, ◌≤◌, ◌<◌, length};
 ghost use Rattle.policy.specs.Questions.{entry_on};
-ghost use Rattle.policy.specs.Answers.{refusal_in};
+ghost use Rattle.policy.specs.Answers.{refusal_by};
 ghost use Rattle.policy.specs.Outcome.{refusal_at};
 ghost use Rattle.policy.specs.Roll.{roll_line, labelled, refusal};
 ghost use Rattle.soundness.specs.IsSound.{is_sound};
@@ -12,7 +12,7 @@ ghost use Rattle.table_parts.specs.ShownPart.{shown_part};
 ghost use Rattle.text_writer.specs.WrittenText.{Appends};
 ghost use Rattle.roll_lines.specs.LineWrites.{acceptance, Printable, PutsLines, PutsRoll};
 
-use policy::{Refusal, Sort};
+use policy::{Numbered, Refusal, Sort};
 
 // ---- one line
 
@@ -50,9 +50,9 @@ pub fn put_refusal_numbers(out: &mut [u8], number: usize, place: usize, line: us
 }
 
 // Writes the line of a refusal.
-pub fn put_refusal(out: &mut [u8], refused: Refusal) -> usize
+pub fn put_refusal<F: Numbered>(out: &mut [u8], refused: Refusal<F>) -> usize
     requires { 79 ≤ length out.old }
-    ensures { Appends out.old 0 (refusal (refusal_in refused)) out.new result }
+    ensures { Appends out.old 0 (refusal (refusal_by F.number_of refused)) out.new result }
 {
     put_refusal_numbers(out, refused.fault.number(), refused.place, refused.line)
 }

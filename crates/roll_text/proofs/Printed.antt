@@ -7,6 +7,7 @@ use mathlib.Core.List.{List, [], ◌∷◌}
 use lib.ListN.{length}
 use Rattle.byte_slices.specs.Parts.{put}
 use Rattle.bitset.specs.Relations.{joined}
+use Rattle.policy.specs.declared.Fault.{Fault}
 use Rattle.policy.specs.declared.Refusal as theRefusal
 use Rattle.std.specs.Prelude.{Result, Ok, Err}
 use Rattle.policy.specs.Answers.{refusal_in, compiling_of}
@@ -30,8 +31,8 @@ bytes-printed {x} {table} {table'} {before} {after} {bytes} {past} m a e = recor
   long = omega (arith, a.ends, ap length e);
 }
 
-module _ {x : Input} {before after : List ℕ} {r : Result ℕ theRefusal.Refusal} (long : length before ≡ 65536) (c : Compiles x before after r) where
-  answer : (o : Result ℕ theRefusal.Refusal) → r ≡ o → compiling_of o ≡ outcome x 65536
+module _ {x : Input} {before after : List ℕ} {r : Result ℕ (theRefusal.Refusal Fault)} (long : length before ≡ 65536) (c : Compiles x before after r) where
+  answer : (o : Result ℕ (theRefusal.Refusal Fault)) → r ≡ o → compiling_of o ≡ outcome x 65536
   answer o e = ap compiling_of (sym e) ∙ c.answer ∙ ap (outcome x) long
 
   module _ {n : ℕ} (e : r ≡ Ok n) where
@@ -48,6 +49,6 @@ module _ {x : Input} {before after : List ℕ} {r : Result ℕ theRefusal.Refusa
         bytes-printed c.memory (puts.says holds.image holds.read)
         (ap (λ (m : ℕ). joined (acceptance m ∷ roll_of holds.image ∷ [])) holds.long ∙ roll-parts holds.image ∙ sym holds.prints)
 
-  pub prints-refusal : {f : theRefusal.Refusal} → r ≡ Err f → {out out' : List ℕ} {past : ℕ} → Appends out 0 (refusal (refusal_in f)) out' past
+  pub prints-refusal : {f : theRefusal.Refusal Fault} → r ≡ Err f → {out out' : List ℕ} {past : ℕ} → Appends out 0 (refusal (refusal_in f)) out' past
       → Prints x before after out out' past
   prints-refusal {f} e puts = bytes-printed c.memory puts (sym (refusal-printed x (refusal_in f) (answer (Err f) e)))

@@ -7,6 +7,7 @@ use lib.Dec.{leb}
 use lib.ListN.{length, take, drop, take-append-drop}
 use Rattle.std.specs.Prelude.{Result}
 use Rattle.policy.specs.declared.Change.{Change}
+use Rattle.policy.specs.declared.Denial.{Denial}
 use Rattle.policy.specs.declared.Fault.{Fault}
 use Rattle.policy.specs.declared.Refusal as theRefusal
 use Rattle.std.specs.Prelude.{Ok, Err}
@@ -72,10 +73,10 @@ module _ (x : Input) (lent : ℕ) (q : Question) where
   decided-answered p n h e = decided-by (policy p) h ∙ has_room p n (leb (length (encode newest (image_of p))) lent) (sym (outcome-by (policy p) h) ∙ e)
 
 module _ {x : Input} {before now : List ℕ} {q : Question} where
-  pub refuses : {r : theRefusal.Refusal} → Compiles x before now (Err r) → Decides x before now q (theDecision.Decision.Refused r)
+  pub refuses : {r : theRefusal.Refusal Fault} → Compiles x before now (Err r) → Decides x before now q (theDecision.Decision.Refused r)
   refuses {r} c = record { answer = sym (decided-refused x (length before) q (refusal_in r) (sym c.answer)); memory = c.memory }
 
-  pub answers : {n : ℕ} {a : Result Change Fault} → Compiles x before now (Ok n) → change_of a ≡ change_on now q → Decides x before now q (theDecision.Decision.Answered a)
+  pub answers : {n : ℕ} {a : Result (Change Denial) Fault} → Compiles x before now (Ok n) → change_of a ≡ change_on now q → Decides x before now q (theDecision.Decision.Answered a)
   answers {n} {a} c e =
       let table = c.answers n refl in
       let whole : take n (outcomes.after x before) ++ drop n (outcomes.after x before) ≡ now = take-append-drop n (outcomes.after x before) ∙ sym c.memory in

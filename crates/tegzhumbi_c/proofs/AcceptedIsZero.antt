@@ -13,6 +13,7 @@ use Rattle.policy.specs.Image.{Image, image_of}
 use Rattle.policy.specs.Encode.{encode, newest}
 use Rattle.policy.specs.Outcome.{Input, accept, policy_of, compiles, refuses, compiled, fitted, refusal_of, Outcome, accepted, rejected, outcome_of, outcome}
 use Rattle.policy.specs.Answers.{compiling_of}
+use Rattle.policy.specs.declared.Fault.{Fault}
 use Rattle.policy.specs.declared.Refusal as theRefusal
 use Rattle.std.specs.Prelude.{Result, Ok, Err}
 use Rattle.reading_laws.proofs.FaultOrder.{fault-order, refusal-number}
@@ -60,11 +61,11 @@ outcome-numbered x lent = by (policy_of x) (policy-numbered x)
     by (refused n at) s = s
     by (policy p) s = fitted-numbered x lent (image_of p)
 
-numbered-as : (a : Result ℕ theRefusal.Refusal) (n : ℕ) → Numbered (compiling_of a) → compiled_numbers (compiling_of a) ≡ compiled_of 0 n 0 → a ≡ Ok n
+numbered-as : (a : Result ℕ (theRefusal.Refusal Fault)) (n : ℕ) → Numbered (compiling_of a) → compiled_numbers (compiling_of a) ≡ compiled_of 0 n 0 → a ≡ Ok n
 numbered-as (Ok m) n s h = ap Ok (ap (λ (c : Compiled). c.place) h)
 numbered-as (Err r) n s h = absurd (omega (arith, ap (λ (c : Compiled). c.number) h))
 
 -- an answer whose number is 0 is an acceptance
-pub accepted-as : (x : Input) (lent : ℕ) (a : Result ℕ theRefusal.Refusal) (n : ℕ) → compiling_of a ≡ outcome x lent
+pub accepted-as : (x : Input) (lent : ℕ) (a : Result ℕ (theRefusal.Refusal Fault)) (n : ℕ) → compiling_of a ≡ outcome x lent
     → compiled_numbers (compiling_of a) ≡ compiled_of 0 n 0 → a ≡ Ok n
 accepted-as x lent a n e h = numbered-as a n (subst Numbered (sym e) (outcome-numbered x lent)) h
